@@ -1,0 +1,30 @@
+/// The sorts of a problem. A declared sort is known by its number in the order of declaration, from 0
+/// (SMT-LIB 2.6, sections 3.5 and 4.2.3).
+#[derive(Clone, Copy, Debug, PartialEq, Eq)]
+pub enum Sort {
+    Bool,
+    Int,
+    Declared(u32),
+}
+
+/// The operators of the theories Core and Ints that a term may apply (SMT-LIB 2.6, section 3.7).
+#[derive(Clone, Copy, Debug, PartialEq, Eq)]
+pub enum Op {
+    True,
+    False,
+    Not,
+    Implies,
+    And,
+    Or,
+    Xor,
+    Equal,
+    Distinct,
+    Ite,
+    Minus,
+    Plus,
+    Times,
+    LessEq,
+    Less,
+    GreaterEq,
+    Greater,
+}
