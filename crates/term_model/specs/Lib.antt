@@ -1,0 +1,10 @@
+pub mod Terms
+pub mod Values
+pub mod Operators
+pub mod Interpretations
+pub mod Meaning
+pub mod Sorts
+pub mod Arities
+pub mod FreeVariables
+pub mod Unsatisfiable
+pub mod Examples

@@ -1,6 +1,6 @@
 /// The sorts of a problem. A declared sort is known by its number in the order of declaration, from 0
 /// (SMT-LIB 2.6, sections 3.5 and 4.2.3).
-#[derive(Clone, Copy, Debug, PartialEq, Eq)]
+#[derive(Clone, Copy, Debug, PartialEq, Eq, Hash)]
 pub enum Sort {
     Bool,
     Int,

@@ -1,0 +1,10 @@
+pub mod Basics
+pub mod Tests
+pub mod Arities
+pub mod Sorting
+pub mod Coincidence
+pub mod Tables
+pub mod Existence
+pub mod Meanings
+pub mod Chains
+pub mod Satisfaction
