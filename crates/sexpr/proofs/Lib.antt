@@ -1,0 +1,11 @@
+pub mod Balance
+pub mod ByteTable
+pub mod Faults
+pub mod Lexemes
+pub mod NumberForms
+pub mod OpenSoFar
+pub mod OneNesting
+pub mod OneReading
+pub mod Respelling
+pub mod Scanning
+pub mod Spelling

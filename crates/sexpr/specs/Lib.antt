@@ -1,0 +1,10 @@
+pub mod Causes
+pub mod Characters
+pub mod Classes
+pub mod Words
+pub mod Tokens
+pub mod Depths
+pub mod Form
+pub mod Grammar
+pub mod Items
+pub mod Source

@@ -1,0 +1,31 @@
+//! Laws about the definitions, each the contract of a function with an empty body.
+ghost use Rattle.std.specs.Prelude.{◌≡◌, ◌↔◌, ◌<◌, ◌≤◌, ℕ, List, [], length, drop, Ok, Some, None};
+ghost use Rattle.sexpr.specs.declared.causes.Refusal.{Refusal};
+ghost use Rattle.sexpr.specs.declared.lexing.Token.{Token};
+ghost use Rattle.sexpr.specs.Form.{HasForm, IsFormFault};
+ghost use Rattle.sexpr.specs.Grammar.{IsSpelledNext, SkipsTo};
+ghost use Rattle.sexpr.specs.Items.{Item, Items, IsItem, StandsForItems};
+ghost use Rattle.sexpr.specs.Tokens.{next_token};
+
+/// The tokens of a text are those that the grammar has, and each is as long as it can be, with nothing but white
+/// space and comments before it.
+pub fn tokens_are_spelled()
+    // What is read is spelled so.
+    ensures spelled { (text : List ℕ) (at : ℕ) (t : Token) → next_token text at ≡ Ok (Some t) → IsSpelledNext text at t }
+    // What is spelled so is read.
+    ensures read { (text : List ℕ) (at : ℕ) (t : Token) → IsSpelledNext text at t → t.start < t.end → t.end ≤ length text → next_token text at ≡ Ok (Some t) }
+    // The end comes exactly where nothing else is left.
+    ensures end { (text : List ℕ) (at : ℕ) → (next_token text at ≡ Ok None) ↔ SkipsTo [] (drop at text) }
+{}
+
+/// A text stands for one list of items at most, and tokens begin with one item at most.
+pub fn items_are_unique()
+    ensures item { (source : List ℕ) (tokens : List Token) (a b : Item) (rest others : List Token) → IsItem source tokens a rest → IsItem source tokens b others → (a ≡ b) × (rest ≡ others) }
+    ensures text { (source : List ℕ) (a b : Items) → StandsForItems source a → StandsForItems source b → a ≡ b }
+{}
+
+/// A text that stands for items has no fault of form, and any other has one fault at most.
+pub fn faults_are_unique()
+    ensures none { (source : List ℕ) (refusal : Refusal) → HasForm source → IsFormFault source refusal → ⊥ }
+    ensures one { (source : List ℕ) (a b : Refusal) → IsFormFault source a → IsFormFault source b → a ≡ b }
+{}

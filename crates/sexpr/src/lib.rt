@@ -1,0 +1,23 @@
+//! The text layer of SMT-LIB scripts and Alethe proofs: tokens, matching brackets and the causes of a refusal.
+//!
+//! A [`Lexer`] answers the tokens of a text one by one. Nothing here takes memory, and each byte is
+//! looked at a bounded number of times.
+#![tactic(auto)]
+
+mod brackets;
+mod bytes;
+mod causes;
+mod laws;
+mod lexing;
+mod numbers;
+mod scan;
+mod words;
+
+pub use brackets::form;
+pub use causes::{Cause, Refusal, cause_text};
+pub use laws::{faults_are_unique, items_are_unique, tokens_are_spelled};
+pub use lexing::{Lexer, Token, TokenKind};
+pub use words::{WordKind, symbol_name, word_kind};
+
+#[cfg(test)]
+mod tests;

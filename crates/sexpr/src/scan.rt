@@ -1,0 +1,93 @@
+//! Where the parts of a text end.
+ghost use Rattle.std.specs.Prelude.{◌≡◌, ◌+◌, ◌≤◌, ◌<◌, length, drop, true, false, IfSome};
+ghost use Rattle.std.specs.List.{prefix_len};
+ghost use Rattle.sexpr.specs.Tokens as spec;
+ghost use Rattle.sexpr.specs.Characters as characters;
+
+use crate::bytes::{is_white, is_word_byte};
+
+/// The place after a comment of which the byte at `at` is the first after the semicolon: at the byte that ends
+/// its line, or at the end of the text.
+#[tactic(auto, using(crate::proofs::Scanning::comment_goes, crate::proofs::Scanning::comment_stops_at_feed, crate::proofs::Scanning::comment_stops_at_return, crate::proofs::Scanning::blanks_end_at_end))]
+fn comment_end(bytes: &[u8], at: usize) -> usize
+    requires { at ≤ length bytes.now }
+    ensures after { at ≤ result }
+    ensures within { result ≤ length bytes.now }
+    ensures rest { spec.blanks_end true at (drop at bytes.now) ≡ spec.blanks_end false result (drop result bytes.now) }
+{
+    let mut place = at;
+    while place < bytes.len() && bytes[place] != b'\n' && bytes[place] != b'\r' {
+        place += 1;
+    }
+    place
+}
+
+/// The place after the white space and the comments that stand from `at` on.
+#[tactic(auto, using(crate::proofs::Scanning::white_goes, crate::proofs::Scanning::comment_begins, crate::proofs::Scanning::blanks_stop, crate::proofs::Scanning::blanks_end_at_end))]
+pub(crate) fn blanks_end(bytes: &[u8], at: usize) -> usize
+    requires { at ≤ length bytes.now }
+    ensures after { at ≤ result }
+    ensures within { result ≤ length bytes.now }
+    ensures value { result ≡ spec.blanks_end false at (drop at bytes.now) }
+{
+    let mut place = at;
+    while place < bytes.len() {
+        let byte = bytes[place];
+        if is_white(byte) {
+            place += 1;
+        } else if byte == b';' {
+            place = comment_end(bytes, place + 1);
+        } else {
+            break;
+        }
+    }
+    place
+}
+
+/// The place after the quote that ends a string, where `at` is the place after its opening quote.
+#[tactic(auto, using(crate::proofs::Scanning::string_goes, crate::proofs::Scanning::string_doubles, crate::proofs::Scanning::string_stops, crate::proofs::Scanning::string_stops_at_end, crate::proofs::Scanning::string_open))]
+pub(crate) fn string_end(bytes: &[u8], at: usize) -> Option<usize>
+    requires { at ≤ length bytes.now }
+    ensures value { result ≡ spec.string_end at (drop at bytes.now) }
+    ensures within { IfSome result (λ end. (at < end) × (end ≤ length bytes.now)) }
+{
+    let mut place = at;
+    while place < bytes.len() {
+        if bytes[place] != b'"' {
+            place += 1;
+        } else if place + 1 < bytes.len() && bytes[place + 1] == b'"' {
+            place += 2;
+        } else {
+            return Some(place + 1);
+        }
+    }
+    None
+}
+
+/// The place of the first byte from `at` on that can't stand between bars, or the end.
+pub(crate) fn bars_end(bytes: &[u8], at: usize) -> usize
+    requires { at ≤ length bytes.now }
+    ensures after { at ≤ result }
+    ensures within { result ≤ length bytes.now }
+    ensures value { result ≡ at + prefix_len characters.is_between_bars (drop at bytes.now) }
+{
+    let mut place = at;
+    while place < bytes.len() && bytes[place] != b'|' && bytes[place] != b'\\' {
+        place += 1;
+    }
+    place
+}
+
+/// The place after the word that begins at `at`.
+pub(crate) fn word_end(bytes: &[u8], at: usize) -> usize
+    requires { at ≤ length bytes.now }
+    ensures after { at ≤ result }
+    ensures within { result ≤ length bytes.now }
+    ensures value { result ≡ at + prefix_len characters.is_word_byte (drop at bytes.now) }
+{
+    let mut place = at;
+    while place < bytes.len() && is_word_byte(bytes[place]) {
+        place += 1;
+    }
+    place
+}

@@ -1,0 +1,568 @@
+//! Texts with the tokens and the form that the rules of SMT-LIB 2.6, section 3.1, give them.
+use crate::{Lexer, Token, TokenKind, WordKind, cause_text, form, symbol_name, word_kind};
+use std::alloc::{AllocError, Global};
+use std::process::Abort;
+use std::test::Fail;
+
+/// A text, its tokens with their spans, and its form or the fault of its form.
+struct Case {
+    text: &'static [u8],
+    tokens: &'static str,
+    form: &'static str,
+}
+
+const CASES: &[Case] = &[
+    Case {
+        text: b"",
+        tokens: "",
+        form: "ok",
+    },
+    Case {
+        text: b"   ",
+        tokens: "",
+        form: "ok",
+    },
+    Case {
+        text: b"\t\n\r ",
+        tokens: "",
+        form: "ok",
+    },
+    Case {
+        text: b"(",
+        tokens: "O0-1",
+        form: "open list 0",
+    },
+    Case {
+        text: b")",
+        tokens: "C0-1",
+        form: "stray close 0",
+    },
+    Case {
+        text: b"()",
+        tokens: "O0-1 C1-2",
+        form: "ok",
+    },
+    Case {
+        text: b")(",
+        tokens: "C0-1 O1-2",
+        form: "stray close 0",
+    },
+    Case {
+        text: b"(()",
+        tokens: "O0-1 O1-2 C2-3",
+        form: "open list 0",
+    },
+    Case {
+        text: b"()(",
+        tokens: "O0-1 C1-2 O2-3",
+        form: "open list 2",
+    },
+    Case {
+        text: b"(a b)",
+        tokens: "O0-1 W1-2 W3-4 C4-5",
+        form: "ok",
+    },
+    Case {
+        text: b"() ((a)",
+        tokens: "O0-1 C1-2 O3-4 O4-5 W5-6 C6-7",
+        form: "open list 3",
+    },
+    Case {
+        text: b"(a))",
+        tokens: "O0-1 W1-2 C2-3 C3-4",
+        form: "stray close 3",
+    },
+    Case {
+        text: b"a;b\nc",
+        tokens: "W0-1 W4-5",
+        form: "ok",
+    },
+    Case {
+        text: b"a;b\rc",
+        tokens: "W0-1 W4-5",
+        form: "ok",
+    },
+    Case {
+        text: b"a;b",
+        tokens: "W0-1",
+        form: "ok",
+    },
+    Case {
+        text: b";",
+        tokens: "",
+        form: "ok",
+    },
+    Case {
+        text: b";(\n)",
+        tokens: "C3-4",
+        form: "stray close 3",
+    },
+    Case {
+        text: b";\x00\x0B\x0C\x7F\x80\xFF\n(",
+        tokens: "O8-9",
+        form: "open list 8",
+    },
+    Case {
+        text: b"\"\x00\x0B\x0C\x7F\x80\xFF\"",
+        tokens: "T0-8",
+        form: "ok",
+    },
+    Case {
+        text: b"|\x00\x0B\x0C\x7F\x80\xFF|",
+        tokens: "Q0-8",
+        form: "ok",
+    },
+    Case {
+        text: b"\x00",
+        tokens: "bad byte 0",
+        form: "bad byte 0",
+    },
+    Case {
+        text: b"a\x0B",
+        tokens: "W0-1 bad byte 1",
+        form: "bad byte 1",
+    },
+    Case {
+        text: b"a \x0C b",
+        tokens: "W0-1 bad byte 2",
+        form: "bad byte 2",
+    },
+    Case {
+        text: b"(\x7F)",
+        tokens: "O0-1 bad byte 1",
+        form: "bad byte 1",
+    },
+    Case {
+        text: b"\x80",
+        tokens: "bad byte 0",
+        form: "bad byte 0",
+    },
+    Case {
+        text: b"(a)\xFF",
+        tokens: "O0-1 W1-2 C2-3 bad byte 3",
+        form: "bad byte 3",
+    },
+    Case {
+        text: b"ab\x00cd",
+        tokens: "W0-2 bad byte 2",
+        form: "bad byte 2",
+    },
+    Case {
+        text: b"\"\"",
+        tokens: "T0-2",
+        form: "ok",
+    },
+    Case {
+        text: b"\"a\"",
+        tokens: "T0-3",
+        form: "ok",
+    },
+    Case {
+        text: b"\"a\"\"b\"",
+        tokens: "T0-6",
+        form: "ok",
+    },
+    Case {
+        text: b"\"a\"\"",
+        tokens: "bad byte 0",
+        form: "bad byte 0",
+    },
+    Case {
+        text: b"\"a\"\"\"",
+        tokens: "T0-5",
+        form: "ok",
+    },
+    Case {
+        text: b"\"",
+        tokens: "bad byte 0",
+        form: "bad byte 0",
+    },
+    Case {
+        text: b"x \"a",
+        tokens: "W0-1 bad byte 2",
+        form: "bad byte 2",
+    },
+    Case {
+        text: b"\"a\"b",
+        tokens: "T0-3 W3-4",
+        form: "ok",
+    },
+    Case {
+        text: b"\";\"",
+        tokens: "T0-3",
+        form: "ok",
+    },
+    Case {
+        text: b"\"(\n)\"",
+        tokens: "T0-5",
+        form: "ok",
+    },
+    Case {
+        text: b"\"a\\\"",
+        tokens: "T0-4",
+        form: "ok",
+    },
+    Case {
+        text: b"\"a\" \"b\"",
+        tokens: "T0-3 T4-7",
+        form: "ok",
+    },
+    Case {
+        text: b"||",
+        tokens: "Q0-2",
+        form: "ok",
+    },
+    Case {
+        text: b"|a b|",
+        tokens: "Q0-5",
+        form: "ok",
+    },
+    Case {
+        text: b"|a;\"(\n|",
+        tokens: "Q0-7",
+        form: "ok",
+    },
+    Case {
+        text: b"|a\\b|",
+        tokens: "bad byte 2",
+        form: "bad byte 2",
+    },
+    Case {
+        text: b"|a\\b",
+        tokens: "bad byte 2",
+        form: "bad byte 2",
+    },
+    Case {
+        text: b"|ab",
+        tokens: "bad byte 0",
+        form: "bad byte 0",
+    },
+    Case {
+        text: b"|",
+        tokens: "bad byte 0",
+        form: "bad byte 0",
+    },
+    Case {
+        text: b"|\\",
+        tokens: "bad byte 1",
+        form: "bad byte 1",
+    },
+    Case {
+        text: b"(|p",
+        tokens: "O0-1 bad byte 1",
+        form: "bad byte 1",
+    },
+    Case {
+        text: b"|a|b|c|",
+        tokens: "Q0-3 W3-4 Q4-7",
+        form: "ok",
+    },
+    Case {
+        text: b"|a||b|",
+        tokens: "Q0-3 Q3-6",
+        form: "ok",
+    },
+    Case {
+        text: b"\\",
+        tokens: "bad byte 0",
+        form: "bad byte 0",
+    },
+    Case {
+        text: b"a\\",
+        tokens: "W0-1 bad byte 1",
+        form: "bad byte 1",
+    },
+    Case {
+        text: b"~!@$%^&*_-+=<>.?/:#",
+        tokens: "W0-19",
+        form: "ok",
+    },
+    Case {
+        text: b"AZaz09_",
+        tokens: "W0-7",
+        form: "ok",
+    },
+    Case {
+        text: b"'",
+        tokens: "bad byte 0",
+        form: "bad byte 0",
+    },
+    Case {
+        text: b"a,b",
+        tokens: "W0-1 bad byte 1",
+        form: "bad byte 1",
+    },
+    Case {
+        text: b"[x]",
+        tokens: "bad byte 0",
+        form: "bad byte 0",
+    },
+    Case {
+        text: b"x{",
+        tokens: "W0-1 bad byte 1",
+        form: "bad byte 1",
+    },
+    Case {
+        text: b"`",
+        tokens: "bad byte 0",
+        form: "bad byte 0",
+    },
+    Case {
+        text: b"0",
+        tokens: "W0-1",
+        form: "ok",
+    },
+    Case {
+        text: b"10",
+        tokens: "W0-2",
+        form: "ok",
+    },
+    Case {
+        text: b"01",
+        tokens: "bad byte 0",
+        form: "bad byte 0",
+    },
+    Case {
+        text: b"00",
+        tokens: "bad byte 0",
+        form: "bad byte 0",
+    },
+    Case {
+        text: b"1.",
+        tokens: "bad byte 0",
+        form: "bad byte 0",
+    },
+    Case {
+        text: b"1.0",
+        tokens: "W0-3",
+        form: "ok",
+    },
+    Case {
+        text: b"0.00",
+        tokens: "W0-4",
+        form: "ok",
+    },
+    Case {
+        text: b"01.5",
+        tokens: "bad byte 0",
+        form: "bad byte 0",
+    },
+    Case {
+        text: b".5",
+        tokens: "W0-2",
+        form: "ok",
+    },
+    Case {
+        text: b"1.2.3",
+        tokens: "bad byte 0",
+        form: "bad byte 0",
+    },
+    Case {
+        text: b"1/2",
+        tokens: "W0-3",
+        form: "ok",
+    },
+    Case {
+        text: b"0/0",
+        tokens: "W0-3",
+        form: "ok",
+    },
+    Case {
+        text: b"1/02",
+        tokens: "bad byte 0",
+        form: "bad byte 0",
+    },
+    Case {
+        text: b"1/",
+        tokens: "bad byte 0",
+        form: "bad byte 0",
+    },
+    Case {
+        text: b"1/2/3",
+        tokens: "bad byte 0",
+        form: "bad byte 0",
+    },
+    Case {
+        text: b"1.5/2",
+        tokens: "bad byte 0",
+        form: "bad byte 0",
+    },
+    Case {
+        text: b"1a",
+        tokens: "bad byte 0",
+        form: "bad byte 0",
+    },
+    Case {
+        text: b"a1",
+        tokens: "W0-2",
+        form: "ok",
+    },
+    Case {
+        text: b"-1",
+        tokens: "W0-2",
+        form: "ok",
+    },
+    Case {
+        text: b"x 007)",
+        tokens: "W0-1 bad byte 2",
+        form: "bad byte 2",
+    },
+    Case {
+        text: b":k : #b01 #xZZ",
+        tokens: "W0-2 W3-4 W5-9 W10-14",
+        form: "ok",
+    },
+    Case {
+        text: b") 01",
+        tokens: "C0-1 bad byte 2",
+        form: "stray close 0",
+    },
+    Case {
+        text: b"\\ )",
+        tokens: "bad byte 0",
+        form: "bad byte 0",
+    },
+    Case {
+        text: b"01 )",
+        tokens: "bad byte 0",
+        form: "bad byte 0",
+    },
+    Case {
+        text: b"( 01",
+        tokens: "O0-1 bad byte 2",
+        form: "bad byte 2",
+    },
+    Case {
+        text: b"(step t1 (cl",
+        tokens: "O0-1 W1-5 W6-8 O9-10 W10-12",
+        form: "open list 0",
+    },
+    Case {
+        text: b"(step t1 (cl |p",
+        tokens: "O0-1 W1-5 W6-8 O9-10 W10-12 bad byte 13",
+        form: "bad byte 13",
+    },
+    Case {
+        text: b"(assume h1 q) (",
+        tokens: "O0-1 W1-7 W8-10 W11-12 C12-13 O14-15",
+        form: "open list 14",
+    },
+    Case {
+        text: b"(assume h1 01)",
+        tokens: "O0-1 W1-7 W8-10 bad byte 11",
+        form: "bad byte 11",
+    },
+];
+
+fn letter(kind: TokenKind) -> char {
+    match kind {
+        TokenKind::Open => 'O',
+        TokenKind::Close => 'C',
+        TokenKind::Text => 'T',
+        TokenKind::Quoted => 'Q',
+        TokenKind::Word => 'W',
+    }
+}
+
+fn push_token(out: &mut String, token: &Token) -> Result<(), AllocError> {
+    let kind = letter(token.kind);
+    let start = token.start;
+    let end = token.end;
+    write!(out, "{kind}{start}-{end} ")
+}
+
+/// The tokens of a text, and the refusal that ends them, if one does.
+fn tokens_of(alloc: Global, text: &[u8]) -> Result<String, AllocError> {
+    let mut out = String::new(alloc);
+    let mut lexer = Lexer::new(text);
+    for _ in 0..text.len() {
+        match lexer.next() {
+            Ok(Some(token)) => push_token(&mut out, &token)?,
+            Ok(None) => break,
+            Err(refusal) => {
+                let cause = cause_text(refusal.cause);
+                let at = refusal.at;
+                write!(out, "{cause} {at} ")?;
+                break;
+            }
+        }
+    }
+    Ok(out)
+}
+
+fn form_of(alloc: Global, text: &[u8]) -> Result<String, AllocError> {
+    match form(text) {
+        Ok(()) => String::from_str(alloc, "ok"),
+        Err(refusal) => {
+            let cause = cause_text(refusal.cause);
+            let at = refusal.at;
+            format!(in alloc; "{cause} {at}")
+        }
+    }
+}
+
+fn check_cases(rt: &impl Abort, alloc: Global, cases: &[Case]) -> Result<(), Fail> {
+    for case in cases {
+        let tokens = tokens_of(alloc, case.text)?;
+        assert_eq!(rt; tokens.as_str().trim_ascii(), case.tokens);
+        let judged = form_of(alloc, case.text)?;
+        assert_eq!(rt; judged.as_str(), case.form, "at {tokens}");
+    }
+    Ok(())
+}
+
+#[test]
+fn texts_have_their_tokens_and_form(rt: HostRuntime) -> Result<(), Fail> {
+    check_cases(&rt, rt.alloc(), CASES)
+}
+
+#[test]
+fn many_open_lists(rt: HostRuntime) -> Result<(), Fail> {
+    let text = vec![in rt.alloc(); b'('; 1_000_000]?;
+    let judged = form_of(rt.alloc(), &text)?;
+    assert_eq!(rt; judged.as_str(), "open list 0");
+    Ok(())
+}
+
+#[test]
+fn answers_come_again(rt: HostRuntime) -> Result<(), Fail> {
+    let mut lexer = Lexer::new(b"(|p q| \"\"\"\" 01");
+    for spelling in [b"(".as_slice(), b"|p q|", b"\"\"\"\""] {
+        let token = lexer.next()?.ok_or("a token")?;
+        assert!(rt; token.start <= token.end && token.end <= 14);
+        assert_eq!(rt; lexer.text(&token), spelling);
+    }
+    let refusal = lexer.next();
+    assert_eq!(rt; refusal, lexer.next());
+    Ok(())
+}
+
+#[test]
+fn symbols_have_one_name(rt: HostRuntime) -> Result<(), Fail> {
+    let mut lexer = Lexer::new(b"a-b |a-b| || :a \"a\"");
+    for name in [Some(b"a-b".as_slice()), Some(b"a-b"), Some(b""), None, None] {
+        let token = lexer.next()?.ok_or("a token")?;
+        assert!(rt; token.start <= token.end && token.end <= 19);
+        assert_eq!(rt; symbol_name(&lexer, &token), name);
+    }
+    Ok(())
+}
+
+#[test]
+fn words_have_their_kinds(rt: HostRuntime) {
+    let cases: [(&[u8], Option<WordKind>); 10] = [
+        (b"=>", Some(WordKind::Symbol)),
+        (b"-1", Some(WordKind::Symbol)),
+        (b".5", Some(WordKind::Symbol)),
+        (b":named", Some(WordKind::Keyword)),
+        (b"#b01", Some(WordKind::BitLiteral)),
+        (b"0", Some(WordKind::Numeral)),
+        (b"1.50", Some(WordKind::Decimal)),
+        (b"10/3", Some(WordKind::Ratio)),
+        (b"007", None),
+        (b"", None),
+    ];
+    for (word, kind) in cases {
+        assert_eq!(rt; word_kind(word), kind);
+    }
+}
