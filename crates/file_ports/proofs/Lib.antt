@@ -1,0 +1,4 @@
+pub mod Files
+pub mod Gets
+pub mod Rests
+pub mod Writing
