@@ -1,0 +1,12 @@
+pub mod Literals
+pub mod Soundness
+pub mod Premises
+pub mod Stuck
+pub mod Ranks
+pub mod Tables
+pub mod Sorting
+pub mod Standings
+pub mod Closing
+pub mod Counts
+pub mod States
+pub mod Progresses

@@ -1,0 +1,5 @@
+use Rattle.rules_resolution.proofs.Soundness.{consequence_sound}
+use Rattle.rules_resolution.proofs.laws.consequence_is_sound.Goals as goal
+
+pub returns : goal.returns
+returns c = consequence_sound

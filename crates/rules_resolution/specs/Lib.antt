@@ -1,0 +1,11 @@
+pub mod Literal
+pub mod Clause
+pub mod Consequence
+pub mod Trace
+pub mod Shows
+pub mod Occurrence
+pub mod Table
+pub mod Standing
+pub mod Work
+pub mod Idle
+pub mod Progress

@@ -1,0 +1,25 @@
+//! Unit consequence: whether a clause follows from clauses by unit propagation, as the rules `resolution`
+//! and `th_resolution` of the Alethe specification ask of their conclusion.
+//!
+//! The time is that of sorting the literals of the premises and the conclusion, and one search among them for
+//! each literal that becomes false; memory is a constant times these literals.
+#![tactic(auto)]
+
+mod close;
+mod follow;
+mod laws;
+mod literal;
+mod occurrence;
+mod search;
+mod standing;
+mod table;
+mod trail;
+mod work;
+
+pub use follow::follows;
+pub use laws::consequence_is_sound;
+pub use literal::Lit;
+pub use trail::{Memory, Trail};
+
+#[cfg(test)]
+mod tests;
