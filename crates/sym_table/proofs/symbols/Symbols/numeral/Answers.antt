@@ -1,0 +1,28 @@
+-- The key of the numeral is placed, so its leaf is found or added.
+use Rattle.std.proofs.Common.{subst, refl}
+use Rattle.std.proofs.Math.Facts.{to_z-of_z}
+use Rattle.sym_table.specs.declared.cells.Symbol.TheVariants as Symbol
+use Rattle.sym_table.specs.Names.{PlacesItem}
+use Rattle.sym_table.proofs.Links.{AreLinked-PlacesItem}
+use Rattle.sym_table.proofs.Adds.{FindsOrAdds-seen, few-PlacesItem, Keeps-FindsOrAdds, IsLeaf-FindsOrAdds}
+use Rattle.sym_table.proofs.symbols.Symbols.numeral.Goals as goal
+
+placed : (c : goal.In_ok-place) → PlacesItem c.self.inside.leaves.keys c.find_or_add.new.keys.keys c.in_ok-place.place (Symbol.Numeral c.args.n)
+placed c = subst (λ n. PlacesItem c.self.inside.leaves.keys c.find_or_add.new.keys.keys c.in_ok-place.place (Symbol.Numeral n)) (to_z-of_z c.ranges.n) c.in_ok-place.ensures.ok
+
+pub invariant_of-self-2 : goal.invariant_of-self-2
+invariant_of-self-2 c = (
+  AreLinked-PlacesItem _ _ _ _ _ _ _ c.self.invariant.0 (c.requires.not_negative, c.ranges.n) refl (placed c),
+  few-PlacesItem _ _ _ _ _ _ _ _ _ c.self.view_is c.requires.room (placed c),
+  c.self.invariant.2,
+  c.self.invariant.3,
+)
+
+pub returns-clause-found_or_new : goal.returns-clause-found_or_new
+returns-clause-found_or_new c = FindsOrAdds-seen _ _ _ _ _ _ _ _ _ c.self.view_is c.self.invariant.0 (c.requires.not_negative, c.ranges.n) (placed c)
+
+pub returns-clause-leaf : goal.returns-clause-leaf
+returns-clause-leaf c = IsLeaf-FindsOrAdds _ _ _ _ (FindsOrAdds-seen _ _ _ _ _ _ _ _ _ c.self.view_is c.self.invariant.0 (c.requires.not_negative, c.ranges.n) (placed c))
+
+pub returns-clause-keeps : goal.returns-clause-keeps
+returns-clause-keeps c = Keeps-FindsOrAdds _ _ _ _ (FindsOrAdds-seen _ _ _ _ _ _ _ _ _ c.self.view_is c.self.invariant.0 (c.requires.not_negative, c.ranges.n) (placed c))

@@ -1,0 +1,5 @@
+pub mod Words
+pub mod Names
+pub mod Leaf
+pub mod Table
+pub mod Cells
