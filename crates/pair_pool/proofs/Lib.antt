@@ -1,0 +1,6 @@
+pub mod TreeLemmas
+pub mod WordLemmas
+pub mod ProbeLemmas
+pub mod TableLemmas
+pub mod PassLemmas
+pub mod StateLemmas

@@ -1,0 +1,94 @@
+//! The words of a pool's table: making them, the probe, and what a word spells.
+
+ghost use Rattle.std.specs.Prelude.{◌≡◌, ◌≢◌, ℕ, ◌+◌, ◌-◌, ◌*◌, ◌%◌, ◌^◌, ◌<◌, ◌≤◌, ◌⊎◌, length, slice_index, slice_set, replicate, IfOk, OnErr, MatchOption};
+ghost use Rattle.pair_pool.specs.Words.{word_of, probe_start, probe_place, IsCell, IsOther, IsReached};
+ghost use Rattle.pair_pool.specs.GoodStates.{IsTable, IsReference};
+ghost use Rattle.pair_pool.specs.Writes.{IsStopAt, AddsWord, IsFullOfOthers};
+
+use crate::reference::FIRST_CELL;
+use crate::stops::{Memory, PoolFull};
+use std::alloc::Global;
+
+/// 2^`bits` empty words.
+pub(crate) fn new_words(alloc: Global, bits: u32) -> Result<Vec<u64>, Memory>
+    requires { bits ≤ 26 }
+    ensures { IfOk result (λ words. words.items ≡ replicate (2 ^ bits) 0) }
+{
+    Ok(vec![in alloc; 0u64; 1 << bits]?)
+}
+
+/// Where the probe for a cell starts.
+fn start_of(bits: u32, first: u32, second: u32) -> usize
+    requires bits { bits ≤ 26 }
+    requires first { first < 2 ^ 31 }
+    requires second { second < 2 ^ 31 }
+    ensures { result ≡ probe_start (2 ^ bits) first second }
+{
+    ((first as u64 * 2654435761 + second as u64 * 40503) % (1u64 << bits)) as usize
+}
+
+/// The first place from `start` on, round the table, that is empty or has the word `wanted`.
+fn find(words: &[u64], start: usize, wanted: u64) -> Option<usize>
+    requires start { start < length words.now }
+    requires most { length words.now ≤ 2 ^ 26 }
+    ensures { MatchOption result (IsFullOfOthers words.now wanted) (λ place. IsStopAt words.now start wanted place) }
+{
+    let mut at = start;
+    'probe: for _ in 0..words.len() {
+        let seen = words[at];
+        if seen == wanted || seen == 0 {
+            return Some(at);
+        }
+        at = if at + 1 == words.len() { 0 } else { at + 1 };
+    }
+    None
+}
+
+/// The reference of the cell (`first`, `second`), which is written where it does not stand yet.
+pub(crate) fn insert(
+    words: &mut Vec<u64>,
+    bits: u32,
+    first: u32,
+    second: u32,
+) -> Result<u32, PoolFull>
+    requires table { IsTable words.old.items }
+    requires size { length words.old.items ≡ 2 ^ bits }
+    requires bits { bits ≤ 26 }
+    requires first { IsReference words.old.items first }
+    requires second { IsReference words.old.items second }
+    ensures table { IsTable words.new.items }
+    ensures adds { IfOk result (λ r. AddsWord words.old.items words.new.items r first second) }
+    ensures was_there { (q : ℕ) → IsCell words.old.items q first second → words.new.items ≡ words.old.items }
+    ensures length { length words.new.items ≡ length words.old.items }
+    ensures full { OnErr result (IsFullOfOthers words.old.items (word_of first second)) }
+    ensures kept { OnErr result (words.new.items ≡ words.old.items) }
+{
+    let wanted = word_of(first, second);
+    let Some(place) = find(words, start_of(bits, first, second), wanted) else {
+        return Err(PoolFull);
+    };
+    if words[place] == 0 {
+        words[place] = wanted;
+    }
+    Ok(FIRST_CELL + place as u32)
+}
+
+/// The word of the cell (`first`, `second`).
+fn word_of(first: u32, second: u32) -> u64
+    requires { first < 2 ^ 31 }
+    ensures { result ≡ word_of first second }
+{
+    (1 << 63) + first as u64 * (1 << 32) + second as u64
+}
+
+/// The two parts of the cell with the reference `number`.
+pub(crate) fn parts_of(words: &[u64], number: u32) -> (u32, u32)
+    requires { (a : ℕ) × (b : ℕ) × IsCell words.now number a b }
+    ensures { IsCell words.now number result.0 result.1 }
+{
+    let word = words[(number - FIRST_CELL) as usize];
+    (
+        ((word - (1 << 63)) / (1 << 32)) as u32,
+        (word % (1 << 32)) as u32,
+    )
+}
