@@ -1,0 +1,10 @@
+pub mod Outcomes
+pub mod Replacing
+pub mod Meanings
+pub mod Readings
+pub mod Scripts
+pub mod Freedom
+pub mod LetFree
+pub mod SortItems
+pub mod OneReading
+pub mod TokensOfItems

@@ -1,0 +1,14 @@
+pub mod Spelling
+pub mod Words
+pub mod Forms
+pub mod Commands
+pub mod Heights
+pub mod Replacement
+pub mod Scripts
+pub mod Sorts
+pub mod Lexers
+pub mod Names
+pub mod Terms
+pub mod Problems
+pub mod Soundness
+pub mod Examples
