@@ -1,0 +1,200 @@
+// What the program prints through the top call, over files and an output in memory.
+use carcara_cli::carcara;
+use file_ports::{MemoryFolder, MemorySink, OpenGate};
+use std::alloc::{AllocError, Global};
+use std::test::Fail;
+
+const CONTRADICTION: &[u8] =
+    b"(set-logic QF_UF)\n(declare-fun p () Bool)\n(assert p)\n(assert (not p))\n(check-sat)\n";
+
+const RESOLUTION: &[u8] =
+    b"(assume h1 p)\n(assume h2 (not p))\n(step t1 (cl) :rule resolution :premises (h1 h2))\n";
+
+// The files `a.alethe` and `a.smt2`.
+fn files(
+    alloc: Global,
+    proof: &[u8],
+    problem: &[u8],
+) -> Result<Vec<(String, Vec<u8>)>, AllocError> {
+    let mut files = Vec::new(alloc);
+    files.push((
+        String::from_str(alloc, "a.alethe")?,
+        Vec::from_slice(alloc, proof)?,
+    ))?;
+    files.push((
+        String::from_str(alloc, "a.smt2")?,
+        Vec::from_slice(alloc, problem)?,
+    ))?;
+    Ok(files)
+}
+
+fn words_of(alloc: Global, words: &[&str]) -> Result<Vec<String>, AllocError> {
+    let mut owned = Vec::new(alloc);
+    for word in words {
+        owned.push(String::from_str(alloc, word)?)?;
+    }
+    Ok(owned)
+}
+
+// The status of the words over a folder, and what was printed.
+fn answer(
+    rt: &HostRuntime,
+    words: &[&str],
+    mut folder: MemoryFolder,
+    mut out: MemorySink,
+) -> Result<(u8, Vec<u8>), AllocError> {
+    let words = words_of(rt.alloc(), words)?;
+    let status = carcara(rt, &words, &mut folder, &mut out, &OpenGate);
+    let printed = Vec::from_slice(rt.alloc(), out.written())?;
+    Ok((status, printed))
+}
+
+// The status of a check of two texts, and what was printed, with reads of seven bytes and writes of sixteen.
+fn checked(
+    rt: &HostRuntime,
+    proof: &[u8],
+    problem: &[u8],
+    failing_reads: &[u64],
+    failing_writes: &[u64],
+) -> Result<(u8, Vec<u8>), AllocError> {
+    let folder = MemoryFolder::new(
+        files(rt.alloc(), proof, problem)?,
+        7,
+        Vec::from_slice(rt.alloc(), failing_reads)?,
+    );
+    let out = MemorySink::new(16, Vec::from_slice(rt.alloc(), failing_writes)?);
+    answer(rt, &["check", "a.alethe", "a.smt2"], folder, out)
+}
+
+#[test]
+fn answers_of_small_proofs(rt: HostRuntime) -> Result<(), Fail> {
+    let cases: [(&[u8], u8, &[u8]); 9] = [
+        (RESOLUTION, 0, b"valid\n"),
+        (b"", 1, b"invalid\nno empty clause\n"),
+        (
+            b"(assume h1 (not (not p)))",
+            1,
+            b"invalid\nstep h1: not asserted\n",
+        ),
+        (
+            b"(assume h1 p) (step t1 (cl) :rule resolution :premises (h1))",
+            1,
+            b"invalid\nstep t1: condition not met\n",
+        ),
+        (
+            b"(assume h1 p) (step t1 (cl p) :rule resolution :premises (h1))",
+            1,
+            b"invalid\nno empty clause\n",
+        ),
+        (b"(step t1 (cl", 3, b"refused\nproof 0: open list\n"),
+        (b"(assume h1 p))", 3, b"refused\nproof 13: stray close\n"),
+        (b"(assume h1 p) \x0b", 3, b"refused\nproof 14: bad byte\n"),
+        (b"(assume h1 q)", 3, b"refused\nproof 0: left out\n"),
+    ];
+    for (proof, status, printed) in cases {
+        let (found, text) = checked(&rt, proof, CONTRADICTION, &[], &[])?;
+        assert_eq!(rt; found, status);
+        assert_eq!(rt; text.as_slice(), printed);
+    }
+    Ok(())
+}
+
+// A clause set that no order of premises with a pivot each time leads to the empty clause: the assertions are the
+// four clauses' parts, behind double negations that resolution looks through.
+#[test]
+fn double_negations_are_looked_through(rt: HostRuntime) -> Result<(), Fail> {
+    let problem =
+        b"(set-logic QF_UF)(declare-fun p () Bool)(assert p)(assert (not (not (not p))))(check-sat)";
+    let proof =
+        b"(assume h1 p)(assume h2 (not (not (not p))))(step t1 (cl) :rule resolution :premises (h1 h2))";
+    let (status, printed) = checked(&rt, proof, problem, &[], &[])?;
+    assert_eq!(rt; status, 0);
+    assert_eq!(rt; printed.as_slice(), b"valid\n".as_slice());
+    Ok(())
+}
+
+#[test]
+fn problems_are_refused_first(rt: HostRuntime) -> Result<(), Fail> {
+    let cases: [(&[u8], &[u8]); 6] = [
+        (b"(assert p", b"refused\nproblem 0: open list\n"),
+        (
+            b"(set-logic QF_BV)(check-sat)",
+            b"refused\nproblem 0: left out\n",
+        ),
+        (
+            b"(set-logic QF_UF)(declare-fun p () Bool)(declare-fun p () Bool)(check-sat)",
+            b"refused\nproblem 0: left out\n",
+        ),
+        (
+            b"(set-logic QF_UF)(declare-fun not () Bool)(check-sat)",
+            b"refused\nproblem 0: left out\n",
+        ),
+        (
+            b"(set-logic QF_UF)(assert q)(check-sat)",
+            b"refused\nproblem 0: left out\n",
+        ),
+        (b"(set-logic QF_UF)", b"refused\nproblem 0: left out\n"),
+    ];
+    for (problem, printed) in cases {
+        let (status, text) = checked(&rt, b"(", problem, &[], &[])?;
+        assert_eq!(rt; status, 3);
+        assert_eq!(rt; text.as_slice(), printed);
+    }
+    Ok(())
+}
+
+#[test]
+fn faults_of_the_outside(rt: HostRuntime) -> Result<(), Fail> {
+    // Calls are numbered from 0: the problem is opened, then read in pieces of seven bytes.
+    for failing in [0, 1, 2] {
+        let (status, printed) = checked(&rt, RESOLUTION, CONTRADICTION, &[failing], &[])?;
+        assert_eq!(rt; status, 5);
+        assert_eq!(rt; printed.as_slice(), b"read fault\n".as_slice());
+    }
+    let (status, printed) = checked(&rt, b"", CONTRADICTION, &[], &[1])?;
+    assert_eq!(rt; status, 6);
+    assert_eq!(rt; printed.as_slice(), b"invalid\nno empty".as_slice());
+    Ok(())
+}
+
+#[test]
+fn words_that_spell_no_command(rt: HostRuntime) -> Result<(), Fail> {
+    let usage =
+        b"usage: carcara (check | elaborate) PROOF PROBLEM [options] | carcara generate N [options]\n";
+    let cases: [&[&str]; 5] = [
+        &[],
+        &["check", "a.alethe"],
+        &["prove", "a.alethe", "a.smt2"],
+        &["check", "--strict", "a.smt2"],
+        &["check", "a.alethe", "a.smt2", "a.smt2"],
+    ];
+    for words in cases {
+        let folder = MemoryFolder::new(
+            files(rt.alloc(), RESOLUTION, CONTRADICTION)?,
+            7,
+            Vec::new(rt.alloc()),
+        );
+        let out = MemorySink::new(16, Vec::new(rt.alloc()));
+        let (status, printed) = answer(&rt, words, folder, out)?;
+        assert_eq!(rt; status, 64);
+        assert_eq!(rt; printed.as_slice(), usage.as_slice());
+    }
+    Ok(())
+}
+
+#[test]
+fn a_problem_that_is_too_long(rt: HostRuntime) -> Result<(), Fail> {
+    let mut all = Vec::new(rt.alloc());
+    let spaces = vec![in rt.alloc(); b' '; 268_435_457]?;
+    all.push((
+        String::from_str(rt.alloc(), "a.alethe")?,
+        Vec::from_slice(rt.alloc(), b"")?,
+    ))?;
+    all.push((String::from_str(rt.alloc(), "a.smt2")?, spaces))?;
+    let folder = MemoryFolder::new(all, 65_536, Vec::new(rt.alloc()));
+    let out = MemorySink::new(16, Vec::new(rt.alloc()));
+    let (status, printed) = answer(&rt, &["check", "a.alethe", "a.smt2"], folder, out)?;
+    assert_eq!(rt; status, 9);
+    assert_eq!(rt; printed.as_slice(), b"too long\n".as_slice());
+    Ok(())
+}

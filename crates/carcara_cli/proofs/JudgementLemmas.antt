@@ -1,0 +1,85 @@
+-- The answer of a verdict on the two texts.
+use Rattle.std.proofs.Common.{◌≡◌, ℕ, List, length, refl, arith}
+use Rattle.carcara_cli.specs.declared.literal.Literal.{Literal}
+use Rattle.carcara_cli.specs.declared.answer.Answer.{Answer}
+use Rattle.carcara_cli.specs.declared.answer.Answer.TheVariants.{Valid, NoEmptyClause, NotMet, NotAsserted, RefusedProblem, RefusedProof, ReadFault, TooLong, Usage}
+use Rattle.carcara_cli.specs.declared.check.Verdict.{Verdict}
+use Rattle.carcara_cli.specs.declared.check.Verdict.TheVariants as verdict
+use Rattle.carcara_cli.specs.Names.{Word}
+use Rattle.carcara_cli.specs.Proof.{ProofCommand}
+use Rattle.carcara_cli.specs.Verdict.{IsVerdict}
+use Rattle.std.specs.Prelude.{Option, None, Some, Result, Ok, Err, IfOk, map}
+use Rattle.term_model.specs.Unsatisfiable.{Unsatisfiable}
+use Rattle.file_ports.specs.Texts.{AreTold}
+use Rattle.rules_resolution.specs.declared.trail.Memory.{Memory}
+use Rattle.carcara_cli.specs.Texts.{term_of}
+use Rattle.carcara_cli.specs.Answers.{status_of}
+use Rattle.carcara_cli.specs.Proof.{HaveEarlierPremises}
+use Rattle.carcara_cli.specs.Judgement.{Paths, IsProblemText, IsProofText, IsJudgedAs, IsWithin, IsNamed, IsJudged, IsJudgedIfTold, IsAnswer, IsUnsatisfiableIfTold, ShowsUnsatisfiable}
+
+module _ (problem proof : List ℕ) (names ids : List Word) (assertions : List Literal) (commands : List ProofCommand)
+    (problem_text : IsProblemText problem names assertions) (proof_text : IsProofText proof names ids commands) where
+  judged_as : (v : Verdict) → IsVerdict assertions commands v → IsJudgedAs problem proof v ids
+  judged_as v h = record { names = names; assertions = assertions; commands = commands; problem_text = problem_text; proof_text = proof_text; verdict = h }
+
+  pub verdict_within : (v : Verdict) → IsVerdict assertions commands v → IsWithin (length ids) v
+  verdict_within verdict.Valid h = tt
+  verdict_within verdict.NoEmptyClause h = tt
+  verdict_within (verdict.NotMet k) h = omega (arith, h.0.within, proof_text.proof.each_id)
+  verdict_within (verdict.NotAsserted k) h = omega (arith, h.0.within, proof_text.proof.each_id)
+
+  pub named_is_judged : (v : Verdict) (a : Answer) → IsVerdict assertions commands v → IsNamed ids v a → IsJudged problem proof a
+  named_is_judged v Valid h n = (ids, judged_as verdict.Valid (rw n at h))
+  named_is_judged v NoEmptyClause h n = (ids, judged_as verdict.NoEmptyClause (rw n at h))
+  named_is_judged v (NotMet id) h n = (ids, n.0, judged_as (verdict.NotMet n.0) (rw n.1 at h), n.2)
+  named_is_judged v (NotAsserted id) h n = (ids, n.0, judged_as (verdict.NotAsserted n.0) (rw n.1 at h), n.2)
+  named_is_judged v (RefusedProblem r) h n = absurd n
+  named_is_judged v (RefusedProof r) h n = absurd n
+  named_is_judged v ReadFault h n = absurd n
+  named_is_judged v TooLong h n = absurd n
+  named_is_judged v Usage h n = absurd n
+
+if_told : (x y : Option (List ℕ)) (problem proof : List ℕ) (a : Answer) → AreTold x problem → AreTold y proof → IsJudged problem proof a → IsJudgedIfTold x y a
+if_told None y problem proof a told told' h = tt
+if_told (Some t) None problem proof a told told' h = tt
+if_told (Some t) (Some u) problem proof a told told' h = rw (told, told') at h
+
+module _ (content : List ℕ → Option (List ℕ)) (before after : ℕ) (p : Paths) (problem proof : List ℕ)
+    (told : AreTold (content p.problem) problem) (told' : AreTold (content p.proof) proof) where
+  judged_is_answer : (a : Answer) → IsJudged problem proof a → IsAnswer content before after (Some p) a
+  judged_is_answer Valid h = if_told (content p.problem) (content p.proof) problem proof Valid told told' h
+  judged_is_answer NoEmptyClause h = if_told (content p.problem) (content p.proof) problem proof NoEmptyClause told told' h
+  judged_is_answer (NotMet id) h = if_told (content p.problem) (content p.proof) problem proof (NotMet id) told told' h
+  judged_is_answer (NotAsserted id) h = if_told (content p.problem) (content p.proof) problem proof (NotAsserted id) told told' h
+  judged_is_answer (RefusedProblem r) h = if_told (content p.problem) (content p.proof) problem proof (RefusedProblem r) told told' h
+  judged_is_answer (RefusedProof r) h = if_told (content p.problem) (content p.proof) problem proof (RefusedProof r) told told' h
+  judged_is_answer ReadFault h = absurd h
+  judged_is_answer TooLong h = absurd h
+  judged_is_answer Usage h = absurd h
+
+  pub answer_is : (paths : Option Paths) → Some p ≡ paths → (r : Result Answer Memory) → IfOk r (IsJudged problem proof) → IfOk r (IsAnswer content before after paths)
+  answer_is paths e (Ok a) h = rw (← e) (judged_is_answer a h)
+  answer_is paths e (Err m) h = tt
+
+module _ (sound : (names : List Word) (assertions : List Literal) (commands : List ProofCommand) → HaveEarlierPremises commands → IsVerdict assertions commands verdict.Valid → Unsatisfiable (map (term_of names) assertions)) where
+  valid_told : (x y : Option (List ℕ)) → IsJudgedIfTold x y Valid → IsUnsatisfiableIfTold x y
+  valid_told None y h = tt
+  valid_told (Some problem) None h = tt
+  valid_told (Some problem) (Some proof) h =
+      let j = h.1 in (
+        map (term_of j.names) j.assertions,
+        record { names = j.names; assertions = j.assertions; problem = j.problem_text; terms_are = refl },
+        sound j.names j.assertions j.commands (λ k within. (j.proof_text.proof.each k within).earlier) j.verdict,
+      )
+
+  pub valid_shows : (content : List ℕ → Option (List ℕ)) (before after : ℕ) (paths : Option Paths) (a : Answer) → IsAnswer content before after paths a → status_of a ≡ 0 → ShowsUnsatisfiable content paths
+  valid_shows content before after None Valid h e = absurd h
+  valid_shows content before after (Some p) Valid h e = valid_told (content p.problem) (content p.proof) h
+  valid_shows content before after paths NoEmptyClause h e = absurd (omega (arith, e))
+  valid_shows content before after paths (NotMet id) h e = absurd (omega (arith, e))
+  valid_shows content before after paths (NotAsserted id) h e = absurd (omega (arith, e))
+  valid_shows content before after paths (RefusedProblem r) h e = absurd (omega (arith, e))
+  valid_shows content before after paths (RefusedProof r) h e = absurd (omega (arith, e))
+  valid_shows content before after paths ReadFault h e = absurd (omega (arith, e))
+  valid_shows content before after paths TooLong h e = absurd (omega (arith, e))
+  valid_shows content before after paths Usage h e = absurd (omega (arith, e))

@@ -1,0 +1,9 @@
+pub mod NameLemmas
+pub mod ReadingLemmas
+pub mod TermLemmas
+pub mod ProblemLemmas
+pub mod ProofLemmas
+pub mod TextLemmas
+pub mod VerdictLemmas
+pub mod Soundness
+pub mod JudgementLemmas

@@ -1,0 +1,10 @@
+pub mod Names
+pub mod Reading
+pub mod TextWords
+pub mod Texts
+pub mod Problem
+pub mod Proof
+pub mod Commands
+pub mod Verdict
+pub mod Answers
+pub mod Judgement

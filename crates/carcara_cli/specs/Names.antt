@@ -1,0 +1,41 @@
+-- Names by their places.
+use Rattle.std.specs.Prelude.{◌≡◌, ◌≢◌, ℕ, ◌<◌, List, [], length, map, slice_index_or, Vec, Bool, true, ◌&&◌, bytes_eq}
+use Rattle.std.specs.List.{list_any, list_all}
+use Rattle.sexpr.specs.Characters.{is_word_byte}
+use Rattle.sexpr.specs.Words.{is_symbol}
+use Rattle.sym_table.specs.Words.{IsBuiltIn}
+use Rattle.std.specs.Global.{Global}
+
+-- a word, as its bytes
+abbrev pub Word : Type 0
+Word = List ℕ
+
+-- the name at a place
+abbrev pub name_at : List Word → ℕ → Word
+name_at names k = slice_index_or names k []
+
+-- the bytes of names
+abbrev pub names_of : List (Vec ℕ Global) → List Word
+names_of names = map (λ v. v.items) names
+
+-- the name stands at the place
+pub record IsPlaceOf (names : List Word) (name : Word) (k : ℕ) : Type 0 where
+  pub within : k < length names
+  pub is : name_at names k ≡ name
+
+-- none of the names is this one
+abbrev pub IsNoName : List Word → Word → Type 0
+IsNoName names name = (k : ℕ) → k < length names → name_at names k ≢ name
+
+-- whether a word is one of these
+abbrev pub is_among : List Word → Word → Bool
+is_among words w = list_any (bytes_eq w) words
+
+-- a symbol that is spelled without bars: every byte is one of a word
+abbrev pub is_symbol_word : Word → Bool
+is_symbol_word w = is_symbol w && list_all is_word_byte w
+
+-- a name that may be declared: a symbol that is not built in
+pub record MayDeclare (w : Word) : Type 0 where
+  pub symbol : is_symbol_word w ≡ true
+  pub free : IsBuiltIn w → ⊥
