@@ -1,0 +1,13 @@
+pub mod OneTree
+pub mod OneTerm
+pub mod Growth
+pub mod BuildingLemmas
+pub mod Results
+pub mod Depth
+pub mod PassLemmas
+pub mod TermLemmas
+pub mod ReadingLemmas
+pub mod ShapeLemmas
+pub mod NotLemmas
+pub mod HeightLemmas
+pub mod CountLemmas

@@ -1,0 +1,49 @@
+-- The trees of lists, applications and lets, and the parts and sizes of trees.
+use Rattle.std.specs.Prelude.{◌≡◌, ℕ, zero, suc, ◌⊎◌, List, [], ◌∷◌, max}
+use Rattle.pair_pool.specs.Trees.{Tree, leaf, cell}
+use Rattle.term_pool.specs.StandsFor.{nil_tree, let_tree}
+
+-- a list of trees as one tree
+abbrev pub list_tree : List Tree → Tree
+list_tree [] = nil_tree
+list_tree (t ∷ ts) = cell t (list_tree ts)
+
+-- the application of a leaf to arguments
+abbrev pub app_tree : ℕ → List Tree → Tree
+app_tree head [] = leaf head
+app_tree head (t ∷ ts) = cell (leaf head) (list_tree (t ∷ ts))
+
+-- the bindings of variables to values, as the list of their cells
+abbrev pub binding_trees : List ℕ → List Tree → List Tree
+binding_trees [] ts = []
+binding_trees (x ∷ xs) [] = []
+binding_trees (x ∷ xs) (t ∷ ts) = cell (leaf x) t ∷ binding_trees xs ts
+
+abbrev pub let_term_tree : List ℕ → List Tree → Tree → Tree
+let_term_tree vars values body = cell let_tree (cell (list_tree (binding_trees vars values)) body)
+
+-- the first tree is the second or a part of it, at any depth
+abbrev pub IsPartOf : Tree → Tree → Type 0
+IsPartOf part (leaf k) = part ≡ leaf k
+IsPartOf part (cell a b) = (part ≡ cell a b) ⊎ (IsPartOf part a ⊎ IsPartOf part b)
+
+-- the tree is a cell
+abbrev pub IsCellTree : Tree → Type 0
+IsCellTree (leaf k) = ⊥
+IsCellTree (cell a b) = Unit {0}
+
+-- how many items the tree has as a list
+abbrev pub list_length : Tree → ℕ
+list_length (leaf k) = 0
+list_length (cell a b) = suc (list_length b)
+
+-- the item of the tree as a list at place i, counted from 0
+abbrev pub list_item : Tree → ℕ → Tree
+list_item (leaf k) i = leaf k
+list_item (cell a b) zero = a
+list_item (cell a b) (suc i) = list_item b i
+
+-- how many cells there are on the longest way down
+abbrev pub depth : Tree → ℕ
+depth (leaf k) = 0
+depth (cell a b) = suc (max (depth a) (depth b))

@@ -1,0 +1,22 @@
+//! Laws of trees and terms.
+
+ghost use Rattle.std.specs.Prelude.{◌≡◌, ℕ};
+ghost use Rattle.pair_pool.specs.Trees.{Tree};
+ghost use Rattle.sym_table.specs.Table.{Table, IsTable, Keeps};
+ghost use Rattle.term_model.specs.Terms.{Term};
+ghost use Rattle.term_pool.specs.StandsFor.{StandsFor};
+ghost use Rattle.term_pool.specs.Views.{TermsView, RefersTo, KeepsTerms};
+
+/// A law: by one table of symbols a term has one tree, a tree stands for one term, and what a tree stands for it goes
+/// on standing for as the table grows. The call does nothing; its contract is the law.
+pub fn trees_of_terms()
+    ensures one_tree { (s : Table) (a b : Tree) (t : Term) → IsTable s → StandsFor s a t → StandsFor s b t → a ≡ b }
+    ensures one_term { (s : Table) (a : Tree) (t u : Term) → IsTable s → StandsFor s a t → StandsFor s a u → t ≡ u }
+    ensures stays { (s z : Table) (a : Tree) (t : Term) → Keeps s z → StandsFor s a t → StandsFor z a t }
+{}
+
+/// A law: what a reference stands for it goes on standing for, as the table of symbols grows and as a pass comes to
+/// know more. The call does nothing; its contract is the law.
+pub fn references_stay()
+    ensures { (s z : Table) (v w : TermsView) (r : ℕ) (t : Term) → Keeps s z → KeepsTerms v w → RefersTo s v r t → RefersTo z w r t }
+{}

@@ -1,0 +1,66 @@
+//! A pool with one pass on it.
+
+ghost use Rattle.std.specs.Prelude.{◌≡◌, ◌↔◌, ℕ};
+ghost use Rattle.pair_pool.specs.Views.{IsOf, IsOneToOne};
+ghost use Rattle.sym_table.specs.Table.{Table, IsTable};
+ghost use Rattle.term_model.specs.Terms.{Term};
+ghost use Rattle.term_pool.specs.Views.{RefersTo};
+
+mod building;
+mod measures;
+mod reading;
+
+use pair_pool::{Pass, Pool};
+use std::marker::Model;
+
+/// A pool and a pass on it. Contracts see both.
+#[derive(Drop)]
+pub struct Terms<'a> {
+    pool: &'a Pool,
+    pass: Pass,
+}
+
+impl<'a> Model for Terms<'a> {
+    ghost use Rattle.pair_pool.specs.Views.{IsOf};
+    ghost use Rattle.term_pool.specs.Views.{TermsView};
+
+    ghost Value = { TermsView };
+
+    ghost view = { λ t. record { pool = t.pool.now; pass = t.pass } };
+
+    ghost invariant = { λ t. IsOf t.pool.now t.pass };
+}
+
+impl<'a> Terms<'a> {
+    /// The terms of a pool, by a pass on it.
+    pub fn new(pool: &'a Pool, pass: Pass) -> Terms<'a>
+        requires { IsOf pool.now pass }
+        ensures pool { result.pool ≡ pool.now }
+        ensures pass { result.pass ≡ pass }
+    {
+        Terms { pool, pass }
+    }
+
+    /// The pass, with all that it knows.
+    pub fn into_pass(self) -> Pass
+        ensures pass { result ≡ self.entry.pass }
+        ensures of_pool { IsOf self.entry.pool result }
+    {
+        self.pass
+    }
+
+    /// A law: by one table of symbols, two known references are equal exactly where their terms are. The call does
+    /// nothing; its contract is the law.
+    pub fn equal_exactly_where_terms_are(&self)
+        ensures { (s : Table) → IsTable s → (p q : ℕ) (t u : Term) → RefersTo s self.now p t → RefersTo s self.now q u → (p ≡ q) ↔ (t ≡ u) }
+    {
+        self.pass.one_to_one();
+    }
+
+    /// A law: a known reference has one tree, and a tree one reference. The call does nothing; its contract is the law.
+    pub fn one_to_one(&self)
+        ensures { IsOneToOne self.now.pass }
+    {
+        self.pass.one_to_one();
+    }
+}
