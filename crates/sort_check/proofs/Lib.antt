@@ -1,0 +1,4 @@
+pub mod Leaves
+pub mod Judging
+pub mod Steps
+pub mod Ways

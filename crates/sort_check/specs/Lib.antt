@@ -1,0 +1,3 @@
+pub mod Applications
+pub mod WellSorted
+pub mod Descent
