@@ -1,5 +1,6 @@
 //! A plain Rust table of the words that a pool keeps: the baseline of `bench/pool/run.py`, over std alone.
 //! Usage: baseline (none | pairs | finds | chain | parts | probes) BITS COUNT
+//!    or: baseline terms (none | build | view) BITS COUNT
 
 use std::env;
 
@@ -91,8 +92,101 @@ fn probes(table: &Table) -> f64 {
     looks as f64 / cells as f64
 }
 
+// The leaves of the first functions and constants that a table of symbols declares.
+const FUNCTIONS: [u32; 4] = [19, 20, 21, 22];
+const CONSTANT: u32 = 23;
+
+impl Table {
+    /// The application of a leaf to arguments: its list from the end, and the cell of the head and the list.
+    fn app(&mut self, head: u32, args: &[u32]) -> Option<u32> {
+        if args.is_empty() {
+            return Some(head);
+        }
+        let mut list = 0;
+        for &arg in args.iter().rev() {
+            list = self.intern(arg, list)?;
+        }
+        self.intern(head, list)
+    }
+
+    /// The head of a term, and the number of its arguments.
+    fn shape(&self, r: u32) -> (u32, u32) {
+        if r < FIRST_CELL {
+            return (r, 0);
+        }
+        let (head, mut list) = self.parts(r);
+        let mut count = 0;
+        while list >= FIRST_CELL {
+            list = self.parts(list).1;
+            count += 1;
+        }
+        (head, count)
+    }
+
+    /// The argument at place `i`.
+    fn nth_arg(&self, r: u32, i: u32) -> u32 {
+        let mut list = self.parts(r).1;
+        for _ in 0..i {
+            list = self.parts(list).1;
+        }
+        self.parts(list).0
+    }
+}
+
+fn place(k: u32, i: u32, count: usize) -> usize {
+    ((k as u64 * 2654435761 + i as u64 * 40503) % count as u64) as usize
+}
+
+fn build(table: &mut Table, built: &mut Vec<u32>, count: u32) -> u64 {
+    let mut sum: u64 = 0;
+    for k in 0..count {
+        let [a, b, c, d] = [0, 1, 2, 3].map(|i| built[place(k, i, built.len())]);
+        let r = match k % 4 {
+            0 => table.app(FUNCTIONS[0], &[a]),
+            1 => table.app(FUNCTIONS[1], &[a, b]),
+            2 => table.app(FUNCTIONS[2], &[a, b, c]),
+            _ => table.app(FUNCTIONS[3], &[a, b, c, d]),
+        }
+        .expect("room");
+        built.push(r);
+        sum = sum.wrapping_add(r as u64);
+    }
+    sum
+}
+
+fn view(table: &Table, built: &[u32]) -> u64 {
+    let mut sum: u64 = 0;
+    for &r in built {
+        let (head, count) = table.shape(r);
+        let mut read = head as u64;
+        for i in 0..count {
+            read = read.wrapping_add(table.nth_arg(r, i) as u64);
+        }
+        sum = sum.wrapping_add(read);
+    }
+    sum
+}
+
+fn terms(case: &str, bits: u32, count: u32) {
+    let mut table = Table::new(bits);
+    let mut built = vec![CONSTANT];
+    let sum = match case {
+        "none" => 0,
+        "build" => build(&mut table, &mut built, count),
+        "view" => {
+            let sum = build(&mut table, &mut built, count);
+            sum.wrapping_add(view(&table, &built))
+        }
+        _ => panic!("no such case"),
+    };
+    println!("terms {case} {bits} {count}: {sum}");
+}
+
 fn main() {
     let words: Vec<String> = env::args().skip(1).collect();
+    if words[0] == "terms" {
+        return terms(&words[1], words[2].parse().expect("bits"), words[3].parse().expect("count"));
+    }
     let bits: u32 = words[1].parse().expect("bits");
     let count: u32 = words[2].parse().expect("count");
     let mut table = Table::new(bits);

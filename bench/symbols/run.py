@@ -43,7 +43,7 @@ def medians(programs, case, rounds):
 
 def main():
     rounds = int(sys.argv[1]) if len(sys.argv) > 1 else 5
-    subprocess.run(["rt", "run"], cwd=CRATE, check=True, stdout=subprocess.DEVNULL, stderr=subprocess.DEVNULL)
+    subprocess.run(["rt", "run", "--", "symbols", "none", "1"], cwd=CRATE, check=True, stdout=subprocess.DEVNULL, stderr=subprocess.DEVNULL)
     with tempfile.TemporaryDirectory() as folder:
         baseline = os.path.join(folder, "baseline")
         subprocess.run(["rustc", "-O", "-o", baseline, os.path.join(HERE, "baseline.rs")], check=True)

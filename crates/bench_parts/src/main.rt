@@ -6,6 +6,7 @@
 mod pool;
 mod propagation;
 mod symbols;
+mod terms;
 mod tokens;
 
 use anyhow::{Result, bail};
@@ -16,6 +17,9 @@ fn main(rt: HostRuntime) -> Result<()> {
     match words.as_slice() {
         [topic, case, bits, count] if topic.as_str() == "pool" => {
             pool_line(&rt, case.as_str(), bits.as_str(), count.as_str())
+        }
+        [topic, case, bits, count] if topic.as_str() == "terms" => {
+            terms_line(&rt, case.as_str(), bits.as_str(), count.as_str())
         }
         [topic, case, count] if topic.as_str() == "symbols" => {
             symbols_line(&rt, case.as_str(), count.as_str())
@@ -30,7 +34,7 @@ fn main(rt: HostRuntime) -> Result<()> {
         [topic, case, count, _time] if topic.as_str() == "propagation" => {
             propagation::run(&rt, case.as_str(), count.parse::<u32>()?, true)
         }
-        _ => bail!("usage: bench_parts (pool | symbols | tokens | propagation) CASE .."),
+        _ => bail!("usage: bench_parts (pool | terms | symbols | tokens | propagation) CASE .."),
     }
 }
 
@@ -38,6 +42,14 @@ fn pool_line(rt: &(impl Print + AllocGlobal), case: &str, bits: &str, count: &st
     match pool::run(rt.alloc(), case, bits, count) {
         Ok(sum) => println!(rt; "pool {case} {bits} {count}: {sum}")?,
         Err(stop) => println!(rt; "pool {case} {bits} {count}: {stop:?}")?,
+    }
+    Ok(())
+}
+
+fn terms_line(rt: &(impl Print + AllocGlobal), case: &str, bits: &str, count: &str) -> Result<()> {
+    match terms::run(rt.alloc(), case, bits, count) {
+        Ok(sum) => println!(rt; "terms {case} {bits} {count}: {sum}")?,
+        Err(stop) => println!(rt; "terms {case} {bits} {count}: {stop:?}")?,
     }
     Ok(())
 }
