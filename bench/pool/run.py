@@ -12,17 +12,15 @@ words that such a find looks at.
 """
 
 import os
-import resource
-import statistics
-import subprocess
 import sys
 import tempfile
 
 HERE = os.path.dirname(os.path.abspath(__file__))
-CRATE = os.path.join(HERE, "..", "..", "crates", "bench_parts")
-COUNT = 1 << 23
+sys.path.insert(0, os.path.dirname(HERE))
+from measure import PROGRAM, build, medians, seconds
 
-TERMS = 1000000
+COUNT = 1 << 23
+TERMS = 1_000_000
 
 # (name, topic, bits, the case measured, the case taken off, calls)
 CASES = [
@@ -35,48 +33,29 @@ CASES = [
 ]
 
 
-def seconds(command):
-    """The processor time that a command takes, and what it prints."""
-    before = resource.getrusage(resource.RUSAGE_CHILDREN)
-    answer = subprocess.run(command, check=True, capture_output=True, text=True).stdout
-    after = resource.getrusage(resource.RUSAGE_CHILDREN)
-    return after.ru_utime + after.ru_stime - before.ru_utime - before.ru_stime, answer
-
-
-def medians(programs, topic, case, bits, count, rounds):
-    """The median time of a case for each program, which have to print the same."""
-    times = {name: [] for name in programs}
-    for _ in range(rounds):
-        answers = set()
-        for name, program in programs.items():
-            words = [topic] if name == "pool" or topic == "terms" else []
-            took, answer = seconds([program] + words + [case, str(bits), str(count)])
-            times[name].append(took)
-            answers.add(answer)
-        if len(answers) != 1:
-            sys.exit(f"the programs differ at {case}: {answers}")
-    return {name: statistics.median(took) for name, took in times.items()}
+def commands(baseline, topic, case, bits, count):
+    """The commands of both programs for a case; the baseline's topic is the pool where none is named."""
+    words = [case, str(bits), str(count)]
+    return {"pool": [PROGRAM, topic] + words, "baseline": [baseline] + (["terms"] if topic == "terms" else []) + words}
 
 
 def main():
     rounds = int(sys.argv[1]) if len(sys.argv) > 1 else 5
-    subprocess.run(["rt", "run", "--", "pool", "none", "12", "1"], cwd=CRATE, check=True, stdout=subprocess.DEVNULL, stderr=subprocess.DEVNULL)
     with tempfile.TemporaryDirectory() as folder:
         baseline = os.path.join(folder, "baseline")
-        subprocess.run(["rustc", "-O", "-o", baseline, os.path.join(HERE, "baseline.rs")], check=True)
-        programs = {"pool": os.path.join(CRATE, "out", "bench_parts"), "baseline": baseline}
+        build(["pool", "none", "12", "1"], os.path.join(HERE, "baseline.rs"), baseline)
         print(f"{'case':28} {'pool ns':>9} {'Rust ns':>9} {'ratio':>6}")
         for name, topic, bits, case, before, calls in CASES:
-            whole = medians(programs, topic, case, bits, calls, rounds)
-            part = medians(programs, topic, before, bits, calls, rounds)
-            took = {p: (whole[p] - part[p]) * 1e9 / calls for p in programs}
+            whole = medians(commands(baseline, topic, case, bits, calls), rounds)
+            part = medians(commands(baseline, topic, before, bits, calls), rounds)
+            took = {p: (whole[p] - part[p]) * 1e9 / calls for p in whole}
             print(f"{name:28} {took['pool']:9.1f} {took['baseline']:9.1f} {took['pool'] / took['baseline']:6.2f}")
         print(f"\n{'load of 2^24 words':28} {'pool ns':>9} {'Rust ns':>9} {'probes':>7}")
         for percent in (25, 50, 60, 70):
             count = (1 << 24) * percent // 100
-            whole = medians(programs, "pool", "chain", 24, count, rounds)
-            none = medians(programs, "pool", "none", 24, count, rounds)
-            took = {p: (whole[p] - none[p]) * 1e9 / count for p in programs}
+            whole = medians(commands(baseline, "pool", "chain", 24, count), rounds)
+            none = medians(commands(baseline, "pool", "none", 24, count), rounds)
+            took = {p: (whole[p] - none[p]) * 1e9 / count for p in whole}
             _, probes = seconds([baseline, "probes", "24", str(count)])
             print(f"chain, {percent} per cent{'':11} {took['pool']:9.1f} {took['baseline']:9.1f} {probes.split()[1]:>7}")
 

@@ -1,0 +1,39 @@
+"""What the benchmarks of the symbols and of the pool share: the programs that are built, and the times that they take."""
+
+import os
+import resource
+import statistics
+import subprocess
+import sys
+
+CRATE = os.path.join(os.path.dirname(os.path.abspath(__file__)), "..", "crates", "bench_parts")
+PROGRAM = os.path.join(CRATE, "out", "bench_parts")
+
+
+def build(tiny, source, baseline):
+    """Builds bench_parts by running a tiny case of it, and the baseline's source by `rustc -O`."""
+    quiet = subprocess.DEVNULL
+    subprocess.run(["rt", "run", "--"] + tiny, cwd=CRATE, check=True, stdout=quiet, stderr=quiet)
+    subprocess.run(["rustc", "-O", "-o", baseline, source], check=True)
+
+
+def seconds(command):
+    """The processor time that a command takes, and what it prints."""
+    before = resource.getrusage(resource.RUSAGE_CHILDREN)
+    answer = subprocess.run(command, check=True, capture_output=True, text=True).stdout
+    after = resource.getrusage(resource.RUSAGE_CHILDREN)
+    return after.ru_utime + after.ru_stime - before.ru_utime - before.ru_stime, answer
+
+
+def medians(commands, rounds):
+    """The median time of each program's command; the programs have to print the same."""
+    times = {name: [] for name in commands}
+    for _ in range(rounds):
+        answers = set()
+        for name, command in commands.items():
+            took, answer = seconds(command)
+            times[name].append(took)
+            answers.add(answer)
+        if len(answers) != 1:
+            sys.exit(f"the programs differ: {answers}")
+    return {name: statistics.median(took) for name, took in times.items()}
