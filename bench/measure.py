@@ -2,7 +2,6 @@
 
 import os
 import resource
-import statistics
 import subprocess
 import sys
 
@@ -25,8 +24,9 @@ def seconds(command):
     return after.ru_utime + after.ru_stime - before.ru_utime - before.ru_stime, answer
 
 
-def medians(commands, rounds):
-    """The median time of each program's command; the programs have to print the same."""
+def least_times(commands, rounds):
+    """The least time of each program's command, since whatever else runs on the machine only makes a run longer; the
+    programs have to print the same."""
     times = {name: [] for name in commands}
     for _ in range(rounds):
         answers = set()
@@ -36,4 +36,4 @@ def medians(commands, rounds):
             answers.add(answer)
         if len(answers) != 1:
             sys.exit(f"the programs differ: {answers}")
-    return {name: statistics.median(took) for name, took in times.items()}
+    return {name: min(took) for name, took in times.items()}

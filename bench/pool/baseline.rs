@@ -1,6 +1,6 @@
 //! A plain Rust table of the words that a pool keeps: the baseline of `bench/pool/run.py`, over std alone.
 //! Usage: baseline (none | pairs | finds | chain | parts | probes) BITS COUNT
-//!    or: baseline terms (none | build | view) BITS COUNT
+//!    or: baseline terms (none | build | view | cells) BITS COUNT
 
 use std::env;
 
@@ -167,6 +167,23 @@ fn view(table: &Table, built: &[u32]) -> u64 {
     sum
 }
 
+/// How many distinct cells the terms have: each is numbered by its place when it is met first.
+fn cells(table: &Table, built: &[u32]) -> u64 {
+    let mut numbers = vec![0u32; table.words.len()];
+    let mut met = 0;
+    let mut left = built.to_vec();
+    while let Some(r) = left.pop() {
+        if r >= FIRST_CELL && numbers[(r - FIRST_CELL) as usize] == 0 {
+            met += 1;
+            numbers[(r - FIRST_CELL) as usize] = met;
+            let (first, second) = table.parts(r);
+            left.push(first);
+            left.push(second);
+        }
+    }
+    met as u64
+}
+
 fn terms(case: &str, bits: u32, count: u32) {
     let mut table = Table::new(bits);
     let mut built = vec![CONSTANT];
@@ -176,6 +193,10 @@ fn terms(case: &str, bits: u32, count: u32) {
         "view" => {
             let sum = build(&mut table, &mut built, count);
             sum.wrapping_add(view(&table, &built))
+        }
+        "cells" => {
+            let sum = build(&mut table, &mut built, count);
+            sum.wrapping_add(cells(&table, &built))
         }
         _ => panic!("no such case"),
     };

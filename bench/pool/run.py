@@ -3,12 +3,12 @@
 
 Usage: bench/pool/run.py [ROUNDS]
 
-Builds crates/bench_parts by `rt run` and baseline.rs by `rustc -O`, runs each case in turn, and prints the median
+Builds crates/bench_parts by `rt run` and baseline.rs by `rustc -O`, runs each case in turn, and prints the least
 processor time of a call in nanoseconds for both, and their ratio. What a case does before the measured calls is run as a case
 of its own and taken off. A build is of a million applications of functions of 1 to 4 arguments in turn, each to terms
 before it; a view reads the head, the number of arguments and each argument in turn of all of them, and the baseline
-reads them by the same walks. The last table has the pool's time for a find at several loads beside the mean number of
-words that such a find looks at.
+reads them by the same walks; a count meets each cell of all of them once. The last table has the pool's time for a find
+at several loads beside the mean number of words that such a find looks at.
 """
 
 import os
@@ -17,7 +17,7 @@ import tempfile
 
 HERE = os.path.dirname(os.path.abspath(__file__))
 sys.path.insert(0, os.path.dirname(HERE))
-from measure import PROGRAM, build, medians, seconds
+from measure import PROGRAM, build, least_times, seconds
 
 COUNT = 1 << 23
 TERMS = 1_000_000
@@ -30,6 +30,7 @@ CASES = [
     ("parts of 8M cells", "pool", 24, "parts", "chain", COUNT),
     ("build 1M terms", "terms", 23, "build", "none", TERMS),
     ("view 1M terms", "terms", 23, "view", "build", TERMS),
+    ("count cells of 1M terms", "terms", 23, "cells", "build", TERMS),
 ]
 
 
@@ -46,15 +47,15 @@ def main():
         build(["pool", "none", "12", "1"], os.path.join(HERE, "baseline.rs"), baseline)
         print(f"{'case':28} {'pool ns':>9} {'Rust ns':>9} {'ratio':>6}")
         for name, topic, bits, case, before, calls in CASES:
-            whole = medians(commands(baseline, topic, case, bits, calls), rounds)
-            part = medians(commands(baseline, topic, before, bits, calls), rounds)
+            whole = least_times(commands(baseline, topic, case, bits, calls), rounds)
+            part = least_times(commands(baseline, topic, before, bits, calls), rounds)
             took = {p: (whole[p] - part[p]) * 1e9 / calls for p in whole}
             print(f"{name:28} {took['pool']:9.1f} {took['baseline']:9.1f} {took['pool'] / took['baseline']:6.2f}")
         print(f"\n{'load of 2^24 words':28} {'pool ns':>9} {'Rust ns':>9} {'probes':>7}")
         for percent in (25, 50, 60, 70):
             count = (1 << 24) * percent // 100
-            whole = medians(commands(baseline, "pool", "chain", 24, count), rounds)
-            none = medians(commands(baseline, "pool", "none", 24, count), rounds)
+            whole = least_times(commands(baseline, "pool", "chain", 24, count), rounds)
+            none = least_times(commands(baseline, "pool", "none", 24, count), rounds)
             took = {p: (whole[p] - none[p]) * 1e9 / count for p in whole}
             _, probes = seconds([baseline, "probes", "24", str(count)])
             print(f"chain, {percent} per cent{'':11} {took['pool']:9.1f} {took['baseline']:9.1f} {probes.split()[1]:>7}")

@@ -3,7 +3,7 @@
 
 Usage: bench/symbols/run.py [ROUNDS]
 
-Builds crates/bench_parts by `rt run` and baseline.rs by `rustc -O`, runs each case in turn, and prints the median
+Builds crates/bench_parts by `rt run` and baseline.rs by `rustc -O`, runs each case in turn, and prints the least
 processor time of a million declarations, of five million look-ups, and of both together, with their ratios.
 """
 
@@ -13,7 +13,7 @@ import tempfile
 
 HERE = os.path.dirname(os.path.abspath(__file__))
 sys.path.insert(0, os.path.dirname(HERE))
-from measure import PROGRAM, build, medians
+from measure import PROGRAM, build, least_times
 
 COUNT = 1_000_000
 
@@ -25,7 +25,7 @@ def main():
         build(["symbols", "none", "1"], os.path.join(HERE, "baseline.rs"), baseline)
         programs = {"table": [PROGRAM, "symbols"], "baseline": [baseline]}
         declare, both = (
-            medians({name: program + [case, str(COUNT)] for name, program in programs.items()}, rounds)
+            least_times({name: program + [case, str(COUNT)] for name, program in programs.items()}, rounds)
             for case in ("declare", "find")
         )
     for title, took in [

@@ -1,9 +1,9 @@
 //! The words of a pool's table: making them, the probe, and what a word spells.
 
-ghost use Rattle.std.specs.Prelude.{◌≡◌, ◌≢◌, ℕ, ◌+◌, ◌-◌, ◌*◌, ◌%◌, ◌^◌, ◌<◌, ◌≤◌, ◌⊎◌, length, slice_index, slice_set, replicate, IfOk, OnErr, MatchOption};
+ghost use Rattle.std.specs.Prelude.{◌≡◌, ◌≢◌, ℕ, ◌+◌, ◌-◌, ◌*◌, ◌%◌, ◌^◌, ◌<◌, ◌≤◌, ◌⊎◌, length, slice_index, slice_set, replicate, IfOk, OnErr};
 ghost use Rattle.pair_pool.specs.Words.{word_of, probe_start, probe_place, IsCell, IsOther, IsReached};
 ghost use Rattle.pair_pool.specs.GoodStates.{IsTable, IsReference};
-ghost use Rattle.pair_pool.specs.Writes.{IsStopAt, AddsWord, IsFullOfOthers};
+ghost use Rattle.pair_pool.specs.Writes.{IsProbe, AddsWord, IsFullOfOthers};
 
 use crate::reference::FIRST_CELL;
 use crate::stops::{Memory, PoolFull};
@@ -27,21 +27,34 @@ fn start_of(bits: u32, first: u32, second: u32) -> usize
     ((first as u64 * 2654435761 + second as u64 * 40503) % (1u64 << bits)) as usize
 }
 
-/// The first place from `start` on, round the table, that is empty or has the word `wanted`.
-fn find(words: &[u64], start: usize, wanted: u64) -> Option<usize>
+/// Where the probe for a word stops.
+enum Probe {
+    /// At the word.
+    Here(usize),
+    /// At an empty place, before which the word does not stand.
+    Free(usize),
+    /// Nowhere, since each place has another word.
+    Full,
+}
+
+/// The first place from `start` on, round the table, that has the word `wanted` or is empty.
+fn find(words: &[u64], start: usize, wanted: u64) -> Probe
     requires start { start < length words.now }
     requires most { length words.now ≤ 2 ^ 26 }
-    ensures { MatchOption result (IsFullOfOthers words.now wanted) (λ place. IsStopAt words.now start wanted place) }
+    ensures { IsProbe words.now start wanted result }
 {
     let mut at = start;
     'probe: for _ in 0..words.len() {
         let seen = words[at];
-        if seen == wanted || seen == 0 {
-            return Some(at);
+        if seen == wanted {
+            return Probe::Here(at);
+        }
+        if seen == 0 {
+            return Probe::Free(at);
         }
         at = if at + 1 == words.len() { 0 } else { at + 1 };
     }
-    None
+    Probe::Full
 }
 
 /// The reference of the cell (`first`, `second`), which is written where it does not stand yet.
@@ -64,13 +77,14 @@ pub(crate) fn insert(
     ensures kept { OnErr result (words.new.items ≡ words.old.items) }
 {
     let wanted = word_of(first, second);
-    let Some(place) = find(words, start_of(bits, first, second), wanted) else {
-        return Err(PoolFull);
-    };
-    if words[place] == 0 {
-        words[place] = wanted;
+    match find(words, start_of(bits, first, second), wanted) {
+        Probe::Here(place) => Ok(FIRST_CELL + place as u32),
+        Probe::Free(place) => {
+            words[place] = wanted;
+            Ok(FIRST_CELL + place as u32)
+        }
+        Probe::Full => Err(PoolFull),
     }
-    Ok(FIRST_CELL + place as u32)
 }
 
 /// The word of the cell (`first`, `second`).
