@@ -1,24 +1,25 @@
 -- Meeting cells until all below some references are met.
-use Rattle.std.proofs.Common.{◌≡◌, ◌≢◌, ℕ, suc, ◌<◌, ◌≤◌, ◌^◌, ◌⊎◌, inl, inr, refl, sym, ◌∙◌, ap, subst, arith, List, [], ◌∷◌, ◌++◌, length, true, false, nat_eq, eqb}
-use Rattle.std.specs.HashSet.{contains}
-use Rattle.std.specs.List.{All, AllByRecursion, IsDistinct, list_any}
+use Rattle.std.proofs.Common.{◌≡◌, ℕ, suc, ◌<◌, ◌≤◌, ◌^◌, ◌⊎◌, inl, inr, refl, sym, ◌∙◌, ap, subst, arith, List, [], ◌∷◌, ◌++◌, length}
+use Rattle.std.specs.List.{All}
 use Rattle.std.proofs.lemmas.List.Elements.{All-head, All-tail}
-use Rattle.std.proofs.lemmas.Bool.Decides.{eqb_tells}
-use Rattle.std.proofs.lemmas.Bool.{eq-eqb}
 use Rattle.pair_pool.specs.Trees.{Tree, leaf, cell}
 use Rattle.pair_pool.specs.Views.{PassView, Knows, IsKnown, IsOneToOne, HasPartsOfTrees}
 use Rattle.term_pool.specs.Trees.{IsPartOf, IsCellTree}
 use Rattle.term_pool.specs.Views.{IsKnownCell, KnowsAll}
-use Rattle.term_pool.specs.CellCounts.{Has, AreApart, IsPartOfAny, CountsCells, Seen, IsMarked, IsTakenIn, IsMeeting}
+use Rattle.term_pool.specs.declared.numbering.Numbering.{Numbering}
+use Rattle.term_pool.specs.CellCounts.{Has, AreApart, IsPartOfAny, CountsCells}
+use Rattle.term_pool.specs.Meetings.{IsNumberingOf, IsTakenIn, IsMeeting}
+use Rattle.term_pool.proofs.Members.{has_front, has_last, has_split}
+use Rattle.term_pool.proofs.NumberingLemmas.{cells_apart}
 use Rattle.term_pool.proofs.ReadingLemmas.{reference_cell}
 use Rattle.term_pool.proofs.BuildingLemmas.{part-refl}
 
 -- a reference needs no more meeting, or is left to be met
-abbrev pub IsMet : Seen → List ℕ → ℕ → Type 0
-IsMet seen left y = (y < 2 ^ 30) ⊎ ((contains nat_eq seen y ≡ true) ⊎ Has left y)
+abbrev pub IsMet : List ℕ → List ℕ → ℕ → Type 0
+IsMet seen left y = (y < 2 ^ 30) ⊎ (Has seen y ⊎ Has left y)
 
 -- a reference of a tree is so
-pub record HasMet (p : PassView) (seen : Seen) (left : List ℕ) (t : Tree) : Type 0 where
+pub record HasMet (p : PassView) (seen left : List ℕ) (t : Tree) : Type 0 where
   pub reference : ℕ
   pub known : Knows p reference t
   pub met : IsMet seen left reference
@@ -28,32 +29,13 @@ abbrev IsBelowRoots : PassView → List ℕ → ℕ → Type 0
 IsBelowRoots p roots x = (trees : List Tree) → KnowsAll p roots trees → (t : Tree) → Knows p x t → IsPartOfAny t trees
 
 -- Where the count is: what is met or left is below the roots; the parts of what is met, and the roots, are met or left.
-pub record IsCounting (p : PassView) (roots : List ℕ) (seen : Seen) (left : List ℕ) : Type 0 where
+pub record IsCounting (p : PassView) (roots seen left : List ℕ) : Type 0 where
   known : (x : ℕ) → Has left x → IsKnown p x
   left_below : (x : ℕ) → Has left x → IsBelowRoots p roots x
-  seen_cell : (x : ℕ) → contains nat_eq seen x ≡ true → IsKnownCell p x
-  seen_below : (x : ℕ) → contains nat_eq seen x ≡ true → IsBelowRoots p roots x
-  closed : (x : ℕ) (s t : Tree) → contains nat_eq seen x ≡ true → Knows p x (cell s t) → HasMet p seen left s × HasMet p seen left t
+  seen_cell : (x : ℕ) → Has seen x → IsKnownCell p x
+  seen_below : (x : ℕ) → Has seen x → IsBelowRoots p roots x
+  closed : (x : ℕ) (s t : Tree) → Has seen x → Knows p x (cell s t) → HasMet p seen left s × HasMet p seen left t
   all : (x : ℕ) → Has roots x → IsMet seen left x
-
-pub has_front : (xs : List ℕ) (y x : ℕ) → Has xs x → Has (xs ++ y ∷ []) x
-has_front [] y x h = absurd h
-has_front (z ∷ xs) y x (inl e) = inl e
-has_front (z ∷ xs) y x (inr h) = inr (has_front xs y x h)
-
-pub has_last : (xs : List ℕ) (y : ℕ) → Has (xs ++ y ∷ []) y
-has_last [] y = inl refl
-has_last (z ∷ xs) y = inr (has_last xs y)
-
-has_split : (xs : List ℕ) (y x : ℕ) → Has (xs ++ y ∷ []) x → Has xs x ⊎ (x ≡ y)
-has_split [] y x (inl e) = inr e
-has_split [] y x (inr h) = absurd h
-has_split (z ∷ xs) y x (inl e) = inl (inl e)
-has_split (z ∷ xs) y x (inr h) = go (has_split xs y x h)
-  where
-    go : Has xs x ⊎ (x ≡ y) → Has (z ∷ xs) x ⊎ (x ≡ y)
-    go (inl k) = inl (inr k)
-    go (inr e) = inr e
 
 all_has : (P : ℕ → Type 0) (xs : List ℕ) → All P xs → (x : ℕ) → Has xs x → P x
 all_has P [] h x k = absurd k
@@ -67,36 +49,30 @@ roots_below p one (r ∷ roots) x (inl e) (u ∷ trees) all t known =
     let same : t ≡ u = one.one_tree r t u (rw e at known) all.0 in inl (rw same (part-refl u))
 roots_below p one (r ∷ roots) x (inr h) (u ∷ trees) all t known = inr (roots_below p one roots x h trees all.1 t known)
 
-pub count_start : (p : PassView) → IsOneToOne p → (roots : List ℕ) (seen : Seen) → seen.keys ≡ [] → All (IsKnown p) roots → IsCounting p roots seen roots
-count_start p one roots seen none known = record {
+pub count_start : (p : PassView) → IsOneToOne p → (roots : List ℕ) → All (IsKnown p) roots → IsCounting p roots [] roots
+count_start p one roots known = record {
   known = all_has (IsKnown p) roots known;
   left_below = roots_below p one roots;
-  seen_cell = λ x h. absurd (empty x h);
-  seen_below = λ x h. absurd (empty x h);
-  closed = λ x s t h k. absurd (empty x h);
+  seen_cell = λ x h. absurd h;
+  seen_below = λ x h. absurd h;
+  closed = λ x s t h k. absurd h;
   all = λ x h. inr (inr h);
 }
-  where
-    nothing : (x : ℕ) → contains nat_eq seen x ≡ false
-    nothing x = rw none
 
-    empty : (x : ℕ) → contains nat_eq seen x ≡ true → ⊥
-    empty x h = let f = nothing x in cc
-
-met_over : (seen : Seen) (left : List ℕ) (r x : ℕ) → (r < 2 ^ 30) ⊎ (contains nat_eq seen r ≡ true) → IsMet seen (left ++ r ∷ []) x → IsMet seen left x
+met_over : (seen left : List ℕ) (r x : ℕ) → (r < 2 ^ 30) ⊎ Has seen r → IsMet seen (left ++ r ∷ []) x → IsMet seen left x
 met_over seen left r x old (inl h) = inl h
 met_over seen left r x old (inr (inl h)) = inr (inl h)
 met_over seen left r x old (inr (inr h)) = go old (has_split left r x h)
   where
-    go : (r < 2 ^ 30) ⊎ (contains nat_eq seen r ≡ true) → Has left x ⊎ (x ≡ r) → IsMet seen left x
+    go : (r < 2 ^ 30) ⊎ Has seen r → Has left x ⊎ (x ≡ r) → IsMet seen left x
     go o (inl k) = inr (inr k)
     go (inl low) (inr e) = inl (rw e low)
     go (inr there) (inr e) = inr (inl (rw e there))
 
-has_met_over : (p : PassView) (seen : Seen) (left : List ℕ) (r : ℕ) (t : Tree) → (r < 2 ^ 30) ⊎ (contains nat_eq seen r ≡ true) → HasMet p seen (left ++ r ∷ []) t → HasMet p seen left t
+has_met_over : (p : PassView) (seen left : List ℕ) (r : ℕ) (t : Tree) → (r < 2 ^ 30) ⊎ Has seen r → HasMet p seen (left ++ r ∷ []) t → HasMet p seen left t
 has_met_over p seen left r t old h = record { reference = h.reference; known = h.known; met = met_over seen left r h.reference old h.met }
 
-passed : (p : PassView) (roots : List ℕ) (seen : Seen) (left : List ℕ) (r : ℕ) → IsCounting p roots seen (left ++ r ∷ []) → (r < 2 ^ 30) ⊎ (contains nat_eq seen r ≡ true) → IsCounting p roots seen left
+passed : (p : PassView) (roots seen left : List ℕ) (r : ℕ) → IsCounting p roots seen (left ++ r ∷ []) → (r < 2 ^ 30) ⊎ Has seen r → IsCounting p roots seen left
 passed p roots seen left r h old = record {
   known = λ x k. h.known x (has_front left r x k);
   left_below = λ x k. h.left_below x (has_front left r x k);
@@ -106,33 +82,18 @@ passed p roots seen left r h old = record {
   all = λ x k. met_over seen left r x old (h.all x k);
 }
 
--- what is met after one more reference is, was met before or is that one
-marked_only : (old new : Seen) (r x : ℕ) → IsMarked old new r → contains nat_eq new x ≡ true → (x ≡ r) ⊎ (contains nat_eq old x ≡ true)
-marked_only old new r x m h = go (eqb_tells x r)
+met_more : (old left : List ℕ) (r a b x : ℕ) → IsMet old (left ++ r ∷ []) x → IsMet (old ++ r ∷ []) ((left ++ a ∷ []) ++ b ∷ []) x
+met_more old left r a b x (inl h) = inl h
+met_more old left r a b x (inr (inl h)) = inr (inl (has_front old r x h))
+met_more old left r a b x (inr (inr h)) = go (has_split left r x h)
   where
-    go : ((eqb x r ≡ true) × (x ≡ r)) ⊎ ((eqb x r ≡ false) × (x ≢ r)) → (x ≡ r) ⊎ (contains nat_eq old x ≡ true)
-    go (inl e) = inl e.1
-    go (inr e) = inr (sym (m.others x e.1) ∙ h)
-
-marked_more : (old new : Seen) (r x : ℕ) → IsMarked old new r → contains nat_eq old x ≡ true → contains nat_eq new x ≡ true
-marked_more old new r x m h = go (eqb_tells x r)
-  where
-    go : ((eqb x r ≡ true) × (x ≡ r)) ⊎ ((eqb x r ≡ false) × (x ≢ r)) → contains nat_eq new x ≡ true
-    go (inl e) = rw e.1 m.here
-    go (inr e) = m.others x e.1 ∙ h
-
-met_more : (old new : Seen) (left : List ℕ) (r a b x : ℕ) → IsMarked old new r → IsMet old (left ++ r ∷ []) x → IsMet new ((left ++ a ∷ []) ++ b ∷ []) x
-met_more old new left r a b x m (inl h) = inl h
-met_more old new left r a b x m (inr (inl h)) = inr (inl (marked_more old new r x m h))
-met_more old new left r a b x m (inr (inr h)) = go (has_split left r x h)
-  where
-    go : Has left x ⊎ (x ≡ r) → IsMet new ((left ++ a ∷ []) ++ b ∷ []) x
+    go : Has left x ⊎ (x ≡ r) → IsMet (old ++ r ∷ []) ((left ++ a ∷ []) ++ b ∷ []) x
     go (inl k) = inr (inr (has_front (left ++ a ∷ []) b x (has_front left a x k)))
-    go (inr e) = inr (inl (rw e m.here))
+    go (inr e) = inr (inl (rw e (has_last old r)))
 
-has_met_more : (p : PassView) (old new : Seen) (left : List ℕ) (r a b : ℕ) (t : Tree) → IsMarked old new r → HasMet p old (left ++ r ∷ []) t → HasMet p new ((left ++ a ∷ []) ++ b ∷ []) t
-has_met_more p old new left r a b t m h =
-    record { reference = h.reference; known = h.known; met = met_more old new left r a b h.reference m h.met }
+has_met_more : (p : PassView) (old left : List ℕ) (r a b : ℕ) (t : Tree) → HasMet p old (left ++ r ∷ []) t → HasMet p (old ++ r ∷ []) ((left ++ a ∷ []) ++ b ∷ []) t
+has_met_more p old left r a b t h =
+    record { reference = h.reference; known = h.known; met = met_more old left r a b h.reference h.met }
 
 -- parts of what is below the roots are below them
 part_first : (t s : Tree) (x : Tree) → IsPartOf (cell s t) x → IsPartOf s x
@@ -156,8 +117,8 @@ any_part s t part [] h = absurd h
 any_part s t part (u ∷ trees) (inl h) = inl (part u h)
 any_part s t part (u ∷ trees) (inr h) = inr (any_part s t part trees h)
 
-taken : (p : PassView) → IsOneToOne p → (roots : List ℕ) (old new : Seen) (left after : List ℕ) (r : ℕ) → HasPartsOfTrees p → IsCounting p roots old (left ++ r ∷ []) → IsTakenIn p old new left after r → IsCounting p roots new after
-taken p one roots old new left after r parts h t = rw t.left more
+taken : (p : PassView) → IsOneToOne p → (roots : List ℕ) (seen new : Numbering) (left after : List ℕ) (r : ℕ) → HasPartsOfTrees p → IsCounting p roots seen.cells.items (left ++ r ∷ []) → IsTakenIn p seen new left after r → IsCounting p roots new.cells.items after
+taken p one roots seen new left after r parts h t = rw (t.left, t.next.cells) more
   where
     here : IsKnownCell p r
     here = reference_cell p r parts t.high (h.known r (has_last left r))
@@ -185,41 +146,49 @@ taken p one roots old new left after r parts h t = rw t.left more
         go (inl l) = inner (has_split left t.first x l)
         go (inr e) = rw e b
 
-    closes : (x : ℕ) (s u : Tree) → (x ≡ r) ⊎ (contains nat_eq old x ≡ true) → Knows p x (cell s u) → HasMet p new ((left ++ t.first ∷ []) ++ t.second ∷ []) s × HasMet p new ((left ++ t.first ∷ []) ++ t.second ∷ []) u
-    closes x s u (inl e) known = (
+    old : List ℕ
+    old = seen.cells.items
+
+    closes : (x : ℕ) (s u : Tree) → Has old x ⊎ (x ≡ r) → Knows p x (cell s u) → HasMet p (old ++ r ∷ []) ((left ++ t.first ∷ []) ++ t.second ∷ []) s × HasMet p (old ++ r ∷ []) ((left ++ t.first ∷ []) ++ t.second ∷ []) u
+    closes x s u (inr e) known = (
       record { reference = t.first; known = t.first_known s u (rw e at known); met = inr (inr (has_front (left ++ t.first ∷ []) t.second t.first (has_last left t.first))) },
       record { reference = t.second; known = t.second_known s u (rw e at known); met = inr (inr (has_last (left ++ t.first ∷ []) t.second)) },
     )
-    closes x s u (inr e) known =
+    closes x s u (inl e) known =
         let both = h.closed x s u e known in
-        (has_met_more p old new left r t.first t.second s t.marked both.0, has_met_more p old new left r t.first t.second u t.marked both.1)
+        (has_met_more p old left r t.first t.second s both.0, has_met_more p old left r t.first t.second u both.1)
 
-    cells : (x : ℕ) → (x ≡ r) ⊎ (contains nat_eq old x ≡ true) → IsKnownCell p x
-    cells x (inl e) = rw e here
-    cells x (inr e) = h.seen_cell x e
+    cells : (x : ℕ) → Has old x ⊎ (x ≡ r) → IsKnownCell p x
+    cells x (inr e) = rw e here
+    cells x (inl e) = h.seen_cell x e
 
-    belows : (x : ℕ) → (x ≡ r) ⊎ (contains nat_eq old x ≡ true) → IsBelowRoots p roots x
-    belows x (inl e) = rw e (h.left_below r (has_last left r))
-    belows x (inr e) = h.seen_below x e
+    belows : (x : ℕ) → Has old x ⊎ (x ≡ r) → IsBelowRoots p roots x
+    belows x (inr e) = rw e (h.left_below r (has_last left r))
+    belows x (inl e) = h.seen_below x e
 
-    more : IsCounting p roots new ((left ++ t.first ∷ []) ++ t.second ∷ [])
+    more : IsCounting p roots (old ++ r ∷ []) ((left ++ t.first ∷ []) ++ t.second ∷ [])
     more = record {
       known =
           one_of (IsKnown p) (λ x k. h.known x (has_front left r x k))
           (record { tree = here.first; stands = t.first_known _ _ here.stands })
           (record { tree = here.second; stands = t.second_known _ _ here.stands });
       left_below = one_of (IsBelowRoots p roots) (λ x k. h.left_below x (has_front left r x k)) below_first below_second;
-      seen_cell = λ x k. cells x (marked_only old new r x t.marked k);
-      seen_below = λ x k. belows x (marked_only old new r x t.marked k);
-      closed = λ x s u k known. closes x s u (marked_only old new r x t.marked k) known;
-      all = λ x k. met_more old new left r t.first t.second x t.marked (h.all x k);
+      seen_cell = λ x k. cells x (has_split old r x k);
+      seen_below = λ x k. belows x (has_split old r x k);
+      closed = λ x s u k known. closes x s u (has_split old r x k) known;
+      all = λ x k. met_more old left r t.first t.second x (h.all x k);
     }
 
-pub count_step : (p : PassView) → IsOneToOne p → HasPartsOfTrees p → (roots : List ℕ) (old new : Seen) (left after : List ℕ) (r : ℕ) → IsCounting p roots old (left ++ r ∷ []) → IsMeeting p old new left after r → IsCounting p roots new after
-count_step p one parts roots old new left after r h (inl m) = rw (m.seen, m.left) (passed p roots old left r h m.old_or_leaf)
+pub count_step : (p : PassView) → IsOneToOne p → HasPartsOfTrees p → (roots : List ℕ) (old new : Numbering) (left after : List ℕ) (r : ℕ) → IsCounting p roots old.cells.items (left ++ r ∷ []) → IsMeeting p old new left after r → IsCounting p roots new.cells.items after
+count_step p one parts roots old new left after r h (inl m) = rw (m.seen, m.left) (passed p roots old.cells.items left r h m.old_or_leaf)
 count_step p one parts roots old new left after r h (inr m) = taken p one roots old new left after r parts h m
 
-pub count_known : (p : PassView) (roots : List ℕ) (seen : Seen) (left : List ℕ) (r : ℕ) → IsCounting p roots seen (left ++ r ∷ []) → IsKnown p r
+pub numbering_step : (p : PassView) (old new : Numbering) (left after : List ℕ) (r : ℕ) → IsNumberingOf p old → IsMeeting p old new left after r → IsNumberingOf p new
+numbering_step p old new left after r h (inl m) = rw m.seen h
+numbering_step p old new left after r h (inr m) =
+    record { numbering = m.next.numbering; places = m.next.places ∙ h.places }
+
+pub count_known : (p : PassView) (roots seen left : List ℕ) (r : ℕ) → IsCounting p roots seen (left ++ r ∷ []) → IsKnown p r
 count_known p roots seen left r h = h.known r (has_last left r)
 
 -- the trees of references of cells
@@ -249,43 +218,20 @@ has_tree p one (y ∷ xs) [] h x t k known = absurd h
 has_tree p one (y ∷ xs) (u ∷ ts) h x t (inl e) known = inl (one.one_tree y t u (rw e at known) h.0)
 has_tree p one (y ∷ xs) (u ∷ ts) h x t (inr k) known = inr (has_tree p one xs ts h.1 x t k known)
 
-has_any : (xs : List ℕ) (x : ℕ) → Has xs x → list_any (nat_eq x) xs ≡ true
-has_any [] x h = absurd h
-has_any (y ∷ xs) x (inl e) = let same = eq-eqb x y e in rw same
-has_any (y ∷ xs) x (inr h) = go (eqb_tells x y) (has_any xs x h)
-  where
-    go : ((eqb x y ≡ true) × (x ≡ y)) ⊎ ((eqb x y ≡ false) × (x ≢ y)) → list_any (nat_eq x) xs ≡ true → list_any (nat_eq x) (y ∷ xs) ≡ true
-    go (inl e) k = let same = e.0 in rw same
-    go (inr e) k = let other = e.0 in rw (other, k)
-
-any_has : (xs : List ℕ) (x : ℕ) → list_any (nat_eq x) xs ≡ true → Has xs x
-any_has [] x h = absurd (cc)
-any_has (y ∷ xs) x h = go (eqb_tells x y) (any_has xs x)
-  where
-    go : ((eqb x y ≡ true) × (x ≡ y)) ⊎ ((eqb x y ≡ false) × (x ≢ y)) → (list_any (nat_eq x) xs ≡ true → Has xs x) → Has (y ∷ xs) x
-    go (inl e) rest = inl e.1
-    go (inr e) rest = inr (rest (rw e.0 at h))
-
 -- references with no two equal have trees with no two equal
-trees_apart : (p : PassView) → IsOneToOne p → (xs : List ℕ) (ts : List Tree) → KnowsAll p xs ts → IsDistinct nat_eq xs → AreApart ts
-unfolding IsDistinct
+trees_apart : (p : PassView) → IsOneToOne p → (xs : List ℕ) (ts : List Tree) → KnowsAll p xs ts → AreApart xs → AreApart ts
 trees_apart p one [] [] h d = tt
 trees_apart p one [] (t ∷ ts) h d = absurd h
 trees_apart p one (x ∷ xs) [] h d = absurd h
 trees_apart p one (x ∷ xs) (t ∷ ts) h d = (new, trees_apart p one xs ts h.1 d.1)
   where
-    other : (ys : List ℕ) → AllByRecursion (λ y. nat_eq x y ≡ false) ys → (y : ℕ) → Has ys y → x ≡ y → ⊥
-    other [] k y l e = absurd l
-    other (z ∷ ys) k y (inl f) e = let g = eq-eqb x z (e ∙ f) in let m = k.0 in cc
-    other (z ∷ ys) k y (inr l) e = other ys k.1 y l e
-
     new : Has ts t → ⊥
     new k =
         let found = has_reference p xs ts h.1 t k in
-        other xs d.0 found.0 found.1 (one.one_reference x found.0 t h.0 found.2)
+        d.0 (rw (one.one_reference x found.0 t h.0 found.2) found.1)
 
 -- from a reference that is met, each cell below it is met
-below_met : (p : PassView) → IsOneToOne p → (roots : List ℕ) (seen : Seen) → IsCounting p roots seen [] → (u : Tree) → HasMet p seen [] u → (t : Tree) → IsCellTree t → IsPartOf t u → (x : ℕ) × (contains nat_eq seen x ≡ true) × Knows p x t
+below_met : (p : PassView) → IsOneToOne p → (roots seen : List ℕ) → IsCounting p roots seen [] → (u : Tree) → HasMet p seen [] u → (t : Tree) → IsCellTree t → IsPartOf t u → (x : ℕ) × Has seen x × Knows p x t
 below_met p one roots seen h (leaf k) m t is part = absurd (no_cell t is part)
   where
     no_cell : (v : Tree) → IsCellTree v → v ≡ leaf k → ⊥
@@ -297,17 +243,17 @@ below_met p one roots seen h (cell a b) m t is part =
     let both = h.closed m.reference a b there m.known in
     pick there part (below_met p one roots seen h a both.0 t is) (below_met p one roots seen h b both.1 t is)
   where
-    is_there : 2 ^ 30 ≤ m.reference → IsMet seen [] m.reference → contains nat_eq seen m.reference ≡ true
+    is_there : 2 ^ 30 ≤ m.reference → IsMet seen [] m.reference → Has seen m.reference
     is_there high (inl low) = absurd (omega arith)
     is_there high (inr (inl e)) = e
     is_there high (inr (inr k)) = absurd k
 
-    pick : contains nat_eq seen m.reference ≡ true → IsPartOf t (cell a b) → (IsPartOf t a → (x : ℕ) × (contains nat_eq seen x ≡ true) × Knows p x t) → (IsPartOf t b → (x : ℕ) × (contains nat_eq seen x ≡ true) × Knows p x t) → (x : ℕ) × (contains nat_eq seen x ≡ true) × Knows p x t
+    pick : Has seen m.reference → IsPartOf t (cell a b) → (IsPartOf t a → (x : ℕ) × Has seen x × Knows p x t) → (IsPartOf t b → (x : ℕ) × Has seen x × Knows p x t) → (x : ℕ) × Has seen x × Knows p x t
     pick there (inl e) first second = (m.reference, there, rw e m.known)
     pick there (inr (inl k)) first second = first k
     pick there (inr (inr k)) first second = second k
 
-root_met : (p : PassView) → IsOneToOne p → (all roots : List ℕ) (seen : Seen) → IsCounting p all seen [] → (trees : List Tree) → KnowsAll p roots trees → ((x : ℕ) → Has roots x → IsMet seen [] x) → (t : Tree) → IsCellTree t → IsPartOfAny t trees → (x : ℕ) × (contains nat_eq seen x ≡ true) × Knows p x t
+root_met : (p : PassView) → IsOneToOne p → (all roots seen : List ℕ) → IsCounting p all seen [] → (trees : List Tree) → KnowsAll p roots trees → ((x : ℕ) → Has roots x → IsMet seen [] x) → (t : Tree) → IsCellTree t → IsPartOfAny t trees → (x : ℕ) × Has seen x × Knows p x t
 root_met p one all [] seen h [] k met t is part = absurd part
 root_met p one all [] seen h (u ∷ trees) k met t is part = absurd k
 root_met p one all (r ∷ roots) seen h [] k met t is part = absurd k
@@ -319,21 +265,21 @@ root_met p one all (r ∷ roots) seen h (u ∷ trees) k met t is (inr part) =
 cell_is : (p : PassView) → IsOneToOne p → (x : ℕ) (t : Tree) → IsKnownCell p x → Knows p x t → IsCellTree t
 cell_is p one x t c known = let same : t ≡ cell c.first c.second = one.one_tree x _ _ known c.stands in rw same tt
 
-pub counted : (p : PassView) → IsOneToOne p → (roots : List ℕ) (seen : Seen) (left : List ℕ) (n : ℕ) → left ≡ [] → IsCounting p roots seen left → IsDistinct nat_eq seen.keys → n ≡ length seen.keys → (trees : List Tree) → KnowsAll p roots trees → CountsCells trees n
-counted p one roots seen left n none h distinct is trees known = go (rw none at h)
+pub counted : (p : PassView) → IsOneToOne p → (roots : List ℕ) (seen : Numbering) (left : List ℕ) (n : ℕ) → left ≡ [] → IsNumberingOf p seen → IsCounting p roots seen.cells.items left → n ≡ length seen.cells.items → (trees : List Tree) → KnowsAll p roots trees → CountsCells trees n
+counted p one roots seen left n none numbering h is trees known = go (rw none at h)
   where
-    go : IsCounting p roots seen [] → CountsCells trees n
+    go : IsCounting p roots seen.cells.items [] → CountsCells trees n
     go k =
-        let all = trees_of p seen.keys (λ x l. k.seen_cell x (has_any seen.keys x l)) in
+        let cells : List ℕ = seen.cells.items in
+        let all = trees_of p cells k.seen_cell in
         record {
           cells = all.trees;
-          apart = trees_apart p one seen.keys all.trees all.known distinct;
+          apart = trees_apart p one cells all.trees all.known (cells_apart seen numbering.numbering);
           sound = λ t l.
-              let found = has_reference p seen.keys all.trees all.known t l in
-              let there = has_any seen.keys found.0 found.1 in
-              (cell_is p one found.0 t (k.seen_cell found.0 there) found.2, k.seen_below found.0 there trees known t found.2);
+              let found = has_reference p cells all.trees all.known t l in
+              (cell_is p one found.0 t (k.seen_cell found.0 found.1) found.2, k.seen_below found.0 found.1 trees known t found.2);
           complete = λ t is_cell part.
-              let found = root_met p one roots roots seen k trees known k.all t is_cell part in
-              has_tree p one seen.keys all.trees all.known found.0 t (any_has seen.keys found.0 found.1) found.2;
+              let found = root_met p one roots roots cells k trees known k.all t is_cell part in
+              has_tree p one cells all.trees all.known found.0 t found.1 found.2;
           count = all.long ∙ sym is;
         }

@@ -1,8 +1,9 @@
 -- Heights of trees, and the walk that notes them.
-use Rattle.std.proofs.Common.{◌≡◌, ◌≢◌, ℕ, ◌<◌, ◌≤◌, ◌+◌, ◌-◌, ◌^◌, ◌⊎◌, inl, inr, refl, sym, ◌∙◌, ap, arith, List, [], ◌∷◌, ◌++◌, take, Some, None, Option, Bool, true, false, nat_eq, eqb, if◌then◌else◌}
-use Rattle.std.specs.HashMap.{get}
+use Rattle.std.proofs.Common.{◌≡◌, ◌≢◌, ℕ, ◌<◌, ◌≤◌, ◌+◌, ◌-◌, ◌^◌, ◌⊎◌, inl, inr, refl, sym, ◌∙◌, ap, arith, List, [], ◌∷◌, ◌++◌, take, length, get_or, Some, None, Option, MatchOption, Bool, true, false, nat_eq, if◌then◌else◌}
 use Rattle.std.specs.List.{AllByRecursion}
-use Rattle.std.proofs.lemmas.Bool.Decides.{nat_tests, eqb_tells}
+use Rattle.std.proofs.lemmas.Bool.Decides.{nat_tests}
+use Rattle.std.proofs.lemmas.Bool.{cases_lt}
+use Rattle.std.proofs.lemmas.List.{get_or_append_left, get_or_push, length_push}
 use Rattle.pair_pool.specs.Trees.{Tree, leaf, cell}
 use Rattle.pair_pool.specs.Views.{PassView, Knows, IsOneToOne, HasPartsOfTrees, HasListsInOrder}
 use Rattle.sym_table.specs.Leaf.{Leaf, operator, let_head}
@@ -12,7 +13,12 @@ use Rattle.term_pool.specs.declared.heights.Heights.{Heights}
 use Rattle.term_pool.specs.StandsFor.{StandsFor, StandsForList, StandsForBindings, function_leaf}
 use Rattle.term_pool.specs.Trees.{depth}
 use Rattle.term_pool.specs.Views.{IsKnownCell, TermsView, RefersTo}
-use Rattle.term_pool.specs.Heights.{height_of, highest_of, highest_value, is_let_head, leaf_heights, cell_heights, heights_of, Memo, IsMemo, IsNoted, IsBelow}
+use Rattle.term_pool.specs.declared.heights.Memo.{Memo}
+use Rattle.term_pool.specs.CellCounts.{Has}
+use Rattle.term_pool.specs.Meetings.{IsNumberingOf}
+use Rattle.term_pool.specs.Heights.{height_of, highest_of, highest_value, is_let_head, leaf_heights, cell_heights, heights_of}
+use Rattle.term_pool.specs.Memos.{HasHeights, HasRoomFor, IsMemo, IsNoted, IsBelow}
+use Rattle.term_pool.proofs.Members.{has_split}
 use Rattle.term_pool.proofs.Depth.{depth-bound}
 use Rattle.term_pool.proofs.ReadingLemmas.{reference_cell, part_known, second_known}
 use Rattle.term_pool.proofs.ShapeLemmas.{not_let}
@@ -55,14 +61,22 @@ heights_below p one parts order r t h known e =
     let wr = w.rest in
     rw e (record { term = omega arith; list = omega arith; bindings = omega arith; value = omega arith; rest = omega arith })
 
-pub looked_right : (p : PassView) → IsOneToOne p → HasPartsOfTrees p → (memo : Memo) → IsMemo p memo → (r : ℕ) (found : Option Heights) (h : Heights) → (r < 2 ^ 30 → found ≡ Some leaf_heights) → (2 ^ 30 ≤ r → found ≡ get nat_eq memo r) → found ≡ Some h → (t : Tree) → Knows p r t → h ≡ heights_of t
+-- a known reference is a leaf, or that of a cell that the memo has room for
+pub room_for : (p : PassView) → IsOneToOne p → (memo : Memo) → IsMemo p memo → (r : ℕ) (t : Tree) → Knows p r t → HasRoomFor memo r
+room_for p one memo right r t known = record {
+  numbering = right.cells.numbering;
+  each = right.each;
+  place = λ high. record { cell = high; inside = rw right.cells.places (one.bound r t known) };
+}
+
+pub looked_right : (p : PassView) → IsOneToOne p → HasPartsOfTrees p → (memo : Memo) → IsMemo p memo → (r : ℕ) (found : Option Heights) (h : Heights) → (r < 2 ^ 30 → found ≡ Some leaf_heights) → (2 ^ 30 ≤ r → MatchOption found (Has memo.cells.cells.items r → ⊥) (HasHeights memo r)) → found ≡ Some h → (t : Tree) → Knows p r t → h ≡ heights_of t
 looked_right p one parts memo right r found h low high e (leaf k) known =
     let n = parts.leaf_number r k known in
     let less : r < 2 ^ 30 = omega (arith, n.0, n.1) in
     let f = low less in
     cc
 looked_right p one parts memo right r found h low high e (cell a b) known =
-    let above : 2 ^ 30 ≤ r = one.high r a b known in right r h (cell a b) (sym (high above) ∙ e) known
+    let above : 2 ^ 30 ≤ r = one.high r a b known in right.right r h (cell a b) (rw e at (high above)) known
 
 low_or_high : (r : ℕ) → (r < 2 ^ 30) ⊎ (2 ^ 30 ≤ r)
 low_or_high r = grind arith
@@ -92,18 +106,54 @@ second_below p one parts r b h second above = record {
       rw (e, f) (omega arith);
 }
 
-pub memo_more : (p : PassView) (old new : Memo) (r : ℕ) (h : Heights) → IsMemo p old → IsNoted old new r h → ((t : Tree) → Knows p r t → h ≡ heights_of t) → IsMemo p new
-memo_more p old new r h right noted heights q g t found known = go (eqb_tells q r)
+-- what the memo has after one cell more is what it had, or the heights of that one
+noted_only : (old new : Memo) (r : ℕ) (h : Heights) → length old.heights.items ≡ length old.cells.cells.items → IsNoted old new r h → (q : ℕ) (g : Heights) → HasHeights new q g → HasHeights old q g ⊎ ((q ≡ r) × (g ≡ h))
+noted_only old new r h each noted q g found = go (cases_lt found.number (length cells))
   where
-    go : ((eqb q r ≡ true) × (q ≡ r)) ⊎ ((eqb q r ≡ false) × (q ≢ r)) → g ≡ heights_of t
-    go (inl e) =
-        let here : get nat_eq new q ≡ Some h = rw e.1 noted.here in
-        let same : h ≡ g = same_some (sym here ∙ found) in
-        sym same ∙ heights t (rw e.1 at known)
-      where
-        same_some : {X : Type 0} {a b : X} → Some a ≡ Some b → a ≡ b
-        same_some f = cc
-    go (inr e) = right q g t (sym (noted.others q e.1) ∙ found) known
+    cells : List ℕ
+    cells = old.cells.cells.items
+
+    here : (found.number < length (cells ++ r ∷ [])) × (get_or (cells ++ r ∷ []) found.number 0 ≡ q)
+    here = rw noted.cells.cells at found.here
+
+    heights : get_or (old.heights.items ++ h ∷ []) found.number leaf_heights ≡ g
+    heights = rw noted.heights at found.heights
+
+    go : (found.number < length cells) ⊎ (length cells ≤ found.number) → HasHeights old q g ⊎ ((q ≡ r) × (g ≡ h))
+    go (inl less) =
+        inl
+        (record {
+          number = found.number;
+          here = (less, sym (get_or_append_left cells (r ∷ []) 0 found.number less) ∙ here.1);
+          heights =
+              sym (get_or_append_left old.heights.items (h ∷ []) leaf_heights found.number (rw each less)) ∙ heights;
+        })
+    go (inr past) =
+        let last : length cells ≡ found.number = omega (arith, length_push cells r, here.0) in
+        inr (
+          sym here.1 ∙ get_or_push cells r 0 found.number last,
+          sym heights ∙ get_or_push old.heights.items h leaf_heights found.number (each ∙ last),
+        )
+
+pub noted_here : (old new : Memo) (r : ℕ) (h : Heights) → length old.heights.items ≡ length old.cells.cells.items → IsNoted old new r h → HasHeights new r h
+noted_here old new r h each noted = record {
+  number = length old.cells.cells.items;
+  here = rw noted.cells.cells (omega (arith, length_push old.cells.cells.items r), get_or_push old.cells.cells.items r 0 _ refl);
+  heights = rw noted.heights (get_or_push old.heights.items h leaf_heights _ each);
+}
+
+pub memo_more : (p : PassView) (old new : Memo) (r : ℕ) (h : Heights) → IsMemo p old → IsNoted old new r h → ((t : Tree) → Knows p r t → h ≡ heights_of t) → IsMemo p new
+memo_more p old new r h right noted heights = record {
+  cells = record { numbering = noted.cells.numbering; places = noted.cells.places ∙ right.cells.places };
+  each =
+      rw (noted.heights, noted.cells.cells)
+      (length_push old.heights.items h ∙ ap (λ (n : ℕ). n + 1) right.each ∙ sym (length_push old.cells.cells.items r));
+  right = λ q g t found known. go q g t known (noted_only old new r h right.each noted q g found);
+}
+  where
+    go : (q : ℕ) (g : Heights) (t : Tree) → Knows p q t → HasHeights old q g ⊎ ((q ≡ r) × (g ≡ h)) → g ≡ heights_of t
+    go q g t known (inl before) = right.right q g t before known
+    go q g t known (inr last) = last.1 ∙ heights t (rw last.0 at known)
 
 head_is_let : (p : PassView) → IsOneToOne p → HasPartsOfTrees p → (a : ℕ) (t : Tree) → Knows p a t → nat_eq a 1 ≡ is_let_head t
 head_is_let p one parts a (leaf k) known = let n = parts.leaf_number a k known in ap (λ (m : ℕ). nat_eq m 1) n.0
@@ -133,7 +183,7 @@ pub record IsWalk (p : PassView) (memo : Memo) (r at : ℕ) (cells : List ℕ) :
   right : IsMemo p memo
   here : IsKnownCell p at
   descends : Descends p cells
-  unmet : AllByRecursion (λ x. get nat_eq memo x ≡ None) cells
+  unmet : AllByRecursion (λ x. Has memo.cells.cells.items x → ⊥) cells
   starts : Starts r cells
 
 pub walk_memo : (p : PassView) (memo : Memo) (r at : ℕ) (cells : List ℕ) → IsWalk p memo r at cells → IsMemo p memo
@@ -154,7 +204,7 @@ push_all : (P : ℕ → Type 0) → (xs : List ℕ) (at : ℕ) → AllByRecursio
 push_all P [] at h e = (e, tt)
 push_all P (x ∷ xs) at h e = (h.0, push_all _ xs at h.1 e)
 
-pub walk_unmet : (p : PassView) (memo : Memo) (r at : ℕ) (way : List ℕ) → IsWalk p memo r at (way ++ at ∷ []) → get nat_eq memo at ≡ None
+pub walk_unmet : (p : PassView) (memo : Memo) (r at : ℕ) (way : List ℕ) → IsWalk p memo r at (way ++ at ∷ []) → Has memo.cells.cells.items at → ⊥
 walk_unmet p memo r at way h = last_of _ way at h.unmet
 
 further : (p : PassView) (x y z : ℕ) → IsKnownCell p y → IsBelow p x y → IsBelow p y z → IsBelow p x z
@@ -193,28 +243,30 @@ apart_from p x at h c e =
     let less : depth (cell c.first c.second) < depth (cell c.first c.second) = h.below _ _ known c.stands in
     omega arith
 
-unmet_after : (p : PassView) (old new : Memo) (at : ℕ) → IsKnownCell p at → ((q : ℕ) → q ≢ at → get nat_eq new q ≡ get nat_eq old q) → (xs : List ℕ) → Descends p (xs ++ at ∷ []) → AllByRecursion (λ x. get nat_eq old x ≡ None) (xs ++ at ∷ []) → AllByRecursion (λ x. get nat_eq new x ≡ None) xs
-unmet_after p old new at c others [] h k = tt
-unmet_after p old new at c others (x ∷ xs) h k =
-    let apart = apart_from p x at (last_of _ xs at h.0) c in
-    (others x apart ∙ k.0, unmet_after p old new at c others xs h.1 k.1)
+unmet_after : (p : PassView) (old new : List ℕ) (at : ℕ) → IsKnownCell p at → new ≡ old ++ at ∷ [] → (xs : List ℕ) → Descends p (xs ++ at ∷ []) → AllByRecursion (λ x. Has old x → ⊥) (xs ++ at ∷ []) → AllByRecursion (λ x. Has new x → ⊥) xs
+unmet_after p old new at c more [] h k = tt
+unmet_after p old new at c more (x ∷ xs) h k = (unmet, unmet_after p old new at c more xs h.1 k.1)
+  where
+    go : Has old x ⊎ (x ≡ at) → ⊥
+    go (inl before) = k.0 before
+    go (inr same) = apart_from p x at (last_of _ xs at h.0) c same
 
-pub walk_start : (p : PassView) (memo : Memo) (r : ℕ) → memo.entries ≡ [] → IsKnownCell p r → IsWalk p memo r r (r ∷ [])
-walk_start p memo r e c = record {
-  right = λ q h t found known. absurd (go q h found);
+    unmet : Has new x → ⊥
+    unmet l = go (has_split old at x (rw more at l))
+
+pub walk_start : (p : PassView) (memo : Memo) (r : ℕ) → IsNumberingOf p memo.cells → memo.cells.cells.items ≡ [] → memo.heights.items ≡ [] → IsKnownCell p r → IsWalk p memo r r (r ∷ [])
+walk_start p memo r numbering cells heights c = record {
+  right = record { cells = numbering; each = rw (cells, heights); right = λ q h t found known. absurd (none found.number found.here.0) };
   here = c;
   descends = (tt, tt);
-  unmet = (none r, tt);
+  unmet = (rw cells (λ h. h), tt);
   starts = refl;
 }
   where
-    none : (q : ℕ) → get nat_eq memo q ≡ None
-    none q = rw e
+    none : (k : ℕ) → k < length memo.cells.cells.items → ⊥
+    none k less = absurd (omega (arith, ap length cells))
 
-    go : (q : ℕ) (h : Heights) → get nat_eq memo q ≡ Some h → ⊥
-    go q h found = let f = none q in cc
-
-pub walk_down : (p : PassView) (memo : Memo) (r at part : ℕ) (way : List ℕ) → IsWalk p memo r at (way ++ at ∷ []) → IsBelow p at part → get nat_eq memo part ≡ None → IsWalk p memo r part ((way ++ at ∷ []) ++ part ∷ [])
+pub walk_down : (p : PassView) (memo : Memo) (r at part : ℕ) (way : List ℕ) → IsWalk p memo r at (way ++ at ∷ []) → IsBelow p at part → (Has memo.cells.cells.items part → ⊥) → IsWalk p memo r part ((way ++ at ∷ []) ++ part ∷ [])
 walk_down p memo r at part way h k e = record {
   right = h.right;
   here = k.cell_known;
@@ -232,7 +284,7 @@ walk_up p old new r at above h way root w noted right = record {
   right = right;
   here = go (cell_of_last p way above at w.descends) w.starts;
   descends = descends_front p (way ++ above ∷ []) at w.descends;
-  unmet = unmet_after p old new at w.here noted.others (way ++ above ∷ []) w.descends w.unmet;
+  unmet = unmet_after p old.cells.cells.items new.cells.cells.items at w.here noted.cells.cells (way ++ above ∷ []) w.descends w.unmet;
   starts = starts_front r way above at w.starts;
 }
   where
@@ -246,7 +298,7 @@ walk_up p old new r at above h way root w noted right = record {
 
 pub walk_end : (p : PassView) (memo new : Memo) (r at : ℕ) (h : Heights) (way : List ℕ) → way ≡ [] → IsWalk p memo r at (way ++ at ∷ []) → IsNoted memo new at h → IsMemo p new → (t : Tree) → Knows p r t → h ≡ heights_of t
 walk_end p memo new r at h way e w noted right t known =
-    let same = only way e w.starts in right at h t noted.here (rw same known)
+    let same = only way e w.starts in right.right at h t (noted_here memo new at h w.right.each noted) (rw same known)
   where
     only : (xs : List ℕ) → xs ≡ [] → Starts r (xs ++ at ∷ []) → at ≡ r
     only [] f s = s

@@ -9,5 +9,10 @@ pub mod TermLemmas
 pub mod ReadingLemmas
 pub mod ShapeLemmas
 pub mod NotLemmas
+pub mod Members
+pub mod NumberingLemmas
 pub mod HeightLemmas
 pub mod CountLemmas
+pub mod ListLemmas
+pub mod PartLemmas
+pub mod PuttingLemmas

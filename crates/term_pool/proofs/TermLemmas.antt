@@ -5,19 +5,12 @@ use Rattle.pair_pool.specs.Views.{PassView, Knows, IsOneToOne}
 use Rattle.sym_table.specs.Leaf.{Leaf, operator}
 use Rattle.sym_table.specs.Table.{Table, IsLeaf, IsTable}
 use Rattle.term_model.specs.Terms.{Term, Terms, Bindings, numeral, variable, operation, call, let_in, no_terms, term, list_of, no_bindings, binding}
-use Rattle.term_pool.specs.StandsFor.{function_leaf, StandsFor, StandsForApplication, StandsForList, StandsForBindings}
+use Rattle.term_pool.specs.StandsFor.{function_leaf, StandsFor, StandsForApplication, StandsForList, StandsForBindings, StandForAll, StandForValues}
 use Rattle.term_pool.specs.Trees.{list_tree, app_tree, binding_trees, let_term_tree}
 use Rattle.term_pool.specs.Views.{TermsView, RefersTo, ReferToAll, KnowsAll}
 use Rattle.term_pool.specs.Building.{IsApplication, AreBindings, Builds}
 use Rattle.term_pool.proofs.OneTree.{one_tree}
 use Rattle.term_pool.proofs.OneTerm.{one_term}
-
--- trees and terms in the same order, each tree standing for its term
-abbrev pub StandForAll : Table → List Tree → List Term → Type 0
-StandForAll s [] [] = Unit {0}
-StandForAll s [] (t ∷ ts) = ⊥
-StandForAll s (a ∷ as') [] = ⊥
-StandForAll s (a ∷ as') (t ∷ ts) = StandsFor s a t × StandForAll s as' ts
 
 pub record TreesOf (s : Table) (p : PassView) (rs : List ℕ) (ts : List Term) : Type 0 where
   pub trees : List Tree
@@ -81,6 +74,17 @@ bindings_stand s v (k ∷ ks) (r ∷ rs) no_bindings h = absurd h
 bindings_stand s v (k ∷ ks) (r ∷ rs) (binding x t bs) h =
     let rest = bindings_stand s v ks rs bs h.2 in
     record { trees = h.1.tree ∷ rest.trees; known = (h.1.known, rest.known); stand = ((h.0, h.1.stands), rest.stand) }
+
+list_of_values_stands : (s : Table) (vars : List ℕ) (trees : List Tree) (bs : Bindings) → StandForValues s vars trees bs → StandsForBindings s (list_tree (binding_trees vars trees)) bs
+list_of_values_stands s [] [] no_bindings h = refl
+list_of_values_stands s [] [] (binding x t bs) h = absurd h
+list_of_values_stands s [] (a ∷ trees) bs h = absurd h
+list_of_values_stands s (k ∷ ks) [] bs h = absurd h
+list_of_values_stands s (k ∷ ks) (a ∷ trees) no_bindings h = absurd h
+list_of_values_stands s (k ∷ ks) (a ∷ trees) (binding x t bs) h = ((h.0, h.1), list_of_values_stands s ks trees bs h.2)
+
+pub let_stands : (s : Table) (vars : List ℕ) (trees : List Tree) (body : Tree) (bs : Bindings) (u : Term) → StandForValues s vars trees bs → StandsFor s body u → StandsFor s (let_term_tree vars trees body) (let_in bs u)
+let_stands s vars trees body bs u h k = (refl, (list_of_values_stands s vars trees bs h, k))
 
 pub let_refers : (s : Table) (v w : TermsView) (r body : ℕ) (vars values : List ℕ) → ((ts : List Tree) (u : Tree) → KnowsAll v.pass values ts → Knows v.pass body u → Builds v.pass w.pass r (let_term_tree vars ts u)) → (bs : Bindings) (u : Term) → AreBindings s v vars values bs → RefersTo s v body u → RefersTo s w r (let_in bs u)
 let_refers s v w r body vars values built bs u h k =

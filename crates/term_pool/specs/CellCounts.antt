@@ -1,10 +1,6 @@
 -- How many distinct cells trees have.
-use Rattle.std.specs.Prelude.{◌≡◌, ◌≢◌, ℕ, ◌+◌, ◌<◌, ◌≤◌, ◌^◌, ◌⊎◌, List, [], ◌∷◌, ◌++◌, length, nat_eq, true}
-use Rattle.std.specs.declared.hash.FoldHasher.{FoldHasher}
-use Rattle.std.specs.declared.hash.BuildHasherDefault.{BuildHasherDefault}
-use Rattle.std.specs.HashSet.{contains, HashSet, hash_set_len}
-use Rattle.pair_pool.specs.Trees.{Tree, cell}
-use Rattle.pair_pool.specs.Views.{PassView, Knows}
+use Rattle.std.specs.Prelude.{◌≡◌, ℕ, ◌⊎◌, List, [], ◌∷◌, length}
+use Rattle.pair_pool.specs.Trees.{Tree}
 use Rattle.term_pool.specs.Trees.{IsPartOf, IsCellTree}
 
 -- the list has the item
@@ -29,33 +25,3 @@ pub record CountsCells (trees : List Tree) (n : ℕ) : Type 0 where
   pub sound : (t : Tree) → Has cells t → IsCellTree t × IsPartOfAny t trees
   pub complete : (t : Tree) → IsCellTree t → IsPartOfAny t trees → Has cells t
   pub count : length cells ≡ n
-
--- the references of cells that have been met
-abbrev pub Seen : Type 0
-Seen = HashSet ℕ (BuildHasherDefault FoldHasher)
-
--- one reference more has been met
-pub record IsMarked (old new : Seen) (r : ℕ) : Type 0 where
-  pub here : contains nat_eq new r ≡ true
-  pub others : (q : ℕ) → q ≢ r → contains nat_eq new q ≡ contains nat_eq old q
-  pub size : hash_set_len new ≡ hash_set_len old + 1
-  pub few : hash_set_len old < 2 ^ 63
-
--- r was a leaf or had been met, and nothing is changed
-pub record IsPassedOver (old new : Seen) (before after : List ℕ) (r : ℕ) : Type 0 where
-  pub old_or_leaf : (r < 2 ^ 30) ⊎ (contains nat_eq old r ≡ true)
-  pub seen : new ≡ old
-  pub left : after ≡ before
-
--- r is a cell that is now met, and its parts are left to be met
-pub record IsTakenIn (pass : PassView) (old new : Seen) (before after : List ℕ) (r : ℕ) : Type 0 where
-  pub first : ℕ
-  pub second : ℕ
-  pub first_known : (s t : Tree) → Knows pass r (cell s t) → Knows pass first s
-  pub second_known : (s t : Tree) → Knows pass r (cell s t) → Knows pass second t
-  pub high : 2 ^ 30 ≤ r
-  pub left : after ≡ (before ++ first ∷ []) ++ second ∷ []
-  pub marked : IsMarked old new r
-
-abbrev pub IsMeeting : PassView → Seen → Seen → List ℕ → List ℕ → ℕ → Type 0
-IsMeeting pass old new before after r = IsPassedOver old new before after r ⊎ IsTakenIn pass old new before after r

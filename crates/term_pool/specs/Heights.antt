@@ -1,17 +1,8 @@
 -- The height of a term, and of the parts of its tree.
-use Rattle.std.specs.Prelude.{◌≡◌, ◌≢◌, ℕ, ◌+◌, ◌^◌, ◌<◌, ◌==◌, max, Bool, false, if◌then◌else◌, Some, None}
-use Rattle.std.specs.declared.hash.FoldHasher.{FoldHasher}
-use Rattle.std.specs.declared.hash.BuildHasherDefault.{BuildHasherDefault}
-use Rattle.std.specs.HashMap.{get, HashMap, hash_map_len}
-use Rattle.std.specs.Prelude.{nat_eq}
+use Rattle.std.specs.Prelude.{ℕ, ◌+◌, ◌==◌, max, Bool, false, if◌then◌else◌}
 use Rattle.pair_pool.specs.Trees.{Tree, leaf, cell}
-use Rattle.pair_pool.specs.Views.{PassView, Knows}
 use Rattle.term_model.specs.Terms.{Term, Terms, Bindings, numeral, variable, operation, call, let_in, no_terms, term, no_bindings, binding}
 use Rattle.term_pool.specs.declared.heights.Heights.{Heights}
-use Rattle.term_pool.specs.declared.heights.Visit.{Visit}
-use Rattle.term_pool.specs.declared.heights.Visit.TheVariants.{Part, Done}
-use Rattle.term_pool.specs.Views.{IsKnownCell}
-use Rattle.term_pool.specs.Trees.{depth}
 
 -- A leaf has height 1. An application is one higher than its highest argument, and a let than the highest of its
 -- values and its body.
@@ -54,27 +45,3 @@ cell_heights is_let a b = record {
 abbrev pub heights_of : Tree → Heights
 heights_of (leaf k) = leaf_heights
 heights_of (cell a b) = cell_heights (is_let_head a) (heights_of a) (heights_of b)
-
--- the heights of cells that have been met, by their references
-abbrev pub Memo : Type 0
-Memo = HashMap ℕ Heights (BuildHasherDefault FoldHasher)
-
--- what it has for a cell is right
-abbrev pub IsMemo : PassView → Memo → Type 0
-IsMemo pass memo = (r : ℕ) (h : Heights) (t : Tree) → get nat_eq memo r ≡ Some h → Knows pass r t → h ≡ heights_of t
-
--- one cell more, and what there was
-pub record IsNoted (old new : Memo) (r : ℕ) (h : Heights) : Type 0 where
-  pub here : get nat_eq new r ≡ Some h
-  pub others : (q : ℕ) → q ≢ r → get nat_eq new q ≡ get nat_eq old q
-  pub size : hash_map_len new ≡ hash_map_len old + 1
-
--- y is a cell below the cell x
-pub record IsBelow (pass : PassView) (x y : ℕ) : Type 0 where
-  pub cell_known : IsKnownCell pass y
-  pub below : (s t : Tree) → Knows pass x s → Knows pass y t → depth t < depth s
-
--- a visit of the cell r has noted its heights, or found a part of it that is yet to be visited
-abbrev pub IsVisit : PassView → Memo → Memo → ℕ → Visit → Type 0
-IsVisit pass old new r (Done h) = IsNoted old new r h × IsMemo pass new × (hash_map_len old < 2 ^ 64)
-IsVisit pass old new r (Part y) = (new ≡ old) × IsBelow pass r y × (get nat_eq old y ≡ None)

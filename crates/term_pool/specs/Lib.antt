@@ -6,3 +6,7 @@ pub mod Reading
 pub mod Nots
 pub mod Heights
 pub mod CellCounts
+pub mod Putting
+pub mod Numbering
+pub mod Meetings
+pub mod Memos

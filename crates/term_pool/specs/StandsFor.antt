@@ -3,7 +3,7 @@
 -- (f, [t1 .. tn]). The list [t1 .. tn] is the cell (t1, [t2 .. tn]), and the empty list is the leaf of nil. A let
 -- `(let ((x1 t1) .. (xn tn)) u)` is the cell (let, (B, u)), where B is the list of the cells (xi, ti)
 -- (SMT-LIB 2.6, section 3.6). The leaves of nil and of let are the same in every table.
-use Rattle.std.specs.Prelude.{◌≡◌, pos}
+use Rattle.std.specs.Prelude.{◌≡◌, pos, ℕ, List, [], ◌∷◌}
 use Rattle.pair_pool.specs.Trees.{Tree, leaf, cell}
 use Rattle.sym_table.specs.Leaf.{Leaf, operator, function}
 use Rattle.sym_table.specs.Table.{Table, IsLeaf}
@@ -60,3 +60,20 @@ abbrev mutual
       IsCellOf tree
       (λ pair. IsCellOf pair (λ name. IsLeafOf s name (variable_leaf x)) (λ value. StandsFor s value t))
       (λ rest. StandsForBindings s rest bs)
+
+-- trees and terms in the same order, each tree standing for its term
+abbrev pub StandForAll : Table → List Tree → List Term → Type 0
+StandForAll s [] [] = Unit {0}
+StandForAll s [] (t ∷ ts) = ⊥
+StandForAll s (a ∷ trees) [] = ⊥
+StandForAll s (a ∷ trees) (t ∷ ts) = StandsFor s a t × StandForAll s trees ts
+
+-- the bindings are those of the variables' leaves to the terms that the trees stand for, in order
+abbrev pub StandForValues : Table → List ℕ → List Tree → Bindings → Type 0
+StandForValues s [] [] no_bindings = Unit {0}
+StandForValues s [] [] (binding x t bs) = ⊥
+StandForValues s [] (a ∷ trees) bs = ⊥
+StandForValues s (k ∷ ks) [] bs = ⊥
+StandForValues s (k ∷ ks) (a ∷ trees) no_bindings = ⊥
+StandForValues s (k ∷ ks) (a ∷ trees) (binding x t bs) =
+    IsLeaf s k (variable_leaf x) × StandsFor s a t × StandForValues s ks trees bs

@@ -37,6 +37,11 @@ abbrev pub list_length : Tree → ℕ
 list_length (leaf k) = 0
 list_length (cell a b) = suc (list_length b)
 
+-- the items of the tree as a list
+abbrev pub items_of : Tree → List Tree
+items_of (leaf k) = []
+items_of (cell a b) = a ∷ items_of b
+
 -- the item of the tree as a list at place i, counted from 0
 abbrev pub list_item : Tree → ℕ → Tree
 list_item (leaf k) i = leaf k
@@ -47,3 +52,22 @@ list_item (cell a b) (suc i) = list_item b i
 abbrev pub depth : Tree → ℕ
 depth (leaf k) = 0
 depth (cell a b) = suc (max (depth a) (depth b))
+
+-- each item of the tree as a list is the cell of a leaf and a tree
+abbrev pub ArePairs : Tree → Type 0
+ArePairs (leaf k) = Unit {0}
+ArePairs (cell (leaf j) b) = ⊥
+ArePairs (cell (cell (leaf k) t) b) = ArePairs b
+ArePairs (cell (cell (cell c d) t) b) = ⊥
+
+-- the leaves of these cells, and the trees
+abbrev pub pair_leaves : Tree → List ℕ
+pair_leaves (leaf k) = []
+pair_leaves (cell (leaf j) b) = []
+pair_leaves (cell (cell (leaf k) t) b) = k ∷ pair_leaves b
+pair_leaves (cell (cell (cell c d) t) b) = []
+
+abbrev pub pair_trees : Tree → List Tree
+pair_trees (leaf k) = []
+pair_trees (cell (leaf j) b) = []
+pair_trees (cell (cell c t) b) = t ∷ pair_trees b

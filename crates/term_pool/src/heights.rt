@@ -1,17 +1,19 @@
 //! Heights: a walk over the cells of a term that remembers what it met.
 
-ghost use Rattle.std.specs.Prelude.{◌≡◌, ℕ, ◌<◌, ◌≤◌, ◌^◌, nat_eq, Some, None, IfOk, OnOk};
-ghost use Rattle.std.specs.HashMap.{get, hash_map_len};
+ghost use Rattle.std.specs.Prelude.{◌≡◌, ℕ, ◌<◌, ◌≤◌, ◌^◌, length, Some, IfOk, OnOk, MatchOption};
 ghost use Rattle.pair_pool.specs.Trees.{Tree};
 ghost use Rattle.pair_pool.specs.Views.{IsOf, IsKnown, Knows};
 ghost use Rattle.term_pool.specs.Views.{IsKnownCell};
-ghost use Rattle.term_pool.specs.Heights.{leaf_heights, cell_heights, heights_of, IsMemo, IsNoted, IsVisit};
+ghost use Rattle.term_pool.specs.CellCounts.{Has};
+ghost use Rattle.term_pool.specs.Numbering.{IsPlace};
+ghost use Rattle.term_pool.specs.Heights.{leaf_heights, cell_heights, heights_of};
+ghost use Rattle.term_pool.specs.Memos.{HasHeights, HasRoomFor, IsMemo, IsNoted, IsVisit};
 
 use crate::build::LET;
 use crate::lists::parts;
+use crate::numbering::Numbering;
 use pair_pool::{Memory, Pass, Pool, Ref};
 use std::alloc::Global;
-use std::collections::HashMap;
 
 /// What a cell is as a term, as a list of arguments, as a list of bindings, as a binding, and as the rest of a let:
 /// the height of what stands there, or of the highest.
@@ -22,6 +24,13 @@ pub(crate) struct Heights {
     bindings: u32,
     value: u32,
     rest: u32,
+}
+
+/// The cells that have been met, and the heights of each.
+#[derive(Drop)]
+struct Memo {
+    cells: Numbering,
+    heights: Vec<Heights>,
 }
 
 /// What a visit of a cell comes to.
@@ -62,38 +71,42 @@ fn of_cell(is_let: bool, first: Heights, second: Heights) -> Heights
 }
 
 /// The heights of a leaf, or those that were noted.
-fn look(memo: &HashMap<u32, Heights>, r: Ref) -> Option<Heights>
+fn look(memo: &Memo, r: Ref) -> Option<Heights>
+    requires room { HasRoomFor memo.now r }
     ensures leaf { r < 2 ^ 30 → result ≡ Some leaf_heights }
-    ensures cell { 2 ^ 30 ≤ r → result ≡ get nat_eq memo.now r }
+    ensures cell { 2 ^ 30 ≤ r → MatchOption result (Has memo.now.cells.cells.items r → ⊥) (HasHeights memo.now r) }
 {
     if r.is_leaf() {
         return Some(of_leaf());
     }
-    memo.get(&r.number()).copied()
+    let number = memo.cells.number(r)?;
+    Some(memo.heights[number as usize])
 }
 
 /// Notes the heights of a cell.
-fn note(memo: &mut HashMap<u32, Heights>, r: Ref, heights: Heights) -> Result<(), Memory>
-    requires { get nat_eq memo.old r ≡ None }
-    ensures noted { OnOk result (IsNoted memo.old memo.new r heights) }
-    ensures few { hash_map_len memo.old < 2 ^ 64 }
+fn note(alloc: Global, memo: &mut Memo, r: Ref, heights: Heights) -> Result<(), Memory>
+    requires room { HasRoomFor memo.old r }
+    requires cell { 2 ^ 30 ≤ r }
+    requires new { Has memo.old.cells.cells.items r → ⊥ }
+    ensures { OnOk result (IsNoted memo.old memo.new r heights) }
 {
-    let _count = memo.len();
-    let _ = memo.insert(r.number(), heights)?;
+    memo.cells.meet(alloc, r)?;
+    memo.heights.push(heights)?;
     Ok(())
 }
 
 /// Notes the heights of a cell, where its parts have theirs.
 fn visit_cell(
+    alloc: Global,
     pool: &Pool,
     pass: &mut Pass,
-    memo: &mut HashMap<u32, Heights>,
+    memo: &mut Memo,
     r: Ref,
 ) -> Result<Visit, Memory>
     requires of_pool { IsOf pool.now pass.old }
     requires cell { IsKnownCell pass.old r }
     requires right { IsMemo pass.old memo.old }
-    requires new { get nat_eq memo.old r ≡ None }
+    requires new { Has memo.old.cells.cells.items r → ⊥ }
     ensures visit { IfOk result (IsVisit pass.old memo.old memo.new r) }
     ensures same { pass.new ≡ pass.old }
 {
@@ -108,7 +121,7 @@ fn visit_cell(
         return Ok(Visit::Part(second));
     };
     let heights = of_cell(first.number() == LET, above, below);
-    note(memo, r, heights)?;
+    note(alloc, memo, r, heights)?;
     Ok(Visit::Done(heights))
 }
 
@@ -125,11 +138,14 @@ pub(crate) fn walk(alloc: Global, pool: &Pool, pass: &mut Pass, r: Ref) -> Resul
     if r.is_leaf() {
         return Ok(of_leaf());
     }
-    let mut memo = HashMap::new(alloc);
+    let mut memo = Memo {
+        cells: Numbering::new(alloc, pool),
+        heights: Vec::new(alloc),
+    };
     let mut way = Vec::new(alloc);
     let mut at = r;
     'cells: loop {
-        match visit_cell(pool, pass, &mut memo, at)? {
+        match visit_cell(alloc, pool, pass, &mut memo, at)? {
             Visit::Part(part) => {
                 way.push(at)?;
                 at = part;

@@ -1,10 +1,12 @@
 //! Laws of trees and terms.
 
-ghost use Rattle.std.specs.Prelude.{◌≡◌, ℕ};
+ghost use Rattle.std.specs.Prelude.{◌≡◌, ℕ, List};
 ghost use Rattle.pair_pool.specs.Trees.{Tree};
 ghost use Rattle.sym_table.specs.Table.{Table, IsTable, Keeps};
-ghost use Rattle.term_model.specs.Terms.{Term};
-ghost use Rattle.term_pool.specs.StandsFor.{StandsFor};
+ghost use Rattle.term_model.specs.Terms.{Term, Bindings, let_in};
+ghost use Rattle.term_pool.specs.Building.{IsApplication};
+ghost use Rattle.term_pool.specs.StandsFor.{StandsFor, StandForAll, StandForValues};
+ghost use Rattle.term_pool.specs.Trees.{app_tree, let_term_tree};
 ghost use Rattle.term_pool.specs.Views.{TermsView, RefersTo, KeepsTerms};
 
 /// A law: by one table of symbols a term has one tree, a tree stands for one term, and what a tree stands for it goes
@@ -19,4 +21,11 @@ pub fn trees_of_terms()
 /// know more. The call does nothing; its contract is the law.
 pub fn references_stay()
     ensures { (s z : Table) (v w : TermsView) (r : ℕ) (t : Term) → Keeps s z → KeepsTerms v w → RefersTo s v r t → RefersTo z w r t }
+{}
+
+/// A law: the tree of a leaf and of arguments stands for the application of its symbol to what they stand for, and the
+/// tree of variables, values and a body for the let of these. The call does nothing; its contract is the law.
+pub fn trees_are_built_of_parts()
+    ensures application { (s : Table) (head : ℕ) (trees : List Tree) (ts : List Term) (t : Term) → StandForAll s trees ts → IsApplication s head ts t → StandsFor s (app_tree head trees) t }
+    ensures let_term { (s : Table) (vars : List ℕ) (trees : List Tree) (body : Tree) (bs : Bindings) (u : Term) → StandForValues s vars trees bs → StandsFor s body u → StandsFor s (let_term_tree vars trees body) (let_in bs u) }
 {}

@@ -15,13 +15,16 @@ mod heights;
 mod laws;
 mod lists;
 mod nots;
+mod numbering;
+mod putting;
 mod shape;
 mod stop;
 mod terms;
 #[cfg(test)]
 mod tests;
 
-pub use laws::{references_stay, trees_of_terms};
+pub use laws::{references_stay, trees_are_built_of_parts, trees_of_terms};
+pub use putting::Image;
 pub use shape::Shape;
 pub use stop::TermStop;
 pub use terms::Terms;

@@ -1,13 +1,13 @@
 //! Lists of references as cells: the cell (first, rest), and the leaf of nil at the end.
 
-ghost use Rattle.std.specs.Prelude.{◌≡◌, ℕ, ◌<◌, ◌^◌, List, All, IfOk, OnErr};
+ghost use Rattle.std.specs.Prelude.{◌≡◌, ℕ, ◌<◌, ◌^◌, List, All, IfOk, OnOk, OnErr};
 ghost use Rattle.pair_pool.specs.Trees.{Tree, cell};
 ghost use Rattle.pair_pool.specs.Views.{IsOf, IsKnown, Knows};
 ghost use Rattle.term_pool.specs.Trees.{list_tree, list_length, list_item};
-ghost use Rattle.term_pool.specs.Views.{KnowsAll, IsKnownCell, HasItem};
+ghost use Rattle.term_pool.specs.Views.{KnowsAll, IsKnownCell, HasItem, AddsItems, IsPairList, AddsPairs};
 ghost use Rattle.term_pool.specs.Building.{Builds, LacksRoom, Interns, Refuses};
 
-use pair_pool::{Pass, Pool, PoolFull, Ref};
+use pair_pool::{Memory, Pass, Pool, PoolFull, Ref};
 
 /// The leaf at the end of a list.
 pub(crate) const NIL: u32 = 0;
@@ -86,4 +86,55 @@ pub(crate) fn item(pool: &Pool, pass: &mut Pass, list: Ref, i: u32) -> Ref
         rest = parts(pool, pass, rest).1;
     }
     parts(pool, pass, rest).0
+}
+
+/// Adds the items of a list, in order.
+pub(crate) fn items(
+    pool: &Pool,
+    pass: &mut Pass,
+    list: Ref,
+    into: &mut Vec<Ref>,
+) -> Result<(), Memory>
+    requires of_pool { IsOf pool.now pass.old }
+    requires known { IsKnown pass.old list }
+    ensures added { OnOk result (AddsItems pass.old list into.old.items into.new.items) }
+    ensures same { pass.new ≡ pass.old }
+{
+    pass.one_to_one();
+    pass.parts_of_trees();
+    pass.lists_in_order();
+    let mut rest = list;
+    'items: while !rest.is_leaf() {
+        let (first, next) = parts(pool, pass, rest);
+        into.push(first)?;
+        rest = next;
+    }
+    Ok(())
+}
+
+/// Adds the leaves and the references of a list of pairs, in order.
+pub(crate) fn pairs(
+    pool: &Pool,
+    pass: &mut Pass,
+    list: Ref,
+    leaves: &mut Vec<u32>,
+    into: &mut Vec<Ref>,
+) -> Result<(), Memory>
+    requires of_pool { IsOf pool.now pass.old }
+    requires list { IsPairList pass.old list }
+    ensures added { OnOk result (AddsPairs pass.old list leaves.old.items leaves.new.items into.old.items into.new.items) }
+    ensures same { pass.new ≡ pass.old }
+{
+    pass.one_to_one();
+    pass.parts_of_trees();
+    pass.lists_in_order();
+    let mut rest = list;
+    'pairs: while !rest.is_leaf() {
+        let (first, next) = parts(pool, pass, rest);
+        let (leaf, second) = parts(pool, pass, first);
+        leaves.push(leaf.number())?;
+        into.push(second)?;
+        rest = next;
+    }
+    Ok(())
 }

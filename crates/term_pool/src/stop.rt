@@ -4,6 +4,7 @@ ghost use Rattle.std.specs.Prelude.{◌≡◌};
 ghost use Rattle.term_pool.specs.declared.stop.TermStop.TheVariants as TermStop;
 
 use pair_pool::{Memory, PoolFull};
+use std::alloc::AllocFailed;
 
 /// Why a term was not built.
 #[derive(Clone, Copy, Debug, PartialEq, Eq)]
@@ -26,6 +27,14 @@ impl From<Memory> for TermStop {
     ghost from_gives = { λ _ stop. stop ≡ TermStop.Memory };
 
     fn from(_refused: Memory) -> TermStop {
+        TermStop::Memory
+    }
+}
+
+impl<T: Drop> From<AllocFailed<T>> for TermStop {
+    ghost from_gives = { λ _ stop. stop ≡ TermStop.Memory };
+
+    fn from(_refused: AllocFailed<T>) -> TermStop {
         TermStop::Memory
     }
 }

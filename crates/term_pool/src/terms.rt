@@ -8,6 +8,8 @@ ghost use Rattle.term_pool.specs.Views.{RefersTo};
 
 mod building;
 mod measures;
+mod parts;
+mod putting;
 mod reading;
 
 use pair_pool::{Pass, Pool};

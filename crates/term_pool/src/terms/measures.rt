@@ -19,7 +19,8 @@ impl<'a> Terms<'a> {
     /// The height of a term: a leaf has height 1, an application is one higher than its highest argument, and a let
     /// than the highest of its values and its body. It fits, since no term is higher than its pool has references.
     ///
-    /// Loads each distinct cell of the term at most four times, and takes memory for each. Refuses want of memory
+    /// Loads each distinct cell of the term at most four times, and takes memory for each: once there are many of them,
+    /// 4 bytes for each place of the pool besides, and at most a constant times the pool's words. Refuses want of memory
     /// alone.
     pub fn height(&mut self, alloc: Global, r: Ref) -> Result<u32, Memory>
         requires { IsKnown self.old.pass r }
@@ -33,7 +34,7 @@ impl<'a> Terms<'a> {
 
     /// How many distinct cells there are among the references and below them.
     ///
-    /// Loads each distinct cell once, and takes memory for each. Refuses want of memory alone.
+    /// Loads each distinct cell once, and takes memory as `height` does. Refuses want of memory alone.
     pub fn cells_of(&mut self, alloc: Global, list: &[Ref]) -> Result<u64, Memory>
         requires { All (IsKnown self.old.pass) list.now }
         ensures count { IfOk result (λ n. (trees : List Tree) → KnowsAll self.old.pass list.now trees → CountsCells trees n) }

@@ -15,7 +15,10 @@ cells-init c =
     let above : 2 ^ 30 ≤ c.args.r = grind arith in (
       refl,
       rw c.new-way.ensures.items
-          (walk_start _ _ _ c.new-memo.ensures.empty (reference_cell _ _ c.parts_of_trees.ensures above c.requires.known)),
+          (walk_start _ _ _
+          (record { numbering = c.new.ensures.numbering; places = c.new.ensures.places _ c.requires.of_pool })
+          c.new.ensures.cells c.new-2.ensures.items
+          (reference_cell _ _ c.parts_of_trees.ensures above c.requires.known)),
     )
 
 pub visit_cell-requires-clause-cell : goal.visit_cell-requires-clause-cell
