@@ -1,4 +1,5 @@
-//! Terms in a pool: building applications of declared functions of 1 to 4 arguments to earlier terms, and viewing them.
+//! Terms in a pool: building applications of declared functions of 1 to 4 arguments to earlier terms, viewing them, and
+//! counting their cells.
 
 ghost use Rattle.std.specs.Prelude.{◌≤◌, ◌<◌, All, length, IfOk};
 ghost use Rattle.term_pool.specs.Views.{IsTerm};
@@ -101,6 +102,10 @@ fn sum_of_case(
         "view" => {
             let sum = build(symbols, terms, heads, &mut built, count)?;
             Ok(sum.wrapping_add(view(symbols, terms, built.as_slice())))
+        }
+        "cells" => {
+            let sum = build(symbols, terms, heads, &mut built, count)?;
+            Ok(sum.wrapping_add(cells(alloc, symbols, terms, built.as_slice())?))
         }
         _ => Err(Stop::BadWords),
     }
@@ -246,4 +251,12 @@ fn read(symbols: &Symbols, terms: &mut Terms, r: Ref) -> u64
         }
         _ => 0,
     }
+}
+
+// How many distinct cells the terms have.
+#[tactic(auto, using(crate::proofs::TermLemmas::all_known))]
+fn cells(alloc: Global, _symbols: &Symbols, terms: &mut Terms, built: &[Ref]) -> Result<u64, Memory>
+    requires { All (IsTerm _symbols.now terms.old) built.now }
+{
+    terms.cells_of(alloc, built)
 }

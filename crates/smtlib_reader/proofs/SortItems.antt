@@ -22,20 +22,20 @@ use Rattle.smtlib_reader.specs.Lexers.{GoesOnWith}
 use Rattle.smtlib_reader.specs.Sorts.{sort_from, sort_spelled, declared_sort}
 
 -- the token has this kind, place and spelling, and then comes the rest
-record IsThis (text : List ℕ) (t : Token) (after : List Token) (kind : TokenKind) (at : ℕ) (spelling : List ℕ) (rest : List Token) : Type 0 where
-  kinds : t.kind ≡ kind
-  places : t.start ≡ at
-  spellings : token_text text t ≡ spelling
-  rests : after ≡ rest
+pub record IsThis (text : List ℕ) (t : Token) (after : List Token) (kind : TokenKind) (at : ℕ) (spelling : List ℕ) (rest : List Token) : Type 0 where
+  pub kinds : t.kind ≡ kind
+  pub places : t.start ≡ at
+  pub spellings : token_text text t ≡ spelling
+  pub rests : after ≡ rest
 
-record SameFront (t u : Token) (after rest : List Token) : Type 0 where
-  first : t ≡ u
-  rests : after ≡ rest
+pub record SameFront (t u : Token) (after rest : List Token) : Type 0 where
+  pub first : t ≡ u
+  pub rests : after ≡ rest
 
-same_front : (t u : Token) (after rest : List Token) → ◌≡◌ {A = List Token} (t ∷ after) (u ∷ rest) → SameFront t u after rest
+pub same_front : (t u : Token) (after rest : List Token) → ◌≡◌ {A = List Token} (t ∷ after) (u ∷ rest) → SameFront t u after rest
 same_front t u after rest e = record { first = cc; rests = cc }
 
-is_this : (text : List ℕ) (t : Token) (after : List Token) (kind : TokenKind) (at : ℕ) (spelling : List ℕ) (rest : List Token)
+pub is_this : (text : List ℕ) (t : Token) (after : List Token) (kind : TokenKind) (at : ℕ) (spelling : List ℕ) (rest : List Token)
     → IsToken text (t ∷ after) kind at spelling rest → IsThis text t after kind at spelling rest
 is_this text t after kind at spelling rest is =
     let f = same_front t is.token after rest is.first in
@@ -49,13 +49,13 @@ is_this text t after kind at spelling rest is =
 opens : (t bracket : Token) (after inside : List Token) → IsBracket (t ∷ after) Open bracket inside → t ≡ bracket
 opens t bracket after inside is = (same_front t bracket after inside is.first).first
 
-open_is_word : ◌≡◌ {A = TokenKind} Open Word → ⊥
+pub open_is_word : ◌≡◌ {A = TokenKind} Open Word → ⊥
 open_is_word e = cc
 
-open_is_quoted : ◌≡◌ {A = TokenKind} Open Quoted → ⊥
+pub open_is_quoted : ◌≡◌ {A = TokenKind} Open Quoted → ⊥
 open_is_quoted e = cc
 
-open_is_text : ◌≡◌ {A = TokenKind} Open Text → ⊥
+pub open_is_text : ◌≡◌ {A = TokenKind} Open Text → ⊥
 open_is_text e = cc
 
 -- an opening bracket begins a list

@@ -6,10 +6,33 @@
 //! says what follows from them. [`read_sort`] reads a sort as they say.
 #![tactic(auto)]
 
+mod attributes;
+mod children;
+mod command_shapes;
+mod command_words;
+mod commands;
+mod entries;
 pub mod examples;
+mod faults;
+mod frames;
+mod known;
 pub mod laws;
+mod layers;
+mod name_numbers;
+mod nodes;
+mod numerals;
+mod parameters;
+mod repeats;
+mod scope;
+mod shapes;
 mod sorts;
+mod sorts_at;
+mod stacks;
+mod substitution;
+mod values;
+mod words;
 
+pub use faults::ReadFault;
 pub use sorts::read_sort;
 
 #[cfg(test)]

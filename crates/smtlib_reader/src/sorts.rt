@@ -1,6 +1,5 @@
 //! Sorts where they stand in a text (SMT-LIB 2.6, section 3.5).
 ghost use Rattle.std.specs.Prelude.{◌≡◌, ℕ, List, bytes_eq, position, option_copied, OnOk};
-ghost use Rattle.std.specs.List.{list_any};
 ghost use Rattle.sexpr.specs.Form.{HasForm};
 ghost use Rattle.sexpr.specs.Items.{Item};
 ghost use Rattle.sexpr.specs.Source as at;
@@ -10,6 +9,7 @@ ghost use Rattle.smtlib_reader.specs.Lexers.{IsFirstOfItem, GoesOnWith};
 ghost use Rattle.smtlib_reader.specs.Sorts as spec;
 ghost use Rattle.smtlib_reader.specs.Sorts.{sort_from};
 
+use crate::words::is_among;
 use sexpr::{Cause, Lexer, Refusal, Token, TokenKind, symbol_name};
 use sym_table::Symbols;
 use term_model::Sort;
@@ -34,7 +34,11 @@ pub fn read_sort(lexer: &mut Lexer<'_>, first: Token, symbols: &Symbols) -> Resu
 }
 
 /// The sort of a symbol that stands at this place, or of what is none.
-fn sort_spelled(name: Option<&[u8]>, place: u64, symbols: &Symbols) -> Result<Sort, Refusal>
+pub(crate) fn sort_spelled(
+    name: Option<&[u8]>,
+    place: u64,
+    symbols: &Symbols,
+) -> Result<Sort, Refusal>
     ensures { result ≡ spec.sort_spelled symbols.now.sorts place (option_copied name.entry) }
 {
     match name {
@@ -43,7 +47,7 @@ fn sort_spelled(name: Option<&[u8]>, place: u64, symbols: &Symbols) -> Result<So
     }
 }
 
-fn refused(cause: Cause, at: u64) -> Refusal
+pub(crate) fn refused(cause: Cause, at: u64) -> Refusal
     ensures { result ≡ record { cause = cause; at = at } }
 {
     Refusal { cause, at }
@@ -74,13 +78,6 @@ fn declared_sort(name: &[u8], place: u64, symbols: &Symbols) -> Result<Sort, Ref
         Some(sort) => Ok(sort),
         None => Err(refused(Cause::UnknownName, place)),
     }
-}
-
-/// Whether a word of the list is the name.
-fn is_among(words: &[&[u8]], name: &[u8]) -> bool
-    ensures { result ≡ list_any (λ word. bytes_eq name.now word.now) words.now }
-{
-    words.iter().any(|word| name == *word)
 }
 
 /// The sorts of other theories: Reals, Strings and ArraysEx.

@@ -1,0 +1,15 @@
+use Rattle.std.proofs.Common.{◌-◌, List}
+use Rattle.sexpr.specs.Source.{source}
+use Rattle.smtlib_reader.specs.Forms.{Name}
+use Rattle.smtlib_reader.specs.Layers.{AreAttributes}
+use Rattle.smtlib_reader.specs.Stepping.{AreSomeFrom}
+use Rattle.smtlib_reader.proofs.attributes.next_name.Given as goal
+
+abbrev pub invariant-items : goal.invariant-items
+invariant-items l = record {
+  there : AreSomeFrom (source l.text) l.nodes l.before l.end;
+  kept : (names : List Name) → AreAttributes (source l.text) l.nodes l.k names l.end → AreAttributes (source l.text) l.nodes l.before names l.end;
+}
+
+abbrev pub decreases-items : goal.decreases-items
+decreases-items l = l.end - l.before

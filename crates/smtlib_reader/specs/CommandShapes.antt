@@ -1,0 +1,129 @@
+-- Commands as nodes spell them.
+use Rattle.std.specs.Prelude.{◌≡◌, ℕ, ◌<◌, ◌≤◌, ◌==◌, Bool, List, [], ◌∷◌, length, slice_get, Option, Some, None, if◌then◌else◌, codes, bytes_eq, Result, Ok, Err}
+use Rattle.sexpr.specs.declared.causes.Cause.TheVariants.{BadCommand, LeftOut, UnknownCommand}
+use Rattle.sexpr.specs.declared.causes.Refusal.{Refusal}
+use Rattle.sexpr.specs.Words.{is_symbol}
+use Rattle.sexpr.specs.Items.{Item, word, quoted, string, list, Items, no_items, item}
+use Rattle.smtlib_reader.specs.declared.nodes.Node.{Node}
+use Rattle.smtlib_reader.specs.declared.commands.Command.{Command}
+use Rattle.smtlib_reader.specs.declared.command_words.CommandWord.{CommandWord}
+use Rattle.smtlib_reader.specs.Words.{is_among, left_out_commands}
+use Rattle.smtlib_reader.specs.Forms.{Name, excess, pairs_fault}
+use Rattle.smtlib_reader.specs.Commands.{Command as Shape, set_logic, without_effect, declare_sort, declare_fun, define_fun, assert_term, check_sat, exit, refused, shaped, assert_shape, declare_fun_shape, declare_const_shape, define_fun_shape, declare_sort_shape, set_logic_shape, attribute_shape}
+use Rattle.smtlib_reader.specs.Nodes.{IsNode, AreNodes}
+use Rattle.smtlib_reader.specs.Layers.{BeginsAt, IsNameNode}
+
+-- The node's token lies in the text, and the node after its item lies behind it, at the end of the nodes at most.
+pub record IsSpan (source : List ℕ) (nodes : List Node) (k : ℕ) (node : Node) : Type 0 where
+  pub some : node.token.start < node.token.end
+  pub within : node.token.end ≤ length source
+  pub behind : k < node.next
+  pub inside : node.next ≤ length nodes
+
+abbrev pub AreSpans : List ℕ → List Node → Type 0
+AreSpans source nodes = (k : ℕ) (node : Node) → slice_get nodes k ≡ Some node → IsSpan source nodes k node
+
+-- The first of the items is at node k, and the others begin at node next.
+pub record BeginWith (source : List ℕ) (nodes : List Node) (k : ℕ) (items : Items) (next last : ℕ) : Type 0 where
+  pub first : Item
+  pub others : Items
+  pub same : items ≡ item first others
+  pub here : IsNode source nodes k first next
+  pub there : AreNodes source nodes next others last
+
+-- The first of the items was taken, or there is none, which is a bad command at this place.
+abbrev pub IsTaken : List ℕ → List Node → ℕ → Items → ℕ → ℕ → Result ℕ Refusal → Type 0
+IsTaken source nodes place items next last (Ok k) = BeginWith source nodes k items next last
+IsTaken source nodes place items next last (Err r) = (items ≡ no_items) × (r ≡ record { cause = BadCommand; at = place })
+
+-- The nodes say the command: a name and nodes of sorts, parameters and terms, with what kind of numeral an arity is.
+pub record SaysSort (source : List ℕ) (nodes : List Node) (name arity : ℕ) (is_zero : Bool) (d : Shape) : Type 0 where
+  pub named : Name
+  pub place : ℕ
+  pub value : ℕ
+  pub same : d ≡ declare_sort named place value
+  pub name_here : IsNameNode source nodes name named
+  pub arity_here : BeginsAt nodes arity place
+  pub zero : is_zero ≡ (value == 0)
+
+pub record SaysFun (source : List ℕ) (nodes : List Node) (name first last target : ℕ) (d : Shape) : Type 0 where
+  pub named : Name
+  pub sorts : Items
+  pub result : Item
+  pub after : ℕ
+  pub same : d ≡ declare_fun named sorts result
+  pub name_here : IsNameNode source nodes name named
+  pub sorts_here : AreNodes source nodes first sorts last
+  pub result_here : IsNode source nodes target result after
+
+pub record SaysDefinition (source : List ℕ) (nodes : List Node) (name first last target body : ℕ) (d : Shape) : Type 0 where
+  pub named : Name
+  pub parameters : Items
+  pub result : Item
+  pub value : Item
+  pub after : ℕ
+  pub behind : ℕ
+  pub same : d ≡ define_fun named parameters result value
+  pub name_here : IsNameNode source nodes name named
+  pub parameters_here : AreNodes source nodes first parameters last
+  pub pairs : pairs_fault parameters ≡ None
+  pub result_here : IsNode source nodes target result after
+  pub value_here : IsNode source nodes body value behind
+
+abbrev pub Says : List ℕ → List Node → Command → Shape → Type 0
+Says source nodes (Command.SetLogic name) d = (n : Name) × (d ≡ set_logic n) × IsNameNode source nodes name n
+Says source nodes Command.WithoutEffect d = d ≡ without_effect
+Says source nodes (Command.DeclareSort name arity is_zero) d = SaysSort source nodes name arity is_zero d
+Says source nodes (Command.DeclareFun name first last target) d = SaysFun source nodes name first last target d
+Says source nodes (Command.DefineFun name first last target body) d = SaysDefinition source nodes name first last target body d
+Says source nodes (Command.Assert t) d = (i : Item) × (m : ℕ) × (d ≡ assert_term i) × IsNode source nodes t i m
+Says source nodes Command.CheckSat d = d ≡ check_sat
+Says source nodes Command.Exit d = d ≡ exit
+
+-- the result is the command or the refusal that is expected
+abbrev pub IsCommand : List ℕ → List Node → Result Command Refusal → Result Shape Refusal → Type 0
+IsCommand source nodes (Err r) expected = expected ≡ Err r
+IsCommand source nodes (Ok c) expected = (d : Shape) × (expected ≡ Ok d) × Says source nodes c d
+
+-- the word of a command, where the item is one
+abbrev pub head_word : Item → Option (List ℕ)
+head_word (word place spelling) = if is_symbol spelling then Some spelling else None
+head_word (quoted place spelling) = None
+head_word (string place spelling) = None
+head_word (list place items) = None
+
+-- what a command's word asks for
+abbrev pub word_named : List ℕ → CommandWord
+word_named name =
+    if bytes_eq name (codes "assert") then CommandWord.Assert
+    else if bytes_eq name (codes "declare-fun") then CommandWord.DeclareFun
+    else if bytes_eq name (codes "declare-const") then CommandWord.DeclareConst
+    else if bytes_eq name (codes "define-fun") then CommandWord.DefineFun
+    else if bytes_eq name (codes "declare-sort") then CommandWord.DeclareSort
+    else if bytes_eq name (codes "set-logic") then CommandWord.SetLogic
+    else if is_among (codes "set-info" ∷ codes "set-option" ∷ []) name then CommandWord.Attribute
+    else if bytes_eq name (codes "check-sat") then CommandWord.CheckSat
+    else if is_among (codes "get-proof" ∷ codes "get-unsat-core" ∷ []) name then CommandWord.Question
+    else if bytes_eq name (codes "exit") then CommandWord.Exit
+    else if is_among left_out_commands name then CommandWord.LeftOut
+    else CommandWord.Unknown
+
+-- the command of a word of this kind
+abbrev pub command_so : CommandWord → Bool → ℕ → ℕ → Items → Result Shape Refusal
+command_so CommandWord.Assert checked place word_place items = if checked then refused LeftOut word_place else assert_shape place items
+command_so CommandWord.DeclareFun checked place word_place items = declare_fun_shape place items
+command_so CommandWord.DeclareConst checked place word_place items = declare_const_shape place items
+command_so CommandWord.DefineFun checked place word_place items = define_fun_shape place items
+command_so CommandWord.DeclareSort checked place word_place items = declare_sort_shape place items
+command_so CommandWord.SetLogic checked place word_place items = set_logic_shape place items
+command_so CommandWord.Attribute checked place word_place items = attribute_shape place items
+command_so CommandWord.CheckSat checked place word_place items = shaped (excess items) check_sat
+command_so CommandWord.Question checked place word_place items = shaped (excess items) without_effect
+command_so CommandWord.Exit checked place word_place items = shaped (excess items) exit
+command_so CommandWord.LeftOut checked place word_place items = refused LeftOut word_place
+command_so CommandWord.Unknown checked place word_place items = refused UnknownCommand word_place
+
+-- the command, unless a fault stands at a place
+abbrev pub unless : Option ℕ → Command → Result Command Refusal
+unless (Some place) c = Err (record { cause = BadCommand; at = place })
+unless None c = Ok c

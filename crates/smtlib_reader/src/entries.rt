@@ -1,0 +1,158 @@
+//! The names of macros and of named terms, and what they stand for (SMT-LIB 2.6, sections 4.2.3 and 3.6.6).
+ghost use Rattle.std.specs.Prelude.{◌≡◌, [], ◌∷◌, ◌++◌, ◌<◌, length, slice_get, Some, None, IfOk, OnOk, OnErr, IfSome};
+ghost use Rattle.smtlib_reader.specs.Entries.{lookup, no_entries, Puts, IsThere};
+ghost use Rattle.smtlib_reader.specs.declared.entries.Entry.TheVariants as Entry;
+
+use crate::values::Value;
+use indexmap::IndexMap;
+use std::alloc::Global;
+use std::marker::Model;
+use sym_table::Memory;
+use term_model::Sort;
+
+/// A macro: the leaves of its parameters and their sorts, the sort of its uses, and its body.
+#[derive(Drop)]
+pub(crate) struct Macro {
+    pub(crate) parameters: Vec<u32>,
+    pub(crate) sorts: Vec<Sort>,
+    pub(crate) target: Sort,
+    pub(crate) body: Value,
+}
+
+/// A named term with the leaves of its free variables.
+#[derive(Drop)]
+pub(crate) struct Named {
+    pub(crate) value: Value,
+    pub(crate) free: Vec<u32>,
+}
+
+/// What a name is that of.
+#[derive(Clone, Copy)]
+pub(crate) enum Entry {
+    /// A macro whose body is being read.
+    Reserved,
+    /// A macro, by its number in the order of definition, from 0.
+    Macro(usize),
+    /// A named term, by its number in the order of naming, from 0.
+    Named(usize),
+}
+
+/// The names with what they stand for. A look-up takes the time of one hash, whatever there is.
+#[derive(Drop)]
+pub(crate) struct Entries {
+    alloc: Global,
+    names: IndexMap<Vec<u8>, Entry>,
+    macros: Vec<Macro>,
+    named: Vec<Named>,
+}
+
+impl Model for Entries {
+    ghost use Rattle.smtlib_reader.specs.Entries.{EntriesView, names_of, AreThere};
+
+    ghost Value = { EntriesView };
+
+    ghost view = { λ e. record { names = names_of e.names.entries; macros = e.macros.items; named = e.named.items } };
+
+    ghost invariant = { λ e. AreThere (record { names = names_of e.names.entries; macros = e.macros.items; named = e.named.items }) };
+}
+
+impl Entries {
+    pub(crate) fn new(alloc: Global) -> Entries
+        ensures { result ≡ no_entries }
+    {
+        Entries {
+            alloc,
+            names: IndexMap::new(alloc),
+            macros: Vec::new(alloc),
+            named: Vec::new(alloc),
+        }
+    }
+
+    /// What the name is that of.
+    pub(crate) fn find(&self, name: &[u8]) -> Option<Entry>
+        ensures entry { result ≡ lookup self.now.names name.now }
+        ensures there { IfSome result (IsThere self.now) }
+    {
+        let entry = self.names.get(name)?;
+        Some(*entry)
+    }
+
+    /// Takes a name that has no entry for a macro whose body is to be read. After a refusal nothing has changed.
+    pub(crate) fn reserve(&mut self, name: &[u8]) -> Result<(), Memory>
+        requires { lookup self.old.names name.now ≡ None }
+        ensures names { OnOk result (Puts self.old.names name.now Entry.Reserved self.new.names) }
+        ensures macros { self.new.macros ≡ self.old.macros }
+        ensures named { self.new.named ≡ self.old.named }
+        ensures refused { OnErr result (self.new ≡ self.old) }
+    {
+        let owned = Vec::from_slice(self.alloc, name)?;
+        self.names.insert(owned, Entry::Reserved)?;
+        Ok(())
+    }
+
+    /// Defines the macro of a reserved name. After a refusal nothing has changed.
+    pub(crate) fn define(
+        &mut self,
+        name: &[u8],
+        parameters: Vec<u32>,
+        sorts: Vec<Sort>,
+        target: Sort,
+        body: Value,
+    ) -> Result<(), Memory>
+        requires { lookup self.old.names name.now ≡ Some Entry.Reserved }
+        ensures names { OnOk result (Puts self.old.names name.now (Entry.Macro (length self.old.macros)) self.new.names) }
+        ensures macros { OnOk result (self.new.macros ≡ self.old.macros ++ record { parameters = parameters; sorts = sorts; target = target; body = body } ∷ []) }
+        ensures named { self.new.named ≡ self.old.named }
+        ensures refused { OnErr result (self.new ≡ self.old) }
+    {
+        let owned = Vec::from_slice(self.alloc, name)?;
+        self.macros.reserve(1)?;
+        let number = self.macros.len();
+        self.names.insert(owned, Entry::Macro(number))?;
+        let defined = Macro {
+            parameters,
+            sorts,
+            target,
+            body,
+        };
+        self.macros.push(defined).unwrap();
+        Ok(())
+    }
+
+    /// Gives a term a name that has no entry. After a refusal nothing has changed.
+    pub(crate) fn give_name(
+        &mut self,
+        name: &[u8],
+        value: Value,
+        free: Vec<u32>,
+    ) -> Result<(), Memory>
+        requires { lookup self.old.names name.now ≡ None }
+        ensures names { OnOk result (Puts self.old.names name.now (Entry.Named (length self.old.named)) self.new.names) }
+        ensures named { OnOk result (self.new.named ≡ self.old.named ++ record { value = value; free = free } ∷ []) }
+        ensures macros { self.new.macros ≡ self.old.macros }
+        ensures refused { OnErr result (self.new ≡ self.old) }
+    {
+        let owned = Vec::from_slice(self.alloc, name)?;
+        self.named.reserve(1)?;
+        let number = self.named.len();
+        self.names.insert(owned, Entry::Named(number))?;
+        self.named.push(Named { value, free }).unwrap();
+        Ok(())
+    }
+
+    /// The macro of this number.
+    pub(crate) fn macro_at(&self, number: usize) -> &Macro
+        requires { number < length self.now.macros }
+        ensures { slice_get self.now.macros number ≡ Some result.now }
+    {
+        &self.macros[number]
+    }
+
+    /// The named term of this number.
+    pub(crate) fn named_at(&self, number: usize) -> &Named
+        requires { number < length self.now.named }
+        ensures { slice_get self.now.named number ≡ Some result.now }
+    {
+        &self.named[number]
+    }
+}
