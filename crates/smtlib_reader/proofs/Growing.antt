@@ -1,23 +1,23 @@
 -- The terms that were read stay read.
-use Rattle.std.proofs.Common.{◌≡◌, ℕ, ◌==◌, List, [], ◌∷◌, ◌++◌, map, Bool, true, false, ◌||◌, cond, Result, Ok, Err, IfOk, if◌then◌else◌, refl, subst, arith, Option, Some, None}
+use Rattle.std.proofs.Common.{ℕ, ◌==◌, List, [], ◌∷◌, ◌++◌, map, Bool, true, false, ◌||◌, Result, Ok, Err, IfOk, if◌then◌else◌, refl, arith, Option, Some, None}
 use Rattle.std.specs.Prelude.{⊤, Contains, nat_le}
 use Rattle.std.proofs.lemmas.List.Elements.{Contains-append_left, Contains-append_right}
 use Rattle.sexpr.specs.declared.causes.Cause.{Cause}
-use Rattle.sexpr.specs.declared.causes.Cause.TheVariants.{Repeated, LeftOut, SortMismatch, UnknownName, TooHigh}
+use Rattle.sexpr.specs.declared.causes.Cause.TheVariants.{Repeated, LeftOut, SortMismatch, TooHigh}
 use Rattle.sexpr.specs.declared.causes.Refusal.{Refusal}
 use Rattle.sexpr.specs.Items.{Item, Items, no_items, item, place_of}
 use Rattle.term_model.specs.declared.symbols.Sort.{Sort}
-use Rattle.term_model.specs.Terms.{Term, numeral, Var, sort_eq}
+use Rattle.term_model.specs.Terms.{Term, numeral, sort_eq}
 use Rattle.smtlib_reader.specs.Words.{is_among, is_built_in, logics}
 use Rattle.smtlib_reader.specs.Forms.{Name, Form, faulty, number, symbol, application, let_form, annotated, Forms, no_forms, form, Binds, no_binds, bind, form_of}
 use Rattle.smtlib_reader.specs.Heights.{height, most_height}
 use Rattle.smtlib_reader.specs.Commands.{Command, set_logic, without_effect, declare_sort, declare_fun, define_fun, assert_term, check_sat, exit, command_of}
-use Rattle.smtlib_reader.specs.Scripts.{Typed, Macro, Named, Script, is_taken, with_name, with_sort, with_function, with_macro, with_named, with_term, with_let_name, with_assertion, Outcome, done, refuse, given, goes_on, and_then}
+use Rattle.smtlib_reader.specs.Scripts.{Typed, Script, is_taken, with_name, with_named, with_term, with_let_name, Outcome, done, refuse, given, and_then}
 use Rattle.smtlib_reader.specs.Sorts.{sort_from, sorts_from, parameters_from}
-use Rattle.smtlib_reader.specs.Names.{Bound, Place, Meaning, meaning_of, applied, inside, let_term, itself}
+use Rattle.smtlib_reader.specs.Names.{Place, Meaning, meaning_of, applied, inside, let_term, itself}
 use Rattle.smtlib_reader.specs.Terms.{settled, with_meaning, with_names, term_from, terms_from, bounds_from, read_term}
 use Rattle.smtlib_reader.specs.Problems.{logic_set, sort_declared, function_declared, function_defined, term_asserted, performed, ends, commands}
-use Rattle.smtlib_reader.specs.Resuming.{Waiting, arguments, bindings, body_of, naming, bound_to, body_from, after, resumed}
+use Rattle.smtlib_reader.specs.Resuming.{Waiting, arguments, bindings, body_of, naming, bound_to, after, resumed}
 use Rattle.smtlib_reader.proofs.Outcomes.{Ends, ends-and_then, ends-goes_on}
 
 abbrev Anything : {A : Type 0} → A → Type 0

@@ -1,5 +1,5 @@
 -- What a replacement puts in for leaves, and the term that comes of it.
-use Rattle.std.proofs.Common.{◌≡◌, ◌≢◌, ℕ, ◌+◌, ◌-◌, ◌≤◌, ◌<◌, ◌⊎◌, inl, inr, max, refl, sym, ◌∙◌, ap, subst, arith, List, [], ◌∷◌, length, get_or, drop, drop-cons, suc, Some, None, Option, Bool, true, false, ◌&&◌, nat_eq, eqb, pos, cond, if◌then◌else◌}
+use Rattle.std.proofs.Common.{◌≡◌, ◌≢◌, ℕ, ◌+◌, ◌-◌, ◌≤◌, ◌<◌, ◌⊎◌, inl, inr, refl, sym, ◌∙◌, ap, subst, arith, List, [], ◌∷◌, length, get_or, drop, drop-cons, suc, Some, None, Option, Bool, true, false, ◌&&◌, nat_eq, eqb, pos, cond, if◌then◌else◌}
 use Rattle.std.specs.HashMap.{get}
 use Rattle.std.proofs.lemmas.Bool.Decides.{eqb_tells}
 use Rattle.pair_pool.specs.Trees.{Tree, leaf, cell}
@@ -10,11 +10,10 @@ use Rattle.sym_table.specs.Table.{Table, IsLeaf, IsTable}
 use Rattle.term_model.specs.Terms.{Var, var_eq, Term, numeral, variable, operation, call, let_in, Terms, no_terms, term, Bindings, no_bindings, binding}
 use Rattle.term_model.proofs.Tests.{var_eq_decides}
 use Rattle.term_pool.specs.declared.putting.Image.{Image}
-use Rattle.term_pool.specs.Building.{PlacesOnlyIn, IsFullIn}
 use Rattle.term_pool.specs.Putting.{Piece, itself, joined, put, Images, IsImage, IsWithin, IsImageOf, AreImages, HasImages, PlacesImage, LacksRoomForImage}
-use Rattle.term_pool.specs.StandsFor.{nil_tree, let_tree, variable_leaf, function_leaf, StandsFor, StandsForApplication, StandsForList, StandsForBindings}
+use Rattle.term_pool.specs.StandsFor.{variable_leaf, function_leaf, StandsFor, StandsForApplication, StandsForList, StandsForBindings}
 use Rattle.term_pool.specs.Trees.{depth}
-use Rattle.term_pool.specs.Views.{TermsView, RefersTo}
+use Rattle.term_pool.specs.Views.{TermsView}
 use Rattle.smtlib_reader.specs.Heights.{height, highest, highest_bound}
 use Rattle.smtlib_reader.specs.Images.{IsPieceOf, PutsFor, ArePutFor, IsSomeReplacement, IsSomeValue, PlacesTerm, LacksRoomFor}
 use Rattle.smtlib_reader.specs.Replacement.{Replacement, term_at, replaced, replaced_all, HasNoLet, HaveNoLet}
@@ -57,13 +56,13 @@ mutual
   bindings-depth s (binding x t bs) (cell (cell a c) b) h =
       let y = height-depth s t c h.0.1 in let z = bindings-depth s bs b h.1 in omega arith
 
-same_some : {X : Type 0} {a b : X} → Some a ≡ Some b → a ≡ b
+pub same_some : {X : Type 0} {a b : X} → Some a ≡ Some b → a ≡ b
 same_some e = cc
 
 var_same : (x y : Var) → x.name ≡ y.name → x.sort ≡ y.sort → x ≡ y
 var_same x y e f = λ i. record { name = e i; sort = f i }
 
-leaf_variable : (x y : Var) → variable_leaf x ≡ variable_leaf y → x ≡ y
+pub leaf_variable : (x y : Var) → variable_leaf x ≡ variable_leaf y → x ≡ y
 leaf_variable x y e = var_same x y (names e) (sorts e)
   where
     names : variable_leaf x ≡ variable_leaf y → x.name ≡ y.name

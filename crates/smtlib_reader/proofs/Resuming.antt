@@ -1,10 +1,9 @@
 -- How a reading of a term goes on.
 use Rattle.std.proofs.Common.{◌≡◌, refl, sym, ap, ◌∙◌, ℕ, Bool, true, false, ◌||◌, cond, List, [], ◌∷◌, ◌++◌, append_assoc, Result, Ok, Err, Some, None, Option}
-use Rattle.sexpr.specs.declared.causes.Cause.{Cause}
 use Rattle.sexpr.specs.declared.causes.Cause.TheVariants.{UnknownName, Repeated}
 use Rattle.sexpr.specs.declared.causes.Refusal.{Refusal}
 use Rattle.smtlib_reader.specs.Words.{is_among, is_built_in}
-use Rattle.smtlib_reader.specs.Forms.{Name, Form, faulty, number, symbol, application, let_form, annotated, Forms, no_forms, form, Binds, no_binds, bind}
+use Rattle.smtlib_reader.specs.Forms.{Name, Form, symbol, application, let_form, annotated, Forms, no_forms, form, Binds, no_binds, bind}
 use Rattle.smtlib_reader.specs.Scripts.{Typed, Script, with_let_name, Outcome, done, refuse, goes_on, and_then}
 use Rattle.smtlib_reader.specs.Names.{Bound, Place, Meaning, meaning_of, applied, inside, let_term}
 use Rattle.smtlib_reader.specs.Terms.{settled, with_names, with_meaning, term_from, terms_from, bounds_from}

@@ -69,6 +69,7 @@ pub record SaysDefinition (source : List ℕ) (nodes : List Node) (name first la
   pub pairs : pairs_fault parameters ≡ None
   pub result_here : IsNode source nodes target result after
   pub value_here : IsNode source nodes body value behind
+  pub in_order : last ≤ body
 
 abbrev pub Says : List ℕ → List Node → Command → Shape → Type 0
 Says source nodes (Command.SetLogic name) d = (n : Name) × (d ≡ set_logic n) × IsNameNode source nodes name n

@@ -1,7 +1,7 @@
 -- A reading of a term that is under way: what is left to be done once the term that is read now is there.
 use Rattle.std.specs.Prelude.{ℕ, List, [], ◌∷◌, ◌++◌, Some}
 use Rattle.smtlib_reader.specs.Forms.{Name, Form, Forms, Binds}
-use Rattle.smtlib_reader.specs.Scripts.{Typed, Script, Outcome, done, and_then}
+use Rattle.smtlib_reader.specs.Scripts.{Typed, Script, Outcome, and_then}
 use Rattle.smtlib_reader.specs.Names.{Bound, Place, Meaning, applied, inside, let_term}
 use Rattle.smtlib_reader.specs.Terms.{settled, with_names, term_from, terms_from, bounds_from}
 

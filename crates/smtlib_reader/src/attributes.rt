@@ -1,5 +1,5 @@
 //! The attributes of an annotated term (SMT-LIB 2.6, section 3.6), told by their nodes.
-ghost use Rattle.std.specs.Prelude.{◌≡◌, ℕ, List, [], is_some, IfSome, IfNone};
+ghost use Rattle.std.specs.Prelude.{◌≡◌, ◌<◌, ℕ, List, [], is_some, IfSome, IfNone};
 ghost use Rattle.sexpr.specs.Items.{Item, Items, item, symbol_name};
 ghost use Rattle.sexpr.specs.Source.{source};
 ghost use Rattle.smtlib_reader.specs.Forms as spec;
@@ -109,6 +109,7 @@ pub(crate) fn next_name(text: &Lexer<'_>, nodes: &[Node], k: usize, end: usize) 
     requires { (names : List spec.Name) × AreAttributes (source text.now) nodes.now k names end }
     ensures some { IfSome result (λ at. (names : List spec.Name) → AreAttributes (source text.now) nodes.now k names end → IsFirstName (source text.now) nodes.now at names end) }
     ensures none { IfNone result ((names : List spec.Name) → AreAttributes (source text.now) nodes.now k names end → names ≡ []) }
+    ensures later { IfSome result (λ at. k < at) }
 {
     let mut before = k;
     'items: loop {

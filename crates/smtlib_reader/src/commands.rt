@@ -212,6 +212,7 @@ fn declare_const(
     )
 }
 
+#[tactic(auto, using(crate::proofs::NodeSteps::node_behind))]
 fn define_fun(text: &Lexer<'_>, nodes: &[Node], start: u64, at: usize) -> Result<Command, Refusal>
     requires { AreSpans (source text.now) nodes.now }
     ensures { (items : Items) → AreNodes (source text.now) nodes.now at items (length nodes.now) → IsCommand (source text.now) nodes.now result (spec.define_fun_shape start items) }

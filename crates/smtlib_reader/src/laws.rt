@@ -6,16 +6,21 @@ ghost use Rattle.sexpr.specs.declared.lexing.Token.{Token};
 ghost use Rattle.sexpr.specs.Form.{HasForm};
 ghost use Rattle.sexpr.specs.Items.{Item};
 ghost use Rattle.sexpr.specs.Source.{source};
+ghost use Rattle.sym_table.specs.Table.{Table};
 ghost use Rattle.term_model.specs.FreeVariables.{IsFree};
 ghost use Rattle.term_model.specs.Interpretations.{Interpretation};
 ghost use Rattle.term_model.specs.Meaning.{Valuation, value};
 ghost use Rattle.term_model.specs.Sorts.{IsOf};
 ghost use Rattle.term_model.specs.Terms.{Var, Term, Bindings, let_in};
 ghost use Rattle.term_model.specs.declared.symbols.Sort.{Sort};
+ghost use Rattle.term_pool.specs.Views.{TermsView, KeepsTerms};
 ghost use Rattle.smtlib_reader.specs.Replacement.{Replacement, replaced, values_put, HasNoLet, free_variables};
 ghost use Rattle.smtlib_reader.specs.Scripts.{Script};
 ghost use Rattle.smtlib_reader.specs.Lexers.{IsFirstOfItem, GoesOnWith};
+ghost use Rattle.smtlib_reader.specs.Names.{Place};
+ghost use Rattle.smtlib_reader.specs.ProblemViews.{ProblemView, ReaderView, IsProblemOf, IsReaderOf};
 ghost use Rattle.smtlib_reader.specs.Problems.{StandsForProblem, IsFirstFault};
+ghost use Rattle.smtlib_reader.specs.Standing.{AddsNoSymbols};
 ghost use Rattle.smtlib_reader.specs.Soundness.{IsSound, HasNoLets};
 
 use sexpr::{faults_are_unique, items_are_unique};
@@ -62,4 +67,14 @@ pub fn texts_have_one_reading()
 /// stands in that item.
 pub fn items_begin_at_tokens()
     ensures { (l : Lexer) (t : Token) → HasForm (source l) → IsFirstOfItem l t → (i : Item) × (rest : List Token) × GoesOnWith l t i rest }
+{}
+
+/// What a reader of terms stands for stays as the table gets numerals and variables, and as the pool grows.
+pub fn readers_stay()
+    ensures { (s z : Table) (v w : TermsView) (r : ReaderView) (sc : Script) (p : Place) → AddsNoSymbols s z → KeepsTerms v w → IsReaderOf s v r sc p → IsReaderOf z w r sc p }
+{}
+
+/// What a problem stands for stays as the table gets numerals and variables, and as the pool grows.
+pub fn problems_stay()
+    ensures { (s z : Table) (v w : TermsView) (p : ProblemView) (sc : Script) → AddsNoSymbols s z → KeepsTerms v w → IsProblemOf s v p sc → IsProblemOf z w p sc }
 {}

@@ -89,7 +89,7 @@ fn is_repeated<'a>(earlier: &mut IndexSet<&'a [u8]>, name: &'a [u8]) -> Result<b
 }
 
 /// Whether nobody binds this name.
-fn is_built_in(name: &[u8]) -> bool
+pub(crate) fn is_built_in(name: &[u8]) -> bool
     ensures { result ≡ spec.is_built_in name.now }
 {
     sym_table::is_built_in(name)

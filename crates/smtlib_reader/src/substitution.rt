@@ -2,7 +2,9 @@
 
 ghost use Rattle.std.specs.Prelude.{◌≡◌, ◌≢◌, ℕ, true, nat_eq, Some, IfOk, IfErr, OnOk};
 ghost use Rattle.std.specs.HashMap.{get};
+ghost use Rattle.sexpr.specs.declared.causes.Refusal.{Refusal};
 ghost use Rattle.sym_table.specs.Table.{Table, IsTable};
+ghost use Rattle.sexpr.specs.declared.causes.Refusal.{Refusal};
 ghost use Rattle.term_pool.specs.Views.{TermsView, KeepsTerms};
 ghost use Rattle.smtlib_reader.specs.Images.{ArePutFor, IsSomeReplacement, IsSomeValue, PlacesTerm, LacksRoomFor};
 ghost use Rattle.smtlib_reader.specs.Replacement.{Replacement, replaced};
@@ -63,6 +65,7 @@ pub(crate) fn put_in_plain(
     // It places only cells of its answer, and is refused for want of room for one.
     ensures placed { (t : Typed) (q : Replacement) → IsValue symbols.now terms.old what t → IsReplacement symbols.now terms.old replacement.now q → PlacesTerm symbols.now terms.old.pass terms.new.pass (replaced q t.tree) }
     ensures full { (t : Typed) (q : Replacement) → IsValue symbols.now terms.old what t → IsReplacement symbols.now terms.old replacement.now q → IfErr result (λ e. e ≡ ReadFault.PoolFull → LacksRoomFor symbols.now terms.new.pass (replaced q t.tree)) }
+    ensures text { IfErr result (λ e. (r : Refusal) → e ≡ ReadFault.Text r → ⊥) }
     ensures keeps { KeepsTerms terms.old terms.new }
 {
     let _leaves = symbols.count();

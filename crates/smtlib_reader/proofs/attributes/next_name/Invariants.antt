@@ -1,4 +1,4 @@
-use Rattle.std.proofs.Common.{◌-◌, List}
+use Rattle.std.proofs.Common.{◌-◌, ◌≤◌, List}
 use Rattle.sexpr.specs.Source.{source}
 use Rattle.smtlib_reader.specs.Forms.{Name}
 use Rattle.smtlib_reader.specs.Layers.{AreAttributes}
@@ -8,6 +8,7 @@ use Rattle.smtlib_reader.proofs.attributes.next_name.Given as goal
 abbrev pub invariant-items : goal.invariant-items
 invariant-items l = record {
   there : AreSomeFrom (source l.text) l.nodes l.before l.end;
+  later : l.k ≤ l.before;
   kept : (names : List Name) → AreAttributes (source l.text) l.nodes l.k names l.end → AreAttributes (source l.text) l.nodes l.before names l.end;
 }
 

@@ -1,4 +1,4 @@
-use Rattle.std.proofs.Common.{arith, ◌≡◌, ◌-◌, length, drop, length-drop}
+use Rattle.std.proofs.Common.{arith, ◌≡◌, length, drop, length-drop}
 use Rattle.smtlib_reader.specs.declared.values.Bound.{Bound}
 use Rattle.smtlib_reader.proofs.Images.{images_start, images_more, drop-at}
 use Rattle.smtlib_reader.proofs.substitution.images_of.Goals as goal

@@ -1,0 +1,96 @@
+-- A name is that of the same in another script that says the same of it, with tables that hold what they held.
+use Rattle.std.proofs.Common.{◌≡◌, ℕ, List, [], ◌∷◌, Option, Some, None, inl, inr, sym, ◌∙◌}
+use Rattle.sym_table.specs.Table.{Table, IsFunctionName, Keeps}
+use Rattle.term_model.specs.Terms.{Term}
+use Rattle.term_pool.specs.StandsFor.{function_leaf}
+use Rattle.term_pool.specs.Views.{TermsView, ReferToAll, KeepsTerms}
+use Rattle.smtlib_reader.specs.Known.{KnownView, known_entry}
+use Rattle.smtlib_reader.specs.Names.{Place}
+use Rattle.smtlib_reader.specs.Reading.{IsIdle}
+use Rattle.smtlib_reader.specs.Scripts.{Script}
+use Rattle.smtlib_reader.specs.Standing.{named_in, macro_in, function_in, HasNoEntry, IsNoFunction, IsMeant, IsScript}
+use Rattle.smtlib_reader.specs.Words.{is_among}
+use Rattle.smtlib_reader.specs.declared.known.KnownEntry.{KnownEntry}
+use Rattle.smtlib_reader.specs.declared.reader.Reader.{Reader}
+use Rattle.smtlib_reader.proofs.Staying.{table_keeps_none, keeps_none, refers_stays, scope_stays, macro_stays, named_stays}
+
+-- both scripts say the same of the name
+pub record AgreesOn (a b : Script) (name : List ℕ) : Type 0 where
+  pub functions : function_in b name ≡ function_in a name
+  pub macros : macro_in b name ≡ macro_in a name
+  pub named : named_in b name ≡ named_in a name
+  pub taken : is_among b.taken name ≡ is_among a.taken name
+
+module _ (s z : Table) (v w : TermsView) (keeps : Keeps s z) (terms : KeepsTerms v w) (a b : Script) (name : List ℕ) (agree : AgreesOn a b name) (back : IsFunctionName z name → IsFunctionName s name) where
+  pub no_entry_moves : HasNoEntry a name → HasNoEntry b name
+  no_entry_moves h = record { no_named = agree.named ∙ h.no_named; no_macro = agree.macros ∙ h.no_macro }
+
+  no_function_moves : IsNoFunction s a name → IsNoFunction z b name
+  no_function_moves h = record { table = λ f. h.table (back f); script = agree.functions ∙ h.script }
+
+  pub meant_moves : (k : KnownView) (o : Option KnownEntry) → IsMeant s v k a name o → IsMeant z w k b name o
+  meant_moves k None (none, inl h) = (
+    no_entry_moves none,
+    inl (record {
+      leaf = h.leaf;
+      meant = h.meant;
+      here = keeps.leaves h.leaf (function_leaf h.meant) h.here;
+      same_name = h.same_name;
+      found = agree.functions ∙ h.found;
+      taken = agree.taken ∙ h.taken;
+    }),
+  )
+  meant_moves k None (none, inr h) = (no_entry_moves none, inr (record { no_function = no_function_moves h.no_function; free = agree.taken ∙ h.free }))
+  meant_moves k (Some KnownEntry.Reserved) h = record {
+    no_entry = no_entry_moves h.no_entry;
+    no_function = no_function_moves h.no_function;
+    taken = agree.taken ∙ h.taken;
+  }
+  meant_moves k (Some (KnownEntry.Macro n)) h = record {
+    held = h.held;
+    meant = h.meant;
+    there = h.there;
+    found = agree.macros ∙ h.found;
+    is = macro_stays s z v w keeps terms h.held h.meant h.is;
+    no_named = agree.named ∙ h.no_named;
+    no_function = no_function_moves h.no_function;
+    taken = agree.taken ∙ h.taken;
+  }
+  meant_moves k (Some (KnownEntry.Named n)) h = record {
+    held = h.held;
+    meant = h.meant;
+    there = h.there;
+    found = agree.named ∙ h.found;
+    is = named_stays s z v w keeps terms h.held h.meant h.is;
+    no_macro = agree.macros ∙ h.no_macro;
+    no_function = no_function_moves h.no_function;
+    taken = agree.taken ∙ h.taken;
+  }
+
+-- the reader holds nothing of a term still
+pub idle_moves : (s z : Table) (v : TermsView) (r : Reader) (a b : Script) (p : Place) → Keeps s z → IsIdle s v r a p → IsScript z v r.known b → IsIdle z v r b p
+idle_moves s z v r a b p keeps h script = record {
+  script = script;
+  scope = scope_stays s z v v keeps (keeps_none v) r.scope p.scope h.scope;
+  replaces = h.replaces;
+  no_values = h.no_values;
+  no_leaves = h.no_leaves;
+  no_frames = h.no_frames;
+}
+
+-- a script of the same sorts that says the same of each name
+pub script_agrees : (s : Table) (v : TermsView) (k : KnownView) (a b : Script) → b.sorts ≡ a.sorts → ((name : List ℕ) → AgreesOn a b name) → IsScript s v k a → IsScript s v k b
+script_agrees s v k a b sorts agree h = record {
+  sorts = h.sorts ∙ sym sorts;
+  names = λ name. meant_moves s s v v (table_keeps_none s) (keeps_none v) a b name (agree name) (λ f. f) k (known_entry k name) (h.names name);
+}
+
+pub idle_agrees : (s : Table) (v : TermsView) (r : Reader) (a b : Script) (p : Place) → b.sorts ≡ a.sorts → ((name : List ℕ) → AgreesOn a b name) → IsIdle s v r a p → IsIdle s v r b p
+idle_agrees s v r a b p sorts agree h = idle_moves s s v r a b p (table_keeps_none s) h (script_agrees s v r.known a b sorts agree h.script)
+
+-- references still stand for their terms
+pub all_refer_still : (s z : Table) (v : TermsView) → Keeps s z → (rs : List ℕ) (ts : List Term) → ReferToAll s v rs ts → ReferToAll z v rs ts
+all_refer_still s z v keeps [] [] h = h
+all_refer_still s z v keeps [] (t ∷ ts) h = absurd h
+all_refer_still s z v keeps (r ∷ rs) [] h = absurd h
+all_refer_still s z v keeps (r ∷ rs) (t ∷ ts) h = (refers_stays s z v v keeps (keeps_none v) r t h.0, all_refer_still s z v keeps rs ts h.1)

@@ -1,0 +1,149 @@
+-- A function is declared: the tables stand for the script with the function then.
+use Rattle.std.proofs.Common.{◌≡◌, ◌⊎◌, inl, inr, ℕ, Bool, true, false, cond, ◌||◌, List, [], ◌∷◌, ◌++◌, map, length, position, Option, Some, None, IsTrue, refl, sym, ap, subst, ◌∙◌}
+use Rattle.std.specs.Option.{option_or}
+use Rattle.std.specs.Prelude.{bytes_eq, find, slice_get, IsSomeAnd}
+use Rattle.std.proofs.lemmas.Bool.{or_parts}
+use Rattle.std.proofs.lemmas.List.{map-append}
+use Rattle.std.proofs.lemmas.List.Folds.{find-append, list_any-append}
+use Rattle.std.proofs.lemmas.Slice.Eq.{bytes_eq-Decides}
+use Rattle.std.proofs.Math.Bool.{or-false}
+use Rattle.sym_table.specs.Leaf.{Leaf, is_function, name_of}
+use Rattle.sym_table.specs.Table.{Table, IsFunctionName, IsFunctionNamed, Keeps, with_leaf}
+use Rattle.sym_table.specs.Words.{IsBuiltIn}
+use Rattle.term_model.specs.Terms.{Fun}
+use Rattle.term_pool.specs.StandsFor.{function_leaf}
+use Rattle.term_pool.specs.Views.{TermsView}
+use Rattle.smtlib_reader.specs.Known.{KnownView, known_entry}
+use Rattle.smtlib_reader.specs.Scripts.{Script, is_taken, with_name, with_function}
+use Rattle.smtlib_reader.specs.Sessions.{IsSession, top}
+use Rattle.smtlib_reader.specs.Standing.{function_in, HasNoEntry, IsFunctionAt, IsFreeName, IsMeant, IsScript}
+use Rattle.smtlib_reader.specs.Words.{is_among, is_built_in}
+use Rattle.smtlib_reader.specs.declared.session.Session.{Session}
+use Rattle.smtlib_reader.proofs.AgreeingScripts.{meant_moves, idle_moves, all_refer_still}
+use Rattle.smtlib_reader.proofs.DeclaredSorts.{is_no_word}
+use Rattle.smtlib_reader.proofs.GivenNames.{apart, no_entry}
+use Rattle.smtlib_reader.proofs.HeldVariables.{slice_get-last}
+use Rattle.smtlib_reader.proofs.Positions.{next_place, position_cons, slice_get-push_cases}
+use Rattle.smtlib_reader.proofs.Staying.{keeps_none}
+
+-- a name that is free is not refused
+pub function_is_free : (s : Table) (name : List ℕ) → is_built_in name ≡ false → (IsFunctionName s name → ⊥) → IsBuiltIn name ⊎ IsFunctionName s name → ⊥
+function_is_free s name word none (inl h) = is_no_word name word h
+function_is_free s name word none (inr h) = none h
+
+-- a name that no function has stands nowhere among their names
+pub no_position : (fs : List Fun) (name : List ℕ) → find (λ f. bytes_eq f.name name) fs ≡ None → position (bytes_eq name) (map (λ f. f.name) fs) ≡ None
+no_position [] name none = refl
+no_position (f ∷ fs) name none =
+    position_cons (bytes_eq name) f.name (map (λ g. g.name) fs) ∙ go (bytes_eq f.name name) refl (no_position fs name) none
+  where
+    go : (b : Bool) → bytes_eq f.name name ≡ b
+        → (find (λ g. bytes_eq g.name name) fs ≡ None → position (bytes_eq name) (map (λ g. g.name) fs) ≡ None)
+        → cond b (Some f) (find (λ g. bytes_eq g.name name) fs) ≡ None
+        → next_place (bytes_eq name f.name) (position (bytes_eq name) (map (λ g. g.name) fs)) ≡ None
+    go true e rest h = cc
+    go false e rest h = rw (apart f.name name e) (rw (rest h) refl)
+
+-- what the table says of a name that is free
+pub free_name : (s : Table) (v : TermsView) (k : KnownView) (sc : Script) (name : List ℕ) → IsScript s v k sc → is_taken sc name ≡ false → HasNoEntry sc name × IsFreeName s sc name
+free_name s v k sc name is untaken = go (subst (IsMeant s v k sc name) (no_entry s v k sc name is untaken) (is.names name))
+  where
+    free : is_among sc.taken name ≡ false
+    free = (or_parts (is_built_in name) (is_among sc.taken name) untaken).1
+
+    go : HasNoEntry sc name × (IsFunctionAt s sc name ⊎ IsFreeName s sc name) → HasNoEntry sc name × IsFreeName s sc name
+    go (none, inl f) = absurd (let taken = f.taken in let untaken = free in cc)
+    go (none, inr f) = (none, f)
+
+-- the script with one more function
+abbrev pub with_declared : Fun → Script → Script
+with_declared f sc = with_function f (with_name f.name sc)
+
+module _ (s : Table) (v : TermsView) (f : Fun) (sc : Script) where
+  -- what is said of a name that is not the new one
+  function_before : (other : List ℕ) → bytes_eq other f.name ≡ false → function_in (with_declared f sc) other ≡ function_in sc other
+  function_before other differs =
+      find-append (λ g. bytes_eq g.name other) sc.functions (f ∷ [])
+      ∙ ap (λ b. option_or (function_in sc other) (cond b (Some f) None)) (apart other f.name differs)
+      ∙ or_none (function_in sc other)
+    where
+      or_none : (o : Option Fun) → option_or o None ≡ o
+      or_none None = refl
+      or_none (Some x) = refl
+
+  taken_before : (other : List ℕ) → bytes_eq other f.name ≡ false → is_among (with_declared f sc).taken other ≡ is_among sc.taken other
+  taken_before other differs =
+      list_any-append (bytes_eq other) sc.taken (f.name ∷ [])
+      ∙ ap (λ b. is_among sc.taken other || (b || false)) differs
+      ∙ or-false (is_among sc.taken other)
+
+  -- a function of the new table is an old one or the new one
+  named_before : (other : List ℕ) → bytes_eq other f.name ≡ false → IsFunctionName (with_leaf s (function_leaf f)) other → IsFunctionName s other
+  named_before other differs (k, named) = (k, go (slice_get (s.leaves ++ function_leaf f ∷ []) k) refl named)
+    where
+      old_or_new : (l : Leaf) → (slice_get s.leaves k ≡ Some l) ⊎ ((k ≡ length s.leaves) × (function_leaf f ≡ l)) → IsTrue (is_function l) → name_of l ≡ other → IsFunctionNamed s k other
+      old_or_new l (inl e) is same = rw e (is, same)
+      old_or_new l (inr e) is same =
+          let name : f.name ≡ other = ap name_of e.1 ∙ same in
+          absurd (let g = (bytes_eq-Decides other f.name).1 (sym name) in cc)
+
+      go : (o : Option Leaf) → slice_get (s.leaves ++ function_leaf f ∷ []) k ≡ o → IsSomeAnd o (λ l. IsTrue (is_function l) × (name_of l ≡ other)) → IsFunctionNamed s k other
+      go None e h = absurd h
+      go (Some l) e h = old_or_new l (slice_get-push_cases s.leaves (function_leaf f) k l e) h.0 h.1
+
+  -- what is said of the new name
+  function_now : function_in sc f.name ≡ None → function_in (with_declared f sc) f.name ≡ Some f
+  function_now none =
+      find-append (λ g. bytes_eq g.name f.name) sc.functions (f ∷ [])
+      ∙ ap (λ o. option_or o (cond (bytes_eq f.name f.name) (Some f) None)) none
+      ∙ ap (λ b. cond b (Some f) None) ((bytes_eq-Decides f.name f.name).1 refl)
+
+  taken_now : is_among (with_declared f sc).taken f.name ≡ true
+  taken_now =
+      list_any-append (bytes_eq f.name) sc.taken (f.name ∷ [])
+      ∙ ap (λ b. is_among sc.taken f.name || (b || false)) ((bytes_eq-Decides f.name f.name).1 refl)
+      ∙ last (is_among sc.taken f.name)
+    where
+      last : (b : Bool) → (b || true) ≡ true
+      last true = refl
+      last false = refl
+
+  module _ (keeps : Keeps s (with_leaf s (function_leaf f))) where
+    function_script : (k : KnownView) → is_taken sc f.name ≡ false → IsScript s v k sc → IsScript (with_leaf s (function_leaf f)) v k (with_declared f sc)
+    function_script k untaken is = record { sorts = is.sorts; names = λ other. go other (bytes_eq other f.name) refl }
+      where
+        here : HasNoEntry sc f.name × IsFreeName s sc f.name → IsMeant (with_leaf s (function_leaf f)) v k (with_declared f sc) f.name None
+        here (none, free) = (
+          record { no_named = none.no_named; no_macro = none.no_macro },
+          inl (record {
+            leaf = length s.leaves;
+            meant = f;
+            here = slice_get-last s.leaves (function_leaf f) (length s.leaves) refl;
+            same_name = refl;
+            found = function_now free.no_function.script;
+            taken = taken_now;
+          }),
+        )
+
+        go : (other : List ℕ) (b : Bool) → bytes_eq other f.name ≡ b → IsMeant (with_leaf s (function_leaf f)) v k (with_declared f sc) other (known_entry k other)
+        go other false differs =
+            meant_moves s (with_leaf s (function_leaf f)) v v keeps (keeps_none v) sc (with_declared f sc) other
+            (record { functions = function_before other differs; macros = refl; named = refl; taken = taken_before other differs })
+            (named_before other differs) k (known_entry k other) (is.names other)
+        go other true e =
+            subst (λ (n : List ℕ). IsMeant (with_leaf s (function_leaf f)) v k (with_declared f sc) n (known_entry k n)) (sym ((bytes_eq-Decides other f.name).0 e))
+            (subst (IsMeant (with_leaf s (function_leaf f)) v k (with_declared f sc) f.name) (sym (no_entry s v k sc f.name is untaken)) (here (free_name s v k sc f.name is untaken)))
+
+    -- the session, whose list of functions has the name last
+    pub function_session : (d e : Session) → e.reader ≡ d.reader → e.functions ≡ d.functions ++ f.name ∷ [] → e.assertions ≡ d.assertions → e.has_logic ≡ d.has_logic → e.is_checked ≡ d.is_checked
+        → is_taken sc f.name ≡ false → IsSession s v d sc → IsSession (with_leaf s (function_leaf f)) v e (with_declared f sc)
+    function_session d e reader functions assertions logic checked untaken is =
+        let idle = idle_moves s (with_leaf s (function_leaf f)) v d.reader sc (with_declared f sc) (top d.reader.replaces_lets) keeps is.idle (function_script d.reader.known untaken is.idle.script) in
+        let refer = all_refer_still s (with_leaf s (function_leaf f)) v keeps d.assertions.items sc.assertions is.assertions in
+        record {
+          idle = rw reader idle;
+          functions = functions ∙ ap (λ names. names ++ f.name ∷ []) is.functions ∙ sym (map-append (λ g. g.name) sc.functions (f ∷ []));
+          assertions = rw assertions refer;
+          has_logic = logic ∙ is.has_logic;
+          is_checked = checked ∙ is.is_checked;
+        }

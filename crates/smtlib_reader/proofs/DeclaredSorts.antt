@@ -1,0 +1,118 @@
+-- A sort is declared: the tables stand for the script with the sort then.
+use Rattle.std.proofs.Common.{◌≡◌, ◌⊎◌, inl, inr, ◌↔◌, ℕ, ◌==◌, Bool, true, false, ◌||◌, zero, suc, List, [], ◌∷◌, ◌++◌, Option, Some, None, IfSome, IfErr, IsNone, OnOk, refl, sym, ap, subst, ◌∙◌, if◌then◌else◌, Result, Ok, Err}
+use Rattle.std.specs.Cmp.Lexicographic.{nat_list_eq_equiv}
+use Rattle.std.specs.Option.{is_some}
+use Rattle.std.specs.Prelude.{⊤, bytes_eq, slice_get}
+use Rattle.std.proofs.lemmas.Bool.{or_parts}
+use Rattle.std.proofs.lemmas.Map.Views.{list_any-from_Contains}
+use Rattle.std.proofs.lemmas.Slice.Eq.{bytes_eq-Decides}
+use Rattle.sexpr.specs.declared.causes.Cause.TheVariants.{Repeated, LeftOut}
+use Rattle.sexpr.specs.declared.causes.Refusal.{Refusal}
+use Rattle.sym_table.specs.Table.{Table, IsSortName, IsDeclaredSort, Keeps, with_sort}
+use Rattle.sym_table.specs.Words.{IsBuiltIn, built_in_words}
+use Rattle.term_model.specs.declared.symbols.Sort.{Sort}
+use Rattle.term_pool.specs.Views.{TermsView}
+use Rattle.smtlib_reader.specs.Commands.{declare_sort}
+use Rattle.smtlib_reader.specs.Forms.{Name}
+use Rattle.smtlib_reader.specs.Known.{KnownView, known_entry}
+use Rattle.smtlib_reader.specs.Problems.{performed}
+use Rattle.smtlib_reader.specs.Scripts as spec
+use Rattle.smtlib_reader.specs.Scripts.{Script, Outcome, done, refuse}
+use Rattle.smtlib_reader.specs.Sessions.{IsSession, top, Performs}
+use Rattle.smtlib_reader.specs.Standing.{IsScript}
+use Rattle.smtlib_reader.specs.Words.{is_among, is_built_in}
+use Rattle.smtlib_reader.specs.declared.faults.ReadFault.{ReadFault}
+use Rattle.smtlib_reader.specs.declared.session.Session.{Session}
+use Rattle.smtlib_reader.proofs.AgreeingScripts.{meant_moves, idle_moves, all_refer_still}
+use Rattle.smtlib_reader.proofs.CommandSteps.{performs_done, performs_refused, performs_memory}
+use Rattle.smtlib_reader.proofs.Staying.{keeps_none}
+
+-- a name at a place is among the names, and one among them has a place
+among_at : (names : List (List ℕ)) (n : ℕ) (name : List ℕ) → slice_get names n ≡ Some name → is_among names name ≡ true
+among_at [] n name e = cc
+among_at (m ∷ names) zero name e =
+    let same : m ≡ name = cc in
+    ap (λ b. b || is_among names name) ((bytes_eq-Decides name m).1 (sym same))
+among_at (m ∷ names) (suc n) name e = go (bytes_eq name m) (is_among names name) (among_at names n name e)
+  where
+    go : (a b : Bool) → b ≡ true → (a || b) ≡ true
+    go true b h = refl
+    go false b h = h
+
+place_among : (names : List (List ℕ)) (name : List ℕ) → is_among names name ≡ true → (n : ℕ) × (slice_get names n ≡ Some name)
+place_among [] name e = cc
+place_among (m ∷ names) name e = go (bytes_eq name m) refl (place_among names name) e
+  where
+    go : (b : Bool) → bytes_eq name m ≡ b → (is_among names name ≡ true → (n : ℕ) × (slice_get names n ≡ Some name)) → (b || is_among names name) ≡ true → (n : ℕ) × (slice_get (m ∷ names) n ≡ Some name)
+    go true e rest h = (zero, ap Some (sym ((bytes_eq-Decides name m).0 e)))
+    go false e rest h = let (n, there) = rest h in (suc n, there)
+
+-- what the table finds is among its sorts
+pub sort_is_among : (s : Table) (name : List ℕ) (o : Option Sort) → IfSome o (λ sort. IsDeclaredSort s sort name) → IsNone o ↔ (IsSortName s name → ⊥) → is_some o ≡ is_among s.sorts name
+sort_is_among s name None found none = sym (go (is_among s.sorts name) (λ h. none.0 refl (place_among s.sorts name h)))
+  where
+    go : (b : Bool) → (b ≡ true → ⊥) → b ≡ false
+    go true h = absurd (h refl)
+    go false h = refl
+sort_is_among s name (Some Sort.Bool) found none = absurd found
+sort_is_among s name (Some Sort.Int) found none = absurd found
+sort_is_among s name (Some (Sort.Declared n)) found none = sym (among_at s.sorts n name found)
+
+-- no built-in word passes for none
+pub is_no_word : (name : List ℕ) → is_built_in name ≡ false → IsBuiltIn name → ⊥
+is_no_word name e h = let f = list_any-from_Contains {eq = bytes_eq} nat_list_eq_equiv name built_in_words h in cc
+
+-- a name that is free is not refused
+pub sort_is_free : (s : Table) (name : List ℕ) → (is_built_in name || is_among s.sorts name) ≡ false → IsBuiltIn name ⊎ IsSortName s name → ⊥
+sort_is_free s name e (inl h) = is_no_word name (or_parts (is_built_in name) (is_among s.sorts name) e).0 h
+sort_is_free s name e (inr (n, there)) =
+    let f = (or_parts (is_built_in name) (is_among s.sorts name) e).1 in
+    let g = among_at s.sorts n name there in
+    cc
+
+-- the script with one more sort
+module _ (s : Table) (v : TermsView) (name : List ℕ) (sc : Script) (keeps : Keeps s (with_sort s name)) where
+  sort_script : (k : KnownView) → IsScript s v k sc → IsScript (with_sort s name) v k (spec.with_sort name sc)
+  sort_script k h = record {
+    sorts = ap (λ names. names ++ name ∷ []) h.sorts;
+    names = λ other.
+        meant_moves s (with_sort s name) v v keeps (keeps_none v) sc (spec.with_sort name sc) other
+        (record { functions = refl; macros = refl; named = refl; taken = refl }) (λ f. f) k (known_entry k other) (h.names other);
+  }
+
+  sort_session : (d : Session) → IsSession s v d sc → IsSession (with_sort s name) v d (spec.with_sort name sc)
+  sort_session d h = record {
+    idle = idle_moves s (with_sort s name) v d.reader sc (spec.with_sort name sc) (top d.reader.replaces_lets) keeps h.idle (sort_script d.reader.known h.idle.script);
+    functions = h.functions;
+    assertions = all_refer_still s (with_sort s name) v keeps d.assertions.items sc.assertions h.assertions;
+    has_logic = h.has_logic;
+    is_checked = h.is_checked;
+  }
+
+module _ (s : Table) (v : TermsView) (d : Session) (replaces : Bool) (x : Name) (place arity : ℕ) (sc : Script) (is : IsSession s v d sc) where
+  -- by whether the name is taken, and whether the sort has no parameters
+  abbrev sort_by : Bool → Bool → Outcome ⊤
+  sort_by taken none = if taken then refuse Repeated x.place sc else if none then done tt (spec.with_sort x.name sc) else refuse LeftOut place sc
+
+  sort_parts : (taken none : Bool) → (is_built_in x.name || is_among s.sorts x.name) ≡ taken → (arity == 0) ≡ none → performed replaces (declare_sort x place arity) sc ≡ sort_by taken none
+  unfolding performed
+  sort_parts taken none e f =
+      ap (λ (names : List (List ℕ)). sort_by (is_built_in x.name || is_among names x.name) (arity == 0)) (sym is.idle.script.sorts)
+      ∙ ap (λ b. sort_by b (arity == 0)) e
+      ∙ ap (sort_by taken) f
+
+  pub sort_repeated : (r : Refusal) → (is_built_in x.name || is_among s.sorts x.name) ≡ true → r ≡ record { cause = Repeated; at = x.place } → Performs s v v d (performed replaces (declare_sort x place arity) sc) (Err (ReadFault.Text r))
+  sort_repeated r taken same =
+      performs_refused s v d (performed replaces (declare_sort x place arity) sc) r (ap (λ o. o.result) (sort_parts true (arity == 0) taken refl) ∙ ap Err (sym same))
+
+  pub sort_left_out : (r : Refusal) → (is_built_in x.name || is_among s.sorts x.name) ≡ false → (arity == 0) ≡ false → r ≡ record { cause = LeftOut; at = place } → Performs s v v d (performed replaces (declare_sort x place arity) sc) (Err (ReadFault.Text r))
+  sort_left_out r taken none same =
+      performs_refused s v d (performed replaces (declare_sort x place arity) sc) r (ap (λ o. o.result) (sort_parts false false taken none) ∙ ap Err (sym same))
+
+  pub sort_added : (z : Table) (result : Result Unit ReadFault) → (is_built_in x.name || is_among s.sorts x.name) ≡ false → (arity == 0) ≡ true → OnOk result (z ≡ with_sort s x.name) → IfErr result (λ fault. fault ≡ ReadFault.Memory) → Keeps s z → Performs z v v d (performed replaces (declare_sort x place arity) sc) result
+  sort_added z (Ok u) taken none added fault keeps =
+      let kept : Keeps s (with_sort s x.name) = subst (λ (t : Table). Keeps s t) added keeps in
+      subst (λ (t : Table). Performs t v v d (performed replaces (declare_sort x place arity) sc) (Ok tt)) (sym added)
+      (performs_done (with_sort s x.name) v d (performed replaces (declare_sort x place arity) sc) (spec.with_sort x.name sc) (sort_parts false true taken none) (sort_session s v x.name sc kept d is))
+  sort_added z (Err f) taken none added fault keeps =
+      subst (λ (g : ReadFault). Performs z v v d (performed replaces (declare_sort x place arity) sc) (Err g)) (sym fault) (performs_memory z v d (performed replaces (declare_sort x place arity) sc))

@@ -1,0 +1,85 @@
+-- The body of a defined function has no let.
+use Rattle.std.proofs.Common.{◌≡◌, ℕ, List, [], ◌∷◌, length, drop, Option, Some, None, IfSome, IfOk, Ok, Err, true, refl, sym, subst}
+use Rattle.sexpr.specs.Items.{Item}
+use Rattle.sym_table.specs.Table.{Table}
+use Rattle.term_model.specs.Terms.{Var}
+use Rattle.term_pool.specs.Views.{TermsView}
+use Rattle.smtlib_reader.specs.Defining.{within, body_read, IsReady, ReadsBody}
+use Rattle.smtlib_reader.specs.Forms.{form_of}
+use Rattle.smtlib_reader.specs.Known.{KnownView, known_entry}
+use Rattle.smtlib_reader.specs.Reading.{IsIdle, Reads}
+use Rattle.smtlib_reader.specs.Replacement.{HasNoLet}
+use Rattle.smtlib_reader.specs.Scope.{Scoped}
+use Rattle.smtlib_reader.specs.Scripts.{Typed, Macro, Script, Outcome, done}
+use Rattle.smtlib_reader.specs.Standing.{IsScript, IsMeant, macro_in}
+use Rattle.smtlib_reader.specs.Terms.{read_term}
+use Rattle.smtlib_reader.specs.declared.faults.ReadFault.{ReadFault}
+use Rattle.smtlib_reader.specs.declared.known.KnownEntry.{KnownEntry}
+use Rattle.smtlib_reader.specs.declared.reader.Reader.{Reader}
+use Rattle.smtlib_reader.specs.declared.values.Value.{Value}
+use Rattle.smtlib_reader.proofs.LetFreeTerms.{IsFreeIn, parameters-free, term-free}
+
+-- no macro that a name is found to be has a let
+abbrev MacrosHaveNoLet : Script → Type 0
+MacrosHaveNoLet sc = (name : List ℕ) → IfSome (macro_in sc name) (λ m. HasNoLet m.body)
+
+macros_plain : (s : Table) (v : TermsView) (k : KnownView) (sc : Script) → IsScript s v k sc → MacrosHaveNoLet sc
+macros_plain s v k sc is name = go (known_entry k name) (is.names name)
+  where
+    none : macro_in sc name ≡ None → IfSome (macro_in sc name) (λ m. HasNoLet m.body)
+    none e = subst (λ (o : Option Macro). IfSome o (λ m. HasNoLet m.body)) (sym e) tt
+
+    go : (e : Option KnownEntry) → IsMeant s v k sc name e → IfSome (macro_in sc name) (λ m. HasNoLet m.body)
+    go None m = none m.0.no_macro
+    go (Some KnownEntry.Reserved) r = none r.no_entry.no_macro
+    go (Some (KnownEntry.Macro w)) m = subst (λ (o : Option Macro). IfSome o (λ m. HasNoLet m.body)) (sym m.found) (m.is.body.plain m.is.plain)
+    go (Some (KnownEntry.Named w)) n = none n.no_macro
+
+body_plain : (s : Table) (v : TermsView) (k : KnownView) (sc last : Script) (xs : List Var) (i : Item) (t : Typed) → IsScript s v k sc → body_read xs i sc ≡ done t last → HasNoLet t.tree
+body_plain s v k sc last xs i t is e =
+    let h = term-free MacrosHaveNoLet (λ sc name p. p name) (λ t sc p. p) (λ n sc p. p) (λ name sc p. p) (form_of i) (within xs) sc (λ _. parameters-free xs) (macros_plain s v k sc is) in
+    subst (λ (o : Outcome Typed). IfOk o.result (IsFreeIn (within xs))) e h.1 refl
+
+-- the reader is ready for the term that is the body
+pub ready_to_read : (s : Table) (v : TermsView) (r : Reader) (xs : List Var) (sc : Script) → IsReady s v r xs sc → IsIdle s v (record r { replaces_lets = true }) sc (within xs)
+ready_to_read s v r xs sc h = record {
+  script = h.script;
+  scope = h.scope;
+  replaces = refl;
+  no_values = h.no_values;
+  no_leaves = h.no_leaves;
+  no_frames = h.no_frames;
+}
+
+pub none_in_scope : {X : Type 0} (xs : List X) → drop (length xs) xs ≡ []
+none_in_scope [] = refl
+none_in_scope (x ∷ xs) = none_in_scope xs
+
+-- the body was read
+pub body_there : (s z : Table) (v w : TermsView) (r q : Reader) (xs : List Var) (i : Item) (sc : Script) (c : Value) (scope : List Scoped)
+    → IsReady s v r xs sc → Reads z v w q (within xs) (read_term i (within xs) sc) (Ok c) → scope ≡ []
+    → ReadsBody z v w (record q { replaces_lets = r.replaces_lets; scope = scope }) (body_read xs i sc) (Ok (record c { plain = true }))
+body_there s z v w r q xs i sc c scope ready h none =
+    let (t, last, e, is, low, idle) = h.outcome in record {
+      outcome = (
+        t,
+        last,
+        e,
+        record { refers = is.refers; sort = is.sort; high = is.high; plain = λ _. body_plain s v r.known sc last xs i t ready.script e },
+        refl,
+        record {
+          script = idle.script;
+          scope = rw none tt;
+          replaces = refl;
+          no_values = idle.no_values;
+          no_leaves = idle.no_leaves;
+          no_frames = idle.no_frames;
+        },
+      );
+      placed = h.placed;
+    }
+
+-- the body has a fault
+pub body_faulty : (z : Table) (v w : TermsView) (q o : Reader) (xs : List Var) (i : Item) (sc : Script) (fault : ReadFault)
+    → Reads z v w q (within xs) (read_term i (within xs) sc) (Err fault) → ReadsBody z v w o (body_read xs i sc) (Err fault)
+body_faulty z v w q o xs i sc fault h = record { outcome = h.outcome; placed = h.placed }

@@ -1,0 +1,156 @@
+-- What the command that defines a function comes to, step by step.
+use Rattle.std.proofs.Common.{◌≡◌, ℕ, Bool, true, false, List, [], Result, Ok, Err, IfOk, if◌then◌else◌, refl, sym, ◌∙◌, ap, subst, Vec}
+use Rattle.std.specs.Prelude.{⊤}
+use Rattle.std.specs.declared.alloc.Global.{Global}
+use Rattle.sexpr.specs.declared.causes.Cause.TheVariants.{Repeated, SortMismatch}
+use Rattle.sexpr.specs.declared.causes.Refusal.{Refusal}
+use Rattle.sexpr.specs.Items.{Item, Items, place_of}
+use Rattle.sym_table.specs.Table.{Table}
+use Rattle.term_model.specs.declared.symbols.Sort.{Sort}
+use Rattle.term_model.specs.Terms.{Var, sort_eq}
+use Rattle.term_pool.specs.Views.{TermsView, KeepsTerms}
+use Rattle.smtlib_reader.specs.Commands.{Command, define_fun}
+use Rattle.smtlib_reader.specs.Defining.{Signature, signature_from, IsSignatureRead, within, body_read, macro_defined, IsDefining, Defines}
+use Rattle.smtlib_reader.specs.Entries.{EntriesView, lookup}
+use Rattle.smtlib_reader.specs.Forms.{Name, form_of}
+use Rattle.smtlib_reader.specs.Known.{KnownView}
+use Rattle.smtlib_reader.specs.Problems.{performed}
+use Rattle.smtlib_reader.specs.Scripts.{Typed, Script, Outcome, done, refuse, given, goes_on, and_then, is_taken, with_name, with_macro}
+use Rattle.smtlib_reader.specs.Sessions.{IsSession, Performs}
+use Rattle.smtlib_reader.specs.Sorts.{chained, sort_from, parameters_from}
+use Rattle.smtlib_reader.specs.Standing.{AddsNoSymbols}
+use Rattle.smtlib_reader.specs.Words.{is_among, is_built_in}
+use Rattle.smtlib_reader.specs.declared.faults.ReadFault.{ReadFault}
+use Rattle.smtlib_reader.specs.declared.nodes.Node.{Node}
+use Rattle.smtlib_reader.specs.declared.parameters.Parameter.{Parameter}
+use Rattle.smtlib_reader.specs.declared.reader.Reader.{Reader}
+use Rattle.smtlib_reader.specs.declared.session.Session.{Session}
+use Rattle.smtlib_reader.proofs.AssertedTerms.{all_stay}
+use Rattle.smtlib_reader.proofs.DefinedMacros.{TakesName, name_reserved, reserved_script, no_base_entry}
+use Rattle.smtlib_reader.proofs.GivenNames.{either_false, no_entry}
+use Rattle.smtlib_reader.proofs.KeptByReading.{same_declared}
+use Rattle.smtlib_reader.proofs.Outcomes.{Ends, ends-and_then}
+use Rattle.smtlib_reader.proofs.Staying.{places_none}
+
+-- The functions and the assertions are the same, and the same commands stand before.
+pub record IsStill (old new : Script) : Type 0 where
+  pub functions : new.functions ≡ old.functions
+  pub assertions : new.assertions ≡ old.assertions
+  pub has_logic : new.has_logic ≡ old.has_logic
+  pub is_checked : new.is_checked ≡ old.is_checked
+
+abbrev Whatever : {A : Type 0} → A → Type 0
+Whatever a = ⊤
+
+whatever : {A : Type 0} (r : Result A Refusal) → IfOk r Whatever
+whatever (Ok a) = tt
+whatever (Err refusal) = tt
+
+still_there : (name : List ℕ) (xs : List Var) (target : Sort) (body : Item) (s : Script) → IsStill s (macro_defined name xs target body s).script
+still_there name xs target body s =
+    (ends-and_then (IsStill s) Whatever Whatever (body_read xs body s) (λ t last. next t last (sort_eq t.sort target)) (read, whatever (body_read xs body s).result) (λ t last _ p. go t last p (sort_eq t.sort target))).0
+  where
+    next : Typed → Script → Bool → Outcome ⊤
+    next t last b = if b then done tt (with_macro (record { name = name; parameters = xs; target = target; body = t.tree }) last) else refuse SortMismatch (place_of body) last
+
+    read : IsStill s (body_read xs body s).script
+    read = let h = same_declared (form_of body) (within xs) s in record { functions = h.functions; assertions = h.assertions; has_logic = h.has_logic; is_checked = h.is_checked }
+
+    go : (t : Typed) (last : Script) → IsStill s last → (b : Bool) → Ends (IsStill s) Whatever (next t last b)
+    go t last p true = (record { functions = p.functions; assertions = p.assertions; has_logic = p.has_logic; is_checked = p.is_checked }, tt)
+    go t last p false = (p, tt)
+
+module _ (replaces : Bool) (n : Name) (parameters : Items) (target body : Item) (sc : Script) where
+  abbrev command : Command
+  command = define_fun n parameters target body
+
+  -- once the signature is read
+  abbrev signed : Result Signature Refusal → Outcome ⊤
+  signed r = goes_on r (with_name n.name sc) (λ q named. macro_defined n.name q.parameters q.target body named)
+
+  abbrev by_name : Bool → Result Signature Refusal → Outcome ⊤
+  by_name b r = if b then refuse Repeated n.place sc else signed r
+
+  comes_to : performed replaces command sc ≡ by_name (is_taken sc n.name) (signature_from sc.sorts parameters target)
+  unfolding performed
+  comes_to = ap (λ (o : Outcome ⊤). if is_taken sc n.name then refuse Repeated n.place sc else o) (go (parameters_from sc.sorts [] parameters) (sort_from sc.sorts target))
+    where
+      go : (a : Result (List Var) Refusal) (b : Result Sort Refusal)
+          → and_then (given a (with_name n.name sc)) (λ xs named. and_then (given b named) (λ sort sorted. macro_defined n.name xs sort body sorted))
+          ≡ signed (chained a (λ xs. chained b (λ t. Ok (record { parameters = xs; target = t }))))
+      go (Ok xs) (Ok sort) = refl
+      go (Ok xs) (Err refusal) = refl
+      go (Err refusal) b = refl
+
+  module _ (s : Table) (v : TermsView) (d : Session) where
+    pub name_taken : (e : Session) (refusal : Refusal) → is_taken sc n.name ≡ true → refusal ≡ record { cause = Repeated; at = n.place } → Performs s v v e (performed replaces command sc) (Err (ReadFault.Text refusal))
+    name_taken e refusal taken is = record {
+      outcome = ap (λ (o : Outcome ⊤). o.result) (comes_to ∙ ap (λ b. by_name b (signature_from sc.sorts parameters target)) taken) ∙ ap Err (sym is);
+      placed = places_none s v.pass v.pass _ refl;
+    }
+
+    module _ (session : IsSession s v d sc) (free : is_taken sc n.name ≡ false) where
+      named_so : (r : Result Signature Refusal) → signature_from s.sorts parameters target ≡ r → performed replaces command sc ≡ signed r
+      named_so r e =
+          comes_to ∙ ap (λ b. by_name b (signature_from sc.sorts parameters target)) free
+          ∙ ap (λ (sorts : List (List ℕ)). signed (signature_from sorts parameters target)) (sym session.idle.script.sorts) ∙ ap signed e
+
+      pub signature_fails : (source : List ℕ) (nodes : List Node) (first last : ℕ) (ps : List Parameter) (e : Session) (fault : ReadFault)
+          → IsSignatureRead source nodes first last ps (signature_from s.sorts parameters target) (Err fault) → Performs s v v e (performed replaces command sc) (Err fault)
+      signature_fails source nodes first last ps e (ReadFault.Text refusal) h = record {
+        outcome = ap (λ (o : Outcome ⊤). o.result) (named_so (Err refusal) h);
+        placed = places_none s v.pass v.pass _ refl;
+      }
+      signature_fails source nodes first last ps e ReadFault.PoolFull h = absurd h
+      signature_fails source nodes first last ps e ReadFault.Memory h = record { outcome = tt; placed = places_none s v.pass v.pass _ refl }
+
+      -- the name is taken for the macro
+      pub is_defining : (k : KnownView) (name : List ℕ) → name ≡ n.name → TakesName d.reader.known k name → IsDefining s v (record d.reader { known = k }) name (with_name n.name sc)
+      is_defining k name same takes =
+          let untaken : is_among sc.taken n.name ≡ false = either_false (is_built_in n.name) (is_among sc.taken n.name) free in
+          let none = no_entry s v d.reader.known sc n.name session.idle.script free in
+          let here : TakesName d.reader.known k n.name = subst (λ (x : List ℕ). TakesName d.reader.known k x) same takes in
+          rw same (record {
+            idle = record {
+              script = reserved_script s v d.reader.known k sc n.name here session.idle.script untaken none;
+              scope = session.idle.scope;
+              replaces = refl;
+              no_values = session.idle.no_values;
+              no_leaves = session.idle.no_leaves;
+              no_frames = session.idle.no_frames;
+            };
+            reserved = name_reserved s v d.reader.known k sc n.name here session.idle.script untaken none;
+            no_base = ap (λ (e : EntriesView). lookup e.names n.name) here.base ∙ no_base_entry d.reader.known n.name none;
+          })
+
+      -- the macro was read
+      pub is_performed : (z : Table) (w : TermsView) (r : Reader) (ps : Vec Parameter Global) (name : List ℕ) (xs : List Var) (sort : Sort) (result : Result Unit ReadFault) → name ≡ n.name
+          → signature_from s.sorts parameters target ≡ Ok (record { parameters = xs; target = sort }) → AddsNoSymbols s z → KeepsTerms v w
+          → Defines z v w r (macro_defined name xs sort body (with_name n.name sc)) result → Performs z v w (record d { reader = r; parameters = ps }) (performed replaces command sc) result
+      is_performed z w r ps name xs sort result same e adds keeps h =
+          let defines : Defines z v w r (macro_defined n.name xs sort body (with_name n.name sc)) result =
+          subst (λ (x : List ℕ). Defines z v w r (macro_defined x xs sort body (with_name n.name sc)) result) same h in
+          rw (named_so (Ok (record { parameters = xs; target = sort })) e) (go result defines)
+        where
+          go : (result : Result Unit ReadFault) → Defines z v w r (macro_defined n.name xs sort body (with_name n.name sc)) result
+              → Performs z v w (record d { reader = r; parameters = ps }) (macro_defined n.name xs sort body (with_name n.name sc)) result
+          go (Err fault) h = record { outcome = h.outcome; placed = h.placed }
+          go (Ok done) h =
+              let last = h.outcome.0 in
+              let still : IsStill sc last =
+              subst (λ (o : Outcome ⊤). IsStill sc o.script) h.outcome.1
+              (let p = still_there n.name xs sort body (with_name n.name sc) in record { functions = p.functions; assertions = p.assertions; has_logic = p.has_logic; is_checked = p.is_checked }) in
+              record {
+                outcome = (
+                  last,
+                  h.outcome.1,
+                  record {
+                    idle = h.outcome.2;
+                    functions = rw still.functions session.functions;
+                    assertions = rw still.assertions (all_stay s z v w adds keeps d.assertions.items sc.assertions session.assertions);
+                    has_logic = session.has_logic ∙ sym still.has_logic;
+                    is_checked = session.is_checked ∙ sym still.is_checked;
+                  },
+                );
+                placed = h.placed;
+              }

@@ -1,0 +1,170 @@
+-- The parameters of a defined function get their leaves and stand in scope, each for itself.
+use Rattle.std.proofs.Common.{◌≡◌, ℕ, zero, suc, ◌<◌, ◌≤◌, ◌+◌, arith, List, [], ◌∷◌, ◌++◌, map, drop, length, get_or, refl, sym, ◌∙◌, ap, subst, append_assoc, false}
+use Rattle.pair_pool.specs.Trees.{leaf}
+use Rattle.pair_pool.specs.Views.{PassView, Knows}
+use Rattle.sym_table.specs.Leaf as symbol
+use Rattle.sym_table.specs.Table.{Table, IsLeaf, Keeps}
+use Rattle.term_model.specs.declared.symbols.Sort.{Sort}
+use Rattle.term_model.specs.Terms.{Var}
+use Rattle.term_pool.specs.StandsFor.{variable_leaf}
+use Rattle.term_pool.specs.Views.{TermsView}
+use Rattle.smtlib_reader.specs.Defining.{IsAdded, AreListed, IsReady}
+use Rattle.smtlib_reader.specs.Heights.{height}
+use Rattle.smtlib_reader.specs.InScope.{IsScope, AreBound}
+use Rattle.smtlib_reader.specs.Names.{Bound, Place, itself, inside}
+use Rattle.smtlib_reader.specs.Parameters.{IsParameter, AreParameters}
+use Rattle.smtlib_reader.specs.Reading.{IsIdle}
+use Rattle.smtlib_reader.specs.Scope.{Scoped}
+use Rattle.smtlib_reader.specs.Scripts.{Script}
+use Rattle.smtlib_reader.specs.Sessions.{top}
+use Rattle.smtlib_reader.specs.Standing.{AreLeavesOf, AddsNoSymbols}
+use Rattle.smtlib_reader.specs.Values.{IsValue}
+use Rattle.smtlib_reader.specs.declared.defining.Listed.{Listed}
+use Rattle.smtlib_reader.specs.declared.nodes.Node.{Node}
+use Rattle.smtlib_reader.specs.declared.parameters.Parameter.{Parameter}
+use Rattle.smtlib_reader.specs.declared.reader.Reader.{Reader}
+use Rattle.smtlib_reader.specs.declared.values.Value.{Value}
+use Rattle.smtlib_reader.proofs.Staying.{bound_stays, keeps_none, scope_stays, script_stays}
+
+-- a leaf, as a term
+pub is_added : (s : Table) (v : TermsView) (old new : List Value) (k : ℕ) (name : List ℕ) (sort : Sort) (x : Var) (c : Value)
+    → IsLeaf s k (symbol.variable name sort) → name ≡ x.name → sort ≡ x.sort → ((pass : PassView) → Knows pass c.term (leaf k)) → c.sort ≡ sort → c.height ≡ 1
+    → new ≡ old ++ c ∷ [] → IsAdded s v old new k x
+unfolding height
+is_added s v old new k name sort x c here same same_sort known is high pushed = record {
+  leaf = there;
+  value = c;
+  pushed = pushed;
+  is = record {
+    refers = record { tree = leaf k; known = known v.pass; stands = there };
+    sort = is ∙ same_sort;
+    high = high;
+    plain = λ _. tt;
+  };
+}
+  where
+    there : IsLeaf s k (variable_leaf x)
+    there = rw same_sort at (rw same at here)
+
+-- one more that is bound
+bound_more : (s : Table) (v : TermsView) (ks : List ℕ) (cs : List Value) (bs : List Bound) (k : ℕ) (c : Value) (b : Bound)
+    → AreBound s v ks cs bs → IsLeaf s k (variable_leaf b.variable) → IsValue s v c (record { tree = b.stands_for; sort = b.variable.sort })
+    → AreBound s v (ks ++ k ∷ []) (cs ++ c ∷ []) (bs ++ b ∷ [])
+bound_more s v [] [] [] k c b h l is = (l, is, tt)
+bound_more s v [] [] (d ∷ bs) k c b h l is = absurd h
+bound_more s v [] (d ∷ cs) bs k c b h l is = absurd h
+bound_more s v (j ∷ ks) [] bs k c b h l is = absurd h
+bound_more s v (j ∷ ks) (d ∷ cs) [] k c b h l is = absurd h
+bound_more s v (j ∷ ks) (d ∷ cs) (e ∷ bs) k c b h l is = (h.0, h.1, bound_more s v ks cs bs k c b h.2 l is)
+
+themselves_more : (xs : List Var) (x : Var) → map itself (xs ++ x ∷ []) ≡ map itself xs ++ itself x ∷ []
+themselves_more [] x = refl
+themselves_more (y ∷ xs) x = ap (λ bs. itself y ∷ bs) (themselves_more xs x)
+
+left_after : {X : Type 0} (xs : List X) (i : ℕ) (d : X) → i < length xs → drop i xs ≡ get_or xs i d ∷ drop (suc i) xs
+left_after [] i d h = absurd (omega arith)
+left_after (x ∷ xs) zero d h = refl
+left_after (x ∷ xs) (suc i) d h = left_after xs i d (omega arith)
+
+pub next_left : {X : Type 0} (xs : List X) (i : ℕ) (d : X) → i < length xs → drop i xs ≡ get_or xs i d ∷ drop (i + 1) xs
+next_left xs i d h = let e : suc i ≡ i + 1 = omega arith in subst (λ j. drop i xs ≡ get_or xs i d ∷ drop j xs) e (left_after xs i d h)
+
+pub none_left_over : {X : Type 0} (xs : List X) (i : ℕ) → length xs ≤ i → drop i xs ≡ []
+none_left_over [] zero h = refl
+none_left_over [] (suc i) h = refl
+none_left_over (x ∷ xs) zero h = absurd (omega arith)
+none_left_over (x ∷ xs) (suc i) h = none_left_over xs i (omega arith)
+
+-- The parameters before place i have their leaves, and the others are left.
+pub record AreListedUpTo (source : List ℕ) (nodes : List Node) (s : Table) (v : TermsView) (left : List Parameter) (leaves : List ℕ) (values : List Value) (xs : List Var) : Type 0 where
+  pub front : List Var
+  pub back : List Var
+  pub split : xs ≡ front ++ back
+  pub bound : AreBound s v leaves values (map itself front)
+  pub others : AreParameters source nodes left back
+
+pub none_listed : (source : List ℕ) (nodes : List Node) (s : Table) (v : TermsView) (ps : List Parameter) (values : List Value) (xs : List Var) → values ≡ [] → AreParameters source nodes ps xs
+    → AreListedUpTo source nodes s v ps [] values xs
+none_listed source nodes s v ps values xs none are = record {
+  front = [];
+  back = xs;
+  split = refl;
+  bound = subst (λ (cs : List Value). AreBound s v [] cs []) (sym none) tt;
+  others = are;
+}
+
+-- each one is a parameter
+pub parameter_there : (source : List ℕ) (nodes : List Node) (ps : List Parameter) (xs : List Var) (i : ℕ) (d : Parameter) → AreParameters source nodes ps xs → i < length ps → (x : Var) × IsParameter source nodes (get_or ps i d) x
+parameter_there source nodes [] xs i d are less = absurd (omega arith)
+parameter_there source nodes (p ∷ ps) [] i d are less = absurd are
+parameter_there source nodes (p ∷ ps) (x ∷ xs) zero d are less = (x, are.0)
+parameter_there source nodes (p ∷ ps) (x ∷ xs) (suc i) d are less = parameter_there source nodes ps xs i d are.1 (omega arith)
+
+pub one_listed : (source : List ℕ) (nodes : List Node) (s z : Table) (v : TermsView) (p : Parameter) (left ps : List Parameter) (leaves more : List ℕ) (values new : List Value) (k : ℕ) (xs : List Var)
+    → ps ≡ p ∷ left → AreListedUpTo source nodes s v ps leaves values xs → Keeps s z → ((x : Var) → IsParameter source nodes p x → IsAdded z v values new k x) → more ≡ leaves ++ k ∷ []
+    → AreListedUpTo source nodes z v left more new xs
+one_listed source nodes s z v p left ps leaves more values new k xs e h keeps added pushed = go h.back h.split (rw e at h.others)
+  where
+    go : (back : List Var) → xs ≡ h.front ++ back → AreParameters source nodes (p ∷ left) back → AreListedUpTo source nodes z v left more new xs
+    go [] split are = absurd are
+    go (x ∷ back) split are =
+        let a = added x are.0 in
+        let before = bound_stays s z v v keeps (keeps_none v) leaves values (map itself h.front) h.bound in
+        let now = bound_more z v leaves values (map itself h.front) k a.value (itself x) before a.leaf a.is in
+        record {
+          front = h.front ++ x ∷ [];
+          back = back;
+          split = split ∙ sym (append_assoc h.front (x ∷ []) back);
+          bound = rw (pushed, a.pushed, themselves_more h.front x) now;
+          others = are.1;
+        }
+
+pub all_listed : (source : List ℕ) (nodes : List Node) (s : Table) (v : TermsView) (left : List Parameter) (leaves : List ℕ) (values : List Value) (xs : List Var)
+    → left ≡ [] → AreListedUpTo source nodes s v left leaves values xs → AreBound s v leaves values (map itself xs)
+all_listed source nodes s v left leaves values xs none h = go h.back h.split (rw none at h.others)
+  where
+    ended : (ys : List Var) → ys ++ [] ≡ ys
+    ended [] = refl
+    ended (y ∷ ys) = ap (λ zs. y ∷ zs) (ended ys)
+
+    go : (back : List Var) → xs ≡ h.front ++ back → AreParameters source nodes [] back → AreBound s v leaves values (map itself xs)
+    go [] split are = subst (λ ys. AreBound s v leaves values (map itself ys)) (sym (split ∙ ended h.front)) h.bound
+    go (x ∷ back) split are = absurd are
+
+-- leaves and sorts of what is bound
+leaves_bound : (s : Table) (v : TermsView) (ks : List ℕ) (cs : List Value) (xs : List Var) → AreBound s v ks cs (map itself xs) → AreLeavesOf s ks xs
+leaves_bound s v [] [] [] h = tt
+leaves_bound s v [] [] (x ∷ xs) h = absurd h
+leaves_bound s v [] (c ∷ cs) xs h = absurd h
+leaves_bound s v (k ∷ ks) [] xs h = absurd h
+leaves_bound s v (k ∷ ks) (c ∷ cs) [] h = absurd h
+leaves_bound s v (k ∷ ks) (c ∷ cs) (x ∷ xs) h = (h.0, leaves_bound s v ks cs xs h.2)
+
+sorts_bound : (s : Table) (v : TermsView) (ks : List ℕ) (cs : List Value) (xs : List Var) → AreBound s v ks cs (map itself xs) → map (λ (c : Value). c.sort) cs ≡ map (λ (x : Var). x.sort) xs
+sorts_bound s v [] [] [] h = refl
+sorts_bound s v [] [] (x ∷ xs) h = absurd h
+sorts_bound s v [] (c ∷ cs) xs h = absurd h
+sorts_bound s v (k ∷ ks) [] xs h = absurd h
+sorts_bound s v (k ∷ ks) (c ∷ cs) [] h = absurd h
+sorts_bound s v (k ∷ ks) (c ∷ cs) (x ∷ xs) h = let e = h.1.sort in let f = sorts_bound s v ks cs xs h.2 in cc
+
+-- what stands for itself inside a let does so twice
+inside_themselves : (xs : List Var) → map (λ (b : Bound). itself b.variable) (map itself xs) ++ [] ≡ map itself xs
+inside_themselves [] = refl
+inside_themselves (x ∷ xs) = ap (λ bs. itself x ∷ bs) (inside_themselves xs)
+
+-- the parameters are in scope, and listed
+pub is_entered : (s z : Table) (v : TermsView) (r : Reader) (l : Listed) (scope : List Scoped) (values none : List Value) (xs : List Var) (sc : Script)
+    → AddsNoSymbols s z → IsIdle s v r sc (top r.replaces_lets) → AreBound z v l.leaves.items values (map itself xs) → l.sorts.items ≡ map (λ (c : Value). c.sort) values
+    → ((p : Place) → IsScope z v r.scope p.scope → p.replaces_lets ≡ false → IsScope z v scope (inside (map itself xs) p).scope) → none ≡ []
+    → AreListed z l xs × IsReady z v (record r { scope = scope; values = none }) xs sc
+is_entered s z v r l scope values none xs sc adds idle bound sorts put no_values = (
+  record { leaves = leaves_bound z v l.leaves.items values xs bound; sorts = sorts ∙ sorts_bound z v l.leaves.items values xs bound },
+  record {
+    script = script_stays s z v v adds (keeps_none v) r.known sc idle.script;
+    scope = subst (λ (bs : List Bound). IsScope z v scope bs) (inside_themselves xs) (put (top false) (scope_stays s z v v adds.keeps (keeps_none v) r.scope [] idle.scope) refl);
+    no_values = no_values;
+    no_leaves = idle.no_leaves;
+    no_frames = idle.no_frames;
+  },
+)

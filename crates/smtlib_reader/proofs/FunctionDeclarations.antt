@@ -1,0 +1,86 @@
+-- What the declaration of a function comes to, step by step.
+use Rattle.std.proofs.Common.{◌≡◌, ℕ, Bool, true, false, List, [], ◌∷◌, ◌++◌, position, None, IfErr, OnOk, sym, ap, subst, ◌∙◌, if◌then◌else◌, Result, Ok, Err}
+use Rattle.std.specs.Prelude.{⊤, bytes_eq}
+use Rattle.std.proofs.lemmas.Bool.{or_parts}
+use Rattle.sexpr.specs.declared.causes.Cause.TheVariants.{Repeated}
+use Rattle.sexpr.specs.declared.causes.Refusal.{Refusal}
+use Rattle.sexpr.specs.Items.{Item, Items}
+use Rattle.sym_table.specs.Leaf.{function}
+use Rattle.sym_table.specs.Table.{Table, IsFunctionName, Keeps, with_leaf}
+use Rattle.term_model.specs.declared.symbols.Sort.{Sort}
+use Rattle.term_pool.specs.Views.{TermsView}
+use Rattle.smtlib_reader.specs.Commands.{declare_fun}
+use Rattle.smtlib_reader.specs.Faults.{IsFaultOf}
+use Rattle.smtlib_reader.specs.Forms.{Name}
+use Rattle.smtlib_reader.specs.Problems.{performed}
+use Rattle.smtlib_reader.specs.Scripts.{Script, is_taken, with_name, with_function, Outcome, done, refuse, given, and_then}
+use Rattle.smtlib_reader.specs.Sessions.{IsSession, Performs}
+use Rattle.smtlib_reader.specs.Sorts.{sort_from, sorts_from}
+use Rattle.smtlib_reader.specs.Words.{is_among, is_built_in}
+use Rattle.smtlib_reader.specs.declared.faults.ReadFault.{ReadFault}
+use Rattle.smtlib_reader.specs.declared.session.Session.{Session}
+use Rattle.smtlib_reader.proofs.CommandSteps.{performs_done, performs_refused, performs_memory}
+use Rattle.smtlib_reader.proofs.DeclaredFunctions.{no_position, free_name, function_session}
+
+-- a name that is not taken is that of no function
+module _ (s : Table) (v : TermsView) (d : Session) (sc : Script) (name : List ℕ) (is : IsSession s v d sc) (untaken : is_taken sc name ≡ false) where
+  pub may_be_declared : (is_built_in name ≡ false) × (IsFunctionName s name → ⊥)
+  may_be_declared = (
+    (or_parts (is_built_in name) (is_among sc.taken name) untaken).0,
+    (free_name s v d.reader.known sc name is.idle.script untaken).1.no_function.table,
+  )
+
+  pub has_no_number : position (bytes_eq name) d.functions ≡ None
+  has_no_number = rw is.functions (no_position sc.functions name (free_name s v d.reader.known sc name is.idle.script untaken).1.no_function.script)
+
+module _ (s : Table) (v : TermsView) (d e : Session) (replaces : Bool) (x : Name) (arguments : Items) (target : Item) (sc : Script) (is : IsSession s v d sc) where
+  abbrev asked : Outcome ⊤
+  asked = performed replaces (declare_fun x arguments target) sc
+
+  -- by the target sort, and before that by the arguments' sorts
+  abbrev by_target : List Sort → Result Sort Refusal → Outcome ⊤
+  by_target ss o = and_then (given o sc) (λ t last. done tt (with_function (record { name = x.name; arguments = ss; target = t }) (with_name x.name last)))
+
+  abbrev by_arguments : Result (List Sort) Refusal → Outcome ⊤
+  by_arguments o =
+      and_then (given o sc) (λ ss after.
+      and_then (given (sort_from sc.sorts target) after) (λ t last.
+      done tt (with_function (record { name = x.name; arguments = ss; target = t }) (with_name x.name last))))
+
+  abbrev by_name : Bool → Outcome ⊤
+  by_name taken = if taken then refuse Repeated x.place sc else by_arguments (sorts_from sc.sorts arguments)
+
+  name_step : (taken : Bool) → is_taken sc x.name ≡ taken → asked ≡ by_name taken
+  unfolding performed
+  name_step taken e = ap by_name e
+
+  arguments_step : (o : Result (List Sort) Refusal) → is_taken sc x.name ≡ false → sorts_from s.sorts arguments ≡ o → asked ≡ by_arguments o
+  arguments_step o untaken e =
+      name_step false untaken ∙ ap (λ (sorts : List (List ℕ)). by_arguments (sorts_from sorts arguments)) (sym is.idle.script.sorts) ∙ ap by_arguments e
+
+  target_step : (ss : List Sort) (o : Result Sort Refusal) → is_taken sc x.name ≡ false → sorts_from s.sorts arguments ≡ Ok ss → sort_from s.sorts target ≡ o → asked ≡ by_target ss o
+  target_step ss o untaken f e =
+      arguments_step (Ok ss) untaken f ∙ ap (λ (sorts : List (List ℕ)). by_target ss (sort_from sorts target)) (sym is.idle.script.sorts) ∙ ap (by_target ss) e
+
+  pub function_repeated : (r : Refusal) → is_taken sc x.name ≡ true → r ≡ record { cause = Repeated; at = x.place } → Performs s v v e asked (Err (ReadFault.Text r))
+  function_repeated r taken same = performs_refused s v e asked r (ap (λ o. o.result) (name_step true taken) ∙ ap Err (sym same))
+
+  pub arguments_refused : (fault : ReadFault) → is_taken sc x.name ≡ false → IsFaultOf (sorts_from s.sorts arguments) fault → Performs s v v e asked (Err fault)
+  arguments_refused (ReadFault.Text r) untaken f = performs_refused s v e asked r (ap (λ o. o.result) (arguments_step (Err r) untaken f))
+  arguments_refused ReadFault.PoolFull untaken f = absurd f
+  arguments_refused ReadFault.Memory untaken f = performs_memory s v e asked
+
+  pub target_refused : (ss : List Sort) (r : Refusal) → is_taken sc x.name ≡ false → sorts_from s.sorts arguments ≡ Ok ss → sort_from s.sorts target ≡ Err r → Performs s v v e asked (Err (ReadFault.Text r))
+  target_refused ss r untaken f g = performs_refused s v e asked r (ap (λ o. o.result) (target_step ss (Err r) untaken f g))
+
+  pub function_added : (z : Table) (result : Result Unit ReadFault) (ss : List Sort) (t : Sort) → is_taken sc x.name ≡ false → sorts_from s.sorts arguments ≡ Ok ss → sort_from s.sorts target ≡ Ok t
+      → OnOk result (z ≡ with_leaf s (function x.name ss t)) → OnOk result (e.functions ≡ d.functions ++ x.name ∷ []) → IfErr result (λ fault. fault ≡ ReadFault.Memory) → Keeps s z
+      → e.reader ≡ d.reader → e.assertions ≡ d.assertions → e.has_logic ≡ d.has_logic → e.is_checked ≡ d.is_checked → Performs z v v e asked result
+  function_added z (Ok u) ss t untaken f g added functions fault keeps reader assertions logic checked =
+      let kept : Keeps s (with_leaf s (function x.name ss t)) = subst (λ (w : Table). Keeps s w) added keeps in
+      subst (λ (w : Table). Performs w v v e asked (Ok tt)) (sym added)
+      (performs_done (with_leaf s (function x.name ss t)) v e asked (with_function (record { name = x.name; arguments = ss; target = t }) (with_name x.name sc))
+      (target_step ss (Ok t) untaken f g)
+      (function_session s v (record { name = x.name; arguments = ss; target = t }) sc kept d e reader functions assertions logic checked untaken is))
+  function_added z (Err h) ss t untaken f g added functions fault keeps reader assertions logic checked =
+      subst (λ (w : ReadFault). Performs z v v e asked (Err w)) (sym fault) (performs_memory z v e asked)

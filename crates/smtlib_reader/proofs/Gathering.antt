@@ -1,0 +1,420 @@
+-- How the leaves of free variables are gathered from the parts of a term.
+use Rattle.std.proofs.Common.{◌≡◌, ◌≢◌, ℕ, ◌+◌, ◌-◌, ◌≤◌, ◌<◌, ◌⊎◌, inl, inr, max, List, [], ◌∷◌, length, slice_get, Some, None, Option, Bool, true, false, nat_eq, eqb, cond, refl, sym, ◌∙◌, ap, subst, Contains, All, drop, get_or, IsSomeAnd, pos, Vec, arith, zero, suc}
+use Rattle.std.specs.HashMap.{get}
+use Rattle.std.specs.declared.alloc.Global.{Global}
+use Rattle.std.proofs.lemmas.Bool.Decides.{eqb_tells}
+use Rattle.std.proofs.lemmas.List.Elements.{All-nil, All-cons, Contains-append_right, Contains-append_cases}
+use Rattle.std.proofs.lemmas.Option.{slice_get_within}
+use Rattle.pair_pool.specs.Views.{IsUnchanged}
+use Rattle.sym_table.specs.declared.kind.Kind.{Kind}
+use Rattle.sym_table.specs.Leaf.{Leaf, operator, kind_of}
+use Rattle.sym_table.specs.Leaf as Leaf
+use Rattle.sym_table.specs.Table.{Table, IsLeaf, LeafMeets, IsTable}
+use Rattle.term_model.specs.declared.symbols.Sort.{Sort}
+use Rattle.term_model.specs.FreeVariables.{IsFree, IsFreeAmong, IsFreeBound, Binds, variables_of, bound_terms}
+use Rattle.term_model.specs.Terms.{Var, Term, numeral, variable, operation, call, let_in, Terms, no_terms, term, list_of, Bindings, no_bindings, binding}
+use Rattle.term_pool.specs.Building.{IsApplication, AreBindings}
+use Rattle.term_pool.specs.Reading.{arguments_of, IsLet, IsLetTerm}
+use Rattle.term_pool.specs.StandsFor.{variable_leaf, function_leaf}
+use Rattle.term_pool.specs.Views.{TermsView, RefersTo, ReferToAll, KeepsTerms}
+use Rattle.smtlib_reader.specs.Free.{HasVariable, IsLeafOfSome, AreFreeLeaves, AddsLeaves, AddsOne, AddsUnbound, IsAtMost, IsFreeInAny, AreLeavesOf, ArePartsOfLet, Covers, Bodies, AreBodies}
+use Rattle.smtlib_reader.specs.Heights.{height, highest, highest_bound}
+use Rattle.smtlib_reader.specs.Replacement.{free_variables}
+use Rattle.smtlib_reader.proofs.Images.{drop-at, leaf_variable}
+use Rattle.smtlib_reader.proofs.Freedom.{free_variables-are}
+use Rattle.smtlib_reader.proofs.SetLemmas.{none_in}
+
+-- a pass that was kept and did not change makes the same terms
+pub stays : (v w : TermsView) → KeepsTerms v w → IsUnchanged v.pass w.pass → w ≡ v
+stays v w k u = λ i. record {
+  pool = k.pool i;
+  pass = record { places = u.places i; shares = u.shares i; seen = u.seen i; known = u.known i; placed = u.placed i };
+}
+
+same_some : {X : Type 0} {a b : X} → Some a ≡ Some b → a ≡ b
+same_some e = cc
+
+-- a leaf is that of one variable, and a variable has one leaf
+one_variable : (s : Table) (k : ℕ) (x y : Var) → IsLeaf s k (variable_leaf x) → IsLeaf s k (variable_leaf y) → x ≡ y
+one_variable s k x y g h = leaf_variable x y (same_some (sym g ∙ h))
+
+one_leaf : (s : Table) → IsTable s → (j k : ℕ) (x y : Var) → IsLeaf s j (variable_leaf x) → IsLeaf s k (variable_leaf y) → x ≡ y → j ≡ k
+one_leaf s table j k x y g h e =
+    table.apart j k (variable_leaf x) (variable_leaf y) g h (ap (λ (z : Var). Leaf.kind_of 0 (variable_leaf z)) e) (ap (λ (z : Var). Leaf.name_of (variable_leaf z)) e)
+
+-- the kind of a variable's leaf
+abbrev kind_is : Kind → ℕ → Option Leaf → Type 0
+kind_is kind n o = IsSomeAnd o (λ l. kind ≡ kind_of n l)
+
+pub variable_kind : (s : Table) (k n : ℕ) (sort : Sort) → LeafMeets s k (λ l. Kind.Var sort ≡ kind_of n l) → (x : Var) × IsLeaf s k (variable_leaf x)
+variable_kind s k n sort h = go (slice_get s.leaves k) refl h
+  where
+    go : (o : Option Leaf) → slice_get s.leaves k ≡ o → kind_is (Kind.Var sort) n o → (x : Var) × IsLeaf s k (variable_leaf x)
+    go None e h = absurd h
+    go (Some Leaf.nil) e h = absurd cc
+    go (Some Leaf.let_head) e h = absurd cc
+    go (Some (operator op)) e h = absurd cc
+    go (Some (Leaf.function name arguments target)) e h = absurd cc
+    go (Some (Leaf.variable name of)) e h = (record { name = name; sort = of }, e)
+    go (Some (Leaf.numeral m)) e h = absurd cc
+
+-- adding leaves
+has_more : (s : Table) (a b : List ℕ) (x : Var) → ((k : ℕ) → Contains a k → Contains b k) → HasVariable s a x → HasVariable s b x
+has_more s a b x kept h = (h.0, h.1, kept h.0 h.2)
+
+pub adds-same : (s : Table) (a b : List ℕ) (P Q : Var → Type 0) → ((x : Var) → P x → Q x) → ((x : Var) → Q x → P x) → AddsLeaves s a b P → AddsLeaves s a b Q
+adds-same s a b P Q f g h = record {
+  kept = h.kept;
+  all = λ x q. h.all x (g x q);
+  only = λ k c. elim (h.only k c) [ inl old ↦ inl old | inr new ↦ inr (new.0, new.1, f new.0 new.2) ];
+}
+
+pub adds-both : (s : Table) (a b c : List ℕ) (P Q : Var → Type 0) → AddsLeaves s a b P → AddsLeaves s b c Q → AddsLeaves s a c (λ x. P x ⊎ Q x)
+adds-both s a b c P Q g h = record {
+  kept = λ k i. h.kept k (g.kept k i);
+  all = all;
+  only = only;
+}
+  where
+    all : (x : Var) → P x ⊎ Q x → HasVariable s c x
+    all x (inl p) = has_more s b c x h.kept (g.all x p)
+    all x (inr q) = h.all x q
+
+    first : (k : ℕ) → Contains b k → Contains a k ⊎ IsLeafOfSome s k (λ x. P x ⊎ Q x)
+    first k i = elim (g.only k i) [ inl old ↦ inl old | inr new ↦ inr (new.0, new.1, inl new.2) ]
+
+    only : (k : ℕ) → Contains c k → Contains a k ⊎ IsLeafOfSome s k (λ x. P x ⊎ Q x)
+    only k i = elim (h.only k i) [ inl old ↦ first k old | inr new ↦ inr (new.0, new.1, inr new.2) ]
+
+swapped : (P Q : Type 0) → P ⊎ Q → Q ⊎ P
+swapped P Q (inl p) = inr p
+swapped P Q (inr q) = inl q
+
+-- what was gone through
+pub covers-kept : (s : Table) (v : TermsView) (seen a b : List ℕ) → ((k : ℕ) → Contains a k → Contains b k) → Covers s v seen a → Covers s v seen b
+covers-kept s v seen a b kept h = record { each = λ r c t refers x free. has_more s a b x kept (h.each r c t refers x free) }
+
+pub covers-more : (s : Table) (v : TermsView) (seen new a found : List ℕ) (r : ℕ) → ((t : Term) → RefersTo s v r t → AddsLeaves s a found (λ x. IsFree x t)) → AddsOne seen new r → Covers s v seen found → Covers s v new found
+covers-more s v seen new a found r adds one h = record { each = each }
+  where
+    here : (q : ℕ) → q ≡ r → (t : Term) → RefersTo s v q t → (x : Var) → IsFree x t → HasVariable s found x
+    here q e t refers x free = (adds t (subst (λ p. RefersTo s v p t) e refers)).all x free
+
+    each : (q : ℕ) → Contains new q → (t : Term) → RefersTo s v q t → (x : Var) → IsFree x t → HasVariable s found x
+    each q c t refers x free =
+        elim (one.only q c) [ inl old ↦ h.each q old t refers x free | inr same ↦ here q same t refers x free ]
+
+pub covers-adds : (s : Table) (v : TermsView) (seen found : List ℕ) (r : ℕ) → Covers s v seen found → Contains seen r → (t : Term) → RefersTo s v r t → AddsLeaves s found found (λ x. IsFree x t)
+covers-adds s v seen found r h c t refers = record { kept = λ k i. i; all = λ x free. h.each r c t refers x free; only = λ k i. inl i }
+
+-- a variable, and an application
+pub head_within : (s : Table) (k : ℕ) (ts : List Term) (t : Term) → IsApplication s k ts t → k < length s.leaves
+head_within s k ts (numeral n) h = slice_get_within s.leaves k _ h.0
+head_within s k ts (variable x) h = slice_get_within s.leaves k _ h.0
+head_within s k ts (operation op us) h = slice_get_within s.leaves k _ h.0
+head_within s k ts (call f us) h = slice_get_within s.leaves k _ h.0
+head_within s k ts (let_in bs u) h = absurd h
+
+pub application-no_let : (s : Table) (k : ℕ) (ts : List Term) (t : Term) → IsApplication s k ts t → IsLet t → ⊥
+application-no_let s k ts (numeral n) h e = e
+application-no_let s k ts (variable x) h e = e
+application-no_let s k ts (operation op us) h e = e
+application-no_let s k ts (call f us) h e = e
+application-no_let s k ts (let_in bs u) h e = h
+
+two_leaves : (s : Table) (k : ℕ) (l m : Leaf) → IsLeaf s k l → IsLeaf s k m → l ≡ m
+two_leaves s k l m g h = same_some (sym g ∙ h)
+
+pub variable-adds : (s : Table) (k : ℕ) (x : Var) (ts : List Term) (t : Term) (a b : List ℕ) → IsLeaf s k (variable_leaf x) → AddsOne a b k → IsApplication s k ts t → AddsLeaves s a b (λ y. IsFree y t)
+variable-adds s k x ts (numeral n) a b g one h =
+    absurd (let e = two_leaves s k (variable_leaf x) (Leaf.numeral (pos n)) g h.0 in cc)
+variable-adds s k x ts (operation op us) a b g one h =
+    absurd (let e = two_leaves s k (variable_leaf x) (operator op) g h.0 in cc)
+variable-adds s k x ts (call f us) a b g one h =
+    absurd (let e = two_leaves s k (variable_leaf x) (function_leaf f) g h.0 in cc)
+variable-adds s k x ts (let_in bs u) a b g one h = absurd h
+variable-adds s k x ts (variable y) a b g one h = record {
+  kept = one.kept;
+  all = λ z e. (k, subst (λ (w : Var). IsLeaf s k (variable_leaf w)) e h.0, one.here);
+  only = λ j c. elim (one.only j c) [ inl old ↦ inl old | inr same ↦ inr (y, subst (λ i. IsLeaf s i (variable_leaf y)) (sym same) h.0, refl) ];
+}
+
+among-any : (ts : Terms) (x : Var) → IsFreeAmong x ts → IsFreeInAny x (list_of ts)
+among-any no_terms x h = absurd h
+among-any (term t ts) x (inl h) = inl h
+among-any (term t ts) x (inr h) = inr (among-any ts x h)
+
+any-among : (ts : Terms) (x : Var) → IsFreeInAny x (list_of ts) → IsFreeAmong x ts
+any-among no_terms x h = absurd h
+any-among (term t ts) x (inl h) = inl h
+any-among (term t ts) x (inr h) = inr (any-among ts x h)
+
+pub application-adds : (s : Table) (k : ℕ) (ts : List Term) (t : Term) (a b : List ℕ) → ((x : Var) → IsLeaf s k (variable_leaf x) → ⊥) → IsApplication s k ts t → AddsLeaves s a b (λ x. IsFreeInAny x (arguments_of t)) → AddsLeaves s a b (λ x. IsFree x t)
+application-adds s k ts (numeral n) a b never h adds = adds-same s a b _ _ (λ x p. absurd p) (λ x p. absurd p) adds
+application-adds s k ts (variable x) a b never h adds = absurd (never x h.0)
+application-adds s k ts (operation op us) a b never h adds =
+    adds-same s a b _ _ (λ x p. any-among us x p) (λ x p. among-any us x p) adds
+application-adds s k ts (call f us) a b never h adds =
+    adds-same s a b _ _ (λ x p. any-among us x p) (λ x p. among-any us x p) adds
+application-adds s k ts (let_in bs u) a b never h adds = absurd h
+
+-- heights
+pub positive : (s : Table) (v : TermsView) (most r : ℕ) → IsAtMost s v most r → 1 ≤ most
+unfolding height
+positive s v most r h = let low = h.low in let one = at_least h.means in omega arith
+  where
+    at_least : (t : Term) → 1 ≤ height t
+    at_least (numeral n) = omega arith
+    at_least (variable x) = omega arith
+    at_least (operation op ts) = omega arith
+    at_least (call f ts) = omega arith
+    at_least (let_in bs u) = omega arith
+
+-- lists that were empty before
+pub arguments-from_none : (s : Table) (v w : TermsView) (old rs : List ℕ) (ts : List Term) → w ≡ v → old ≡ [] → ReferToAll s w (drop (length old) rs) ts → ReferToAll s v rs ts
+arguments-from_none s v w old rs ts e f h =
+    subst (λ z. ReferToAll s z rs ts) e (subst (λ (z : List ℕ). ReferToAll s w (drop (length z) rs) ts) f h)
+
+pub bindings-from_none : (s : Table) (v w : TermsView) (old_ks old_rs ks rs : List ℕ) (bs : Bindings) → w ≡ v → old_ks ≡ [] → old_rs ≡ [] → AreBindings s w (drop (length old_ks) ks) (drop (length old_rs) rs) bs → AreBindings s v ks rs bs
+bindings-from_none s v w old_ks old_rs ks rs bs e f g h =
+    subst (λ z. AreBindings s z ks rs bs) e
+    (subst (λ (z : List ℕ). AreBindings s w ks (drop (length z) rs) bs) g
+    (subst (λ (z : List ℕ). AreBindings s w (drop (length z) ks) (drop (length old_rs) rs) bs) f h))
+
+-- each of the references is that of a term of at most this height
+abbrev AreLow : Table → TermsView → ℕ → List ℕ → Type 0
+AreLow s v most rs = All (IsAtMost s v most) rs
+
+list_low : (s : Table) (v : TermsView) (most : ℕ) (rs : List ℕ) (ts : Terms) → highest ts ≤ most → ReferToAll s v rs (list_of ts) → AreLow s v most rs
+unfolding height
+list_low s v most [] no_terms low h = All-nil (IsAtMost s v most)
+list_low s v most [] (term t ts) low h = absurd h
+list_low s v most (r ∷ rs) no_terms low h = absurd h
+list_low s v most (r ∷ rs) (term t ts) low h =
+    All-cons (IsAtMost s v most) r rs (record { means = t; refers = h.0; low = omega arith }) (list_low s v most rs ts (omega arith) h.1)
+
+values_low : (s : Table) (v : TermsView) (most : ℕ) (ks rs : List ℕ) (bs : Bindings) → highest_bound bs ≤ most → AreBindings s v ks rs bs → AreLow s v most rs
+unfolding height
+values_low s v most [] [] bs low h = All-nil (IsAtMost s v most)
+values_low s v most [] (r ∷ rs) bs low h = absurd h
+values_low s v most (k ∷ ks) [] bs low h = absurd h
+values_low s v most (k ∷ ks) (r ∷ rs) no_bindings low h = absurd h
+values_low s v most (k ∷ ks) (r ∷ rs) (binding x t bs) low h =
+    All-cons (IsAtMost s v most) r rs (record { means = t; refers = h.1; low = omega arith }) (values_low s v most ks rs bs (omega arith) h.2)
+
+none_low : (s : Table) (v : TermsView) (most : ℕ) (rs : List ℕ) → ReferToAll s v rs [] → AreLow s v most rs
+none_low s v most [] h = All-nil (IsAtMost s v most)
+none_low s v most (r ∷ rs) h = absurd h
+
+pub arguments_low : (s : Table) (v : TermsView) (most r : ℕ) (rs : List ℕ) → IsAtMost s v most r → ((t : Term) → RefersTo s v r t → IsLet t → ⊥) → ((t : Term) → RefersTo s v r t → (IsLet t → ⊥) → ReferToAll s v rs (arguments_of t)) → AreLow s v (most - 1) rs
+unfolding height
+arguments_low s v most r rs h no_let are =
+    go h.means h.low (no_let h.means h.refers) (are h.means h.refers (no_let h.means h.refers))
+  where
+    go : (t : Term) → height t ≤ most → (IsLet t → ⊥) → ReferToAll s v rs (arguments_of t) → AreLow s v (most - 1) rs
+    go (numeral n) low never all = none_low s v (most - 1) rs all
+    go (variable x) low never all = none_low s v (most - 1) rs all
+    go (operation op ts) low never all = list_low s v (most - 1) rs ts (omega arith) all
+    go (call f ts) low never all = list_low s v (most - 1) rs ts (omega arith) all
+    go (let_in bs u) low never all = absurd (never tt)
+
+-- lets
+let_of : (t : Term) → IsLet t → (bs : Bindings) × (u : Term) × (t ≡ let_in bs u)
+let_of (numeral n) h = absurd h
+let_of (variable x) h = absurd h
+let_of (operation op ts) h = absurd h
+let_of (call f ts) h = absurd h
+let_of (let_in bs u) h = (bs, u, refl)
+
+pub let_there : (s : Table) (v : TermsView) (most r : ℕ) → IsAtMost s v most r → ((t : Term) → RefersTo s v r t → IsLet t) → IsLetTerm v r
+let_there s v most r h is =
+    let (bs, u, e) = let_of h.means (is h.means h.refers) in
+    record { symbols = s; bindings = bs; body = u; refers = subst (λ (t : Term). RefersTo s v r t) e h.refers }
+
+record IsLowLet (s : Table) (v : TermsView) (most r : ℕ) : Type 0 where
+  bindings : Bindings
+  body : Term
+  refers : RefersTo s v r (let_in bindings body)
+  low : 1 + max (highest_bound bindings) (height body) ≤ most
+
+low_let : (s : Table) (v : TermsView) (most r : ℕ) → IsAtMost s v most r → ((t : Term) → RefersTo s v r t → IsLet t) → IsLowLet s v most r
+unfolding height
+low_let s v most r h is = go h.means h.refers h.low (is h.means h.refers)
+  where
+    go : (t : Term) → RefersTo s v r t → height t ≤ most → IsLet t → IsLowLet s v most r
+    go (numeral n) refers low e = absurd e
+    go (variable x) refers low e = absurd e
+    go (operation op ts) refers low e = absurd e
+    go (call f ts) refers low e = absurd e
+    go (let_in bs u) refers low e = record { bindings = bs; body = u; refers = refers; low = low }
+
+pub let_values_low : (s : Table) (v : TermsView) (most r : ℕ) (ks rs : List ℕ) (body : ℕ) → IsAtMost s v most r → ((t : Term) → RefersTo s v r t → IsLet t) → ArePartsOfLet s v r ks rs body → AreLow s v (most - 1) rs
+let_values_low s v most r ks rs body h is parts =
+    let l = low_let s v most r h is in
+    let low = l.low in
+    values_low s v (most - 1) ks rs l.bindings (omega arith) (parts l.bindings l.body l.refers).0
+
+pub let_body_low : (s : Table) (v : TermsView) (most r : ℕ) (ks rs : List ℕ) (body : ℕ) → IsAtMost s v most r → ((t : Term) → RefersTo s v r t → IsLet t) → ArePartsOfLet s v r ks rs body → IsAtMost s v (most - 1) body
+let_body_low s v most r ks rs body h is parts =
+    let l = low_let s v most r h is in
+    let low = l.low in
+    record { means = l.body; refers = (parts l.bindings l.body l.refers).1; low = omega arith }
+
+values_are : (s : Table) (v : TermsView) (ks rs : List ℕ) (bs : Bindings) → AreBindings s v ks rs bs → ReferToAll s v rs (bound_terms bs)
+values_are s v [] [] no_bindings h = tt
+values_are s v [] [] (binding x t bs) h = absurd h
+values_are s v [] (r ∷ rs) bs h = absurd h
+values_are s v (k ∷ ks) [] bs h = absurd h
+values_are s v (k ∷ ks) (r ∷ rs) no_bindings h = absurd h
+values_are s v (k ∷ ks) (r ∷ rs) (binding x t bs) h = (h.1, values_are s v ks rs bs h.2)
+
+variables_are : (s : Table) (v : TermsView) (ks rs : List ℕ) (bs : Bindings) → AreBindings s v ks rs bs → AreLeavesOf s ks (variables_of bs)
+variables_are s v [] [] no_bindings h = tt
+variables_are s v [] [] (binding x t bs) h = absurd h
+variables_are s v [] (r ∷ rs) bs h = absurd h
+variables_are s v (k ∷ ks) [] bs h = absurd h
+variables_are s v (k ∷ ks) (r ∷ rs) no_bindings h = absurd h
+variables_are s v (k ∷ ks) (r ∷ rs) (binding x t bs) h = (h.0, variables_are s v ks rs bs h.2)
+
+bound-any : (bs : Bindings) (x : Var) → IsFreeBound x bs → IsFreeInAny x (bound_terms bs)
+bound-any no_bindings x h = absurd h
+bound-any (binding y t bs) x (inl h) = inl h
+bound-any (binding y t bs) x (inr h) = inr (bound-any bs x h)
+
+any-bound : (bs : Bindings) (x : Var) → IsFreeInAny x (bound_terms bs) → IsFreeBound x bs
+any-bound no_bindings x h = absurd h
+any-bound (binding y t bs) x (inl h) = inl h
+any-bound (binding y t bs) x (inr h) = inr (any-bound bs x h)
+
+pub let-adds : (s : Table) (v : TermsView) (r : ℕ) (ks rs : List ℕ) (body : ℕ) (a b c : List ℕ) → ArePartsOfLet s v r ks rs body → ((ts : List Term) → ReferToAll s v rs ts → AddsLeaves s a b (λ x. IsFreeInAny x ts)) → ((bs : Bindings) (u : Term) → AreLeavesOf s ks (variables_of bs) → RefersTo s v body u → AddsLeaves s b c (λ x. (¬ Binds bs x) × IsFree x u)) → (t : Term) → IsLet t → RefersTo s v r t → AddsLeaves s a c (λ x. IsFree x t)
+let-adds s v r ks rs body a b c parts first second (numeral n) is refers = absurd is
+let-adds s v r ks rs body a b c parts first second (variable x) is refers = absurd is
+let-adds s v r ks rs body a b c parts first second (operation op ts) is refers = absurd is
+let-adds s v r ks rs body a b c parts first second (call f ts) is refers = absurd is
+let-adds s v r ks rs body a b c parts first second (let_in bs u) is refers =
+    let p = parts bs u refers in
+    let one = first (bound_terms bs) (values_are s v ks rs bs p.0) in
+    let two = second bs u (variables_are s v ks rs bs p.0) p.1 in
+    adds-same s a c _ _ there back (adds-both s a b c _ _ one two)
+  where
+    there : (x : Var) → IsFreeInAny x (bound_terms bs) ⊎ ((¬ Binds bs x) × IsFree x u) → IsFreeBound x bs ⊎ ((¬ Binds bs x) × IsFree x u)
+    there x (inl h) = inl (any-bound bs x h)
+    there x (inr h) = inr h
+
+    back : (x : Var) → IsFreeBound x bs ⊎ ((¬ Binds bs x) × IsFree x u) → IsFreeInAny x (bound_terms bs) ⊎ ((¬ Binds bs x) × IsFree x u)
+    back x (inl h) = inl (bound-any bs x h)
+    back x (inr h) = inr h
+
+-- leaves that were kept for a term
+pub kept-adds : (s : Table) (leaves a b : List ℕ) (u : Term) → AddsLeaves s [] leaves (λ x. IsFree x u) → AddsUnbound leaves [] a b → AddsLeaves s a b (λ x. IsFree x u)
+kept-adds s leaves a b u free adds = record {
+  kept = adds.kept;
+  all = λ x h. let r = free.all x h in (r.0, r.1, adds.all r.0 r.2 (none_in r.0));
+  only = λ k c. elim (adds.only k c) [ inl old ↦ inl old | inr is ↦ inr (new k is.0) ];
+}
+  where
+    new : (k : ℕ) → Contains leaves k → IsLeafOfSome s k (λ x. IsFree x u)
+    new k c = elim (free.only k c) [ inl none ↦ absurd (none_in k none) | inr is ↦ is ]
+
+-- the body of a let, but what is bound
+contains-here : (k : ℕ) (ks : List ℕ) → Contains (k ∷ ks) k
+contains-here k ks = (0, omega arith, refl)
+
+bound_leaf : (s : Table) (ks : List ℕ) (bs : Bindings) (x : Var) → AreLeavesOf s ks (variables_of bs) → Binds bs x → HasVariable s ks x
+bound_leaf s [] no_bindings x h is = absurd is
+bound_leaf s [] (binding y t bs) x h is = absurd h
+bound_leaf s (k ∷ ks) no_bindings x h is = absurd h
+bound_leaf s (k ∷ ks) (binding y t bs) x h (inl e) = (k, subst (λ (z : Var). IsLeaf s k (variable_leaf z)) e h.0, contains-here k ks)
+bound_leaf s (k ∷ ks) (binding y t bs) x h (inr later) =
+    let r = bound_leaf s ks bs x h.1 later in (r.0, r.1, Contains-append_right (k ∷ []) ks r.0 r.2)
+
+leaf_bound : (s : Table) (ks : List ℕ) (bs : Bindings) (x : Var) (k : ℕ) → AreLeavesOf s ks (variables_of bs) → IsLeaf s k (variable_leaf x) → Contains ks k → Binds bs x
+leaf_bound s [] bs x k h leaf c = absurd (none_in k c)
+leaf_bound s (j ∷ ks) no_bindings x k h leaf c = absurd h
+leaf_bound s (j ∷ ks) (binding y t bs) x k h leaf c =
+    elim (Contains-append_cases (j ∷ []) ks k c) [ inl first ↦ inl (one_variable s k y x (subst (λ i. IsLeaf s i (variable_leaf y)) (only first) h.0) leaf) | inr later ↦ inr (leaf_bound s ks bs x k h.1 leaf later) ]
+  where
+    only : Contains (j ∷ []) k → j ≡ k
+    only (zero, below, e) = e
+    only (suc n, below, e) = absurd (omega arith)
+
+pub unbound-adds : (s : Table) → IsTable s → (ks leaves a b : List ℕ) (bs : Bindings) (u : Term) → AreLeavesOf s ks (variables_of bs) → AddsLeaves s [] leaves (λ x. IsFree x u) → AddsUnbound leaves ks a b → AddsLeaves s a b (λ x. (¬ Binds bs x) × IsFree x u)
+unbound-adds s table ks leaves a b bs u are free adds = record { kept = adds.kept; all = all; only = only }
+  where
+    all : (x : Var) → (¬ Binds bs x) × IsFree x u → HasVariable s b x
+    all x h =
+        let r = free.all x h.1 in
+        (r.0, r.1, adds.all r.0 r.2 (λ c. h.0 (leaf_bound s ks bs x r.0 are r.1 c)))
+
+    apart : (k : ℕ) → ¬ Contains ks k → (x : Var) → IsLeaf s k (variable_leaf x) → ¬ Binds bs x
+    apart k never x leaf is =
+        let r = bound_leaf s ks bs x are is in
+        never (subst (λ i. Contains ks i) (one_leaf s table r.0 k x x r.1 leaf refl) r.2)
+
+    new : (k : ℕ) → Contains leaves k → ¬ Contains ks k → IsLeafOfSome s k (λ x. (¬ Binds bs x) × IsFree x u)
+    new k c never =
+        elim (free.only k c) [ inl none ↦ absurd (none_in k none) | inr is ↦ (is.0, is.1, (apart k never is.0 is.1, is.2)) ]
+
+    only : (k : ℕ) → Contains b k → Contains a k ⊎ IsLeafOfSome s k (λ x. (¬ Binds bs x) × IsFree x u)
+    only k c = elim (adds.only k c) [ inl old ↦ inl old | inr is ↦ inr (new k is.0 is.1) ]
+
+-- bodies
+pub bodies-more : (s : Table) (v : TermsView) (old new : Bodies) (r : ℕ) (leaves : Vec ℕ Global) → ((q : ℕ) → get nat_eq new q ≡ cond (eqb r q) (Some leaves) (get nat_eq old q)) → ((t : Term) → RefersTo s v r t → AddsLeaves s [] leaves.items (λ x. IsFree x t)) → AreBodies s v old → AreBodies s v new
+bodies-more s v old new r leaves updates right h = record { each = λ q ls is. go q ls (eqb r q) (eqb_tells r q) (sym (updates q) ∙ is) }
+  where
+    go : (q : ℕ) (ls : Vec ℕ Global) (b : Bool) → ((b ≡ true) × (r ≡ q)) ⊎ ((b ≡ false) × (r ≢ q)) → cond b (Some leaves) (get nat_eq old q) ≡ Some ls → (t : Term) → RefersTo s v q t → AddsLeaves s [] ls.items (λ x. IsFree x t)
+    go q ls true (inl both) is t refers =
+        subst (λ (l : Vec ℕ Global). AddsLeaves s [] l.items (λ x. IsFree x t)) (same_some is) (right t (subst (λ p. RefersTo s v p t) (sym both.1) refers))
+    go q ls true (inr both) is t refers = absurd (let z = both.0 in cc)
+    go q ls false (inl both) is t refers = absurd (let z = both.0 in cc)
+    go q ls false (inr both) is t refers = h.each q ls is t refers
+
+-- the answer
+pub leaves-free : (s : Table) (leaves : List ℕ) (t : Term) → AddsLeaves s [] leaves (λ x. IsFree x t) → AreFreeLeaves s leaves (free_variables t)
+leaves-free s leaves t h = record { each = each; all = λ x c. h.all x ((free_variables-are x t).0 c) }
+  where
+    each : (k : ℕ) → Contains leaves k → (x : Var) × IsLeaf s k (variable_leaf x) × Contains (free_variables t) x
+    each k c =
+        elim (h.only k c) [ inl none ↦ absurd (none_in k none) | inr is ↦ (is.0, is.1, (free_variables-are is.0 t).1 is.2) ]
+
+-- how far a walk over a list has come, from its end
+pub record IsPassed (s : Table) (v now : TermsView) (list : List ℕ) (at : ℕ) (old seen found : List ℕ) (kept : Bodies) : Type 0 where
+  pub within : at ≤ length list
+  pub same : now ≡ v
+  pub bodies : AreBodies s v kept
+  pub covers : Covers s v seen found
+  pub adds : (ts : List Term) → ReferToAll s v (drop at list) ts → AddsLeaves s old found (λ x. IsFreeInAny x ts)
+
+-- one term more
+pub passed-more : (s : Table) (v now after : TermsView) (list : List ℕ) (at item : ℕ) (old seen found seen2 found2 : List ℕ) (kept kept2 : Bodies) → IsPassed s v now list at old seen found kept → 0 < at → item ≡ get_or list (at - 1) item → after ≡ now → ((t : Term) → RefersTo s now item t → AddsLeaves s found found2 (λ x. IsFree x t)) → Covers s now seen2 found2 → AreBodies s now kept2 → IsPassed s v after list (at - 1) old seen2 found2 kept2
+passed-more s v now after list at item old seen found seen2 found2 kept kept2 h above is same adds covers bodies = record {
+  within = let within = h.within in omega arith;
+  same = same ∙ h.same;
+  bodies = subst (λ z. AreBodies s z kept2) h.same bodies;
+  covers = subst (λ z. Covers s z seen2 found2) h.same covers;
+  adds = λ ts refer. more ts (subst (λ rs. ReferToAll s v rs ts) (drop-at list at item above h.within is) refer);
+}
+  where
+    more : (ts : List Term) → ReferToAll s v (item ∷ drop at list) ts → AddsLeaves s old found2 (λ x. IsFreeInAny x ts)
+    more [] refer = absurd refer
+    more (t ∷ ts) refer =
+        adds-same s old found2 _ _ (λ x p. swapped _ _ p) (λ x p. swapped _ _ p)
+        (adds-both s old found found2 (λ x. IsFreeInAny x ts) (λ x. IsFree x t) (h.adds ts refer.1) (adds t (subst (λ z. RefersTo s z item t) (sym h.same) refer.0)))
+
+-- the same terms, and the same list
+pub low_at : (s : Table) (v w : TermsView) (most : ℕ) (rs qs : List ℕ) → w ≡ v → qs ≡ rs → All (IsAtMost s v most) rs → All (IsAtMost s w most) qs
+low_at s v w most rs qs e f h =
+    subst (λ z. All (IsAtMost s z most) qs) (sym e) (subst (λ zs. All (IsAtMost s v most) zs) (sym f) h)
+
+pub refer_at : (s : Table) (v w : TermsView) (rs qs : List ℕ) (ts : List Term) → w ≡ v → qs ≡ rs → ReferToAll s v rs ts → ReferToAll s w qs ts
+refer_at s v w rs qs ts e f h =
+    subst (λ z. ReferToAll s z qs ts) (sym e) (subst (λ zs. ReferToAll s v zs ts) (sym f) h)
+
+-- a let whose body has these free leaves
+pub let-adds-unbound : (s : Table) (v : TermsView) (r : ℕ) (ks rs : List ℕ) (body : ℕ) (leaves a b c : List ℕ) → IsTable s → ArePartsOfLet s v r ks rs body → ((ts : List Term) → ReferToAll s v rs ts → AddsLeaves s a b (λ x. IsFreeInAny x ts)) → ((u : Term) → RefersTo s v body u → AddsLeaves s [] leaves (λ x. IsFree x u)) → AddsUnbound leaves ks b c → (t : Term) → IsLet t → RefersTo s v r t → AddsLeaves s a c (λ x. IsFree x t)
+let-adds-unbound s v r ks rs body leaves a b c table parts first kept adds =
+    let-adds s v r ks rs body a b c parts first (λ bs u are there. unbound-adds s table ks leaves b c bs u are (kept u there) adds)
+
+pub unbound_at : (leaves leaves2 bound bound2 a b : List ℕ) → leaves ≡ leaves2 → bound ≡ bound2 → AddsUnbound leaves bound a b → AddsUnbound leaves2 bound2 a b
+unbound_at leaves leaves2 bound bound2 a b e f h =
+    subst (λ zs. AddsUnbound leaves2 zs a b) f (subst (λ zs. AddsUnbound zs bound a b) e h)

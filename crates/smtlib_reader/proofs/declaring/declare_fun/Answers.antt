@@ -1,0 +1,65 @@
+use Rattle.std.proofs.Common.{ℕ, ap, sym, refl, ◌∙◌}
+use Rattle.std.proofs.lemmas.Result.{err_from_is_err_and}
+use Rattle.sexpr.specs.declared.causes.Cause.TheVariants.{Repeated}
+use Rattle.sexpr.specs.Source.{source}
+use Rattle.smtlib_reader.specs.Scripts.{is_taken}
+use Rattle.smtlib_reader.proofs.FunctionDeclarations.{may_be_declared, has_no_number, function_repeated, arguments_refused, target_refused, function_added}
+use Rattle.smtlib_reader.proofs.GivenNames.{name_place}
+use Rattle.smtlib_reader.proofs.declaring.declare_fun.Goals as goal
+
+pub returns-then-is_taken-clause-performs : goal.returns-then-is_taken-clause-performs
+returns-then-is_taken-clause-performs c =
+    λ d sc says is.
+    let place = name_place (source c.args.text.now) c.args.nodes.now c.args.name says.named c.node_at-place.result says.name_here c.node_at-place.ensures in
+    let same = c.name_of-spelled.ensures says.named says.name_here in
+    rw says.same
+    (function_repeated c.args.symbols.now c.args.terms.now c.args.session.now _ c.args.session.now.reader.replaces_lets says.named says.sorts says.result sc is c.refused.result
+    (sym (c.is_taken.ensures c.args.terms.now sc is.idle.script ∙ ap (is_taken sc) same) ∙ c.if-is_taken.true)
+    (c.refused.ensures ∙ ap (λ (p : ℕ). record { cause = Repeated; at = p }) place))
+
+pub returns-in_err-sorts_at-clause-performs : goal.returns-in_err-sorts_at-clause-performs
+returns-in_err-sorts_at-clause-performs c =
+    λ d sc says is.
+    let same = c.name_of-spelled.ensures says.named says.name_here in
+    let p = err_from_is_err_and c.from_residual.result c.from_residual.ensures.1 in
+    rw (p.1, p.2, says.same)
+    (arguments_refused c.args.symbols.now c.args.terms.now c.args.session.now _ c.args.session.now.reader.replaces_lets says.named says.sorts says.result sc is c.in_err-sorts_at.field-0.0
+    (sym (c.is_taken.ensures c.args.terms.now sc is.idle.script ∙ ap (is_taken sc) same) ∙ c.if-is_taken.false)
+    (c.in_err-sorts_at.ensures.fault says.sorts says.sorts_here))
+
+pub returns-in_err-sort-clause-performs : goal.returns-in_err-sort-clause-performs
+returns-in_err-sort-clause-performs c =
+    λ d sc says is.
+    let same = c.name_of-spelled.ensures says.named says.name_here in
+    let p = err_from_is_err_and c.from_residual-in_err-sort.result c.from_residual-in_err-sort.ensures.1 in
+    rw (p.1, p.2, says.same)
+    (target_refused c.args.symbols.now c.args.terms.now c.args.session.now _ c.args.session.now.reader.replaces_lets says.named says.sorts says.result sc is c.sorts_at.new.out.items c.in_err-sort.field-0.0
+    (sym (c.is_taken.ensures c.args.terms.now sc is.idle.script ∙ ap (is_taken sc) same) ∙ c.if-is_taken.false)
+    (c.in_ok-sorts_at.ensures.sorts says.sorts says.sorts_here)
+    (sym (c.in_err-sort.ensures says.result says.after says.result_here)))
+
+pub add_function-requires-clause-free : goal.add_function-requires-clause-free
+add_function-requires-clause-free c =
+    let (sc, is) = c.requires.session in
+    may_be_declared c.args.symbols.now c.args.terms.now c.args.session.now sc c.name_of-spelled.result.now is
+    (sym (c.is_taken.ensures c.args.terms.now sc is.idle.script) ∙ c.if-is_taken.false)
+
+pub add_function-requires-clause-new : goal.add_function-requires-clause-new
+add_function-requires-clause-new c =
+    let (sc, is) = c.requires.session in
+    has_no_number c.args.symbols.now c.args.terms.now c.args.session.now sc c.name_of-spelled.result.now is
+    (sym (c.is_taken.ensures c.args.terms.now sc is.idle.script) ∙ c.if-is_taken.false)
+
+pub returns-clause-performs : goal.returns-clause-performs
+returns-clause-performs c =
+    λ d sc says is.
+    let same = c.name_of-spelled.ensures says.named says.name_here in
+    rw says.same
+    (function_added c.args.symbols.now c.args.terms.now c.args.session.now _ c.args.session.now.reader.replaces_lets says.named says.sorts says.result sc is
+    c.add_function.new.symbols c.add_function.result c.sorts_at.new.out.items c.in_ok-sort.sort
+    (sym (c.is_taken.ensures c.args.terms.now sc is.idle.script ∙ ap (is_taken sc) same) ∙ c.if-is_taken.false)
+    (c.in_ok-sorts_at.ensures.sorts says.sorts says.sorts_here)
+    (sym (c.in_ok-sort.ensures says.result says.after says.result_here))
+    (rw (sym same, sym c.deref.ensures.value) c.add_function.ensures.added)
+    (rw (sym same) c.add_function.ensures.functions)
+    c.add_function.ensures.fault c.add_function.ensures.keeps refl refl refl refl)

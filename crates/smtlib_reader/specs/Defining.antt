@@ -1,0 +1,105 @@
+-- The parts of a command that defines a function (SMT-LIB 2.6, section 4.2.3), as the code holds them.
+use Rattle.std.specs.Prelude.{◌≡◌, ◌≤◌, ◌+◌, ℕ, true, if◌then◌else◌, List, [], ◌∷◌, ◌++◌, map, length, None, Result, Ok, Err, ⊤}
+use Rattle.sexpr.specs.declared.causes.Cause.TheVariants.{SortMismatch}
+use Rattle.sexpr.specs.declared.causes.Refusal.{Refusal}
+use Rattle.sexpr.specs.Items.{Item, Items, place_of}
+use Rattle.sym_table.specs.Table.{Table, IsLeaf}
+use Rattle.term_model.specs.declared.symbols.Sort.{Sort}
+use Rattle.term_model.specs.Terms.{Var, variable, sort_eq}
+use Rattle.term_pool.specs.StandsFor.{variable_leaf}
+use Rattle.term_pool.specs.Views.{TermsView}
+use Rattle.smtlib_reader.specs.Entries.{lookup}
+use Rattle.smtlib_reader.specs.InScope.{IsScope}
+use Rattle.smtlib_reader.specs.Making.{PlacesCellsOf}
+use Rattle.smtlib_reader.specs.Names.{Place, itself}
+use Rattle.smtlib_reader.specs.Parameters.{AreParameters}
+use Rattle.smtlib_reader.specs.Reading.{IsReadTerm, EndsWith, IsIdle}
+use Rattle.smtlib_reader.specs.Scripts.{Typed, Script, Outcome, done, refuse, and_then, with_macro}
+use Rattle.smtlib_reader.specs.Sessions.{IsReadBy, top}
+use Rattle.smtlib_reader.specs.Sorts.{chained, sort_from, parameters_from}
+use Rattle.smtlib_reader.specs.Standing.{AreLeavesOf, IsScript, IsReservedName}
+use Rattle.smtlib_reader.specs.Terms.{read_term}
+use Rattle.smtlib_reader.specs.Values.{IsValue}
+use Rattle.smtlib_reader.specs.declared.defining.Listed.{Listed}
+use Rattle.smtlib_reader.specs.declared.faults.ReadFault.{ReadFault}
+use Rattle.smtlib_reader.specs.declared.nodes.Node.{Node}
+use Rattle.smtlib_reader.specs.declared.parameters.Parameter.{Parameter}
+use Rattle.smtlib_reader.specs.declared.reader.Reader.{Reader}
+use Rattle.smtlib_reader.specs.declared.values.Value.{Value}
+
+-- what stands before the body: the parameters, and the sort of the uses
+pub record Signature : Type 0 where
+  pub parameters : List Var
+  pub target : Sort
+
+abbrev pub signature_from : List (List ℕ) → Items → Item → Result Signature Refusal
+signature_from sorts parameters target =
+    chained (parameters_from sorts [] parameters) (λ xs. chained (sort_from sorts target) (λ t. Ok (record { parameters = xs; target = t })))
+
+-- What was read of the nodes from `first` on is the signature that is expected, unless memory was refused. Each parameter
+-- has a node of its own.
+abbrev pub IsSignatureRead : List ℕ → List Node → ℕ → ℕ → List Parameter → Result Signature Refusal → Result Sort ReadFault → Type 0
+IsSignatureRead source nodes first last ps expected (Ok target) =
+    (xs : List Var) × (expected ≡ Ok (record { parameters = xs; target = target })) × AreParameters source nodes ps xs × (first + length ps ≤ last)
+IsSignatureRead source nodes first last ps expected (Err (ReadFault.Text r)) = expected ≡ Err r
+IsSignatureRead source nodes first last ps expected (Err ReadFault.PoolFull) = ⊥
+IsSignatureRead source nodes first last ps expected (Err ReadFault.Memory) = Unit {0}
+
+-- where the body stands: only the parameters are in scope, and lets are replaced
+abbrev pub within : List Var → Place
+within xs = record { scope = map itself xs; replaces_lets = true }
+
+abbrev pub body_read : List Var → Item → Script → Outcome Typed
+body_read xs body s = read_term body (within xs) s
+
+-- what comes of the command once its signature is read
+abbrev pub macro_defined : List ℕ → List Var → Sort → Item → Script → Outcome ⊤
+macro_defined name xs target body s =
+    and_then (body_read xs body s) (λ t last.
+    if sort_eq t.sort target then done tt (with_macro (record { name = name; parameters = xs; target = target; body = t.tree }) last)
+    else refuse SortMismatch (place_of body) last)
+
+-- The leaf is that of the variable, and its term was put on the values.
+pub record IsAdded (s : Table) (v : TermsView) (old new : List Value) (k : ℕ) (x : Var) : Type 0 where
+  pub leaf : IsLeaf s k (variable_leaf x)
+  pub value : Value
+  pub pushed : new ≡ old ++ value ∷ []
+  pub is : IsValue s v value (record { tree = variable x; sort = x.sort })
+
+-- The leaves and the sorts are those of the parameters.
+pub record AreListed (s : Table) (l : Listed) (xs : List Var) : Type 0 where
+  pub leaves : AreLeavesOf s l.leaves.items xs
+  pub sorts : l.sorts.items ≡ map (λ x. x.sort) xs
+
+-- The reader is ready for a body with these parameters.
+pub record IsReady (s : Table) (v : TermsView) (r : Reader) (xs : List Var) (sc : Script) : Type 0 where
+  pub script : IsScript s v r.known sc
+  pub scope : IsScope s v r.scope (map itself xs)
+  pub no_values : r.values ≡ []
+  pub no_leaves : r.leaves.items ≡ []
+  pub no_frames : r.frames ≡ []
+
+-- What a body came to: a value without a let, and the reader outside the definition again; or a fault.
+abbrev pub IsBody : Table → TermsView → Reader → Outcome Typed → Result Value ReadFault → Type 0
+IsBody s v r whole (Ok c) =
+    (t : Typed) × (sc : Script) × (whole ≡ done t sc) × IsValue s v c t × (c.plain ≡ true) × IsIdle s v r sc (top r.replaces_lets)
+IsBody s v r whole (Err fault) = EndsWith s v.pass whole.result (IsReadTerm whole) fault
+
+pub record ReadsBody (s : Table) (old new : TermsView) (r : Reader) (whole : Outcome Typed) (result : Result Value ReadFault) : Type 0 where
+  pub outcome : IsBody s new r whole result
+  pub placed : PlacesCellsOf s old.pass new.pass (IsReadTerm whole)
+
+-- The reader holds nothing of a term, and the name is taken for a macro of its own.
+pub record IsDefining (s : Table) (v : TermsView) (r : Reader) (name : List ℕ) (sc : Script) : Type 0 where
+  pub idle : IsIdle s v r sc (top r.replaces_lets)
+  pub reserved : IsReservedName s sc name
+  pub no_base : lookup r.known.base.names name ≡ None
+
+-- The macro is defined, or the command has its fault.
+abbrev pub IsDefined : Table → TermsView → Reader → Outcome ⊤ → Result Unit ReadFault → Type 0
+IsDefined s v r o (Ok _) = (sc : Script) × (o ≡ done tt sc) × IsIdle s v r sc (top r.replaces_lets)
+IsDefined s v r o (Err fault) = EndsWith s v.pass o.result (IsReadBy o) fault
+
+pub record Defines (s : Table) (old new : TermsView) (r : Reader) (o : Outcome ⊤) (result : Result Unit ReadFault) : Type 0 where
+  pub outcome : IsDefined s new r o result
+  pub placed : PlacesCellsOf s old.pass new.pass (IsReadBy o)

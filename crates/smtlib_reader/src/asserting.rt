@@ -1,0 +1,48 @@
+//! Assertions (SMT-LIB 2.6, section 4.2.5).
+ghost use Rattle.std.specs.Prelude.{◌≡◌, ◌≤◌, ◌^◌, ◌+◌, length};
+ghost use Rattle.sexpr.specs.Source.{source};
+ghost use Rattle.sym_table.specs.Table.{Keeps};
+ghost use Rattle.term_pool.specs.Views.{KeepsTerms};
+ghost use Rattle.smtlib_reader.specs.CommandShapes.{Says};
+ghost use Rattle.smtlib_reader.specs.Commands as shape;
+ghost use Rattle.smtlib_reader.specs.Problems.{performed};
+ghost use Rattle.smtlib_reader.specs.Scripts.{Script};
+ghost use Rattle.smtlib_reader.specs.Sessions.{IsSession, Performs};
+ghost use Rattle.smtlib_reader.specs.declared.commands.Command.TheVariants as command;
+
+use crate::expected_sorts::expect_sort;
+use crate::faults::ReadFault;
+use crate::nodes::Node;
+use crate::reading::read;
+use crate::session::Session;
+use sexpr::Lexer;
+use sym_table::Symbols;
+use term_model::Sort;
+use term_pool::Terms;
+
+/// Asserts the formula at a node.
+pub(crate) fn assert_term(
+    text: &Lexer<'_>,
+    nodes: &[Node],
+    symbols: &mut Symbols,
+    terms: &mut Terms<'_>,
+    session: &mut Session<'_>,
+    term: usize,
+) -> Result<(), ReadFault>
+    requires says { (c : shape.Command) × Says (source text.now) nodes.now (command.Assert term) c }
+    requires session { (sc : Script) × IsSession symbols.old terms.old session.old sc }
+    requires room { length symbols.old.leaves + length nodes.now ≤ 2 ^ 30 }
+    requires room_for_sorts { length symbols.old.sorts + length nodes.now ≤ 2 ^ 30 }
+    ensures performs { (c : shape.Command) (sc : Script) → Says (source text.now) nodes.now (command.Assert term) c → IsSession symbols.old terms.old session.old sc → Performs symbols.new terms.old terms.new session.new (performed session.old.reader.replaces_lets c sc) result }
+    ensures symbols { Keeps symbols.old symbols.new }
+    ensures few { length symbols.new.leaves ≤ length symbols.old.leaves + length nodes.now }
+    ensures few_sorts { length symbols.new.sorts ≤ length symbols.old.sorts + length nodes.now }
+    ensures replaces { session.new.reader.replaces_lets ≡ session.old.reader.replaces_lets }
+    ensures base { session.new.reader.known.base ≡ session.old.reader.known.base }
+    ensures keeps { KeepsTerms terms.old terms.new }
+{
+    let value = read(text, nodes, symbols, terms, &mut session.reader, term)?;
+    expect_sort(nodes, term, value.sort, Sort::Bool)?;
+    session.assertions.push(value.term)?;
+    Ok(())
+}

@@ -1,0 +1,187 @@
+//! Declarations of sorts and functions, and the logic (SMT-LIB 2.6, sections 4.1.1 and 4.2.3).
+ghost use Rattle.std.specs.Prelude.{◌≡◌, ◌≤◌, ◌<◌, ◌^◌, ◌+◌, ◌||◌, ◌++◌, [], ◌∷◌, length, position, bytes_eq, false, None, OnOk, IfErr};
+ghost use Rattle.sexpr.specs.Source.{source};
+ghost use Rattle.sym_table.specs.Leaf.{function};
+ghost use Rattle.sym_table.specs.Table.{Keeps, IsFunctionName, with_leaf, with_sort};
+ghost use Rattle.term_pool.specs.Views.{KeepsTerms};
+ghost use Rattle.smtlib_reader.specs.CommandShapes.{Says};
+ghost use Rattle.smtlib_reader.specs.Commands as shape;
+ghost use Rattle.smtlib_reader.specs.Problems.{performed};
+ghost use Rattle.smtlib_reader.specs.Scripts.{Script};
+ghost use Rattle.smtlib_reader.specs.Sessions.{IsSession, Performs};
+ghost use Rattle.smtlib_reader.specs.Words.{is_among, is_built_in};
+ghost use Rattle.smtlib_reader.specs.declared.commands.Command.TheVariants as command;
+ghost use Rattle.smtlib_reader.specs.declared.faults.ReadFault.TheVariants as ReadFault;
+
+use crate::faults::ReadFault;
+use crate::name_numbers::NameNumbers;
+use crate::nodes::{Node, node_at};
+use crate::repeats;
+use crate::session::Session;
+use crate::shapes::name_of;
+use crate::sorts::refused;
+use crate::sorts_at::{sort_at, sorts_at};
+use crate::taken::is_taken;
+use crate::words::is_logic;
+use sexpr::{Cause, Lexer};
+use sym_table::{NameFault, Symbols};
+use term_model::Sort;
+use term_pool::Terms;
+
+/// Sets the logic by the name at a node, once.
+pub(crate) fn set_logic(
+    text: &Lexer<'_>,
+    nodes: &[Node],
+    symbols: &mut Symbols,
+    terms: &mut Terms<'_>,
+    session: &mut Session<'_>,
+    name: usize,
+) -> Result<(), ReadFault>
+    requires says { (c : shape.Command) × Says (source text.now) nodes.now (command.SetLogic name) c }
+    requires session { (sc : Script) × IsSession symbols.old terms.old session.old sc }
+    requires room { length symbols.old.leaves + length nodes.now ≤ 2 ^ 30 }
+    requires room_for_sorts { length symbols.old.sorts + length nodes.now ≤ 2 ^ 30 }
+    ensures performs { (c : shape.Command) (sc : Script) → Says (source text.now) nodes.now (command.SetLogic name) c → IsSession symbols.old terms.old session.old sc → Performs symbols.new terms.old terms.new session.new (performed session.old.reader.replaces_lets c sc) result }
+    ensures symbols { Keeps symbols.old symbols.new }
+    ensures few { length symbols.new.leaves ≤ length symbols.old.leaves + length nodes.now }
+    ensures few_sorts { length symbols.new.sorts ≤ length symbols.old.sorts + length nodes.now }
+    ensures replaces { session.new.reader.replaces_lets ≡ session.old.reader.replaces_lets }
+    ensures base { session.new.reader.known.base ≡ session.old.reader.known.base }
+    ensures keeps { KeepsTerms terms.old terms.new }
+{
+    let spelled = name_of(text, nodes, name);
+    let place = node_at(nodes, name).token.start;
+    if session.has_logic {
+        return Err(ReadFault::Text(refused(Cause::Repeated, place)));
+    }
+    if !is_logic(spelled) {
+        return Err(ReadFault::Text(refused(Cause::LeftOut, place)));
+    }
+    session.has_logic = true;
+    Ok(())
+}
+
+/// Declares the sort of the name at a node. One with parameters is left out, at its numeral.
+pub(crate) fn declare_sort(
+    text: &Lexer<'_>,
+    nodes: &[Node],
+    symbols: &mut Symbols,
+    terms: &mut Terms<'_>,
+    session: &mut Session<'_>,
+    name: usize,
+    arity: usize,
+    is_zero: bool,
+) -> Result<(), ReadFault>
+    requires says { (c : shape.Command) × Says (source text.now) nodes.now (command.DeclareSort name arity is_zero) c }
+    requires session { (sc : Script) × IsSession symbols.old terms.old session.old sc }
+    requires room { length symbols.old.leaves + length nodes.now ≤ 2 ^ 30 }
+    requires room_for_sorts { length symbols.old.sorts + length nodes.now ≤ 2 ^ 30 }
+    ensures performs { (c : shape.Command) (sc : Script) → Says (source text.now) nodes.now (command.DeclareSort name arity is_zero) c → IsSession symbols.old terms.old session.old sc → Performs symbols.new terms.old terms.new session.new (performed session.old.reader.replaces_lets c sc) result }
+    ensures symbols { Keeps symbols.old symbols.new }
+    ensures few { length symbols.new.leaves ≤ length symbols.old.leaves + length nodes.now }
+    ensures few_sorts { length symbols.new.sorts ≤ length symbols.old.sorts + length nodes.now }
+    ensures replaces { session.new.reader.replaces_lets ≡ session.old.reader.replaces_lets }
+    ensures base { session.new.reader.known.base ≡ session.old.reader.known.base }
+    ensures keeps { KeepsTerms terms.old terms.new }
+{
+    let spelled = name_of(text, nodes, name);
+    if is_sort_taken(symbols, spelled) {
+        let place = node_at(nodes, name).token.start;
+        return Err(ReadFault::Text(refused(Cause::Repeated, place)));
+    }
+    if !is_zero {
+        let place = node_at(nodes, arity).token.start;
+        return Err(ReadFault::Text(refused(Cause::LeftOut, place)));
+    }
+    add_sort(symbols, spelled)
+}
+
+/// Whether no sort may have this name: it is a built-in word or that of a declared sort.
+fn is_sort_taken(symbols: &Symbols, name: &[u8]) -> bool
+    ensures { result ≡ (is_built_in name.now || is_among symbols.now.sorts name.now) }
+{
+    repeats::is_built_in(name) || symbols.find_sort(name).is_some()
+}
+
+/// Adds a sort of a name that is free. Refused for want of memory alone.
+fn add_sort(symbols: &mut Symbols, name: &[u8]) -> Result<(), ReadFault>
+    requires free { (is_built_in name.now || is_among symbols.old.sorts name.now) ≡ false }
+    requires room { length symbols.old.sorts < 2 ^ 30 }
+    ensures added { OnOk result (symbols.new ≡ with_sort symbols.old name.now) }
+    ensures fault { IfErr result (λ fault. fault ≡ ReadFault.Memory) }
+    ensures few { length symbols.new.sorts ≤ length symbols.old.sorts + 1 }
+    ensures leaves { symbols.new.leaves ≡ symbols.old.leaves }
+    ensures keeps { Keeps symbols.old symbols.new }
+{
+    match symbols.declare_sort(name) {
+        Ok(_) => Ok(()),
+        Err(NameFault::Memory) => Err(ReadFault::Memory),
+        Err(NameFault::Repeated) => unreachable!(),
+    }
+}
+
+/// Declares the function of the name at a node, whose arguments' sorts stand from `first` to before `end`.
+pub(crate) fn declare_fun(
+    text: &Lexer<'_>,
+    nodes: &[Node],
+    symbols: &mut Symbols,
+    terms: &mut Terms<'_>,
+    session: &mut Session<'_>,
+    name: usize,
+    first: usize,
+    end: usize,
+    target: usize,
+) -> Result<(), ReadFault>
+    requires says { (c : shape.Command) × Says (source text.now) nodes.now (command.DeclareFun name first end target) c }
+    requires session { (sc : Script) × IsSession symbols.old terms.old session.old sc }
+    requires room { length symbols.old.leaves + length nodes.now ≤ 2 ^ 30 }
+    requires room_for_sorts { length symbols.old.sorts + length nodes.now ≤ 2 ^ 30 }
+    ensures performs { (c : shape.Command) (sc : Script) → Says (source text.now) nodes.now (command.DeclareFun name first end target) c → IsSession symbols.old terms.old session.old sc → Performs symbols.new terms.old terms.new session.new (performed session.old.reader.replaces_lets c sc) result }
+    ensures symbols { Keeps symbols.old symbols.new }
+    ensures few { length symbols.new.leaves ≤ length symbols.old.leaves + length nodes.now }
+    ensures few_sorts { length symbols.new.sorts ≤ length symbols.old.sorts + length nodes.now }
+    ensures replaces { session.new.reader.replaces_lets ≡ session.old.reader.replaces_lets }
+    ensures base { session.new.reader.known.base ≡ session.old.reader.known.base }
+    ensures keeps { KeepsTerms terms.old terms.new }
+{
+    let spelled = name_of(text, nodes, name);
+    if is_taken(symbols, &session.reader.known, spelled) {
+        let place = node_at(nodes, name).token.start;
+        return Err(ReadFault::Text(refused(Cause::Repeated, place)));
+    }
+    sorts_at(text, nodes, first, end, symbols, &mut session.sorts)?;
+    let sort = sort_at(text, nodes, target, symbols)?;
+    add_function(
+        symbols,
+        &mut session.functions,
+        spelled,
+        &session.sorts,
+        sort,
+    )
+}
+
+/// Adds a function of a name that is free. Refused for want of memory alone.
+fn add_function(
+    symbols: &mut Symbols,
+    functions: &mut NameNumbers,
+    name: &[u8],
+    arguments: &[Sort],
+    target: Sort,
+) -> Result<(), ReadFault>
+    requires free { (is_built_in name.now ≡ false) × (IsFunctionName symbols.old name.now → ⊥) }
+    requires new { position (bytes_eq name.now) functions.old ≡ None }
+    requires room { length symbols.old.leaves < 2 ^ 30 }
+    ensures added { OnOk result (symbols.new ≡ with_leaf symbols.old (function name.now arguments.now target)) }
+    ensures functions { OnOk result (functions.new ≡ functions.old ++ name.now ∷ []) }
+    ensures fault { IfErr result (λ fault. fault ≡ ReadFault.Memory) }
+    ensures few { length symbols.new.leaves ≤ length symbols.old.leaves + 1 }
+    ensures sorts { symbols.new.sorts ≡ symbols.old.sorts }
+    ensures keeps { Keeps symbols.old symbols.new }
+{
+    match symbols.declare(name, arguments, target) {
+        Ok(_) => functions.add(name)?,
+        Err(NameFault::Memory) => return Err(ReadFault::Memory),
+        Err(NameFault::Repeated) => unreachable!(),
+    }
+    Ok(())
+}

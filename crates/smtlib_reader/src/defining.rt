@@ -1,0 +1,284 @@
+//! Defined functions (SMT-LIB 2.6, section 4.2.3).
+ghost use Rattle.std.specs.Prelude.{◌≡◌, ◌≤◌, ◌<◌, ◌^◌, ◌+◌, ◌-◌, ℕ, List, [], map, length, None, IfOk, IfErr};
+ghost use Rattle.sexpr.specs.Items.{Item, Items};
+ghost use Rattle.sexpr.specs.Source.{source};
+ghost use Rattle.sym_table.specs.Table.{Keeps};
+ghost use Rattle.term_model.specs.Terms.{Var};
+ghost use Rattle.term_pool.specs.Views.{TermsView, KeepsTerms};
+ghost use Rattle.smtlib_reader.specs.CommandShapes.{Says};
+ghost use Rattle.smtlib_reader.specs.Commands as shape;
+ghost use Rattle.smtlib_reader.specs.Defining.{IsSignatureRead, signature_from, IsDefining, Defines, macro_defined, AreListed, IsReady, IsAdded, ReadsBody, body_read};
+ghost use Rattle.smtlib_reader.specs.Forms.{pairs_fault};
+ghost use Rattle.smtlib_reader.specs.InScope.{AreBound};
+ghost use Rattle.smtlib_reader.specs.Names.{itself};
+ghost use Rattle.smtlib_reader.specs.Nodes.{IsNode, AreNodes};
+ghost use Rattle.smtlib_reader.specs.Parameters.{IsParameter, AreParameters};
+ghost use Rattle.smtlib_reader.specs.Problems.{performed};
+ghost use Rattle.smtlib_reader.specs.Reading.{IsIdle};
+ghost use Rattle.smtlib_reader.specs.Scripts.{Script};
+ghost use Rattle.smtlib_reader.specs.Sessions.{IsSession, Performs, top};
+ghost use Rattle.smtlib_reader.specs.Standing.{AddsNoSymbols};
+ghost use Rattle.smtlib_reader.specs.declared.commands.Command.TheVariants as command;
+ghost use Rattle.smtlib_reader.specs.declared.faults.ReadFault.TheVariants as ReadFault;
+
+use crate::expected_sorts::expect_sort;
+use crate::faults::ReadFault;
+use crate::lets::{bind, unbind};
+use crate::nodes::{Node, node_at};
+use crate::parameters::{Parameter, parameters_at};
+use crate::reader::Reader;
+use crate::reading::read;
+use crate::session::Session;
+use crate::shapes::name_of;
+use crate::sorts::refused;
+use crate::sorts_at::sort_at;
+use crate::stacks::Values;
+use crate::taken::is_taken;
+use crate::values::Value;
+use pair_pool::Ref;
+use sexpr::{Cause, Lexer};
+use std::alloc::Global;
+use sym_table::Symbols;
+use term_model::Sort;
+use term_pool::Terms;
+
+/// Defines the macro of the name at a node, whose parameters stand from `first` to before `end`. The name is taken from
+/// where it stands, and usable after the command.
+pub(crate) fn define_fun(
+    text: &Lexer<'_>,
+    nodes: &[Node],
+    symbols: &mut Symbols,
+    terms: &mut Terms<'_>,
+    session: &mut Session<'_>,
+    name: usize,
+    first: usize,
+    end: usize,
+    target: usize,
+    body: usize,
+) -> Result<(), ReadFault>
+    requires says { (c : shape.Command) × Says (source text.now) nodes.now (command.DefineFun name first end target body) c }
+    requires session { (sc : Script) × IsSession symbols.old terms.old session.old sc }
+    requires room { length symbols.old.leaves + length nodes.now ≤ 2 ^ 30 }
+    requires room_for_sorts { length symbols.old.sorts + length nodes.now ≤ 2 ^ 30 }
+    ensures performs { (c : shape.Command) (sc : Script) → Says (source text.now) nodes.now (command.DefineFun name first end target body) c → IsSession symbols.old terms.old session.old sc → Performs symbols.new terms.old terms.new session.new (performed session.old.reader.replaces_lets c sc) result }
+    ensures symbols { Keeps symbols.old symbols.new }
+    ensures few { length symbols.new.leaves ≤ length symbols.old.leaves + length nodes.now }
+    ensures few_sorts { length symbols.new.sorts ≤ length symbols.old.sorts + length nodes.now }
+    ensures replaces { session.new.reader.replaces_lets ≡ session.old.reader.replaces_lets }
+    ensures base { session.new.reader.known.base ≡ session.old.reader.known.base }
+    ensures keeps { KeepsTerms terms.old terms.new }
+{
+    let spelled = name_of(text, nodes, name);
+    if is_taken(symbols, &session.reader.known, spelled) {
+        let place = node_at(nodes, name).token.start;
+        return Err(ReadFault::Text(refused(Cause::Repeated, place)));
+    }
+    session.reader.known.reserve(spelled)?;
+    let alloc = session.reader.alloc;
+    let sort = signature_at(
+        alloc,
+        text,
+        nodes,
+        symbols,
+        &mut session.parameters,
+        first,
+        end,
+        target,
+    )?;
+    define_macro(
+        text,
+        nodes,
+        symbols,
+        terms,
+        &mut session.reader,
+        &session.parameters,
+        spelled,
+        sort,
+        body,
+    )
+}
+
+/// Reads what stands before the body: the parameters, into `parameters`, and the sort of the uses.
+fn signature_at(
+    alloc: Global,
+    text: &Lexer<'_>,
+    nodes: &[Node],
+    symbols: &Symbols,
+    parameters: &mut Vec<Parameter>,
+    first: usize,
+    end: usize,
+    target: usize,
+) -> Result<Sort, ReadFault>
+    requires parameters { (items : Items) × AreNodes (source text.now) nodes.now first items end × (pairs_fault items ≡ None) }
+    requires target { (i : Item) × (m : ℕ) × IsNode (source text.now) nodes.now target i m }
+    ensures { (items : Items) (i : Item) (m : ℕ) → AreNodes (source text.now) nodes.now first items end → pairs_fault items ≡ None → IsNode (source text.now) nodes.now target i m → IsSignatureRead (source text.now) nodes.now first end parameters.new.items (signature_from symbols.now.sorts items i) result }
+{
+    parameters_at(alloc, text, nodes, first, end, symbols, parameters)?;
+    let sort = sort_at(text, nodes, target, symbols)?;
+    Ok(sort)
+}
+
+/// Defines the macro of a name that was taken for it, whose parameters and target were read.
+fn define_macro(
+    text: &Lexer<'_>,
+    nodes: &[Node],
+    symbols: &mut Symbols,
+    terms: &mut Terms<'_>,
+    reader: &mut Reader<'_>,
+    parameters: &[Parameter],
+    name: &[u8],
+    target: Sort,
+    body: usize,
+) -> Result<(), ReadFault>
+    requires parameters { (xs : List Var) × AreParameters (source text.now) nodes.now parameters.now xs }
+    requires body { (i : Item) × (m : ℕ) × IsNode (source text.now) nodes.now body i m }
+    requires defining { (sc : Script) × IsDefining symbols.old terms.old reader.old name.now sc }
+    requires few_parameters { length parameters.now ≤ body }
+    requires room { length symbols.old.leaves + length nodes.now ≤ 2 ^ 30 }
+    ensures defines { (xs : List Var) (i : Item) (m : ℕ) (sc : Script) → AreParameters (source text.now) nodes.now parameters.now xs → IsNode (source text.now) nodes.now body i m → IsDefining symbols.old terms.old reader.old name.now sc → Defines symbols.new terms.old terms.new reader.new (macro_defined name.now xs target i sc) result }
+    ensures symbols { AddsNoSymbols symbols.old symbols.new }
+    ensures few { length symbols.new.leaves ≤ length symbols.old.leaves + length nodes.now }
+    ensures replaces { reader.new.replaces_lets ≡ reader.old.replaces_lets }
+    ensures base { reader.new.known.base ≡ reader.old.known.base }
+    ensures keeps { KeepsTerms terms.old terms.new }
+{
+    let listed = enter_parameters(text, nodes, symbols, reader, parameters)?;
+    let value = read_body(text, nodes, symbols, terms, reader, body)?;
+    expect_sort(nodes, body, value.sort, target)?;
+    reader
+        .known
+        .define(name, listed.leaves, listed.sorts, target, value)?;
+    Ok(())
+}
+
+/// The leaves of the parameters of a macro, and their sorts.
+#[derive(Drop)]
+struct Listed {
+    leaves: Vec<u32>,
+    sorts: Vec<Sort>,
+}
+
+/// Puts the parameters in scope, the first one innermost, and lists their leaves and sorts.
+fn enter_parameters(
+    text: &Lexer<'_>,
+    nodes: &[Node],
+    symbols: &mut Symbols,
+    reader: &mut Reader<'_>,
+    parameters: &[Parameter],
+) -> Result<Listed, ReadFault>
+    requires parameters { (xs : List Var) × AreParameters (source text.now) nodes.now parameters.now xs }
+    requires idle { (v : TermsView) × (sc : Script) × IsIdle symbols.old v reader.old sc (top reader.old.replaces_lets) }
+    requires room { length symbols.old.leaves + length parameters.now ≤ 2 ^ 30 }
+    ensures entered { (v : TermsView) (xs : List Var) (sc : Script) → AreParameters (source text.now) nodes.now parameters.now xs → IsIdle symbols.old v reader.old sc (top reader.old.replaces_lets) → IfOk result (λ l. AreListed symbols.new l xs × IsReady symbols.new v reader.new xs sc) }
+    ensures memory { IfErr result (λ fault. fault ≡ ReadFault.Memory) }
+    ensures symbols { AddsNoSymbols symbols.old symbols.new }
+    ensures few { length symbols.new.leaves ≤ length symbols.old.leaves + length parameters.now }
+    ensures known { reader.new.known ≡ reader.old.known }
+    ensures replaces { reader.new.replaces_lets ≡ reader.old.replaces_lets }
+{
+    let leaves = list_parameters(
+        text,
+        nodes,
+        symbols,
+        &mut reader.values,
+        reader.alloc,
+        parameters,
+    )?;
+    let sorts = Vec::from_slice(reader.alloc, reader.values.sorts_from(0))?;
+    bind(
+        symbols,
+        &mut reader.scope,
+        &leaves,
+        &reader.values,
+        0,
+        false,
+    )?;
+    reader.values.truncate(0);
+    Ok(Listed { leaves, sorts })
+}
+
+/// The leaves of the parameters. Each parameter, as a term, is put on the values.
+fn list_parameters(
+    text: &Lexer<'_>,
+    nodes: &[Node],
+    symbols: &mut Symbols,
+    values: &mut Values,
+    alloc: Global,
+    parameters: &[Parameter],
+) -> Result<Vec<u32>, ReadFault>
+    requires parameters { (xs : List Var) × AreParameters (source text.now) nodes.now parameters.now xs }
+    requires no_values { values.old ≡ [] }
+    requires room { length symbols.old.leaves + length parameters.now ≤ 2 ^ 30 }
+    ensures bound { (v : TermsView) (xs : List Var) → AreParameters (source text.now) nodes.now parameters.now xs → IfOk result (λ leaves. AreBound symbols.new v leaves.items values.new (map itself xs)) }
+    ensures memory { IfErr result (λ fault. fault ≡ ReadFault.Memory) }
+    ensures symbols { AddsNoSymbols symbols.old symbols.new }
+    ensures few { length symbols.new.leaves ≤ length symbols.old.leaves + length parameters.now }
+{
+    let mut leaves = Vec::new(alloc);
+    'parameters: for parameter in parameters {
+        let leaf = add_parameter(text, nodes, symbols, values, parameter)?;
+        leaves.push(leaf)?;
+    }
+    Ok(leaves)
+}
+
+/// The leaf of a parameter, which is put on the values as a term.
+fn add_parameter(
+    text: &Lexer<'_>,
+    nodes: &[Node],
+    symbols: &mut Symbols,
+    values: &mut Values,
+    parameter: &Parameter,
+) -> Result<u32, ReadFault>
+    requires parameter { (x : Var) × IsParameter (source text.now) nodes.now parameter.now x }
+    requires room { length symbols.old.leaves < 2 ^ 30 }
+    ensures added { (v : TermsView) (x : Var) → IsParameter (source text.now) nodes.now parameter.now x → IfOk result (λ leaf. IsAdded symbols.new v values.old values.new leaf x) }
+    ensures memory { IfErr result (λ fault. fault ≡ ReadFault.Memory) }
+    ensures symbols { AddsNoSymbols symbols.old symbols.new }
+    ensures few { length symbols.new.leaves ≤ length symbols.old.leaves + 1 }
+{
+    let name = name_of(text, nodes, parameter.name);
+    let leaf = symbols.variable(name, parameter.sort)?;
+    // There are few enough leaves for a reference.
+    let _leaves = symbols.count();
+    let value = Value {
+        term: Ref::leaf(leaf),
+        sort: parameter.sort,
+        height: 1,
+        plain: true,
+    };
+    values.push(value)?;
+    Ok(leaf)
+}
+
+/// Reads the body, which stands with the parameters in scope, and takes them out of scope. Lets are replaced.
+fn read_body(
+    text: &Lexer<'_>,
+    nodes: &[Node],
+    symbols: &mut Symbols,
+    terms: &mut Terms<'_>,
+    reader: &mut Reader<'_>,
+    body: usize,
+) -> Result<Value, ReadFault>
+    requires body { (i : Item) × (m : ℕ) × IsNode (source text.now) nodes.now body i m }
+    requires ready { (xs : List Var) × (sc : Script) × IsReady symbols.old terms.old reader.old xs sc }
+    requires room { length symbols.old.leaves + (length nodes.now - body) ≤ 2 ^ 30 }
+    ensures reads { (xs : List Var) (i : Item) (m : ℕ) (sc : Script) → IsNode (source text.now) nodes.now body i m → IsReady symbols.old terms.old reader.old xs sc → ReadsBody symbols.new terms.old terms.new reader.new (body_read xs i sc) result }
+    ensures symbols { AddsNoSymbols symbols.old symbols.new }
+    ensures few { length symbols.new.leaves ≤ length symbols.old.leaves + (length nodes.now - body) }
+    ensures replaces { reader.new.replaces_lets ≡ reader.old.replaces_lets }
+    ensures base { reader.new.known.base ≡ reader.old.known.base }
+    ensures keeps { KeepsTerms terms.old terms.new }
+{
+    let replaces_lets = reader.replaces_lets;
+    reader.replaces_lets = true;
+    let outcome = read(text, nodes, symbols, terms, reader, body);
+    reader.replaces_lets = replaces_lets;
+    let value = outcome?;
+    let count = reader.scope.len();
+    unbind(&mut reader.scope, count);
+    Ok(Value {
+        plain: true,
+        ..value
+    })
+}

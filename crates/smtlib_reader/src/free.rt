@@ -1,0 +1,230 @@
+//! The free variables of a term.
+//!
+//! A walk gathers them within the body of one let and meets each cell there once. A body of a let is gone through on
+//! its own, once, and its leaves are kept: what they are does not depend on the lets around it. So the cost is the
+//! number of distinct bodies times what a body has of cells and of free variables, at most.
+
+ghost use Rattle.std.specs.Prelude.{◌≡◌, ◌≤◌, ◌<◌, ◌↔◌, ℕ, [], List, All, IfOk, OnOk, IsTrue, false, length};
+ghost use Rattle.pair_pool.specs.Views.{IsUnchanged, IsKnown};
+ghost use Rattle.sym_table.specs.Table.{Table, IsTable, IsLeaf};
+ghost use Rattle.term_model.specs.FreeVariables.{IsFree, Binds, variables_of};
+ghost use Rattle.term_model.specs.Terms.{Var, Term, Bindings};
+ghost use Rattle.term_pool.specs.Building.{IsApplication};
+ghost use Rattle.term_pool.specs.Reading.{arguments_of, IsLet, IsLetTerm};
+ghost use Rattle.term_pool.specs.StandsFor.{variable_leaf};
+ghost use Rattle.term_pool.specs.Views.{TermsView, RefersTo, ReferToAll, KeepsTerms};
+ghost use Rattle.smtlib_reader.specs.Free.{AreFreeLeaves, ArePartsOfLet, AddsLeaves, IsAtMost, IsFreeInAny, AreLeavesOf, Covers, AreBodies};
+ghost use Rattle.smtlib_reader.specs.Images.{IsSomeValue};
+ghost use Rattle.smtlib_reader.specs.Replacement.{free_variables};
+ghost use Rattle.smtlib_reader.specs.Scripts.{Typed};
+ghost use Rattle.smtlib_reader.specs.Values.{IsValue};
+
+use crate::leaf_sets::{add, add_all, add_unbound, has};
+use crate::values::Value;
+use indexmap::IndexSet;
+use pair_pool::{Memory, Ref};
+use std::alloc::Global;
+use std::collections::HashMap;
+use sym_table::{Kind, Symbols};
+use term_pool::Terms;
+
+/// The greatest height of a term.
+const MOST_HEIGHT: u32 = 2000;
+
+/// What a walk has gone through, and the leaves of the free variables there.
+#[derive(Drop)]
+struct Region {
+    seen: IndexSet<u32>,
+    found: IndexSet<u32>,
+}
+
+/// Whether the leaf is that of a variable.
+fn is_variable(symbols: &Symbols, leaf: u32) -> bool
+    requires { leaf < length symbols.now.leaves }
+    ensures yes { IsTrue result → (x : Var) × IsLeaf symbols.now leaf (variable_leaf x) }
+    ensures no { result ≡ false → (x : Var) → IsLeaf symbols.now leaf (variable_leaf x) → ⊥ }
+{
+    matches!(symbols.kind(leaf), Kind::Var(_))
+}
+
+/// The arguments of an application.
+fn arguments(alloc: Global, terms: &mut Terms<'_>, r: Ref) -> Result<Vec<Ref>, Memory>
+    requires { IsKnown terms.old.pass r }
+    ensures arguments { IfOk result (λ list. (s : Table) (t : Term) → RefersTo s terms.old r t → (IsLet t → ⊥) → ReferToAll s terms.old list.items (arguments_of t)) }
+    ensures same { terms.new ≡ terms.old }
+{
+    let mut list = Vec::new(alloc);
+    terms.arguments(r, &mut list)?;
+    Ok(list)
+}
+
+/// A let in its parts: the leaves of the variables that it binds, what it gives them, and its body.
+#[derive(Drop)]
+struct LetParts {
+    variables: Vec<u32>,
+    values: Vec<Ref>,
+    body: Ref,
+}
+
+/// The parts of a let.
+fn let_parts(alloc: Global, terms: &mut Terms<'_>, r: Ref) -> Result<LetParts, Memory>
+    requires { IsLetTerm terms.old r }
+    ensures parts { IfOk result (λ p. (s : Table) → ArePartsOfLet s terms.old r p.variables.items p.values.items p.body) }
+    ensures same { terms.new ≡ terms.old }
+{
+    let mut variables = Vec::new(alloc);
+    let mut values = Vec::new(alloc);
+    terms.bindings(r, &mut variables, &mut values)?;
+    let body = terms.let_body(r);
+    Ok(LetParts {
+        variables,
+        values,
+        body,
+    })
+}
+
+/// Gathers the free variables of a term that is no higher than `most`.
+#[cycle(gather)]
+fn gather(
+    alloc: Global,
+    symbols: &Symbols,
+    terms: &mut Terms<'_>,
+    bodies: &mut HashMap<u32, Vec<u32>>,
+    region: &mut Region,
+    r: Ref,
+    most: u32,
+) -> Result<(), Memory>
+    requires table { IsTable symbols.now }
+    requires low { IsAtMost symbols.now terms.old most r }
+    requires bodies { AreBodies symbols.now terms.old bodies.old }
+    requires covers { Covers symbols.now terms.old region.old.seen.keys region.old.found.keys }
+    ensures adds { OnOk result ((t : Term) → RefersTo symbols.now terms.old r t → AddsLeaves symbols.now region.old.found.keys region.new.found.keys (λ x. IsFree x t)) }
+    ensures covers { OnOk result (Covers symbols.now terms.old region.new.seen.keys region.new.found.keys) }
+    ensures bodies { OnOk result (AreBodies symbols.now terms.old bodies.new) }
+    ensures same { terms.new ≡ terms.old }
+{
+    if has(&region.seen, r.number()) {
+        return Ok(());
+    }
+    let Some(head) = terms.head(r) else {
+        gather_let(alloc, symbols, terms, bodies, region, r, most)?;
+        return add(&mut region.seen, r.number());
+    };
+    if is_variable(symbols, head) {
+        return add(&mut region.found, head);
+    }
+    let list = arguments(alloc, terms, r)?;
+    gather_all(alloc, symbols, terms, bodies, region, &list, most - 1)?;
+    add(&mut region.seen, r.number())
+}
+
+/// The free variables of all these terms.
+#[cycle(gather)]
+fn gather_all(
+    alloc: Global,
+    symbols: &Symbols,
+    terms: &mut Terms<'_>,
+    bodies: &mut HashMap<u32, Vec<u32>>,
+    region: &mut Region,
+    list: &[Ref],
+    most: u32,
+) -> Result<(), Memory>
+    requires table { IsTable symbols.now }
+    requires low { All (IsAtMost symbols.now terms.old most) list.now }
+    requires bodies { AreBodies symbols.now terms.old bodies.old }
+    requires covers { Covers symbols.now terms.old region.old.seen.keys region.old.found.keys }
+    ensures adds { OnOk result ((ts : List Term) → ReferToAll symbols.now terms.old list.now ts → AddsLeaves symbols.now region.old.found.keys region.new.found.keys (λ x. IsFreeInAny x ts)) }
+    ensures covers { OnOk result (Covers symbols.now terms.old region.new.seen.keys region.new.found.keys) }
+    ensures bodies { OnOk result (AreBodies symbols.now terms.old bodies.new) }
+    ensures same { terms.new ≡ terms.old }
+{
+    let mut at = list.len();
+    'terms: while at > 0 {
+        at -= 1;
+        gather(alloc, symbols, terms, bodies, region, list[at], most)?;
+    }
+    Ok(())
+}
+
+/// The free variables of a let: those of what it gives variables, and those of its body that it does not bind.
+#[cycle(gather)]
+fn gather_let(
+    alloc: Global,
+    symbols: &Symbols,
+    terms: &mut Terms<'_>,
+    bodies: &mut HashMap<u32, Vec<u32>>,
+    region: &mut Region,
+    r: Ref,
+    most: u32,
+) -> Result<(), Memory>
+    requires table { IsTable symbols.now }
+    requires low { IsAtMost symbols.now terms.old most r }
+    requires is_let { (t : Term) → RefersTo symbols.now terms.old r t → IsLet t }
+    requires bodies { AreBodies symbols.now terms.old bodies.old }
+    requires covers { Covers symbols.now terms.old region.old.seen.keys region.old.found.keys }
+    ensures adds { OnOk result ((t : Term) → RefersTo symbols.now terms.old r t → AddsLeaves symbols.now region.old.found.keys region.new.found.keys (λ x. IsFree x t)) }
+    ensures covers { OnOk result (Covers symbols.now terms.old region.new.seen.keys region.new.found.keys) }
+    ensures bodies { OnOk result (AreBodies symbols.now terms.old bodies.new) }
+    ensures same { terms.new ≡ terms.old }
+{
+    if let Some(leaves) = bodies.get(&r.number()) {
+        return add_all(leaves, &mut region.found);
+    }
+    let parts = let_parts(alloc, terms, r)?;
+    let values = &parts.values;
+    gather_all(alloc, symbols, terms, bodies, region, values, most - 1)?;
+    if let Some(leaves) = bodies.get(&parts.body.number()) {
+        return add_unbound(alloc, leaves, &parts.variables, &mut region.found);
+    }
+    let leaves = leaves_of(alloc, symbols, terms, bodies, parts.body, most - 1)?;
+    add_unbound(alloc, &leaves, &parts.variables, &mut region.found)?;
+    let _ = bodies.insert(parts.body.number(), leaves)?;
+    Ok(())
+}
+
+/// The leaves of the free variables of a term, by a walk of its own.
+#[cycle(gather)]
+fn leaves_of(
+    alloc: Global,
+    symbols: &Symbols,
+    terms: &mut Terms<'_>,
+    bodies: &mut HashMap<u32, Vec<u32>>,
+    r: Ref,
+    most: u32,
+) -> Result<Vec<u32>, Memory>
+    requires table { IsTable symbols.now }
+    requires low { IsAtMost symbols.now terms.old most r }
+    requires bodies { AreBodies symbols.now terms.old bodies.old }
+    ensures leaves { IfOk result (λ leaves. (t : Term) → RefersTo symbols.now terms.old r t → AddsLeaves symbols.now [] leaves.items (λ x. IsFree x t)) }
+    ensures bodies { OnOk result (AreBodies symbols.now terms.old bodies.new) }
+    ensures same { terms.new ≡ terms.old }
+{
+    let mut region = Region {
+        seen: IndexSet::new(alloc),
+        found: IndexSet::new(alloc),
+    };
+    gather(alloc, symbols, terms, bodies, &mut region, r, most)?;
+    let leaves = Vec::from_slice(alloc, region.found.as_slice())?;
+    Ok(leaves)
+}
+
+/// The leaves of the free variables of a term (SMT-LIB 2.6, section 3.6.1).
+///
+/// Goes through each distinct cell once for each distinct body of a let that it stands in, and takes memory for each
+/// that it meets there. Takes stack in proportion to the term's height. Refuses want of memory alone.
+pub(crate) fn free_leaves(
+    alloc: Global,
+    symbols: &Symbols,
+    terms: &mut Terms<'_>,
+    what: Value,
+) -> Result<Vec<u32>, Memory>
+    requires what { IsSomeValue symbols.now terms.old what }
+    requires low { what.height ≤ 2000 }
+    ensures free { IfOk result (λ leaves. (t : Typed) → IsValue symbols.now terms.old what t → AreFreeLeaves symbols.now leaves.items (free_variables t.tree)) }
+    ensures keeps { KeepsTerms terms.old terms.new }
+    ensures unchanged { IsUnchanged terms.old.pass terms.new.pass }
+{
+    let _leaves = symbols.count();
+    let mut bodies = HashMap::new(alloc);
+    leaves_of(alloc, symbols, terms, &mut bodies, what.term, MOST_HEIGHT)
+}

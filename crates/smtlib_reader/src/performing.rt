@@ -1,0 +1,75 @@
+//! What the commands of a problem do (SMT-LIB 2.6, section 4.2).
+ghost use Rattle.std.specs.Prelude.{◌≡◌, ◌≤◌, ◌^◌, ◌+◌, length};
+ghost use Rattle.sexpr.specs.Source.{source};
+ghost use Rattle.sym_table.specs.Table.{Keeps};
+ghost use Rattle.term_pool.specs.Views.{KeepsTerms};
+ghost use Rattle.smtlib_reader.specs.CommandShapes.{Says};
+ghost use Rattle.smtlib_reader.specs.Commands as shape;
+ghost use Rattle.smtlib_reader.specs.Problems.{performed};
+ghost use Rattle.smtlib_reader.specs.Scripts.{Script};
+ghost use Rattle.smtlib_reader.specs.Sessions.{IsSession, Performs};
+
+use crate::asserting::assert_term;
+use crate::commands::Command;
+use crate::declaring::{declare_fun, declare_sort, set_logic};
+use crate::defining::define_fun;
+use crate::faults::ReadFault;
+use crate::nodes::Node;
+use crate::session::Session;
+use sexpr::Lexer;
+use sym_table::Symbols;
+use term_pool::Terms;
+
+/// Does what a command asks for. An exit asks for nothing here.
+pub(crate) fn perform(
+    text: &Lexer<'_>,
+    nodes: &[Node],
+    symbols: &mut Symbols,
+    terms: &mut Terms<'_>,
+    session: &mut Session<'_>,
+    command: Command,
+) -> Result<(), ReadFault>
+    requires says { (c : shape.Command) × Says (source text.now) nodes.now command c }
+    requires session { (sc : Script) × IsSession symbols.old terms.old session.old sc }
+    requires room { length symbols.old.leaves + length nodes.now ≤ 2 ^ 30 }
+    requires room_for_sorts { length symbols.old.sorts + length nodes.now ≤ 2 ^ 30 }
+    ensures performs { (c : shape.Command) (sc : Script) → Says (source text.now) nodes.now command c → IsSession symbols.old terms.old session.old sc → Performs symbols.new terms.old terms.new session.new (performed session.old.reader.replaces_lets c sc) result }
+    ensures symbols { Keeps symbols.old symbols.new }
+    ensures few { length symbols.new.leaves ≤ length symbols.old.leaves + length nodes.now }
+    ensures few_sorts { length symbols.new.sorts ≤ length symbols.old.sorts + length nodes.now }
+    ensures replaces { session.new.reader.replaces_lets ≡ session.old.reader.replaces_lets }
+    ensures base { session.new.reader.known.base ≡ session.old.reader.known.base }
+    ensures keeps { KeepsTerms terms.old terms.new }
+{
+    match command {
+        Command::WithoutEffect | Command::Exit => Ok(()),
+        Command::SetLogic { name } => set_logic(text, nodes, symbols, terms, session, name),
+        Command::DeclareSort {
+            name,
+            arity,
+            is_zero,
+        } => declare_sort(text, nodes, symbols, terms, session, name, arity, is_zero),
+        Command::DeclareFun {
+            name,
+            first,
+            end,
+            target,
+        } => declare_fun(
+            text, nodes, symbols, terms, session, name, first, end, target,
+        ),
+        Command::DefineFun {
+            name,
+            first,
+            end,
+            target,
+            body,
+        } => define_fun(
+            text, nodes, symbols, terms, session, name, first, end, target, body,
+        ),
+        Command::Assert { term } => assert_term(text, nodes, symbols, terms, session, term),
+        Command::CheckSat => {
+            session.is_checked = true;
+            Ok(())
+        }
+    }
+}

@@ -1,0 +1,22 @@
+//! A problem that is being read.
+
+use crate::name_numbers::NameNumbers;
+use crate::parameters::Parameter;
+use crate::reader::Reader;
+use pair_pool::Ref;
+use term_model::Sort;
+
+/// What was read of a problem.
+#[derive(Drop)]
+pub(crate) struct Session<'a> {
+    pub(crate) reader: Reader<'a>,
+    /// The names of the declared functions, in their order.
+    pub(crate) functions: NameNumbers,
+    pub(crate) assertions: Vec<Ref>,
+    pub(crate) has_logic: bool,
+    /// Whether a check stands before.
+    pub(crate) is_checked: bool,
+    /// Room for the sorts and the parameters of a declaration.
+    pub(crate) sorts: Vec<Sort>,
+    pub(crate) parameters: Vec<Parameter>,
+}
