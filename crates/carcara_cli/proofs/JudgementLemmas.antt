@@ -1,26 +1,30 @@
 -- The answer of a verdict on the two texts.
-use Rattle.std.proofs.Common.{◌≡◌, ℕ, List, length, refl, arith}
+use Rattle.std.proofs.Common.{◌≡◌, ℕ, zero, suc, ◌<◌, List, [], ◌∷◌, length, get_or, refl, arith}
+use Rattle.std.specs.List.{Contains}
 use Rattle.carcara_cli.specs.declared.literal.Literal.{Literal}
 use Rattle.carcara_cli.specs.declared.answer.Answer.{Answer}
-use Rattle.carcara_cli.specs.declared.answer.Answer.TheVariants.{Valid, NoEmptyClause, NotMet, NotAsserted, RefusedProblem, RefusedProof, ReadFault, TooLong, Usage}
+use Rattle.carcara_cli.specs.declared.answer.Answer.TheVariants.{Valid, NoEmptyClause, NotMet, NotAsserted, RefusedProblem, RefusedProof, ReadFault, PoolFull, TooLong, Usage}
 use Rattle.carcara_cli.specs.declared.check.Verdict.{Verdict}
 use Rattle.carcara_cli.specs.declared.check.Verdict.TheVariants as verdict
 use Rattle.carcara_cli.specs.Names.{Word}
 use Rattle.carcara_cli.specs.Proof.{ProofCommand}
 use Rattle.carcara_cli.specs.Verdict.{IsVerdict}
 use Rattle.std.specs.Prelude.{Option, None, Some, Result, Ok, Err, IfOk, map}
-use Rattle.term_model.specs.Unsatisfiable.{Unsatisfiable}
+use Rattle.term_model.specs.Terms.{Term}
+use Rattle.term_model.specs.Unsatisfiable.{MakesTrue, MakesAllTrue, Unsatisfiable}
+use Rattle.smtlib_reader.specs.Scripts.{Script}
 use Rattle.file_ports.specs.Texts.{AreTold}
 use Rattle.rules_resolution.specs.declared.trail.Memory.{Memory}
-use Rattle.carcara_cli.specs.Texts.{term_of}
+use Rattle.carcara_cli.specs.Texts.{IsTerm, term_of}
+use Rattle.carcara_cli.specs.Problem.{AreLiterals, IsProblemText}
 use Rattle.carcara_cli.specs.Answers.{status_of}
 use Rattle.carcara_cli.specs.Proof.{HaveEarlierPremises}
-use Rattle.carcara_cli.specs.Judgement.{Paths, IsProblemText, IsProofText, IsJudgedAs, IsWithin, IsNamed, IsJudged, IsJudgedIfTold, IsAnswer, IsUnsatisfiableIfTold, ShowsUnsatisfiable}
+use Rattle.carcara_cli.specs.Judgement.{Paths, IsProofText, IsJudgedAs, IsWithin, IsNamed, IsJudged, IsJudgedIfTold, IsAnswer, IsUnsatisfiableIfTold, ShowsUnsatisfiable}
 
-module _ (problem proof : List ℕ) (names ids : List Word) (assertions : List Literal) (commands : List ProofCommand)
-    (problem_text : IsProblemText problem names assertions) (proof_text : IsProofText proof names ids commands) where
+module _ (problem proof : List ℕ) (script : Script) (names ids : List Word) (assertions : List Literal) (commands : List ProofCommand)
+    (problem_text : IsProblemText problem script names assertions) (proof_text : IsProofText proof names ids commands) where
   judged_as : (v : Verdict) → IsVerdict assertions commands v → IsJudgedAs problem proof v ids
-  judged_as v h = record { names = names; assertions = assertions; commands = commands; problem_text = problem_text; proof_text = proof_text; verdict = h }
+  judged_as v h = record { script = script; names = names; assertions = assertions; commands = commands; problem_text = problem_text; proof_text = proof_text; verdict = h }
 
   pub verdict_within : (v : Verdict) → IsVerdict assertions commands v → IsWithin (length ids) v
   verdict_within verdict.Valid h = tt
@@ -36,6 +40,7 @@ module _ (problem proof : List ℕ) (names ids : List Word) (assertions : List L
   named_is_judged v (RefusedProblem r) h n = absurd n
   named_is_judged v (RefusedProof r) h n = absurd n
   named_is_judged v ReadFault h n = absurd n
+  named_is_judged v PoolFull h n = absurd n
   named_is_judged v TooLong h n = absurd n
   named_is_judged v Usage h n = absurd n
 
@@ -53,6 +58,7 @@ module _ (content : List ℕ → Option (List ℕ)) (before after : ℕ) (p : Pa
   judged_is_answer (NotAsserted id) h = if_told (content p.problem) (content p.proof) problem proof (NotAsserted id) told told' h
   judged_is_answer (RefusedProblem r) h = if_told (content p.problem) (content p.proof) problem proof (RefusedProblem r) told told' h
   judged_is_answer (RefusedProof r) h = if_told (content p.problem) (content p.proof) problem proof (RefusedProof r) told told' h
+  judged_is_answer PoolFull h = if_told (content p.problem) (content p.proof) problem proof PoolFull told told' h
   judged_is_answer ReadFault h = absurd h
   judged_is_answer TooLong h = absurd h
   judged_is_answer Usage h = absurd h
@@ -61,15 +67,40 @@ module _ (content : List ℕ → Option (List ℕ)) (before after : ℕ) (p : Pa
   answer_is paths e (Ok a) h = rw (← e) (judged_is_answer a h)
   answer_is paths e (Err m) h = tt
 
+-- a list that has all of an unsatisfiable list's terms is unsatisfiable too
+more_assertions : (all some : List Term) → ((t : Term) → Contains some t → Contains all t) → Unsatisfiable some → Unsatisfiable all
+more_assertions all some within none I true_all = none I (by some (λ t there. from_all t (within t there))) where
+  at_place : (ts : List Term) → MakesAllTrue I ts → (k : ℕ) (t : Term) → k < length ts → get_or ts k t ≡ t → MakesTrue I [] t
+  at_place [] each k t inside is = absurd (omega (arith, inside))
+  at_place (u ∷ ts) each zero t inside is = rw is at each.0
+  at_place (u ∷ ts) each (suc k) t inside is = at_place ts each.1 k t (omega arith) is
+
+  from_all : (t : Term) → Contains all t → MakesTrue I [] t
+  from_all t there = at_place all true_all there.0 t there.1 there.2
+
+  by : (ts : List Term) → ((t : Term) → Contains ts t → MakesTrue I [] t) → MakesAllTrue I ts
+  by [] each = tt
+  by (u ∷ ts) each = (each u (0, omega arith, refl), by ts (λ t there. each t (suc there.0, omega (arith, there.1), there.2)))
+
+-- the terms of a problem's literals are among its assertions
+literals_are_assertions : (sc : Script) (names : List Word) (ls : List Literal) → AreLiterals sc names ls → (t : Term) → Contains (map (term_of names) ls) t → Contains sc.assertions t
+literals_are_assertions sc names ls are t there = by ls (λ l h. (are l).0 h) there.0 there.1 there.2 where
+  by : (ms : List Literal) → ((l : Literal) → Contains ms l → IsTerm names l × Contains sc.assertions (term_of names l)) → (k : ℕ) → k < length (map (term_of names) ms) → get_or (map (term_of names) ms) k t ≡ t → Contains sc.assertions t
+  by [] each k inside is = absurd (omega (arith, inside))
+  by (m ∷ ms) each zero inside is = rw is at (each m (0, omega arith, refl)).1
+  by (m ∷ ms) each (suc k) inside is = by ms (λ l h. each l (suc h.0, omega (arith, h.1), h.2)) k (omega (arith, inside)) is
+
 module _ (sound : (names : List Word) (assertions : List Literal) (commands : List ProofCommand) → HaveEarlierPremises commands → IsVerdict assertions commands verdict.Valid → Unsatisfiable (map (term_of names) assertions)) where
   valid_told : (x y : Option (List ℕ)) → IsJudgedIfTold x y Valid → IsUnsatisfiableIfTold x y
   valid_told None y h = tt
   valid_told (Some problem) None h = tt
   valid_told (Some problem) (Some proof) h =
       let j = h.1 in (
-        map (term_of j.names) j.assertions,
-        record { names = j.names; assertions = j.assertions; problem = j.problem_text; terms_are = refl },
-        sound j.names j.assertions j.commands (λ k within. (j.proof_text.proof.each k within).earlier) j.verdict,
+        j.script,
+        j.problem_text.stands,
+        more_assertions j.script.assertions (map (term_of j.names) j.assertions)
+            (literals_are_assertions j.script j.names j.assertions j.problem_text.literals)
+            (sound j.names j.assertions j.commands (λ k within. (j.proof_text.proof.each k within).earlier) j.verdict),
       )
 
   pub valid_shows : (content : List ℕ → Option (List ℕ)) (before after : ℕ) (paths : Option Paths) (a : Answer) → IsAnswer content before after paths a → status_of a ≡ 0 → ShowsUnsatisfiable content paths
@@ -81,5 +112,6 @@ module _ (sound : (names : List Word) (assertions : List Literal) (commands : Li
   valid_shows content before after paths (RefusedProblem r) h e = absurd (omega (arith, e))
   valid_shows content before after paths (RefusedProof r) h e = absurd (omega (arith, e))
   valid_shows content before after paths ReadFault h e = absurd (omega (arith, e))
+  valid_shows content before after paths PoolFull h e = absurd (omega (arith, e))
   valid_shows content before after paths TooLong h e = absurd (omega (arith, e))
   valid_shows content before after paths Usage h e = absurd (omega (arith, e))

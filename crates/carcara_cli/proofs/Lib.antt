@@ -1,9 +1,12 @@
 pub mod NameLemmas
 pub mod ReadingLemmas
 pub mod TermLemmas
-pub mod ProblemLemmas
 pub mod ProofLemmas
 pub mod TextLemmas
 pub mod VerdictLemmas
 pub mod Soundness
 pub mod JudgementLemmas
+pub mod ConstantLemmas
+pub mod CellLemmas
+pub mod LiteralLemmas
+pub mod ProblemTexts

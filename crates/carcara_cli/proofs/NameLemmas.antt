@@ -1,13 +1,15 @@
 -- What the look-ups of a set of byte strings say of the names.
-use Rattle.std.proofs.Common.{◌≡◌, ℕ, ◌<◌, Bool, true, false, List, [], ◌∷◌, ◌++◌, length, get_or, nat_eq, Some, Vec, Global, sym, ◌∙◌, ap, inl, inr, arith}
+use Rattle.std.proofs.Common.{◌≡◌, ℕ, suc, ◌<◌, Bool, true, false, ◌||◌, refl, List, [], ◌∷◌, ◌++◌, length, length-append, get_or, nat_eq, Some, Vec, Global, sym, ◌∙◌, ap, inl, inr, arith}
 use Rattle.std.specs.List.{position, list_any}
 use Rattle.std.specs.Cmp.Lexicographic.{pointwise, bytes_decides}
 use Rattle.std.proofs.lemmas.List.Quantifiers.{position-Some}
 use Rattle.std.proofs.lemmas.List.Folds.{list_any_at}
 use Rattle.std.proofs.lemmas.Option.{slice_get_cases}
-use Rattle.std.proofs.lemmas.List.{length-map, get_or-map, map-append}
+use Rattle.std.proofs.lemmas.Bool.{cases_lt}
+use Rattle.std.proofs.lemmas.List.{length-map, get_or-map, get_or_append_left, map-append}
+use Rattle.std.proofs.Math.Seq.{get_or-append_seam}
 use Rattle.indexmap.specs.IndexSet.{insert_key}
-use Rattle.carcara_cli.specs.Names.{Word, names_of, IsPlaceOf, IsNoName}
+use Rattle.carcara_cli.specs.Names.{Word, names_of, AreApart, IsPlaceOf, IsNoName}
 
 -- the test of a look-up
 abbrev pub is_name : Word → Vec ℕ Global → Bool
@@ -47,3 +49,20 @@ pub names-insert_key : (names : List (Vec ℕ Global)) (name : Word) (key : Vec 
 names-insert_key names name key is none =
     let none' : list_any (is_name key.items) names ≡ false = rw is none in
     rw (none', map-append) (ap (λ n. names_of names ++ n ∷ []) is)
+
+pub is_somewhere : (names : List (Vec ℕ Global)) (name : Word) → list_any (is_name name) names ≡ true → (k : ℕ) × IsPlaceOf (names_of names) name k
+is_somewhere [] name e = absurd (let clash : false ≡ true = e in cc)
+is_somewhere (v ∷ vs) name e = by (is_name name v) refl (is_somewhere vs name) e where
+  by : (b : Bool) → is_name name v ≡ b → (list_any (is_name name) vs ≡ true → (k : ℕ) × IsPlaceOf (names_of vs) name k) →
+      (b || list_any (is_name name) vs) ≡ true → (k : ℕ) × IsPlaceOf (names_of (v ∷ vs)) name k
+  by true same more e' = (0, record { within = omega arith; is = sym ((bytes_decides name v.items).0 same) })
+  by false other more e' = let there = more e' in (suc there.0, record { within = omega (arith, there.1.within); is = there.1.is })
+
+-- one name more
+pub AreApart-push : (names : List Word) (name : Word) → AreApart names → IsNoName names name → AreApart (names ++ name ∷ [])
+AreApart-push names name apart none i j before within = elim (cases_lt j (length names)) [
+  | inl earlier ↦ rw (get_or_append_left names (name ∷ []) [] i (omega arith), get_or_append_left names (name ∷ []) [] j earlier) (apart i j before earlier)
+  | inr past ↦
+      let last : j ≡ length names = omega (arith, length-append names (name ∷ [])) in
+      rw (last, get_or-append_seam names name [] [], get_or_append_left names (name ∷ []) [] i (omega arith)) (none i (omega arith))
+]

@@ -10,7 +10,7 @@ use Rattle.carcara_cli.specs.Names.{Word, name_at, is_symbol_word, IsNoName, IsP
 use Rattle.carcara_cli.specs.Reading.{Reads}
 use Rattle.carcara_cli.specs.Texts.{opened, closed, spelled_term, IsTerm, IsReadTerm}
 use Rattle.carcara_cli.specs.Proof.{ProofCommand, assume, step, premises_of, IsCommandAt, AreCommands, spelled_command, spelled_from, IsReadCommand, AreReadCommands, IsProof, IsReadAssume, IsReadClause, AreReadTerms, AreReadIds, IsReadPremises}
-use Rattle.carcara_cli.proofs.ProblemLemmas.{AreApart-push}
+use Rattle.carcara_cli.proofs.NameLemmas.{AreApart-push}
 use Rattle.carcara_cli.proofs.ReadingLemmas.{reads_none, reads_one, reads_more, reads_all, flat_map-push}
 
 pub read_assume_is : (words names : List Word) (from middle next to : ℕ) (l : Literal) → Reads words from (codes "(" ∷ codes "assume" ∷ []) middle → middle < length words → IsReadTerm words names (middle + 1) l next → Reads words next (codes ")" ∷ []) to → IsReadAssume words names from l to

@@ -3,7 +3,7 @@ use Rattle.std.specs.Prelude.{ℕ, List, [], ◌∷◌, ◌++◌, codes, decimal
 use Rattle.sexpr.specs.declared.causes.Refusal.{Refusal}
 use Rattle.sexpr.specs.Causes.{text_of_cause}
 use Rattle.carcara_cli.specs.declared.answer.Answer.{Answer}
-use Rattle.carcara_cli.specs.declared.answer.Answer.TheVariants.{Valid, NoEmptyClause, NotMet, NotAsserted, RefusedProblem, RefusedProof, ReadFault, TooLong, Usage}
+use Rattle.carcara_cli.specs.declared.answer.Answer.TheVariants.{Valid, NoEmptyClause, NotMet, NotAsserted, RefusedProblem, RefusedProof, ReadFault, PoolFull, TooLong, Usage}
 
 -- the end of a line
 abbrev pub line_end : List ℕ
@@ -23,6 +23,7 @@ text_of (NotAsserted id) = step_text id.items (codes "not asserted")
 text_of (RefusedProblem r) = refusal_text (codes "problem ") r
 text_of (RefusedProof r) = refusal_text (codes "proof ") r
 text_of ReadFault = codes "read fault" ++ line_end
+text_of PoolFull = codes "pool full" ++ line_end
 text_of TooLong = codes "too long" ++ line_end
 text_of Usage = codes "usage: carcara (check | elaborate) PROOF PROBLEM [options] | carcara generate N [options]" ++ line_end
 
@@ -34,5 +35,6 @@ status_of (NotAsserted id) = 1
 status_of (RefusedProblem r) = 3
 status_of (RefusedProof r) = 3
 status_of ReadFault = 5
+status_of PoolFull = 8
 status_of TooLong = 9
 status_of Usage = 64

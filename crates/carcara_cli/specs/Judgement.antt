@@ -1,32 +1,27 @@
 -- What the checker's answers say of the two texts, of the files and of the words of the command line.
-use Rattle.std.specs.Prelude.{◌≡◌, ◌⊎◌, ℕ, ◌<◌, List, [], ◌∷◌, map, Bool, true, not, ◌&&◌, if◌then◌else◌, Option, None, Some, nat_eq, bytes_eq, codes, ⊤}
+use Rattle.std.specs.Prelude.{◌≡◌, ◌⊎◌, ℕ, ◌^◌, ◌<◌, List, [], ◌∷◌, Bool, true, false, not, ◌&&◌, if◌then◌else◌, Option, None, Some, nat_eq, bytes_eq, codes, ⊤}
 use Rattle.std.specs.Borrow.{Bor}
 use Rattle.sexpr.specs.declared.causes.Cause.TheVariants.{LeftOut}
 use Rattle.sexpr.specs.declared.causes.Refusal.{Refusal}
 use Rattle.sexpr.specs.Form.{IsFormFault, HasForm}
-use Rattle.term_model.specs.Terms.{Term}
 use Rattle.term_model.specs.Unsatisfiable.{Unsatisfiable}
+use Rattle.smtlib_reader.specs.Problems.{StandsForProblem, IsFirstFault}
+use Rattle.smtlib_reader.specs.Scripts.{Script}
 use Rattle.file_ports.specs.declared.whole.ReadStop.{ReadStop}
 use Rattle.file_ports.specs.declared.whole.ReadStop.TheVariants as stop
 use Rattle.file_ports.specs.Faults.{HasRisen}
 use Rattle.file_ports.specs.Texts.{IsLongerThan}
 use Rattle.carcara_cli.specs.declared.literal.Literal.{Literal}
 use Rattle.carcara_cli.specs.declared.answer.Answer.{Answer}
-use Rattle.carcara_cli.specs.declared.answer.Answer.TheVariants.{Valid, NoEmptyClause, NotMet, NotAsserted, RefusedProblem, RefusedProof, ReadFault, TooLong, Usage}
+use Rattle.carcara_cli.specs.declared.answer.Answer.TheVariants.{Valid, NoEmptyClause, NotMet, NotAsserted, RefusedProblem, RefusedProof, ReadFault, PoolFull, TooLong, Usage}
 use Rattle.carcara_cli.specs.declared.check.Verdict.{Verdict}
 use Rattle.carcara_cli.specs.declared.check.Verdict.TheVariants as verdict
 use Rattle.carcara_cli.specs.Names.{Word, name_at}
 use Rattle.carcara_cli.specs.TextWords.{AreWords}
-use Rattle.carcara_cli.specs.Texts.{term_of}
-use Rattle.carcara_cli.specs.Problem.{IsProblem}
+use Rattle.carcara_cli.specs.Problem.{IsProblemText}
+use Rattle.carcara_cli.specs.Cells.{HasMoreCells}
 use Rattle.carcara_cli.specs.Proof.{ProofCommand, IsProof}
 use Rattle.carcara_cli.specs.Verdict.{IsVerdict}
-
--- the text is a problem with these constants and assertions
-pub record IsProblemText (text : List ℕ) (names : List Word) (assertions : List Literal) : Type 0 where
-  pub words : List Word
-  pub read : AreWords text words
-  pub problem : IsProblem words names assertions
 
 -- the text is a proof over these constants, with these commands and their ids
 pub record IsProofText (text : List ℕ) (names ids : List Word) (commands : List ProofCommand) : Type 0 where
@@ -34,14 +29,7 @@ pub record IsProofText (text : List ℕ) (names ids : List Word) (commands : Lis
   pub read : AreWords text words
   pub proof : IsProof words names ids commands
 
--- the text stands for a list of assertions
-pub record StandsFor (text : List ℕ) (terms : List Term) : Type 0 where
-  pub names : List Word
-  pub assertions : List Literal
-  pub problem : IsProblemText text names assertions
-  pub terms_are : terms ≡ map (term_of names) assertions
-
--- The refusal of a text: its first fault of form; and where its form has no fault, that it is left out as a whole.
+-- The refusal of a proof: its first fault of form; and where its form has no fault, that it is left out as a whole.
 abbrev pub left_out : Refusal
 left_out = record { cause = LeftOut; at = 0 }
 
@@ -50,10 +38,11 @@ IsRefusalOf text r = IsFormFault text r ⊎ (HasForm text × (r ≡ left_out))
 
 -- what the two texts stand for, and the verdict on the proof
 pub record IsJudgedAs (problem proof : List ℕ) (v : Verdict) (ids : List Word) : Type 0 where
+  pub script : Script
   pub names : List Word
   pub assertions : List Literal
   pub commands : List ProofCommand
-  pub problem_text : IsProblemText problem names assertions
+  pub problem_text : IsProblemText problem script names assertions
   pub proof_text : IsProofText proof names ids commands
   pub verdict : IsVerdict assertions commands v
 
@@ -63,9 +52,10 @@ NamesFaulty problem proof v id = (ids : List Word) × (k : ℕ) × IsJudgedAs pr
 
 -- the problem was read, and the proof is refused
 pub record IsRefusedProof (problem proof : List ℕ) (r : Refusal) : Type 0 where
+  pub script : Script
   pub names : List Word
   pub assertions : List Literal
-  pub problem_text : IsProblemText problem names assertions
+  pub problem_text : IsProblemText problem script names assertions
   pub refusal : IsRefusalOf proof r
 
 -- what an answer says of the two texts
@@ -74,9 +64,10 @@ IsJudged problem proof Valid = (ids : List Word) × IsJudgedAs problem proof ver
 IsJudged problem proof NoEmptyClause = (ids : List Word) × IsJudgedAs problem proof verdict.NoEmptyClause ids
 IsJudged problem proof (NotMet id) = NamesFaulty problem proof verdict.NotMet id.items
 IsJudged problem proof (NotAsserted id) = NamesFaulty problem proof verdict.NotAsserted id.items
-IsJudged problem proof (RefusedProblem r) = IsRefusalOf problem r
+IsJudged problem proof (RefusedProblem r) = IsFirstFault problem false r
 IsJudged problem proof (RefusedProof r) = IsRefusedProof problem proof r
 IsJudged problem proof ReadFault = ⊥
+IsJudged problem proof PoolFull = HasMoreCells problem (2 ^ 26)
 IsJudged problem proof TooLong = ⊥
 IsJudged problem proof Usage = ⊥
 
@@ -119,6 +110,7 @@ IsAnswer content before after None _ = ⊥
 IsAnswer content before after (Some p) Usage = ⊥
 IsAnswer content before after (Some p) ReadFault = HasRisen before after
 IsAnswer content before after (Some p) TooLong = IsLongerThan most_bytes (content p.problem) ⊎ IsLongerThan most_bytes (content p.proof)
+IsAnswer content before after (Some p) PoolFull = IsJudgedIfTold (content p.problem) (content p.proof) PoolFull
 IsAnswer content before after (Some p) Valid = IsJudgedIfTold (content p.problem) (content p.proof) Valid
 IsAnswer content before after (Some p) NoEmptyClause = IsJudgedIfTold (content p.problem) (content p.proof) NoEmptyClause
 IsAnswer content before after (Some p) (NotMet id) = IsJudgedIfTold (content p.problem) (content p.proof) (NotMet id)
@@ -128,7 +120,7 @@ IsAnswer content before after (Some p) (RefusedProof r) = IsJudgedIfTold (conten
 
 -- where both files are told, the problem stands for assertions that no interpretation makes all true
 abbrev pub IsUnsatisfiableIfTold : Option (List ℕ) → Option (List ℕ) → Type 0
-IsUnsatisfiableIfTold (Some problem) (Some proof) = (terms : List Term) × StandsFor problem terms × Unsatisfiable terms
+IsUnsatisfiableIfTold (Some problem) (Some proof) = (sc : Script) × StandsForProblem problem false sc × Unsatisfiable sc.assertions
 IsUnsatisfiableIfTold (Some problem) None = ⊤
 IsUnsatisfiableIfTold None proof = ⊤
 

@@ -3,8 +3,10 @@ pub mod Reading
 pub mod TextWords
 pub mod Texts
 pub mod Problem
+pub mod Cells
 pub mod Proof
 pub mod Commands
 pub mod Verdict
 pub mod Answers
+pub mod Reads
 pub mod Judgement

@@ -1,6 +1,6 @@
 -- Names by their places.
-use Rattle.std.specs.Prelude.{◌≡◌, ◌≢◌, ℕ, ◌<◌, List, [], length, map, slice_index_or, Vec, Bool, true, ◌&&◌, bytes_eq}
-use Rattle.std.specs.List.{list_any, list_all}
+use Rattle.std.specs.Prelude.{◌≡◌, ◌≢◌, ℕ, ◌<◌, List, [], length, map, slice_index_or, Vec, Bool, true, ◌&&◌}
+use Rattle.std.specs.List.{list_all}
 use Rattle.sexpr.specs.Characters.{is_word_byte}
 use Rattle.sexpr.specs.Words.{is_symbol}
 use Rattle.sym_table.specs.Words.{IsBuiltIn}
@@ -27,9 +27,9 @@ pub record IsPlaceOf (names : List Word) (name : Word) (k : ℕ) : Type 0 where
 abbrev pub IsNoName : List Word → Word → Type 0
 IsNoName names name = (k : ℕ) → k < length names → name_at names k ≢ name
 
--- whether a word is one of these
-abbrev pub is_among : List Word → Word → Bool
-is_among words w = list_any (bytes_eq w) words
+-- no name stands twice
+abbrev pub AreApart : List Word → Type 0
+AreApart names = (i j : ℕ) → i < j → j < length names → name_at names i ≢ name_at names j
 
 -- a symbol that is spelled without bars: every byte is one of a word
 abbrev pub is_symbol_word : Word → Bool

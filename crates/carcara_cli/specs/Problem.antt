@@ -1,57 +1,83 @@
--- The problems that are read so far (SMT-LIB 2.6, section 3.9): a logic, Boolean constants, assertions and one
--- `check-sat`, in this order.
-use Rattle.std.specs.Prelude.{◌≡◌, ◌≢◌, ℕ, ◌<◌, List, [], ◌∷◌, ◌++◌, flat_map, length, codes, All, IsTrue}
+-- What the problem of a text says of the Boolean constants, and of the assertions that are constants behind `not`s.
+use Rattle.std.specs.Prelude.{◌≡◌, ◌↔◌, ◌⊎◌, ℕ, ◌<◌, ◌≤◌, false, [], ◌∷◌, ◌++◌, List, length, All, Contains, Some, slice_get}
+use Rattle.sym_table.specs.Leaf.{function}
+use Rattle.sym_table.specs.Table.{Table, IsLeaf}
+use Rattle.term_model.specs.declared.symbols.Sort.{Sort}
+use Rattle.term_model.specs.Terms.{Term}
+use Rattle.term_pool.specs.Views.{TermsView, RefersTo}
+use Rattle.smtlib_reader.specs.Heights.{height, most_height}
+use Rattle.smtlib_reader.specs.ProblemViews.{ProblemView, IsProblemOf}
+use Rattle.smtlib_reader.specs.Problems.{StandsForProblem}
+use Rattle.smtlib_reader.specs.Scripts.{Script}
+use Rattle.smtlib_reader.specs.Standing.{function_in}
 use Rattle.carcara_cli.specs.declared.literal.Literal.{Literal}
-use Rattle.carcara_cli.specs.Names.{Word, name_at, is_among, MayDeclare}
-use Rattle.carcara_cli.specs.Reading.{Reads}
-use Rattle.carcara_cli.specs.Texts.{spelled_term, IsTerm}
+use Rattle.carcara_cli.specs.Names.{Word, name_at, AreApart, MayDeclare}
+use Rattle.carcara_cli.specs.Texts.{IsTerm, term_of}
 
--- the logics that are accepted
-abbrev pub logics : List Word
-logics = codes "QF_UF" ∷ codes "QF_LIA" ∷ codes "QF_UFLIA" ∷ codes "QF_IDL" ∷ codes "QF_UFIDL" ∷ []
-
-abbrev pub spelled_logic : Word → List Word
-spelled_logic logic = codes "(" ∷ codes "set-logic" ∷ logic ∷ codes ")" ∷ []
-
-abbrev pub spelled_declaration : Word → List Word
-spelled_declaration name =
-    codes "(" ∷ codes "declare-fun" ∷ name ∷ codes "(" ∷ codes ")" ∷ codes "Bool" ∷ codes ")" ∷ []
-
-abbrev pub spelled_assertion : List Word → Literal → List Word
-spelled_assertion names l = codes "(" ∷ codes "assert" ∷ (spelled_term names l ++ (codes ")" ∷ []))
-
-abbrev pub spelled_check : List Word
-spelled_check = codes "(" ∷ codes "check-sat" ∷ codes ")" ∷ []
-
--- no name stands twice
-abbrev pub AreApart : List Word → Type 0
-AreApart names = (i j : ℕ) → i < j → j < length names → name_at names i ≢ name_at names j
-
--- the words spell these declarations and assertions
-pub record IsProblem (words : List Word) (names : List Word) (assertions : List Literal) : Type 0 where
-  pub logic : Word
-  pub known : IsTrue (is_among logics logic)
-  pub spelled : words ≡ spelled_logic logic ++ (flat_map spelled_declaration names ++ (flat_map (spelled_assertion names) assertions ++ spelled_check))
-  pub free : All MayDeclare names
-  pub apart : AreApart names
-  pub terms : All (IsTerm names) assertions
-
--- What the parts of a reader have read, from one place up to another.
-
-pub record IsReadLogic (words : List Word) (to : ℕ) : Type 0 where
-  pub logic : Word
-  pub known : IsTrue (is_among logics logic)
-  pub read : Reads words 0 (spelled_logic logic) to
-
-pub record AreReadNames (words : List Word) (from : ℕ) (names : List Word) (to : ℕ) : Type 0 where
-  pub read : Reads words from (flat_map spelled_declaration names) to
-  pub free : All MayDeclare names
+-- the names are those of the problem's Boolean constants that are spelled without bars, each once
+pub record AreConstants (sc : Script) (names : List Word) : Type 0 where
+  pub each :
+      (k : ℕ) → k < length names →
+      function_in sc (name_at names k) ≡ Some (record { name = name_at names k; arguments = []; target = Sort.Bool })
+  pub plain : All MayDeclare names
+  pub all :
+      (name : Word) → MayDeclare name →
+      function_in sc name ≡ Some (record { name = name; arguments = []; target = Sort.Bool }) →
+      (k : ℕ) × (k < length names) × (name_at names k ≡ name)
   pub apart : AreApart names
 
-pub record IsReadAssertion (words names : List Word) (from : ℕ) (l : Literal) (to : ℕ) : Type 0 where
-  pub read : Reads words from (spelled_assertion names l) to
-  pub term : IsTerm names l
+-- the literals are those assertions that are one of these constants behind `not`s
+abbrev pub AreLiterals : Script → List Word → List Literal → Type 0
+AreLiterals sc names assertions =
+    (l : Literal) → Contains assertions l ↔ (IsTerm names l × Contains sc.assertions (term_of names l))
 
-pub record AreReadAssertions (words names : List Word) (from : ℕ) (ls : List Literal) (to : ℕ) : Type 0 where
-  pub read : Reads words from (flat_map (spelled_assertion names) ls) to
-  pub terms : All (IsTerm names) ls
+-- the text is a problem with these constants, and these of its assertions are literals
+pub record IsProblemText (text : List ℕ) (sc : Script) (names : List Word) (assertions : List Literal) : Type 0 where
+  pub stands : StandsForProblem text false sc
+  pub constants : AreConstants sc names
+  pub literals : AreLiterals sc names assertions
+
+-- What the parts of the reading answer, by the table of symbols and the references of terms.
+
+-- leaf k is the Boolean constant of this name
+abbrev pub IsConstantLeaf : Table → ℕ → Word → Type 0
+IsConstantLeaf s k name = IsLeaf s k (function name [] Sort.Bool)
+
+-- the names are those of the Boolean constants among the first n leaves that are spelled without bars, each once
+pub record AreConstantsBelow (s : Table) (n : ℕ) (names : List Word) : Type 0 where
+  pub each : (k : ℕ) → k < length names → (leaf : ℕ) × IsConstantLeaf s leaf (name_at names k)
+  pub plain : All MayDeclare names
+  pub all :
+      (name : Word) (leaf : ℕ) → MayDeclare name → leaf < n → IsConstantLeaf s leaf name →
+      (k : ℕ) × (k < length names) × (name_at names k ≡ name)
+  pub apart : AreApart names
+
+-- the reference is one of a term that is not too high
+pub record IsLowTerm (s : Table) (v : TermsView) (r : ℕ) : Type 0 where
+  pub means : Term
+  pub refers : RefersTo s v r means
+  pub low : height means ≤ most_height
+
+-- each of the references is one of a term that is not too high
+abbrev pub AreLowTerms : Table → TermsView → List ℕ → Type 0
+AreLowTerms s v rs = (k r : ℕ) → slice_get rs k ≡ Some r → IsLowTerm s v r
+
+-- the literal that the term is stands behind the others now, and nothing has changed where it is none
+abbrev pub AddsLiteral : List Word → Term → List Literal → List Literal → Type 0
+AddsLiteral names t old new =
+    ((new ≡ old) × ((l : Literal) → IsTerm names l → t ≡ term_of names l → ⊥))
+    ⊎ ((l : Literal) × IsTerm names l × (t ≡ term_of names l) × (new ≡ old ++ l ∷ []))
+
+-- the literals are those of the first n terms that are a name behind `not`s
+pub record AreLiteralsBelow (names : List Word) (ts : List Term) (n : ℕ) (literals : List Literal) : Type 0 where
+  pub each :
+      (l : Literal) → Contains literals l →
+      IsTerm names l × ((k : ℕ) × (k < n) × (slice_get ts k ≡ Some (term_of names l)))
+  pub all :
+      (l : Literal) (k : ℕ) → IsTerm names l → k < n → slice_get ts k ≡ Some (term_of names l) → Contains literals l
+
+-- what was read of the text, in a table and a pool
+pub record IsReadProblem (text : List ℕ) (s : Table) (v : TermsView) (p : ProblemView) : Type 0 where
+  pub script : Script
+  pub stands : StandsForProblem text false script
+  pub is : IsProblemOf s v p script

@@ -2,10 +2,9 @@
 -- with premises.
 use Rattle.std.specs.Prelude.{◌≡◌, true, ℕ, ◌+◌, ◌<◌, List, [], ◌∷◌, ◌++◌, flat_map, map, length, codes, All, slice_index_or}
 use Rattle.carcara_cli.specs.declared.literal.Literal.{Literal}
-use Rattle.carcara_cli.specs.Names.{Word, name_at, is_symbol_word}
+use Rattle.carcara_cli.specs.Names.{Word, name_at, AreApart, is_symbol_word}
 use Rattle.carcara_cli.specs.Reading.{Reads}
 use Rattle.carcara_cli.specs.Texts.{spelled_term, IsTerm}
-use Rattle.carcara_cli.specs.Problem.{AreApart}
 
 -- a command: premises are places of commands, from 0 in file order
 pub data ProofCommand : Type 0 where

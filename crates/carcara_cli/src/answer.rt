@@ -15,6 +15,7 @@ pub enum Answer {
     RefusedProblem(Refusal),
     RefusedProof(Refusal),
     ReadFault,
+    PoolFull,
     TooLong,
     Usage,
 }
@@ -31,6 +32,7 @@ pub fn status_of(answer: &Answer) -> u8
         Answer::RefusedProblem(_) => 3,
         Answer::RefusedProof(_) => 3,
         Answer::ReadFault => 5,
+        Answer::PoolFull => 8,
         Answer::TooLong => 9,
         Answer::Usage => 64,
     }
@@ -80,6 +82,7 @@ pub fn text_of(alloc: Global, answer: &Answer) -> Result<Vec<u8>, AllocError>
         Answer::RefusedProblem(refusal) => refusal_text(alloc, b"problem ", *refusal),
         Answer::RefusedProof(refusal) => refusal_text(alloc, b"proof ", *refusal),
         Answer::ReadFault => copied(alloc, b"read fault\n"),
+        Answer::PoolFull => copied(alloc, b"pool full\n"),
         Answer::TooLong => copied(alloc, b"too long\n"),
         Answer::Usage => copied(alloc, USAGE),
     }

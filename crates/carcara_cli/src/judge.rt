@@ -2,43 +2,25 @@
 ghost use Rattle.std.specs.Prelude.{◌≡◌, ◌<◌, ◌≤◌, length, All, IfOk, IfErr};
 ghost use Rattle.carcara_cli.specs.Names.{name_at};
 ghost use Rattle.carcara_cli.specs.Commands.{commands_of, IsShort};
-ghost use Rattle.carcara_cli.specs.Judgement.{left_out, most_bytes, IsWithin, IsNamed, IsProblemText, IsProofText, IsRefusalOf, IsJudged};
+ghost use Rattle.carcara_cli.specs.Judgement.{left_out, most_bytes, IsWithin, IsNamed, IsProofText, IsRefusalOf, IsJudged};
 
 use crate::answer::Answer;
 use crate::check::{Verdict, check};
 use crate::names::NameTable;
-use crate::problem::{Problem, read_problem};
 use crate::proof::{Proof, read_proof};
+use crate::reading::{Reading, read};
 use crate::words::words_of;
 use rules_resolution::Memory;
 use sexpr::{Cause, Refusal, form};
 use std::alloc::{AllocError, Global};
 
-/// A text that has a form, but none of the forms that are read so far.
+/// A proof that has a form, but none of the forms that are read so far.
 fn left_out() -> Refusal
     ensures { result ≡ left_out }
 {
     Refusal {
         cause: Cause::LeftOut,
         at: 0,
-    }
-}
-
-/// The problem that a text stands for.
-fn problem_of(alloc: Global, text: &[u8]) -> Result<Result<Problem, Refusal>, AllocError>
-    requires { length text.now ≤ most_bytes }
-    ensures read { IfOk result (λ r. IfOk r (λ p. IsProblemText text.now p.names p.assertions.items)) }
-    ensures refused { IfOk result (λ r. IfErr r (IsRefusalOf text.now)) }
-{
-    if let Err(refusal) = form(text) {
-        return Ok(Err(refusal));
-    }
-    let Ok(words) = words_of(alloc, text)? else {
-        return Ok(Err(left_out()));
-    };
-    match read_problem(alloc, &words)? {
-        Some(problem) => Ok(Ok(problem)),
-        None => Ok(Err(left_out())),
     }
 }
 
@@ -92,9 +74,10 @@ pub fn judge(alloc: Global, problem: &[u8], proof: &[u8]) -> Result<Answer, Memo
     requires proof { length proof.now ≤ most_bytes }
     ensures { IfOk result (IsJudged problem.now proof.now) }
 {
-    let problem = match problem_of(alloc, problem)? {
-        Ok(problem) => problem,
-        Err(refusal) => return Ok(Answer::RefusedProblem(refusal)),
+    let problem = match read(alloc, problem, problem.len() + proof.len())? {
+        Reading::Read(problem) => problem,
+        Reading::Refused(refusal) => return Ok(Answer::RefusedProblem(refusal)),
+        Reading::PoolFull => return Ok(Answer::PoolFull),
     };
     let proof = match proof_of(alloc, proof, &problem.names)? {
         Ok(proof) => proof,

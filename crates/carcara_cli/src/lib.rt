@@ -1,9 +1,11 @@
-//! The top call of the checker: `check PROOF PROBLEM` on the first forms of problems and proofs.
+//! The top call of the checker: `check PROOF PROBLEM` on problems as SMT-LIB has them and the first forms of proofs.
 //!
 //! - `top`: the words of the command line, the two files, the answer and its printing.
 //! - `judge`: the answer on the two texts; `answer`: what is answered, and how it is printed.
 //! - `check`: the verdict on the commands of a proof, and why `valid` can be trusted.
-//! - `problem`, `proof`, `term`: the readers of the first forms, over the `words` of a text, its `names` and `symbol`s.
+//! - `reading`: the problem, read into a pool that is large enough; `problem`: its Boolean constants, and those of its
+//!   assertions that are one of them behind `not`s.
+//! - `proof`, `term`: the readers of the first forms of proofs, over the `words` of a text, its `names` and `symbol`s.
 #![tactic(auto)]
 
 mod answer;
@@ -14,6 +16,7 @@ mod literal;
 mod names;
 mod problem;
 mod proof;
+mod reading;
 mod symbol;
 mod term;
 mod top;

@@ -1,4 +1,4 @@
-ghost use Rattle.std.specs.Prelude.{◌≡◌, ℕ, ◌<◌, ◌≤◌, ◌^◌, List, [], ◌∷◌, ◌++◌, length, IfSome, IfOk, IsTrue};
+ghost use Rattle.std.specs.Prelude.{◌≡◌, ℕ, ◌<◌, ◌≤◌, ◌^◌, List, [], ◌∷◌, ◌++◌, length, false, IfSome, IfNone, IfOk, IsTrue};
 ghost use Rattle.carcara_cli.specs.Names.{name_at, IsPlaceOf, IsNoName, names_of};
 
 use indexmap::IndexSet;
@@ -16,7 +16,7 @@ impl Model for NameTable {
 
     ghost view = { λ t. names_of t.names.keys };
 
-    ghost invariant = { λ t. length t.names.keys ≤ 2 ^ 28 };
+    ghost invariant = { λ t. length t.names.keys ≤ 2 ^ 29 };
 }
 
 impl NameTable {
@@ -36,7 +36,8 @@ impl NameTable {
 
     /// The place of a name.
     pub fn find(&self, name: &[u8]) -> Option<u32>
-        ensures { IfSome result (IsPlaceOf self.now name.now) }
+        ensures found { IfSome result (IsPlaceOf self.now name.now) }
+        ensures none { IfNone result (IsNoName self.now name.now) }
     {
         let place = self.names.get_index_of(name)?;
         Some(place as u32)
@@ -55,9 +56,11 @@ impl NameTable {
 
     /// Adds a name, and tells whether it is new.
     pub fn add(&mut self, alloc: Global, name: &[u8]) -> Result<bool, AllocError>
-        requires { length self.old < 2 ^ 28 }
+        requires { length self.old < 2 ^ 29 }
         ensures new { IfOk result (λ is_new. IsTrue is_new → self.new ≡ self.old ++ name.now ∷ []) }
         ensures apart { IfOk result (λ is_new. IsTrue is_new → IsNoName self.old name.now) }
+        ensures known { IfOk result (λ is_new. is_new ≡ false → (k : ℕ) × IsPlaceOf self.old name.now k) }
+        ensures kept { IfOk result (λ is_new. is_new ≡ false → self.new ≡ self.old) }
     {
         if self.names.get_index_of(name).is_some() {
             return Ok(false);

@@ -1,141 +1,196 @@
-//! Reading a problem of the first forms: a logic, Boolean constants, assertions and one `check-sat`.
-ghost use Rattle.std.specs.Prelude.{◌≡◌, ℕ, ◌+◌, ◌≤◌, ◌^◌, length, IfSome, IfOk};
-ghost use Rattle.carcara_cli.specs.Names.{name_at, is_among};
-ghost use Rattle.carcara_cli.specs.Reading.{Reads};
-ghost use Rattle.carcara_cli.specs.Problem.{logics, spelled_logic, spelled_declaration, spelled_assertion, spelled_check, IsReadLogic, AreReadNames, IsReadAssertion, AreReadAssertions, IsProblem};
+//! The Boolean constants of a problem, and those of its assertions that are one of them behind `not`s.
+ghost use Rattle.std.specs.Prelude.{◌≡◌, ℕ, ◌+◌, ◌<◌, ◌≤◌, ◌^◌, List, length, All, IfSome, IfNone, IfOk, OnOk, MatchBool};
+ghost use Rattle.term_model.specs.Terms.{Term};
+ghost use Rattle.term_pool.specs.Views.{RefersTo, ReferToAll, IsTerm as IsSomeTerm, KeepsTerms};
+ghost use Rattle.smtlib_reader.specs.Scripts.{Script};
+ghost use Rattle.carcara_cli.specs.declared.literal.Literal.{Literal};
+ghost use Rattle.carcara_cli.specs.Names.{Word, name_at, AreApart, MayDeclare};
+ghost use Rattle.carcara_cli.specs.Problem.{IsConstantLeaf, AreConstantsBelow, IsLowTerm, AreLowTerms, AddsLiteral, AreLiteralsBelow, IsReadProblem, IsProblemText};
+ghost use Rattle.carcara_cli.specs.Texts.{IsTerm, constant, negated, term_of};
 
 use crate::literal::Literal;
 use crate::names::NameTable;
 use crate::symbol::may_declare;
-use crate::term::read_term;
-use crate::words::{Words, is_same};
+use pair_pool::Ref;
+use rules_resolution::Memory;
 use std::alloc::{AllocError, Global};
+use sym_table::{Kind, Symbols};
+use term_model::Sort;
+use term_pool::Terms;
 
-/// A problem: the names of its Boolean constants, and its assertions.
+/// What a problem says of literals: the names of its Boolean constants, and those of its assertions that are one of
+/// them behind `not`s.
 #[derive(Drop)]
 pub struct Problem {
     pub names: NameTable,
     pub assertions: Vec<Literal>,
 }
 
-/// Whether a word is one of the five logics.
-fn is_logic(word: &[u8]) -> bool
-    ensures { result ≡ is_among logics word.now }
+/// Whether a leaf is a Boolean constant.
+fn is_constant(symbols: &Symbols, leaf: u32) -> bool
+    requires { leaf < length symbols.now.leaves }
+    ensures { MatchBool result ((name : Word) × IsConstantLeaf symbols.now leaf name) ((name : Word) → IsConstantLeaf symbols.now leaf name → ⊥) }
 {
-    is_same(word, b"QF_UF")
-        || is_same(word, b"QF_LIA")
-        || is_same(word, b"QF_UFLIA")
-        || is_same(word, b"QF_IDL")
-        || is_same(word, b"QF_UFIDL")
+    match symbols.kind(leaf) {
+        Kind::Fun(_) => {
+            symbols.arity(leaf) == 0 && matches!(symbols.result_sort(leaf), Sort::Bool)
+        }
+        _ => false,
+    }
 }
 
-/// The place after `(set-logic L)` at the front.
-#[tactic(auto, using(crate::proofs::ProblemLemmas::read_logic_is))]
-fn read_logic(words: &Words<'_>) -> Option<usize>
-    ensures { IfSome result (IsReadLogic words.now) }
+/// The name of a leaf that is a Boolean constant, where it is spelled without bars.
+fn constant_name(symbols: &Symbols, leaf: u32) -> Option<&[u8]>
+    requires { leaf < length symbols.now.leaves }
+    ensures found { IfSome result (λ name. IsConstantLeaf symbols.now leaf name.now × MayDeclare name.now) }
+    ensures none { IfNone result ((name : Word) → MayDeclare name → IsConstantLeaf symbols.now leaf name → ⊥) }
 {
-    let at = words.after_two(0, b"(", b"set-logic")?;
-    if at >= words.len() || !is_logic(words.at(at)) {
+    if !is_constant(symbols, leaf) {
         return None;
     }
-    words.after(at + 1, b")")
+    let name = symbols.name(leaf);
+    if may_declare(name) { Some(name) } else { None }
 }
 
-/// The place after a declaration, whose name is its third word.
-#[tactic(auto, using(crate::proofs::ProblemLemmas::read_declaration_is))]
-fn read_declaration(words: &Words<'_>, from: usize) -> Option<usize>
-    ensures { IfSome result (Reads words.now from (spelled_declaration (name_at words.now (from + 2)))) }
-{
-    let at = words.after_two(from, b"(", b"declare-fun")?;
-    if at >= words.len() {
-        return None;
-    }
-    let at = words.after_two(at + 1, b"(", b")")?;
-    words.after_two(at, b"Bool", b")")
-}
-
-/// The declarations from a place on, and the place after them. None where a name may not be declared.
-#[tactic(auto, using(crate::proofs::ProblemLemmas::names_none, crate::proofs::ProblemLemmas::names_more))]
-fn read_declarations(
+/// Adds the name of a leaf that is a Boolean constant, where it is spelled without bars.
+fn add_constant(
     alloc: Global,
-    words: &Words<'_>,
-    from: usize,
-) -> Result<Option<(NameTable, usize)>, AllocError>
-    requires start { from ≤ length words.now }
-    requires size { length words.now ≤ 2 ^ 28 }
-    ensures { IfOk result (λ o. IfSome o (λ r. AreReadNames words.now from r.0 r.1)) }
+    symbols: &Symbols,
+    leaf: u32,
+    names: &mut NameTable,
+) -> Result<(), AllocError>
+    requires leaf { leaf < length symbols.now.leaves }
+    requires room { length names.old < 2 ^ 29 }
+    requires below { AreConstantsBelow symbols.now leaf names.old }
+    ensures below { OnOk result (AreConstantsBelow symbols.now (leaf + 1) names.new) }
+    ensures few { OnOk result (length names.new ≤ length names.old + 1) }
+{
+    let Some(name) = constant_name(symbols, leaf) else {
+        return Ok(());
+    };
+    names.add(alloc, name)?;
+    Ok(())
+}
+
+/// The names of the Boolean constants that are spelled without bars.
+#[tactic(auto, using(crate::proofs::ConstantLemmas::no_constants))]
+fn names_of_constants(alloc: Global, symbols: &Symbols) -> Result<NameTable, AllocError>
+    requires { length symbols.now.leaves ≤ 2 ^ 28 + 19 }
+    ensures { IfOk result (AreConstantsBelow symbols.now (length symbols.now.leaves)) }
 {
     let mut names = NameTable::new(alloc);
-    let mut at = from;
-    while let Some(to) = read_declaration(words, at) {
-        let name = words.at(at + 2);
-        if !may_declare(name) {
-            return Ok(None);
-        }
-        if !names.add(alloc, name)? {
-            return Ok(None);
-        }
-        at = to;
+    for leaf in 0..symbols.count() {
+        add_constant(alloc, symbols, leaf, &mut names)?;
     }
-    Ok(Some((names, at)))
+    Ok(names)
 }
 
-/// An assertion, and the place after it.
-#[tactic(auto, using(crate::proofs::ProblemLemmas::read_assertion_is))]
-fn read_assertion(words: &Words<'_>, names: &NameTable, from: usize) -> Option<(Literal, usize)>
-    ensures { IfSome result (λ r. IsReadAssertion words.now names.now from r.0 r.1) }
+/// The place of the constant that a term is behind its leading `not`s.
+fn constant_of(symbols: &Symbols, terms: &mut Terms<'_>, names: &NameTable, r: Ref) -> Option<u32>
+    requires term { IsSomeTerm symbols.now terms.old r }
+    requires plain { All MayDeclare names.now }
+    ensures within { IfSome result (λ k. k < length names.now) }
+    ensures found { IfSome result (λ k. (t : Term) → RefersTo symbols.now terms.old r t → (n : ℕ) × (t ≡ negated n (constant (name_at names.now k)))) }
+    ensures none { IfNone result ((l : Literal) → IsTerm names.now l → RefersTo symbols.now terms.old r (term_of names.now l) → ⊥) }
+    ensures keeps { KeepsTerms terms.old terms.new }
 {
-    let at = words.after_two(from, b"(", b"assert")?;
-    let (term, at) = read_term(words, names, at)?;
-    Some((term, words.after(at, b")")?))
+    let (bare, _odd) = terms.strip_not(symbols, r);
+    terms.one_to_one();
+    if !bare.is_leaf() {
+        return None;
+    }
+    let name = constant_name(symbols, bare.number())?;
+    names.find(name)
 }
 
-/// The assertions from a place on, and the place after them.
-#[tactic(auto, using(crate::proofs::ProblemLemmas::assertions_none, crate::proofs::ProblemLemmas::assertions_more))]
-fn read_assertions(
+/// The literal that a term is, where it is a constant behind `not`s.
+fn literal_of(
     alloc: Global,
-    words: &Words<'_>,
+    symbols: &Symbols,
+    terms: &mut Terms<'_>,
     names: &NameTable,
-    from: usize,
-) -> Result<(Vec<Literal>, usize), AllocError>
-    requires { from ≤ length words.now }
-    ensures { IfOk result (λ r. AreReadAssertions words.now names.now from r.0.items r.1) }
+    r: Ref,
+) -> Result<Option<Literal>, Memory>
+    requires low { IsLowTerm symbols.now terms.old r }
+    requires plain { All MayDeclare names.now }
+    ensures term { IfOk result (λ o. IfSome o (IsTerm names.now)) }
+    ensures found { IfOk result (λ o. IfSome o (λ l. (t : Term) → RefersTo symbols.now terms.old r t → t ≡ term_of names.now l)) }
+    ensures none { IfOk result (λ o. IfNone o ((l : Literal) → IsTerm names.now l → RefersTo symbols.now terms.old r (term_of names.now l) → ⊥)) }
+    ensures keeps { KeepsTerms terms.old terms.new }
 {
-    let mut assertions = Vec::new(alloc);
-    let mut at = from;
-    while let Some((term, to)) = read_assertion(words, names, at) {
-        assertions.push(term)?;
-        at = to;
-    }
-    Ok((assertions, at))
+    let _leaves = symbols.count();
+    term_pool::references_stay();
+    let Some(name) = constant_of(symbols, terms, names, r) else {
+        return Ok(None);
+    };
+    // Behind so many `not`s a constant has so much height and one.
+    let Ok(height) = terms.height(alloc, r) else {
+        return Err(Memory);
+    };
+    Ok(Some(Literal {
+        name,
+        nots: height - 1,
+    }))
 }
 
-/// The place after `(check-sat)`.
-#[tactic(auto, using(crate::proofs::ReadingLemmas::reads_more))]
-fn read_check(words: &Words<'_>, from: usize) -> Option<usize>
-    ensures { IfSome result (Reads words.now from spelled_check) }
+/// Adds the literal that a term is, where it is one.
+fn add_literal(
+    alloc: Global,
+    symbols: &Symbols,
+    terms: &mut Terms<'_>,
+    names: &NameTable,
+    r: Ref,
+    literals: &mut Vec<Literal>,
+) -> Result<(), Memory>
+    requires low { IsLowTerm symbols.now terms.old r }
+    requires plain { All MayDeclare names.now }
+    ensures added { OnOk result ((t : Term) → RefersTo symbols.now terms.old r t → AddsLiteral names.now t literals.old.items literals.new.items) }
+    ensures keeps { KeepsTerms terms.old terms.new }
 {
-    words.after(words.after_two(from, b"(", b"check-sat")?, b")")
+    let Some(literal) = literal_of(alloc, symbols, terms, names, r)? else {
+        return Ok(());
+    };
+    literals.push(literal)?;
+    Ok(())
 }
 
-/// The problem that the words spell. None where they spell none of these forms.
-#[tactic(auto, using(crate::proofs::ProblemLemmas::problem_is))]
-pub fn read_problem(alloc: Global, words: &Words<'_>) -> Result<Option<Problem>, AllocError>
-    requires { length words.now ≤ 2 ^ 28 }
-    ensures { IfOk result (λ o. IfSome o (λ p. IsProblem words.now p.names p.assertions.items)) }
+/// The literals among the assertions.
+fn literals_of(
+    alloc: Global,
+    symbols: &Symbols,
+    terms: &mut Terms<'_>,
+    names: &NameTable,
+    problem: &smtlib_reader::Problem,
+) -> Result<Vec<Literal>, Memory>
+    requires low { AreLowTerms symbols.now terms.old problem.now.assertions }
+    requires plain { All MayDeclare names.now }
+    requires apart { AreApart names.now }
+    ensures { IfOk result (λ v. (ts : List Term) → ReferToAll symbols.now terms.old problem.now.assertions ts → AreLiteralsBelow names.now ts (length ts) v.items) }
 {
-    let Some(at) = read_logic(words) else {
-        return Ok(None);
-    };
-    let Some((names, at)) = read_declarations(alloc, words, at)? else {
-        return Ok(None);
-    };
-    let (assertions, at) = read_assertions(alloc, words, &names, at)?;
-    let Some(end) = read_check(words, at) else {
-        return Ok(None);
-    };
-    if end != words.len() {
-        return Ok(None);
+    let _leaves = symbols.count();
+    term_pool::references_stay();
+    let mut literals = Vec::new(alloc);
+    for place in 0..problem.count() {
+        let assertion = problem.assertion(place);
+        add_literal(alloc, symbols, terms, names, assertion, &mut literals)?;
     }
-    Ok(Some(Problem { names, assertions }))
+    Ok(literals)
+}
+
+/// What a problem that was read says of literals.
+pub fn literals_of_problem(
+    alloc: Global,
+    symbols: &Symbols,
+    terms: &mut Terms<'_>,
+    problem: &smtlib_reader::Problem,
+) -> Result<Problem, Memory>
+    requires few { length symbols.now.leaves ≤ 2 ^ 28 + 19 }
+    requires read { (text : List ℕ) × IsReadProblem text symbols.now terms.old problem.now }
+    ensures { IfOk result (λ p. (text : List ℕ) → IsReadProblem text symbols.now terms.old problem.now → (sc : Script) × IsProblemText text sc p.names p.assertions.items) }
+{
+    let _leaves = symbols.count();
+    smtlib_reader::laws::scripts_are_well_sorted();
+    let names = names_of_constants(alloc, symbols)?;
+    let assertions = literals_of(alloc, symbols, terms, &names, problem)?;
+    Ok(Problem { names, assertions })
 }

@@ -1,5 +1,5 @@
 //! Which words are symbols, and which of them may be declared.
-ghost use Rattle.std.specs.Prelude.{◌≡◌, IsTrue, not, ◌&&◌};
+ghost use Rattle.std.specs.Prelude.{◌≡◌, ◌↔◌, IsTrue, not, ◌&&◌};
 ghost use Rattle.std.specs.List.{list_all};
 ghost use Rattle.sexpr.specs.Characters.{is_mark, is_word_byte};
 ghost use Rattle.sexpr.specs.Words.{is_symbol};
@@ -51,7 +51,7 @@ pub fn is_symbol_word(word: &[u8]) -> bool
 
 /// Whether a word is a symbol that is not built in.
 pub fn may_declare(word: &[u8]) -> bool
-    ensures { IsTrue result → MayDeclare word.now }
+    ensures { IsTrue result ↔ MayDeclare word.now }
 {
     is_symbol_word(word) && !is_built_in(word)
 }

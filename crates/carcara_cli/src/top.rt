@@ -92,8 +92,8 @@ fn report<S: Sink>(alloc: Global, answer: &Answer, out: &mut S) -> u8
 /// says the status with which the program ends.
 ///
 /// `words` are those of the command line without the program's name. Status 0 is `valid`, 1 `invalid`, 3 `refused`,
-/// 5 a read fault, 6 a write fault, 7 want of memory, 9 a file of more than 268,435,456 bytes, and 64 words that
-/// spell no command. Nothing is written before the answer is known.
+/// 5 a read fault, 6 a write fault, 7 want of memory, 8 a problem whose terms have more than 2^26 distinct cells, 9 a
+/// file of more than 268,435,456 bytes, and 64 words that spell no command. Nothing is written before the answer is known.
 pub fn carcara<R: AllocGlobal, F: Folder, S: Sink, G: Gate>(
     rt: &R,
     words: &[String],

@@ -1,0 +1,91 @@
+-- Where a pool has no room for a cell of a text's terms, each of its places has another cell of them.
+use Rattle.std.proofs.Common.{◌≡◌, ◌⊎◌, ℕ, ◌+◌, ◌^◌, ◌<◌, ◌≤◌, false, List, [], sym, inl, inr, arith}
+use Rattle.std.proofs.lemmas.Bool.{cases_lt}
+use Rattle.pair_pool.specs.Trees.{Tree, cell}
+use Rattle.pair_pool.specs.Views.{PassView, IsListed, IsPlaced, IsSeen, IsOneToOne, HasListsInOrder}
+use Rattle.sym_table.specs.Table.{Table}
+use Rattle.smtlib_reader.specs.Making.{PlacesCellsOf, LacksCellOf, IsCellOf}
+use Rattle.smtlib_reader.specs.ProblemViews.{IsCounted}
+use Rattle.carcara_cli.specs.Cells.{IsCellOfText, HasMoreCells}
+
+none_listed : (r a b : ℕ) → IsListed [] r a b → ⊥
+unfolding IsListed
+none_listed r a b l = absurd (omega (arith, l.1))
+
+module _ (s : Table) (old pass : PassView) (text : List ℕ)
+    (nothing : old.placed ≡ []) (all : pass.shares ≡ 65)
+    (one : IsOneToOne pass) (order : HasListsInOrder pass)
+    (placed : PlacesCellsOf s old pass (IsCounted text false))
+    (lacks : LacksCellOf s pass (IsCounted text false)) where
+  -- a cell that stands in the table is one of the text
+  abbrev IsOfText : ℕ → ℕ → Type 0
+  IsOfText a b = IsCellOf s pass (IsCounted text false) a b
+
+  none_before : (r a b : ℕ) → IsPlaced old r a b → ⊥
+  none_before r a b p = let none : IsListed [] r a b = rw nothing at p in none_listed r a b none
+
+  of_text : (r a b : ℕ) → IsSeen pass r a b → IsOfText a b
+  of_text r a b seen = elim (placed r a b (order.whole all r a b seen)) [
+    | inl before ↦ absurd (none_before r a b before)
+    | inr is ↦ is
+  ]
+
+  abbrev wanted : IsOfText lacks.full.first lacks.full.second
+  wanted = record { whole = lacks.whole; wanted = lacks.wanted; tree = lacks.tree; stands = lacks.stands; cell = lacks.full.wanted }
+
+  abbrev tree_of : (a b : ℕ) → IsOfText a b → Tree
+  tree_of a b is = cell is.cell.first is.cell.second
+
+  is_of_text : (a b : ℕ) (is : IsOfText a b) → IsCellOfText s text (tree_of a b is)
+  is_of_text a b is = record { whole = is.whole; counted = is.wanted; tree = is.tree; stands = is.stands; part = is.cell.part; is_cell = tt }
+
+  -- equal trees are of one cell
+  one_cell : (a b c d : ℕ) (p : IsOfText a b) (q : IsOfText c d) → tree_of a b p ≡ tree_of c d q → (a ≡ c) × (b ≡ d)
+  one_cell a b c d p q e =
+      let first : p.cell.first ≡ q.cell.first = cc in
+      let second : p.cell.second ≡ q.cell.second = cc in
+      (one.one_reference a c q.cell.first (rw first at p.cell.first_known) q.cell.first_known, one.one_reference b d q.cell.second (rw second at p.cell.second_known) q.cell.second_known)
+
+  -- the parts of the cell at a place, and those of the one that is wanted where there is no such place
+  abbrev Parts : ℕ → Type 0
+  Parts i = (i < pass.places) ⊎ (pass.places ≤ i)
+
+  abbrev first_at : (i : ℕ) → Parts i → ℕ
+  first_at i (inl h) = (lacks.full.full i h).0
+  first_at i (inr h) = lacks.full.first
+
+  abbrev second_at : (i : ℕ) → Parts i → ℕ
+  second_at i (inl h) = (lacks.full.full i h).1
+  second_at i (inr h) = lacks.full.second
+
+  abbrev at_place : (i : ℕ) (d : Parts i) → IsOfText (first_at i d) (second_at i d)
+  at_place i (inl h) = let there = lacks.full.full i h in of_text (2 ^ 30 + i) there.0 there.1 there.2
+  at_place i (inr h) = wanted
+
+  abbrev cell_at : (i : ℕ) → Parts i → Tree
+  cell_at i d = tree_of (first_at i d) (second_at i d) (at_place i d)
+
+  other_place : (i j : ℕ) (d : Parts i) (e : Parts j) → i ≤ pass.places → j ≤ pass.places → (first_at i d ≡ first_at j e) × (second_at i d ≡ second_at j e) → i ≡ j
+  other_place i j (inl h) (inl h') within within' same =
+      let here = lacks.full.full i h in
+      let there = lacks.full.full j h' in
+      let seen : IsSeen pass (2 ^ 30 + i) there.0 there.1 = rw (same.0, same.1) at here.2 in
+      omega (arith, order.one_place (2 ^ 30 + i) (2 ^ 30 + j) there.0 there.1 seen there.2)
+  other_place i j (inl h) (inr h') within within' same = elim (lacks.full.full i h).3 [
+    | inl differs ↦ absurd (differs same.0)
+    | inr differs ↦ absurd (differs same.1)
+  ]
+  other_place i j (inr h) (inl h') within within' same = elim (lacks.full.full j h').3 [
+    | inl differs ↦ absurd (differs (sym same.0))
+    | inr differs ↦ absurd (differs (sym same.1))
+  ]
+  other_place i j (inr h) (inr h') within within' same = omega arith
+
+  pub has_more_cells : (n : ℕ) → pass.places ≡ n → HasMoreCells text n
+  has_more_cells n e = record {
+    table = s;
+    cells = λ i. cell_at i (cases_lt i pass.places);
+    are = λ i within. is_of_text _ _ (at_place i (cases_lt i pass.places));
+    apart = λ i j within within' same. other_place i j (cases_lt i pass.places) (cases_lt j pass.places) (omega (arith, e, within)) (omega (arith, e, within'))
+        (one_cell _ _ _ _ (at_place i (cases_lt i pass.places)) (at_place j (cases_lt j pass.places)) same);
+  }

@@ -1,0 +1,14 @@
+-- What the reading of a problem's text comes to.
+use Rattle.std.specs.Prelude.{◌^◌, ℕ, List, false}
+use Rattle.smtlib_reader.specs.Problems.{IsFirstFault}
+use Rattle.smtlib_reader.specs.Scripts.{Script}
+use Rattle.carcara_cli.specs.Cells.{HasMoreCells}
+use Rattle.carcara_cli.specs.Problem.{IsProblemText}
+use Rattle.carcara_cli.specs.declared.reading.Reading.{Reading}
+use Rattle.carcara_cli.specs.declared.reading.Reading.TheVariants.{Read, Refused, PoolFull}
+
+-- The problem, or its first fault, or that its terms have more cells than a pool of 2^bits places.
+abbrev pub IsReading : List ℕ → ℕ → Reading → Type 0
+IsReading text bits (Read p) = (sc : Script) × IsProblemText text sc p.names p.assertions.items
+IsReading text bits (Refused r) = IsFirstFault text false r
+IsReading text bits PoolFull = HasMoreCells text (2 ^ bits)
