@@ -8,6 +8,10 @@ use std::process::ExitCode;
 use std::{env, io};
 
 #[cfg(test)]
+mod problem_tests;
+#[cfg(test)]
+mod sort_tests;
+#[cfg(test)]
 mod tests;
 
 /// The status of want of memory.

@@ -113,27 +113,38 @@ fn double_negations_are_looked_through(rt: HostRuntime) -> Result<(), Fail> {
     Ok(())
 }
 
+// Assertions that are no literals are read, and are no assumptions yet; constants of other sorts stand beside.
+#[test]
+fn other_assertions_are_read(rt: HostRuntime) -> Result<(), Fail> {
+    let problem =
+        b"(declare-fun p () Bool)(declare-const n Int)(assert (< n 3))(assert (and p p))(assert (! (not p) :named q))(assert p)";
+    let (status, printed) = checked(&rt, RESOLUTION, problem, &[], &[])?;
+    assert_eq!(rt; status, 0);
+    assert_eq!(rt; printed.as_slice(), b"valid\n".as_slice());
+    Ok(())
+}
+
 #[test]
 fn problems_are_refused_first(rt: HostRuntime) -> Result<(), Fail> {
     let cases: [(&[u8], &[u8]); 6] = [
         (b"(assert p", b"refused\nproblem 0: open list\n"),
         (
             b"(set-logic QF_BV)(check-sat)",
-            b"refused\nproblem 0: left out\n",
+            b"refused\nproblem 11: left out\n",
         ),
         (
             b"(set-logic QF_UF)(declare-fun p () Bool)(declare-fun p () Bool)(check-sat)",
-            b"refused\nproblem 0: left out\n",
+            b"refused\nproblem 53: repeated\n",
         ),
         (
             b"(set-logic QF_UF)(declare-fun not () Bool)(check-sat)",
-            b"refused\nproblem 0: left out\n",
+            b"refused\nproblem 30: repeated\n",
         ),
         (
             b"(set-logic QF_UF)(assert q)(check-sat)",
-            b"refused\nproblem 0: left out\n",
+            b"refused\nproblem 25: unknown name\n",
         ),
-        (b"(set-logic QF_UF)", b"refused\nproblem 0: left out\n"),
+        (b"(set-logic)", b"refused\nproblem 0: bad command\n"),
     ];
     for (problem, printed) in cases {
         let (status, text) = checked(&rt, b"(", problem, &[], &[])?;
