@@ -16,10 +16,13 @@ def build(tiny, source, baseline):
     subprocess.run(["rustc", "-O", "-o", baseline, source], check=True)
 
 
-def seconds(command):
-    """The processor time that a command takes, and what it prints."""
+def seconds(command, status=0):
+    """The processor time that a command takes, which has to end with this status, and what it prints."""
     before = resource.getrusage(resource.RUSAGE_CHILDREN)
-    answer = subprocess.run(command, check=True, capture_output=True, text=True).stdout
+    done = subprocess.run(command, capture_output=True, text=True)
+    if done.returncode != status:
+        sys.exit(f"{command[0]} ended with status {done.returncode}: {done.stderr}")
+    answer = done.stdout
     after = resource.getrusage(resource.RUSAGE_CHILDREN)
     return after.ru_utime + after.ru_stime - before.ru_utime - before.ru_stime, answer
 
