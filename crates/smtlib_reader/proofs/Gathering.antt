@@ -1,5 +1,5 @@
 -- How the leaves of free variables are gathered from the parts of a term.
-use Rattle.std.proofs.Common.{◌≡◌, ◌≢◌, ℕ, ◌+◌, ◌-◌, ◌≤◌, ◌<◌, ◌⊎◌, inl, inr, max, List, [], ◌∷◌, length, slice_get, Some, None, Option, Bool, true, false, nat_eq, eqb, cond, refl, sym, ◌∙◌, ap, subst, Contains, All, drop, get_or, IsSomeAnd, pos, Vec, arith, zero, suc}
+use Rattle.std.proofs.Common.{◌≡◌, ◌≢◌, ℕ, ◌+◌, ◌-◌, ◌≤◌, ◌<◌, ◌⊎◌, ◌↔◌, inl, inr, max, List, [], ◌∷◌, length, slice_get, Some, None, Option, Bool, true, false, nat_eq, eqb, cond, refl, sym, ◌∙◌, ap, subst, Contains, All, drop, get_or, IsSomeAnd, pos, Vec, arith, zero, suc}
 use Rattle.std.specs.HashMap.{get}
 use Rattle.std.specs.declared.alloc.Global.{Global}
 use Rattle.std.proofs.lemmas.Bool.Decides.{eqb_tells}
@@ -19,7 +19,13 @@ use Rattle.term_pool.specs.StandsFor.{variable_leaf, function_leaf}
 use Rattle.term_pool.specs.Views.{TermsView, RefersTo, ReferToAll, KeepsTerms}
 use Rattle.smtlib_reader.specs.Free.{HasVariable, IsLeafOfSome, AreFreeLeaves, AddsLeaves, AddsOne, AddsUnbound, IsAtMost, IsFreeInAny, AreLeavesOf, ArePartsOfLet, Covers, Bodies, AreBodies}
 use Rattle.smtlib_reader.specs.Heights.{height, highest, highest_bound}
+use Rattle.smtlib_reader.specs.Known.{KnownView, named_of}
 use Rattle.smtlib_reader.specs.Replacement.{free_variables}
+use Rattle.smtlib_reader.specs.Scripts.{Script}
+use Rattle.smtlib_reader.specs.Standing.{IsMeant}
+use Rattle.smtlib_reader.specs.declared.entries.Named as held
+use Rattle.smtlib_reader.specs.declared.known.KnownEntry.{KnownEntry}
+use Rattle.smtlib_reader.specs.declared.known.Which.{Which}
 use Rattle.smtlib_reader.proofs.Images.{drop-at, leaf_variable}
 use Rattle.smtlib_reader.proofs.Freedom.{free_variables-are}
 use Rattle.smtlib_reader.proofs.SetLemmas.{none_in}
@@ -376,6 +382,23 @@ leaves-free s leaves t h = record { each = each; all = λ x c. h.all x ((free_va
     each : (k : ℕ) → Contains leaves k → (x : Var) × IsLeaf s k (variable_leaf x) × Contains (free_variables t) x
     each k c =
         elim (h.only k c) [ inl none ↦ absurd (none_in k none) | inr is ↦ (is.0, is.1, (free_variables-are is.0 t).1 is.2) ]
+
+-- leaves of free variables are those of the variables that stand free
+pub free-leaves : (s : Table) (leaves : List ℕ) (t : Term) → AreFreeLeaves s leaves (free_variables t) → AddsLeaves s [] leaves (λ x. IsFree x t)
+free-leaves s leaves t h = record {
+  kept = λ k c. absurd (none_in k c);
+  all = λ x free. h.all x ((free_variables-are x t).1 free);
+  only = λ k c. let is = h.each k c in inr (is.0, is.1, (free_variables-are is.0 t).0 is.2);
+}
+
+-- what is kept for a name holds of its term, whatever the term is reached by
+pub named-adds : (s : Table) (v : TermsView) (k : KnownView) (sc : Script) (name : List ℕ) (w : Which) (n : held.Named) (r : ℕ) (t : Term) → named_of k w ≡ Some n → IsMeant s v k sc name (Some (KnownEntry.Named w)) → ((p q : ℕ) (a b : Term) → RefersTo s v p a → RefersTo s v q b → (p ≡ q) ↔ (a ≡ b)) → n.value.term ≡ r → RefersTo s v r t → AddsLeaves s [] n.free.items (λ x. IsFree x t)
+named-adds s v k sc name w n r t there h one same refers =
+    let held_is : n ≡ h.held = same_some (sym there ∙ h.there) in
+    let leaves : AreFreeLeaves s n.free.items (free_variables h.meant.meant.tree) = rw held_is h.is.free in
+    let place : h.held.value.term ≡ r = sym (ap (λ (m : held.Named). m.value.term) held_is) ∙ same in
+    let term : h.meant.meant.tree ≡ t = (one h.held.value.term r h.meant.meant.tree t h.is.value.refers refers).0 place in
+    subst (λ (u : Term). AddsLeaves s [] n.free.items (λ x. IsFree x u)) term (free-leaves s n.free.items h.meant.meant.tree leaves)
 
 -- how far a walk over a list has come, from its end
 pub record IsPassed (s : Table) (v now : TermsView) (list : List ℕ) (at : ℕ) (old seen found : List ℕ) (kept : Bodies) : Type 0 where

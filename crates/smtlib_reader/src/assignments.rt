@@ -8,6 +8,10 @@ use std::alloc::Global;
 use std::collections::HashMap;
 use std::marker::Model;
 
+/// How often drafts are put in for variables, at most. A term that takes more is refused as for want of memory: what lets
+/// share may be drafted once for each way through them.
+const MOST_PUSHES: u32 = 67_108_864;
+
 /// A variable, told by its leaf, the draft of what is put in for it, and the draft that it has further out.
 #[derive(Clone, Copy)]
 pub(crate) struct Assigned {
@@ -23,6 +27,8 @@ pub(crate) struct Assigned {
 pub(crate) struct Assignments {
     assigned: Vec<Assigned>,
     innermost: HashMap<u32, u32>,
+    /// How often a draft was put in.
+    pushes: u32,
 }
 
 impl Model for Assignments {
@@ -44,6 +50,7 @@ impl Assignments {
         Assignments {
             assigned: Vec::new(alloc),
             innermost: HashMap::new(alloc),
+            pushes: 0,
         }
     }
 
@@ -61,10 +68,14 @@ impl Assignments {
         self.innermost.get(&variable).copied()
     }
 
-    /// Puts in a draft for a variable, inside all others.
+    /// Puts in a draft for a variable, inside all others. Refuses want of memory, and that it was asked too often.
     pub(crate) fn push(&mut self, variable: u32, draft: u32) -> Result<(), Memory>
         ensures { OnOk result (self.new ≡ record { variable = variable; draft = draft; outer = draft_of variable self.old } ∷ self.old) }
     {
+        if self.pushes >= MOST_PUSHES {
+            return Err(Memory);
+        }
+        self.pushes += 1;
         self.assigned.reserve(1)?;
         let outer = self.innermost.insert(variable, draft)?;
         self.assigned

@@ -25,6 +25,10 @@ pub(crate) enum Draft {
     Application(Applied),
 }
 
+/// The most drafts that are made: as many as the greatest pool has places. A term that takes more is refused as for want
+/// of memory, since what lets share may be drafted once for each way through them.
+const MOST_DRAFTS: usize = 67_108_864;
+
 /// Drafts by their numbers, and the numbers of the arguments of those that are applications.
 #[derive(Drop)]
 pub(crate) struct Drafts {
@@ -42,13 +46,23 @@ impl Drafts {
         }
     }
 
+    /// The number of the next draft.
+    fn next_number(&self) -> Result<u32, Memory>
+        ensures { IfOk result (λ i. i ≡ length self.now.nodes.items) }
+    {
+        let number = self.nodes.len();
+        if number < MOST_DRAFTS {
+            Ok(number as u32)
+        } else {
+            Err(Memory)
+        }
+    }
+
     /// The number of a new draft: a term in the pool.
     pub(crate) fn whole(&mut self, term: Ref) -> Result<u32, Memory>
         ensures { (pass : PassView) (trees : List Tree) (t : Tree) → AreDrafts pass self.old trees → Knows pass term t → IfOk result (λ i. (i ≡ length trees) × AreDrafts pass self.new (trees ++ t ∷ [])) }
     {
-        let Ok(number) = u32::try_from(self.nodes.len()) else {
-            return Err(Memory);
-        };
+        let number = self.next_number()?;
         self.nodes.push(Draft::Whole(term))?;
         Ok(number)
     }
@@ -58,9 +72,7 @@ impl Drafts {
         requires { head < 2 ^ 30 }
         ensures { (pass : PassView) (trees : List Tree) → AreDrafts pass self.old trees → AllByRecursion (λ k. k < length trees) arguments.now → IfOk result (λ i. (i ≡ length trees) × AreDrafts pass self.new (trees ++ app_tree head (map (tree_at trees) arguments.now) ∷ [])) }
     {
-        let Ok(number) = u32::try_from(self.nodes.len()) else {
-            return Err(Memory);
-        };
+        let number = self.next_number()?;
         let first = self.parts.len();
         self.parts.extend_from_slice(arguments)?;
         let end = self.parts.len();

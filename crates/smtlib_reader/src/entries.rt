@@ -5,7 +5,9 @@ ghost use Rattle.smtlib_reader.specs.declared.entries.Entry.TheVariants as Entry
 
 use crate::values::Value;
 use indexmap::IndexMap;
+use pair_pool::Ref;
 use std::alloc::Global;
+use std::collections::HashMap;
 use std::marker::Model;
 use sym_table::Memory;
 use term_model::Sort;
@@ -44,6 +46,9 @@ pub(crate) struct Entries {
     names: IndexMap<Vec<u8>, Entry>,
     macros: Vec<Macro>,
     named: Vec<Named>,
+    /// A name of each term that has one, by its reference. It only helps to find a named term again: who asks looks up
+    /// what the name stands for.
+    given: HashMap<u32, Vec<u8>>,
 }
 
 impl Model for Entries {
@@ -56,6 +61,18 @@ impl Model for Entries {
     ghost invariant = { λ e. AreThere (record { names = names_of e.names.entries; macros = e.macros.items; named = e.named.items }) };
 }
 
+/// Remembers the name for the term.
+fn remember(
+    alloc: Global,
+    given: &mut HashMap<u32, Vec<u8>>,
+    term: Ref,
+    name: &[u8],
+) -> Result<(), Memory> {
+    let owned = Vec::from_slice(alloc, name)?;
+    let _ = given.insert(term.number(), owned)?;
+    Ok(())
+}
+
 impl Entries {
     pub(crate) fn new(alloc: Global) -> Entries
         ensures { result ≡ no_entries }
@@ -65,6 +82,7 @@ impl Entries {
             names: IndexMap::new(alloc),
             macros: Vec::new(alloc),
             named: Vec::new(alloc),
+            given: HashMap::new(alloc),
         }
     }
 
@@ -134,10 +152,17 @@ impl Entries {
     {
         let owned = Vec::from_slice(self.alloc, name)?;
         self.named.reserve(1)?;
+        remember(self.alloc, &mut self.given, value.term, name)?;
         let number = self.named.len();
         self.names.insert(owned, Entry::Named(number))?;
         self.named.push(Named { value, free }).unwrap();
         Ok(())
+    }
+
+    /// A name that was given to the term, if any was.
+    pub(crate) fn name_given(&self, term: Ref) -> Option<&[u8]> {
+        let name = self.given.get(&term.number())?;
+        Some(name)
     }
 
     /// The macro of this number.

@@ -1,10 +1,11 @@
 //! The free variables of a term.
 //!
 //! A walk gathers them within the body of one let and meets each cell there once. A body of a let is gone through on
-//! its own, once, and its leaves are kept: what they are does not depend on the lets around it. So the cost is the
-//! number of distinct bodies times what a body has of cells and of free variables, at most.
+//! its own, once, and its leaves are kept: what they are does not depend on the lets around it. A term that was named
+//! before is not gone through again. So the cost is the number of distinct bodies times what a body has of cells and of
+//! free variables, at most, and of nested names each walks the cells that are new.
 
-ghost use Rattle.std.specs.Prelude.{◌≡◌, ◌≤◌, ◌<◌, ◌↔◌, ℕ, [], List, All, IfOk, OnOk, IsTrue, false, length};
+ghost use Rattle.std.specs.Prelude.{◌≡◌, ◌≤◌, ◌<◌, ◌↔◌, ℕ, [], List, All, IfOk, IfSome, OnOk, IsTrue, false, length};
 ghost use Rattle.pair_pool.specs.Views.{IsUnchanged, IsKnown};
 ghost use Rattle.sym_table.specs.Table.{Table, IsTable, IsLeaf};
 ghost use Rattle.term_model.specs.FreeVariables.{IsFree, Binds, variables_of};
@@ -12,13 +13,15 @@ ghost use Rattle.term_model.specs.Terms.{Var, Term, Bindings};
 ghost use Rattle.term_pool.specs.Building.{IsApplication};
 ghost use Rattle.term_pool.specs.Reading.{arguments_of, IsLet, IsLetTerm};
 ghost use Rattle.term_pool.specs.StandsFor.{variable_leaf};
-ghost use Rattle.term_pool.specs.Views.{TermsView, RefersTo, ReferToAll, KeepsTerms};
+ghost use Rattle.term_pool.specs.Views.{RefersTo, ReferToAll, KeepsTerms};
 ghost use Rattle.smtlib_reader.specs.Free.{AreFreeLeaves, ArePartsOfLet, AddsLeaves, IsAtMost, IsFreeInAny, AreLeavesOf, Covers, AreBodies};
 ghost use Rattle.smtlib_reader.specs.Images.{IsSomeValue};
 ghost use Rattle.smtlib_reader.specs.Replacement.{free_variables};
-ghost use Rattle.smtlib_reader.specs.Scripts.{Typed};
+ghost use Rattle.smtlib_reader.specs.Scripts.{Typed, Script};
+ghost use Rattle.smtlib_reader.specs.Standing.{IsScript};
 ghost use Rattle.smtlib_reader.specs.Values.{IsValue};
 
+use crate::known::{Known, KnownEntry};
 use crate::leaf_sets::{add, add_all, add_unbound, has};
 use crate::values::Value;
 use indexmap::IndexSet;
@@ -83,12 +86,37 @@ fn let_parts(alloc: Global, terms: &mut Terms<'_>, r: Ref) -> Result<LetParts, M
     })
 }
 
+/// The leaves of the free variables of a term, where it was named before.
+fn leaves_of_named<'b>(
+    symbols: &Symbols,
+    terms: &Terms<'_>,
+    known: &'b Known<'_>,
+    r: Ref,
+) -> Option<&'b [u32]>
+    requires { (sc : Script) × IsScript symbols.now terms.now known.now sc }
+    ensures { IfSome result (λ leaves. (t : Term) → RefersTo symbols.now terms.now r t → AddsLeaves symbols.now [] leaves.now (λ x. IsFree x t)) }
+{
+    let _leaves = symbols.count();
+    terms.equal_exactly_where_terms_are();
+    let name = known.name_given(r)?;
+    let KnownEntry::Named(which) = known.find(name)? else {
+        return None;
+    };
+    let named = known.named_at(which);
+    if named.value.term == r {
+        Some(&named.free)
+    } else {
+        None
+    }
+}
+
 /// Gathers the free variables of a term that is no higher than `most`.
 #[cycle(gather)]
 fn gather(
     alloc: Global,
     symbols: &Symbols,
     terms: &mut Terms<'_>,
+    known: &Known<'_>,
     bodies: &mut HashMap<u32, Vec<u32>>,
     region: &mut Region,
     r: Ref,
@@ -98,6 +126,7 @@ fn gather(
     requires low { IsAtMost symbols.now terms.old most r }
     requires bodies { AreBodies symbols.now terms.old bodies.old }
     requires covers { Covers symbols.now terms.old region.old.seen.keys region.old.found.keys }
+    requires script { (sc : Script) × IsScript symbols.now terms.old known.now sc }
     ensures adds { OnOk result ((t : Term) → RefersTo symbols.now terms.old r t → AddsLeaves symbols.now region.old.found.keys region.new.found.keys (λ x. IsFree x t)) }
     ensures covers { OnOk result (Covers symbols.now terms.old region.new.seen.keys region.new.found.keys) }
     ensures bodies { OnOk result (AreBodies symbols.now terms.old bodies.new) }
@@ -106,15 +135,28 @@ fn gather(
     if has(&region.seen, r.number()) {
         return Ok(());
     }
+    if let Some(leaves) = leaves_of_named(symbols, terms, known, r) {
+        add_all(leaves, &mut region.found)?;
+        return add(&mut region.seen, r.number());
+    }
     let Some(head) = terms.head(r) else {
-        gather_let(alloc, symbols, terms, bodies, region, r, most)?;
+        gather_let(alloc, symbols, terms, known, bodies, region, r, most)?;
         return add(&mut region.seen, r.number());
     };
     if is_variable(symbols, head) {
         return add(&mut region.found, head);
     }
     let list = arguments(alloc, terms, r)?;
-    gather_all(alloc, symbols, terms, bodies, region, &list, most - 1)?;
+    gather_all(
+        alloc,
+        symbols,
+        terms,
+        known,
+        bodies,
+        region,
+        &list,
+        most - 1,
+    )?;
     add(&mut region.seen, r.number())
 }
 
@@ -124,6 +166,7 @@ fn gather_all(
     alloc: Global,
     symbols: &Symbols,
     terms: &mut Terms<'_>,
+    known: &Known<'_>,
     bodies: &mut HashMap<u32, Vec<u32>>,
     region: &mut Region,
     list: &[Ref],
@@ -133,6 +176,7 @@ fn gather_all(
     requires low { All (IsAtMost symbols.now terms.old most) list.now }
     requires bodies { AreBodies symbols.now terms.old bodies.old }
     requires covers { Covers symbols.now terms.old region.old.seen.keys region.old.found.keys }
+    requires script { (sc : Script) × IsScript symbols.now terms.old known.now sc }
     ensures adds { OnOk result ((ts : List Term) → ReferToAll symbols.now terms.old list.now ts → AddsLeaves symbols.now region.old.found.keys region.new.found.keys (λ x. IsFreeInAny x ts)) }
     ensures covers { OnOk result (Covers symbols.now terms.old region.new.seen.keys region.new.found.keys) }
     ensures bodies { OnOk result (AreBodies symbols.now terms.old bodies.new) }
@@ -141,7 +185,7 @@ fn gather_all(
     let mut at = list.len();
     'terms: while at > 0 {
         at -= 1;
-        gather(alloc, symbols, terms, bodies, region, list[at], most)?;
+        gather(alloc, symbols, terms, known, bodies, region, list[at], most)?;
     }
     Ok(())
 }
@@ -152,6 +196,7 @@ fn gather_let(
     alloc: Global,
     symbols: &Symbols,
     terms: &mut Terms<'_>,
+    known: &Known<'_>,
     bodies: &mut HashMap<u32, Vec<u32>>,
     region: &mut Region,
     r: Ref,
@@ -162,6 +207,7 @@ fn gather_let(
     requires is_let { (t : Term) → RefersTo symbols.now terms.old r t → IsLet t }
     requires bodies { AreBodies symbols.now terms.old bodies.old }
     requires covers { Covers symbols.now terms.old region.old.seen.keys region.old.found.keys }
+    requires script { (sc : Script) × IsScript symbols.now terms.old known.now sc }
     ensures adds { OnOk result ((t : Term) → RefersTo symbols.now terms.old r t → AddsLeaves symbols.now region.old.found.keys region.new.found.keys (λ x. IsFree x t)) }
     ensures covers { OnOk result (Covers symbols.now terms.old region.new.seen.keys region.new.found.keys) }
     ensures bodies { OnOk result (AreBodies symbols.now terms.old bodies.new) }
@@ -172,11 +218,20 @@ fn gather_let(
     }
     let parts = let_parts(alloc, terms, r)?;
     let values = &parts.values;
-    gather_all(alloc, symbols, terms, bodies, region, values, most - 1)?;
+    gather_all(
+        alloc,
+        symbols,
+        terms,
+        known,
+        bodies,
+        region,
+        values,
+        most - 1,
+    )?;
     if let Some(leaves) = bodies.get(&parts.body.number()) {
         return add_unbound(alloc, leaves, &parts.variables, &mut region.found);
     }
-    let leaves = leaves_of(alloc, symbols, terms, bodies, parts.body, most - 1)?;
+    let leaves = leaves_of(alloc, symbols, terms, known, bodies, parts.body, most - 1)?;
     add_unbound(alloc, &leaves, &parts.variables, &mut region.found)?;
     let _ = bodies.insert(parts.body.number(), leaves)?;
     Ok(())
@@ -188,6 +243,7 @@ fn leaves_of(
     alloc: Global,
     symbols: &Symbols,
     terms: &mut Terms<'_>,
+    known: &Known<'_>,
     bodies: &mut HashMap<u32, Vec<u32>>,
     r: Ref,
     most: u32,
@@ -195,6 +251,7 @@ fn leaves_of(
     requires table { IsTable symbols.now }
     requires low { IsAtMost symbols.now terms.old most r }
     requires bodies { AreBodies symbols.now terms.old bodies.old }
+    requires script { (sc : Script) × IsScript symbols.now terms.old known.now sc }
     ensures leaves { IfOk result (λ leaves. (t : Term) → RefersTo symbols.now terms.old r t → AddsLeaves symbols.now [] leaves.items (λ x. IsFree x t)) }
     ensures bodies { OnOk result (AreBodies symbols.now terms.old bodies.new) }
     ensures same { terms.new ≡ terms.old }
@@ -203,28 +260,38 @@ fn leaves_of(
         seen: IndexSet::new(alloc),
         found: IndexSet::new(alloc),
     };
-    gather(alloc, symbols, terms, bodies, &mut region, r, most)?;
+    gather(alloc, symbols, terms, known, bodies, &mut region, r, most)?;
     let leaves = Vec::from_slice(alloc, region.found.as_slice())?;
     Ok(leaves)
 }
 
 /// The leaves of the free variables of a term (SMT-LIB 2.6, section 3.6.1).
 ///
-/// Goes through each distinct cell once for each distinct body of a let that it stands in, and takes memory for each
-/// that it meets there. Takes stack in proportion to the term's height. Refuses want of memory alone.
+/// Goes through each distinct cell once for each distinct body of a let that it stands in, but for those of terms that
+/// were named before, whose leaves are kept, and takes memory for each that it meets there. Takes stack in proportion to the term's height. Refuses want of memory alone.
 pub(crate) fn free_leaves(
     alloc: Global,
     symbols: &Symbols,
     terms: &mut Terms<'_>,
+    known: &Known<'_>,
     what: Value,
 ) -> Result<Vec<u32>, Memory>
     requires what { IsSomeValue symbols.now terms.old what }
     requires low { what.height ≤ 2000 }
+    requires script { (sc : Script) × IsScript symbols.now terms.old known.now sc }
     ensures free { IfOk result (λ leaves. (t : Typed) → IsValue symbols.now terms.old what t → AreFreeLeaves symbols.now leaves.items (free_variables t.tree)) }
     ensures keeps { KeepsTerms terms.old terms.new }
     ensures unchanged { IsUnchanged terms.old.pass terms.new.pass }
 {
     let _leaves = symbols.count();
     let mut bodies = HashMap::new(alloc);
-    leaves_of(alloc, symbols, terms, &mut bodies, what.term, MOST_HEIGHT)
+    leaves_of(
+        alloc,
+        symbols,
+        terms,
+        known,
+        &mut bodies,
+        what.term,
+        MOST_HEIGHT,
+    )
 }

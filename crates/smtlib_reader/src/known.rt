@@ -9,6 +9,7 @@ ghost use Rattle.smtlib_reader.specs.declared.known.Which.TheVariants as Which;
 
 use crate::entries::{Entries, Entry, Macro, Named};
 use crate::values::Value;
+use pair_pool::Ref;
 use std::alloc::Global;
 use std::marker::Model;
 use sym_table::Memory;
@@ -129,6 +130,14 @@ impl<'a> Known<'a> {
         ensures refused { OnErr result (self.new ≡ self.old) }
     {
         self.own.give_name(name, value, free)
+    }
+
+    /// A name that was given to the term, if any was.
+    pub(crate) fn name_given(&self, term: Ref) -> Option<&[u8]> {
+        if let Some(name) = self.own.name_given(term) {
+            return Some(name);
+        }
+        self.base?.name_given(term)
     }
 
     /// The macro of this number.

@@ -57,7 +57,7 @@ pub(crate) fn give_names(
     if next_name(text, nodes, first, end).is_none() {
         return Ok(());
     }
-    let free = free_leaves(alloc, symbols, terms, value)?;
+    let free = free_leaves(alloc, symbols, terms, known, value)?;
     give_each(
         alloc, text, nodes, symbols, known, &value, &free, first, end,
     )

@@ -33,9 +33,10 @@ fn all_plain(replacement: &[Bound]) -> bool
 /// at once.
 ///
 /// A term without lets is gone through as `put_in_plain` does. Else it is drafted first, since what a let binds comes
-/// into the pool only where it is used. Goes through each distinct cell of the term once for each let around it in which
-/// it stands, and then through each distinct cell of the answer. Takes memory for each of them, and a few frames of the
-/// stack for each level of the term. Refuses want of memory, and where the pool had no room for a cell of the answer.
+/// into the pool only where it is used. Goes through each distinct cell of the term once for each way through the lets
+/// around it, and then through each distinct cell of the answer. Takes memory for each of them, and a few frames of the
+/// stack for each level of the term. Refuses want of memory, and where the pool had no room for a cell of the answer; a
+/// term that takes more than 67,108,864 drafts, or has more variables of lets put in, is refused as for want of memory.
 pub(crate) fn put_in(
     alloc: Global,
     symbols: &Symbols,

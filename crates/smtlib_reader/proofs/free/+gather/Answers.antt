@@ -5,6 +5,7 @@ use Rattle.term_model.specs.FreeVariables.{IsFree}
 use Rattle.term_model.specs.Terms.{Term}
 use Rattle.term_pool.specs.Reading.{arguments_of}
 use Rattle.term_pool.specs.Views.{RefersTo}
+use Rattle.smtlib_reader.specs.Standing.{IsScript}
 use Rattle.smtlib_reader.specs.Free.{AddsLeaves, AddsOne, AddsUnbound, IsAtMost, Covers, AreBodies}
 use Rattle.smtlib_reader.proofs.Gathering as lemma
 use Rattle.smtlib_reader.proofs.free.+gather.Goals as goal
@@ -15,40 +16,61 @@ gather-returns-then-has-clause-adds t c =
     lemma.covers-adds c.args.symbols.now c.args.terms.now c.args.region.now.seen.keys c.args.region.now.found.keys c.args.r c.requires.covers
     (subst (Contains c.args.region.now.seen.keys) c.number.ensures.number (c.has.ensures.0 c.if-has.true)) u refers
 
+pub gather-returns-in-Some-clause-adds : goal.gather-returns-in-Some-clause-adds
+gather-returns-in-Some-clause-adds t c =
+    on_ok_weaker c.add.result
+    (λ one u refers.
+    lemma.kept-adds c.args.symbols.now c.in-Some.leaves.now c.args.region.now.found.keys c.add_all.new.found.keys u (c.in-Some.ensures u refers) c.in_ok-add_all.ensures)
+    c.add.ensures
+
+pub gather-returns-in-Some-clause-covers : goal.gather-returns-in-Some-clause-covers
+gather-returns-in-Some-clause-covers t c =
+    let s = c.args.symbols.now in
+    let v = c.args.terms.now in
+    let old = c.args.region.now.seen.keys in
+    let found = c.args.region.now.found.keys in
+    let new = c.add_all.new.found.keys in
+    on_ok_weaker c.add.result
+    (λ one.
+    lemma.covers-more s v old c.add.new.set.keys found new c.args.r
+    (λ u refers. lemma.kept-adds s c.in-Some.leaves.now found new u (c.in-Some.ensures u refers) c.in_ok-add_all.ensures)
+    (subst (AddsOne old c.add.new.set.keys) c.number-in-Some.ensures.number one) (lemma.covers-kept s v old found new c.in_ok-add_all.ensures.kept c.requires.covers))
+    c.add.ensures
+
 pub gather-gather_let-requires : goal.gather-gather_let-requires
 gather-gather_let-requires t c =
     let s = c.args.symbols.now in
     let v = c.args.terms.now in
     let w = c.head.new.self in
     let first : w ≡ v = lemma.stays v w c.head.ensures.keeps c.head.ensures.unchanged in
-    (omega arith, (c.requires.table, (subst (λ z. IsAtMost s z c.args.most c.args.r) (sym first) c.requires.low, (λ u refers. c.in_default.ensures.let_term s u c.requires.table (subst (λ z. RefersTo s z c.args.r u) first refers), (subst (λ z. AreBodies s z c.args.bodies.now) (sym first) c.requires.bodies, subst (λ z. Covers s z c.args.region.now.seen.keys c.args.region.now.found.keys) (sym first) c.requires.covers)))))
+    (omega arith, (c.requires.table, (subst (λ z. IsAtMost s z c.args.most c.args.r) (sym first) c.requires.low, (λ u refers. c.in_default-head.ensures.let_term s u c.requires.table (subst (λ z. RefersTo s z c.args.r u) first refers), (subst (λ z. AreBodies s z c.args.bodies.now) (sym first) c.requires.bodies, (subst (λ z. Covers s z c.args.region.now.seen.keys c.args.region.now.found.keys) (sym first) c.requires.covers, (c.requires.script.0, subst (λ z. IsScript s z c.args.known.now c.requires.script.0) (sym first) c.requires.script.1)))))))
 
-pub gather-returns-in_default-clause-covers : goal.gather-returns-in_default-clause-covers
-gather-returns-in_default-clause-covers t c =
+pub gather-returns-in_default-head-clause-covers : goal.gather-returns-in_default-head-clause-covers
+gather-returns-in_default-head-clause-covers t c =
     let s = c.args.symbols.now in
     let v = c.args.terms.now in
     let w = c.head.new.self in
     let first : w ≡ v = lemma.stays v w c.head.ensures.keeps c.head.ensures.unchanged in
     let old = c.gather_let.new.region.seen.keys in
     let found = c.gather_let.new.region.found.keys in
-    on_ok_weaker c.add.result
+    on_ok_weaker c.add-in_default-head.result
     (λ one.
-    lemma.covers-more s v old c.add.new.set.keys c.args.region.now.found.keys found c.args.r
+    lemma.covers-more s v old c.add-in_default-head.new.set.keys c.args.region.now.found.keys found c.args.r
     (λ u refers. c.in_ok-gather_let.ensures.adds u (subst (λ z. RefersTo s z c.args.r u) (sym first) refers))
-    (subst (AddsOne old c.add.new.set.keys) c.number-in_default.ensures.number one) (subst (λ z. Covers s z old found) first c.in_ok-gather_let.ensures.covers))
-    c.add.ensures
+    (subst (AddsOne old c.add-in_default-head.new.set.keys) c.number-in_default-head.ensures.number one) (subst (λ z. Covers s z old found) first c.in_ok-gather_let.ensures.covers))
+    c.add-in_default-head.ensures
 
 pub gather-is_variable-requires : goal.gather-is_variable-requires
 gather-is_variable-requires t c =
     let low = c.requires.low in
-    lemma.head_within c.args.symbols.now c.in-Some.head (arguments_of low.means) low.means (c.in-Some.ensures.application c.args.symbols.now low.means c.requires.table low.refers)
+    lemma.head_within c.args.symbols.now c.in-Some-head.head (arguments_of low.means) low.means (c.in-Some-head.ensures.application c.args.symbols.now low.means c.requires.table low.refers)
 
 pub gather-returns-then-is_variable-clause-adds : goal.gather-returns-then-is_variable-clause-adds
 gather-returns-then-is_variable-clause-adds t c =
     let is = c.is_variable.ensures.yes c.if-is_variable.true in
     on_ok_weaker c.add-then-is_variable.result
     (λ one u refers.
-    lemma.variable-adds c.args.symbols.now c.in-Some.head is.0 (arguments_of u) u c.args.region.now.found.keys c.add-then-is_variable.new.set.keys is.1 one (c.in-Some.ensures.application c.args.symbols.now u c.requires.table refers))
+    lemma.variable-adds c.args.symbols.now c.in-Some-head.head is.0 (arguments_of u) u c.args.region.now.found.keys c.add-then-is_variable.new.set.keys is.1 one (c.in-Some-head.ensures.application c.args.symbols.now u c.requires.table refers))
     c.add-then-is_variable.ensures
 
 pub gather-returns-then-is_variable-clause-covers : goal.gather-returns-then-is_variable-clause-covers
@@ -68,9 +90,9 @@ gather-gather_all-requires t c =
     let some : 1 ≤ c.args.most = lemma.positive s v c.args.most c.args.r c.requires.low in
     let first : w ≡ v = lemma.stays v w c.head.ensures.keeps c.head.ensures.unchanged in
     let same = c.arguments.ensures.same in
-    let no_let = λ (u : Term) (refers : RefersTo s w c.args.r u). lemma.application-no_let s c.in-Some.head (arguments_of u) u (c.in-Some.ensures.application s u c.requires.table (subst (λ z. RefersTo s z c.args.r u) first refers)) in
+    let no_let = λ (u : Term) (refers : RefersTo s w c.args.r u). lemma.application-no_let s c.in-Some-head.head (arguments_of u) u (c.in-Some-head.ensures.application s u c.requires.table (subst (λ z. RefersTo s z c.args.r u) first refers)) in
     let low = lemma.arguments_low s w c.args.most c.args.r c.in_ok-list.list.items (subst (λ z. IsAtMost s z c.args.most c.args.r) (sym first) c.requires.low) no_let (c.in_ok-list.ensures.arguments s) in
-    (omega arith, (c.requires.table, (lemma.low_at s w c.arguments.new.terms (c.args.most - 1) c.in_ok-list.list.items c.deref.result.now same c.deref.ensures.value low, (subst (λ z. AreBodies s z c.args.bodies.now) (sym (same ∙ first)) c.requires.bodies, subst (λ z. Covers s z c.args.region.now.seen.keys c.args.region.now.found.keys) (sym (same ∙ first)) c.requires.covers))))
+    (omega arith, (c.requires.table, (lemma.low_at s w c.arguments.new.terms (c.args.most - 1) c.in_ok-list.list.items c.deref.result.now same c.deref.ensures.value low, (subst (λ z. AreBodies s z c.args.bodies.now) (sym (same ∙ first)) c.requires.bodies, (subst (λ z. Covers s z c.args.region.now.seen.keys c.args.region.now.found.keys) (sym (same ∙ first)) c.requires.covers, (c.requires.script.0, subst (λ z. IsScript s z c.args.known.now c.requires.script.0) (sym (same ∙ first)) c.requires.script.1))))))
 
 -- what the arguments have
 adds : (t : ℕ) (c : goal.gather-After-drop-list-2 t) → (u : Term) → RefersTo c.args.symbols.now c.args.terms.now c.args.r u → AddsLeaves c.args.symbols.now c.args.region.now.found.keys c.gather_all.new.region.found.keys (λ x. IsFree x u)
@@ -80,10 +102,10 @@ adds t c =
     let w = c.head.new.self in
     let first : w ≡ v = lemma.stays v w c.head.ensures.keeps c.head.ensures.unchanged in
     λ u refers.
-    let app = c.in-Some.ensures.application s u c.requires.table refers in
-    lemma.application-adds s c.in-Some.head (arguments_of u) u c.args.region.now.found.keys c.gather_all.new.region.found.keys (c.is_variable.ensures.no c.if-is_variable.false) app
+    let app = c.in-Some-head.ensures.application s u c.requires.table refers in
+    lemma.application-adds s c.in-Some-head.head (arguments_of u) u c.args.region.now.found.keys c.gather_all.new.region.found.keys (c.is_variable.ensures.no c.if-is_variable.false) app
     (c.in_ok-gather_all.ensures.adds (arguments_of u) (lemma.refer_at s w c.arguments.new.terms c.in_ok-list.list.items c.deref.result.now (arguments_of u) c.arguments.ensures.same c.deref.ensures.value
-    (c.in_ok-list.ensures.arguments s u (subst (λ z. RefersTo s z c.args.r u) (sym first) refers) (lemma.application-no_let s c.in-Some.head (arguments_of u) u app))))
+    (c.in_ok-list.ensures.arguments s u (subst (λ z. RefersTo s z c.args.r u) (sym first) refers) (lemma.application-no_let s c.in-Some-head.head (arguments_of u) u app))))
 
 pub gather-returns-clause-adds : goal.gather-returns-clause-adds
 gather-returns-clause-adds t c = on_ok_weaker c.add-2.result (λ one. adds t c) c.add-2.ensures
@@ -145,7 +167,7 @@ gather_let-gather_all-requires t c =
         c.requires.table,
         (
           lemma.low_at s v c.let_parts.new.terms (c.args.most - 1) p.values.items c.deref-2.result.now same c.deref-2.ensures.value low,
-          (subst (λ z. AreBodies s z c.args.bodies.now) (sym same) c.requires.bodies, subst (λ z. Covers s z c.args.region.now.seen.keys c.args.region.now.found.keys) (sym same) c.requires.covers),
+          (subst (λ z. AreBodies s z c.args.bodies.now) (sym same) c.requires.bodies, (subst (λ z. Covers s z c.args.region.now.seen.keys c.args.region.now.found.keys) (sym same) c.requires.covers, (c.requires.script.0, subst (λ z. IsScript s z c.args.known.now c.requires.script.0) (sym same) c.requires.script.1))),
         ),
       ),
     )
@@ -161,7 +183,7 @@ gather_let-leaves_of-requires t c =
       omega arith,
       (
         c.requires.table,
-        (subst (λ z. IsAtMost s z (c.args.most - 1) p.body) (sym (again ∙ c.let_parts.ensures.same)) low, subst (λ z. AreBodies s z c.gather_all.new.bodies) (sym again) c.in_ok-gather_all.ensures.bodies),
+        (subst (λ z. IsAtMost s z (c.args.most - 1) p.body) (sym (again ∙ c.let_parts.ensures.same)) low, (subst (λ z. AreBodies s z c.gather_all.new.bodies) (sym again) c.in_ok-gather_all.ensures.bodies, (c.requires.script.0, subst (λ z. IsScript s z c.args.known.now c.requires.script.0) (sym (again ∙ c.let_parts.ensures.same)) c.requires.script.1))),
       ),
     )
 
