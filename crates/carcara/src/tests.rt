@@ -49,6 +49,18 @@ fn answer(
     Ok((status, printed))
 }
 
+// The status of the words over a proof and a problem, and what was printed.
+fn answer_over(
+    rt: &HostRuntime,
+    words: &[&str],
+    proof: &[u8],
+    problem: &[u8],
+) -> Result<(u8, Vec<u8>), AllocError> {
+    let folder = MemoryFolder::new(files(rt.alloc(), proof, problem)?, 7, Vec::new(rt.alloc()));
+    let out = MemorySink::new(16, Vec::new(rt.alloc()));
+    answer(rt, words, folder, out)
+}
+
 // The status of a check of two texts, and what was printed, with reads of seven bytes and writes of sixteen.
 fn checked(
     rt: &HostRuntime,
@@ -172,23 +184,79 @@ fn faults_of_the_outside(rt: HostRuntime) -> Result<(), Fail> {
 fn words_that_spell_no_command(rt: HostRuntime) -> Result<(), Fail> {
     let usage =
         b"usage: carcara (check | elaborate) PROOF PROBLEM [options] | carcara generate N [options]\n";
-    let cases: [&[&str]; 5] = [
+    let expand = "--expand-let-bindings";
+    let cases: [&[&str]; 16] = [
         &[],
         &["check", "a.alethe"],
         &["prove", "a.alethe", "a.smt2"],
         &["check", "--strict", "a.smt2"],
         &["check", "a.alethe", "a.smt2", "a.smt2"],
+        &["check", "a.alethe", expand],
+        &["check", "a.alethe", "a.smt2", expand, expand],
+        &["check", expand, "a.alethe", "a.smt2", expand],
+        &["check", "a.alethe", "a.smt2", "--", expand],
+        &["check", "a.alethe", "a.smt2", "--expand-let-bindings=1"],
+        &["check", "a.alethe", "a.smt2", "--expand"],
+        &["check", "a.alethe", "a.smt2", "--strict", expand],
+        &["check", "a.alethe", "a.smt2", "-e"],
+        &["check", "a.alethe", "--", "--", "a.smt2"],
+        &[expand, "check", "a.alethe", "a.smt2"],
+        &["--", "check", "a.alethe", "a.smt2"],
     ];
     for words in cases {
-        let folder = MemoryFolder::new(
-            files(rt.alloc(), RESOLUTION, CONTRADICTION)?,
-            7,
-            Vec::new(rt.alloc()),
-        );
-        let out = MemorySink::new(16, Vec::new(rt.alloc()));
-        let (status, printed) = answer(&rt, words, folder, out)?;
+        let (status, printed) = answer_over(&rt, words, RESOLUTION, CONTRADICTION)?;
         assert_eq!(rt; status, 64);
         assert_eq!(rt; printed.as_slice(), usage.as_slice());
+    }
+    Ok(())
+}
+
+// Without the option a let is a term of its own, with it the body with the terms put in.
+#[test]
+fn lets_are_replaced_where_asked_for(rt: HostRuntime) -> Result<(), Fail> {
+    let problem = b"(declare-const p Bool)(assert (let ((x p)) x))(assert (not p))";
+    let expand = "--expand-let-bindings";
+    let replaced: [&[&str]; 5] = [
+        &["check", expand, "a.alethe", "a.smt2"],
+        &["check", "a.alethe", expand, "a.smt2"],
+        &["check", "a.alethe", "a.smt2", expand],
+        &["check", "a.alethe", expand, "--", "a.smt2"],
+        &["check", expand, "--", "a.alethe", "a.smt2"],
+    ];
+    for words in replaced {
+        let (status, printed) = answer_over(&rt, words, RESOLUTION, problem)?;
+        assert_eq!(rt; status, 0);
+        assert_eq!(rt; printed.as_slice(), b"valid\n".as_slice());
+    }
+    let kept: [&[&str]; 3] = [
+        &["check", "a.alethe", "a.smt2"],
+        &["check", "--", "a.alethe", "a.smt2"],
+        &["check", "a.alethe", "a.smt2", "--"],
+    ];
+    for words in kept {
+        let (status, printed) = answer_over(&rt, words, RESOLUTION, problem)?;
+        assert_eq!(rt; status, 1);
+        assert_eq!(rt;
+            printed.as_slice(),
+            b"invalid\nstep h1: not asserted\n".as_slice()
+        );
+    }
+    Ok(())
+}
+
+// A lone `-` and every word behind `--` are operands, so they name files, which are not there.
+#[test]
+fn operands_that_begin_with_a_hyphen(rt: HostRuntime) -> Result<(), Fail> {
+    let cases: [&[&str]; 4] = [
+        &["check", "-", "a.smt2"],
+        &["check", "a.alethe", "-"],
+        &["check", "a.alethe", "--", "--expand-let-bindings"],
+        &["check", "--", "--", "a.smt2"],
+    ];
+    for words in cases {
+        let (status, printed) = answer_over(&rt, words, RESOLUTION, CONTRADICTION)?;
+        assert_eq!(rt; status, 5);
+        assert_eq!(rt; printed.as_slice(), b"read fault\n".as_slice());
     }
     Ok(())
 }

@@ -1,5 +1,5 @@
 -- Where a pool has no room for a cell of a text's terms, each of its places has another cell of them.
-use Rattle.std.proofs.Common.{◌≡◌, ◌⊎◌, ℕ, ◌+◌, ◌^◌, ◌<◌, ◌≤◌, false, List, [], sym, inl, inr, arith}
+use Rattle.std.proofs.Common.{◌≡◌, ◌⊎◌, ℕ, ◌+◌, ◌^◌, ◌<◌, ◌≤◌, Bool, List, [], sym, inl, inr, arith}
 use Rattle.std.proofs.lemmas.Bool.{cases_lt}
 use Rattle.pair_pool.specs.Trees.{Tree, cell}
 use Rattle.pair_pool.specs.Views.{PassView, IsListed, IsPlaced, IsSeen, IsOneToOne, HasListsInOrder}
@@ -12,14 +12,14 @@ none_listed : (r a b : ℕ) → IsListed [] r a b → ⊥
 unfolding IsListed
 none_listed r a b l = absurd (omega (arith, l.1))
 
-module _ (s : Table) (old pass : PassView) (text : List ℕ)
+module _ (s : Table) (old pass : PassView) (text : List ℕ) (replaces_lets : Bool)
     (nothing : old.placed ≡ []) (all : pass.shares ≡ 65)
     (one : IsOneToOne pass) (order : HasListsInOrder pass)
-    (placed : PlacesCellsOf s old pass (IsCounted text false))
-    (lacks : LacksCellOf s pass (IsCounted text false)) where
+    (placed : PlacesCellsOf s old pass (IsCounted text replaces_lets))
+    (lacks : LacksCellOf s pass (IsCounted text replaces_lets)) where
   -- a cell that stands in the table is one of the text
   abbrev IsOfText : ℕ → ℕ → Type 0
-  IsOfText a b = IsCellOf s pass (IsCounted text false) a b
+  IsOfText a b = IsCellOf s pass (IsCounted text replaces_lets) a b
 
   none_before : (r a b : ℕ) → IsPlaced old r a b → ⊥
   none_before r a b p = let none : IsListed [] r a b = rw nothing at p in none_listed r a b none
@@ -36,7 +36,7 @@ module _ (s : Table) (old pass : PassView) (text : List ℕ)
   abbrev tree_of : (a b : ℕ) → IsOfText a b → Tree
   tree_of a b is = cell is.cell.first is.cell.second
 
-  is_of_text : (a b : ℕ) (is : IsOfText a b) → IsCellOfText s text (tree_of a b is)
+  is_of_text : (a b : ℕ) (is : IsOfText a b) → IsCellOfText s text replaces_lets (tree_of a b is)
   is_of_text a b is = record { whole = is.whole; counted = is.wanted; tree = is.tree; stands = is.stands; part = is.cell.part; is_cell = tt }
 
   -- equal trees are of one cell
@@ -81,7 +81,7 @@ module _ (s : Table) (old pass : PassView) (text : List ℕ)
   ]
   other_place i j (inr h) (inr h') within within' same = omega arith
 
-  pub has_more_cells : (n : ℕ) → pass.places ≡ n → HasMoreCells text n
+  pub has_more_cells : (n : ℕ) → pass.places ≡ n → HasMoreCells text replaces_lets n
   has_more_cells n e = record {
     table = s;
     cells = λ i. cell_at i (cases_lt i pass.places);

@@ -1,5 +1,5 @@
 -- The answer of a verdict on the two texts.
-use Rattle.std.proofs.Common.{◌≡◌, ℕ, zero, suc, ◌<◌, List, [], ◌∷◌, length, get_or, refl, arith}
+use Rattle.std.proofs.Common.{◌≡◌, ℕ, zero, suc, ◌<◌, Bool, List, [], ◌∷◌, length, get_or, refl, arith}
 use Rattle.std.specs.List.{Contains}
 use Rattle.carcara_cli.specs.declared.literal.Literal.{Literal}
 use Rattle.carcara_cli.specs.declared.answer.Answer.{Answer}
@@ -19,11 +19,12 @@ use Rattle.carcara_cli.specs.Texts.{IsTerm, term_of}
 use Rattle.carcara_cli.specs.Problem.{AreLiterals, IsProblemText}
 use Rattle.carcara_cli.specs.Answers.{status_of}
 use Rattle.carcara_cli.specs.Proof.{HaveEarlierPremises}
-use Rattle.carcara_cli.specs.Judgement.{Paths, IsProofText, IsJudgedAs, IsWithin, IsNamed, IsJudged, IsJudgedIfTold, IsAnswer, IsUnsatisfiableIfTold, ShowsUnsatisfiable}
+use Rattle.carcara_cli.specs.CommandLine.{Asked}
+use Rattle.carcara_cli.specs.Judgement.{IsProofText, IsJudgedAs, IsWithin, IsNamed, IsJudged, IsJudgedIfTold, IsAnswer, IsUnsatisfiableIfTold, ShowsUnsatisfiable}
 
-module _ (problem proof : List ℕ) (script : Script) (names ids : List Word) (assertions : List Literal) (commands : List ProofCommand)
-    (problem_text : IsProblemText problem script names assertions) (proof_text : IsProofText proof names ids commands) where
-  judged_as : (v : Verdict) → IsVerdict assertions commands v → IsJudgedAs problem proof v ids
+module _ (problem : List ℕ) (replaces_lets : Bool) (proof : List ℕ) (script : Script) (names ids : List Word) (assertions : List Literal) (commands : List ProofCommand)
+    (problem_text : IsProblemText problem replaces_lets script names assertions) (proof_text : IsProofText proof names ids commands) where
+  judged_as : (v : Verdict) → IsVerdict assertions commands v → IsJudgedAs problem replaces_lets proof v ids
   judged_as v h = record { script = script; names = names; assertions = assertions; commands = commands; problem_text = problem_text; proof_text = proof_text; verdict = h }
 
   pub verdict_within : (v : Verdict) → IsVerdict assertions commands v → IsWithin (length ids) v
@@ -32,7 +33,7 @@ module _ (problem proof : List ℕ) (script : Script) (names ids : List Word) (a
   verdict_within (verdict.NotMet k) h = omega (arith, h.0.within, proof_text.proof.each_id)
   verdict_within (verdict.NotAsserted k) h = omega (arith, h.0.within, proof_text.proof.each_id)
 
-  pub named_is_judged : (v : Verdict) (a : Answer) → IsVerdict assertions commands v → IsNamed ids v a → IsJudged problem proof a
+  pub named_is_judged : (v : Verdict) (a : Answer) → IsVerdict assertions commands v → IsNamed ids v a → IsJudged problem replaces_lets proof a
   named_is_judged v Valid h n = (ids, judged_as verdict.Valid (rw n at h))
   named_is_judged v NoEmptyClause h n = (ids, judged_as verdict.NoEmptyClause (rw n at h))
   named_is_judged v (NotMet id) h n = (ids, n.0, judged_as (verdict.NotMet n.0) (rw n.1 at h), n.2)
@@ -44,28 +45,28 @@ module _ (problem proof : List ℕ) (script : Script) (names ids : List Word) (a
   named_is_judged v TooLong h n = absurd n
   named_is_judged v Usage h n = absurd n
 
-if_told : (x y : Option (List ℕ)) (problem proof : List ℕ) (a : Answer) → AreTold x problem → AreTold y proof → IsJudged problem proof a → IsJudgedIfTold x y a
-if_told None y problem proof a told told' h = tt
-if_told (Some t) None problem proof a told told' h = tt
-if_told (Some t) (Some u) problem proof a told told' h = rw (told, told') at h
+if_told : (replaces_lets : Bool) (x y : Option (List ℕ)) (problem proof : List ℕ) (a : Answer) → AreTold x problem → AreTold y proof → IsJudged problem replaces_lets proof a → IsJudgedIfTold replaces_lets x y a
+if_told replaces_lets None y problem proof a told told' h = tt
+if_told replaces_lets (Some t) None problem proof a told told' h = tt
+if_told replaces_lets (Some t) (Some u) problem proof a told told' h = rw (told, told') at h
 
-module _ (content : List ℕ → Option (List ℕ)) (before after : ℕ) (p : Paths) (problem proof : List ℕ)
+module _ (content : List ℕ → Option (List ℕ)) (before after : ℕ) (p : Asked) (problem proof : List ℕ)
     (told : AreTold (content p.problem) problem) (told' : AreTold (content p.proof) proof) where
-  judged_is_answer : (a : Answer) → IsJudged problem proof a → IsAnswer content before after (Some p) a
-  judged_is_answer Valid h = if_told (content p.problem) (content p.proof) problem proof Valid told told' h
-  judged_is_answer NoEmptyClause h = if_told (content p.problem) (content p.proof) problem proof NoEmptyClause told told' h
-  judged_is_answer (NotMet id) h = if_told (content p.problem) (content p.proof) problem proof (NotMet id) told told' h
-  judged_is_answer (NotAsserted id) h = if_told (content p.problem) (content p.proof) problem proof (NotAsserted id) told told' h
-  judged_is_answer (RefusedProblem r) h = if_told (content p.problem) (content p.proof) problem proof (RefusedProblem r) told told' h
-  judged_is_answer (RefusedProof r) h = if_told (content p.problem) (content p.proof) problem proof (RefusedProof r) told told' h
-  judged_is_answer PoolFull h = if_told (content p.problem) (content p.proof) problem proof PoolFull told told' h
+  judged_is_answer : (a : Answer) → IsJudged problem p.replaces_lets proof a → IsAnswer content before after (Some p) a
+  judged_is_answer Valid h = if_told p.replaces_lets (content p.problem) (content p.proof) problem proof Valid told told' h
+  judged_is_answer NoEmptyClause h = if_told p.replaces_lets (content p.problem) (content p.proof) problem proof NoEmptyClause told told' h
+  judged_is_answer (NotMet id) h = if_told p.replaces_lets (content p.problem) (content p.proof) problem proof (NotMet id) told told' h
+  judged_is_answer (NotAsserted id) h = if_told p.replaces_lets (content p.problem) (content p.proof) problem proof (NotAsserted id) told told' h
+  judged_is_answer (RefusedProblem r) h = if_told p.replaces_lets (content p.problem) (content p.proof) problem proof (RefusedProblem r) told told' h
+  judged_is_answer (RefusedProof r) h = if_told p.replaces_lets (content p.problem) (content p.proof) problem proof (RefusedProof r) told told' h
+  judged_is_answer PoolFull h = if_told p.replaces_lets (content p.problem) (content p.proof) problem proof PoolFull told told' h
   judged_is_answer ReadFault h = absurd h
   judged_is_answer TooLong h = absurd h
   judged_is_answer Usage h = absurd h
 
-  pub answer_is : (paths : Option Paths) → Some p ≡ paths → (r : Result Answer Memory) → IfOk r (IsJudged problem proof) → IfOk r (IsAnswer content before after paths)
-  answer_is paths e (Ok a) h = rw (← e) (judged_is_answer a h)
-  answer_is paths e (Err m) h = tt
+  pub answer_is : (asked : Option Asked) → Some p ≡ asked → (r : Result Answer Memory) → IfOk r (IsJudged problem p.replaces_lets proof) → IfOk r (IsAnswer content before after asked)
+  answer_is asked e (Ok a) h = rw (← e) (judged_is_answer a h)
+  answer_is asked e (Err m) h = tt
 
 -- a list that has all of an unsatisfiable list's terms is unsatisfiable too
 more_assertions : (all some : List Term) → ((t : Term) → Contains some t → Contains all t) → Unsatisfiable some → Unsatisfiable all
@@ -91,10 +92,10 @@ literals_are_assertions sc names ls are t there = by ls (λ l h. (are l).0 h) th
   by (m ∷ ms) each (suc k) inside is = by ms (λ l h. each l (suc h.0, omega (arith, h.1), h.2)) k (omega (arith, inside)) is
 
 module _ (sound : (names : List Word) (assertions : List Literal) (commands : List ProofCommand) → HaveEarlierPremises commands → IsVerdict assertions commands verdict.Valid → Unsatisfiable (map (term_of names) assertions)) where
-  valid_told : (x y : Option (List ℕ)) → IsJudgedIfTold x y Valid → IsUnsatisfiableIfTold x y
-  valid_told None y h = tt
-  valid_told (Some problem) None h = tt
-  valid_told (Some problem) (Some proof) h =
+  valid_told : (replaces_lets : Bool) (x y : Option (List ℕ)) → IsJudgedIfTold replaces_lets x y Valid → IsUnsatisfiableIfTold replaces_lets x y
+  valid_told replaces_lets None y h = tt
+  valid_told replaces_lets (Some problem) None h = tt
+  valid_told replaces_lets (Some problem) (Some proof) h =
       let j = h.1 in (
         j.script,
         j.problem_text.stands,
@@ -103,15 +104,15 @@ module _ (sound : (names : List Word) (assertions : List Literal) (commands : Li
             (sound j.names j.assertions j.commands (λ k within. (j.proof_text.proof.each k within).earlier) j.verdict),
       )
 
-  pub valid_shows : (content : List ℕ → Option (List ℕ)) (before after : ℕ) (paths : Option Paths) (a : Answer) → IsAnswer content before after paths a → status_of a ≡ 0 → ShowsUnsatisfiable content paths
+  pub valid_shows : (content : List ℕ → Option (List ℕ)) (before after : ℕ) (asked : Option Asked) (a : Answer) → IsAnswer content before after asked a → status_of a ≡ 0 → ShowsUnsatisfiable content asked
   valid_shows content before after None Valid h e = absurd h
-  valid_shows content before after (Some p) Valid h e = valid_told (content p.problem) (content p.proof) h
-  valid_shows content before after paths NoEmptyClause h e = absurd (omega (arith, e))
-  valid_shows content before after paths (NotMet id) h e = absurd (omega (arith, e))
-  valid_shows content before after paths (NotAsserted id) h e = absurd (omega (arith, e))
-  valid_shows content before after paths (RefusedProblem r) h e = absurd (omega (arith, e))
-  valid_shows content before after paths (RefusedProof r) h e = absurd (omega (arith, e))
-  valid_shows content before after paths ReadFault h e = absurd (omega (arith, e))
-  valid_shows content before after paths PoolFull h e = absurd (omega (arith, e))
-  valid_shows content before after paths TooLong h e = absurd (omega (arith, e))
-  valid_shows content before after paths Usage h e = absurd (omega (arith, e))
+  valid_shows content before after (Some p) Valid h e = valid_told p.replaces_lets (content p.problem) (content p.proof) h
+  valid_shows content before after asked NoEmptyClause h e = absurd (omega (arith, e))
+  valid_shows content before after asked (NotMet id) h e = absurd (omega (arith, e))
+  valid_shows content before after asked (NotAsserted id) h e = absurd (omega (arith, e))
+  valid_shows content before after asked (RefusedProblem r) h e = absurd (omega (arith, e))
+  valid_shows content before after asked (RefusedProof r) h e = absurd (omega (arith, e))
+  valid_shows content before after asked ReadFault h e = absurd (omega (arith, e))
+  valid_shows content before after asked PoolFull h e = absurd (omega (arith, e))
+  valid_shows content before after asked TooLong h e = absurd (omega (arith, e))
+  valid_shows content before after asked Usage h e = absurd (omega (arith, e))

@@ -1,5 +1,5 @@
 -- What the reading of a problem says of its constants and literals.
-use Rattle.std.proofs.Common.{◌≡◌, ℕ, zero, suc, List, [], ◌∷◌, length, Some, refl, ap, ◌∙◌, arith, slice_get}
+use Rattle.std.proofs.Common.{◌≡◌, ℕ, zero, suc, Bool, List, [], ◌∷◌, length, Some, refl, ap, ◌∙◌, arith, slice_get}
 use Rattle.std.specs.List.{AllByRecursion}
 use Rattle.std.proofs.lemmas.Option.{slice_get_within, slice_get-get_or, get_or_from_slice_get}
 use Rattle.sym_table.specs.Table.{Table, IsTable}
@@ -22,7 +22,7 @@ all_at P [] all k x is = absurd (omega (arith, slice_get_within [] k x is))
 all_at P (y ∷ xs) all zero x is = let both : Some y ≡ Some x = is in let same : y ≡ x = cc in rw same at all.0
 all_at P (y ∷ xs) all (suc k) x is = all_at P xs all.1 k x is
 
-module _ (text : List ℕ) (s : Table) (v : TermsView) (p : ProblemView) (read : IsReadProblem text s v p) where
+module _ (text : List ℕ) (replaces_lets : Bool) (s : Table) (v : TermsView) (p : ProblemView) (read : IsReadProblem text replaces_lets s v p) where
   -- no assertion is too high
   pub low_terms : IsSound read.script → AreLowTerms s v p.assertions
   low_terms sound k r is =
@@ -38,7 +38,7 @@ module _ (text : List ℕ) (s : Table) (v : TermsView) (p : ProblemView) (read :
   )
 
   pub problem_text : IsTable s → (names : List Word) (ls : List Literal) → AreConstantsBelow s (length s.leaves) names →
-      ((ts : List Term) → ReferToAll s v p.assertions ts → AreLiteralsBelow names ts (length ts) ls) → IsProblemText text read.script names ls
+      ((ts : List Term) → ReferToAll s v p.assertions ts → AreLiteralsBelow names ts (length ts) ls) → IsProblemText text replaces_lets read.script names ls
   problem_text table names ls constants literals = record {
     stands = read.stands;
     constants = are_constants s v (record { base = p.entries; own = no_entries }) read.script table read.is.script names (length s.leaves) refl constants;

@@ -9,4 +9,5 @@ pub mod Commands
 pub mod Verdict
 pub mod Answers
 pub mod Reads
+pub mod CommandLine
 pub mod Judgement

@@ -1,5 +1,5 @@
 -- What the problem of a text says of the Boolean constants, and of the assertions that are constants behind `not`s.
-use Rattle.std.specs.Prelude.{◌≡◌, ◌↔◌, ◌⊎◌, ℕ, ◌<◌, ◌≤◌, false, [], ◌∷◌, ◌++◌, List, length, All, Contains, Some, slice_get}
+use Rattle.std.specs.Prelude.{◌≡◌, ◌↔◌, ◌⊎◌, ℕ, ◌<◌, ◌≤◌, Bool, [], ◌∷◌, ◌++◌, List, length, All, Contains, Some, slice_get}
 use Rattle.sym_table.specs.Leaf.{function}
 use Rattle.sym_table.specs.Table.{Table, IsLeaf}
 use Rattle.term_model.specs.declared.symbols.Sort.{Sort}
@@ -31,9 +31,10 @@ abbrev pub AreLiterals : Script → List Word → List Literal → Type 0
 AreLiterals sc names assertions =
     (l : Literal) → Contains assertions l ↔ (IsTerm names l × Contains sc.assertions (term_of names l))
 
--- the text is a problem with these constants, and these of its assertions are literals
-pub record IsProblemText (text : List ℕ) (sc : Script) (names : List Word) (assertions : List Literal) : Type 0 where
-  pub stands : StandsForProblem text false sc
+-- the text is a problem with these constants, and these of its assertions are literals; where its lets are replaced,
+-- the assertions are those after that
+pub record IsProblemText (text : List ℕ) (replaces_lets : Bool) (sc : Script) (names : List Word) (assertions : List Literal) : Type 0 where
+  pub stands : StandsForProblem text replaces_lets sc
   pub constants : AreConstants sc names
   pub literals : AreLiterals sc names assertions
 
@@ -77,7 +78,7 @@ pub record AreLiteralsBelow (names : List Word) (ts : List Term) (n : ℕ) (lite
       (l : Literal) (k : ℕ) → IsTerm names l → k < n → slice_get ts k ≡ Some (term_of names l) → Contains literals l
 
 -- what was read of the text, in a table and a pool
-pub record IsReadProblem (text : List ℕ) (s : Table) (v : TermsView) (p : ProblemView) : Type 0 where
+pub record IsReadProblem (text : List ℕ) (replaces_lets : Bool) (s : Table) (v : TermsView) (p : ProblemView) : Type 0 where
   pub script : Script
-  pub stands : StandsForProblem text false script
+  pub stands : StandsForProblem text replaces_lets script
   pub is : IsProblemOf s v p script

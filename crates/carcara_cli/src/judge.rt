@@ -68,13 +68,18 @@ fn named(alloc: Global, verdict: Verdict, ids: &NameTable) -> Result<Answer, All
     }
 }
 
-/// The answer on the two texts.
-pub fn judge(alloc: Global, problem: &[u8], proof: &[u8]) -> Result<Answer, Memory>
+/// The answer on the two texts, with the problem's lets or with their bodies in their places.
+pub fn judge(
+    alloc: Global,
+    problem: &[u8],
+    replaces_lets: bool,
+    proof: &[u8],
+) -> Result<Answer, Memory>
     requires problem { length problem.now ≤ most_bytes }
     requires proof { length proof.now ≤ most_bytes }
-    ensures { IfOk result (IsJudged problem.now proof.now) }
+    ensures { IfOk result (IsJudged problem.now replaces_lets proof.now) }
 {
-    let problem = match read(alloc, problem, problem.len() + proof.len())? {
+    let problem = match read(alloc, problem, replaces_lets, problem.len() + proof.len())? {
         Reading::Read(problem) => problem,
         Reading::Refused(refusal) => return Ok(Answer::RefusedProblem(refusal)),
         Reading::PoolFull => return Ok(Answer::PoolFull),

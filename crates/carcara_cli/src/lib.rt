@@ -1,6 +1,6 @@
 //! The top call of the checker: `check PROOF PROBLEM` on problems as SMT-LIB has them and the first forms of proofs.
 //!
-//! - `top`: the words of the command line, the two files, the answer and its printing.
+//! - `top`: the two files, the answer and its printing; `command_line`: what the words of the command line ask for.
 //! - `judge`: the answer on the two texts; `answer`: what is answered, and how it is printed.
 //! - `check`: the verdict on the commands of a proof, and why `valid` can be trusted.
 //! - `reading`: the problem, read into a pool that is large enough; `problem`: its Boolean constants, and those of its
@@ -11,6 +11,7 @@
 mod answer;
 mod check;
 mod command;
+mod command_line;
 mod judge;
 mod literal;
 mod names;

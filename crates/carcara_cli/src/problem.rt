@@ -1,5 +1,5 @@
 //! The Boolean constants of a problem, and those of its assertions that are one of them behind `not`s.
-ghost use Rattle.std.specs.Prelude.{◌≡◌, ℕ, ◌+◌, ◌<◌, ◌≤◌, ◌^◌, List, length, All, IfSome, IfNone, IfOk, OnOk, MatchBool};
+ghost use Rattle.std.specs.Prelude.{◌≡◌, ℕ, ◌+◌, ◌<◌, ◌≤◌, ◌^◌, List, Bool, length, All, IfSome, IfNone, IfOk, OnOk, MatchBool};
 ghost use Rattle.term_model.specs.Terms.{Term};
 ghost use Rattle.term_pool.specs.Views.{RefersTo, ReferToAll, IsTerm as IsSomeTerm, KeepsTerms};
 ghost use Rattle.smtlib_reader.specs.Scripts.{Script};
@@ -185,8 +185,8 @@ pub fn literals_of_problem(
     problem: &smtlib_reader::Problem,
 ) -> Result<Problem, Memory>
     requires few { length symbols.now.leaves ≤ 2 ^ 28 + 19 }
-    requires read { (text : List ℕ) × IsReadProblem text symbols.now terms.old problem.now }
-    ensures { IfOk result (λ p. (text : List ℕ) → IsReadProblem text symbols.now terms.old problem.now → (sc : Script) × IsProblemText text sc p.names p.assertions.items) }
+    requires read { (text : List ℕ) × (replaces_lets : Bool) × IsReadProblem text replaces_lets symbols.now terms.old problem.now }
+    ensures { IfOk result (λ p. (text : List ℕ) (replaces_lets : Bool) → IsReadProblem text replaces_lets symbols.now terms.old problem.now → (sc : Script) × IsProblemText text replaces_lets sc p.names p.assertions.items) }
 {
     let _leaves = symbols.count();
     smtlib_reader::laws::scripts_are_well_sorted();

@@ -40,11 +40,11 @@ fn pool_bits(bytes: usize) -> u32
 }
 
 /// Reads a problem into a new pool with so many bits.
-fn read_into(alloc: Global, bits: u32, text: &[u8]) -> Result<Reading, Memory>
+fn read_into(alloc: Global, bits: u32, text: &[u8], replaces_lets: bool) -> Result<Reading, Memory>
     requires least { LEAST_BITS ≤ bits }
     requires most { bits ≤ MOST_BITS }
     requires size { length text.now ≤ most_bytes }
-    ensures { IfOk result (IsReading text.now bits) }
+    ensures { IfOk result (IsReading text.now replaces_lets bits) }
 {
     let Ok(mut symbols) = Symbols::new(alloc) else {
         return Err(Memory);
@@ -54,7 +54,7 @@ fn read_into(alloc: Global, bits: u32, text: &[u8]) -> Result<Reading, Memory>
     };
     let mut terms = Terms::new(&pool, pass);
     let flags = Flags {
-        expand_lets: false,
+        expand_lets: replaces_lets,
         strict: false,
         ignore_unknown: false,
     };
@@ -73,18 +73,23 @@ fn read_into(alloc: Global, bits: u32, text: &[u8]) -> Result<Reading, Memory>
     }
 }
 
-/// Reads a problem, of whose text and its proof's there are so many bytes. Where the pool has no room for its terms, it
-/// is read again into one that is twice as large.
-pub fn read(alloc: Global, text: &[u8], bytes: usize) -> Result<Reading, Memory>
+/// Reads a problem, of whose text and its proof's there are so many bytes, with its lets or with their bodies in their
+/// places. Where the pool has no room for its terms, it is read again into one that is twice as large.
+pub fn read(
+    alloc: Global,
+    text: &[u8],
+    replaces_lets: bool,
+    bytes: usize,
+) -> Result<Reading, Memory>
     requires size { length text.now ≤ most_bytes }
     requires bytes { bytes ≤ 2 ^ 30 }
-    ensures { IfOk result (IsReading text.now MOST_BITS) }
+    ensures { IfOk result (IsReading text.now replaces_lets MOST_BITS) }
 {
     for bits in pool_bits(bytes)..MOST_BITS {
-        match read_into(alloc, bits, text)? {
+        match read_into(alloc, bits, text, replaces_lets)? {
             Reading::PoolFull => {}
             reading => return Ok(reading),
         }
     }
-    read_into(alloc, MOST_BITS, text)
+    read_into(alloc, MOST_BITS, text, replaces_lets)
 }

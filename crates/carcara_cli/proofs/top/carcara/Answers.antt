@@ -1,6 +1,6 @@
 use Rattle.std.proofs.Common.{arith, ◌≡◌, ◌≢◌, sym, ◌∙◌}
 use Rattle.std.specs.Prelude.{map, string_bytes}
-use Rattle.carcara_cli.specs.Judgement.{paths_of}
+use Rattle.carcara_cli.specs.CommandLine.{asked_of}
 use Rattle.carcara_cli.specs.Answers.{status_of}
 use Rattle.carcara_cli.proofs.JudgementLemmas.{valid_shows}
 use Rattle.carcara_cli.proofs.top.carcara.Goals as goal
@@ -10,4 +10,4 @@ returns-in-Ok-clause-unsatisfiable g c = λ zero.
     let no_fault : c.report.result ≢ 6 = λ six. omega (arith, zero, six) in
     let no_want : c.report.result ≢ 7 = λ seven. omega (arith, zero, seven) in
     let status : status_of c.in-Ok.answer ≡ 0 = sym (c.report.ensures.whole no_fault no_want).0 ∙ zero in
-    valid_shows c.valid_proofs_are_sound.ensures (g.F.Folder.content c.args.folder.now) (g.F.Folder.faults c.args.folder.now) (g.F.Folder.faults c.answer_to.new.folder) (paths_of (map string_bytes c.args.words.now)) c.in-Ok.answer c.in-Ok.ensures status
+    valid_shows c.valid_proofs_are_sound.ensures (g.F.Folder.content c.args.folder.now) (g.F.Folder.faults c.args.folder.now) (g.F.Folder.faults c.answer_to.new.folder) (asked_of (map string_bytes c.args.words.now)) c.in-Ok.answer c.in-Ok.ensures status
