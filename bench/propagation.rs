@@ -10,6 +10,9 @@ enum Lit {
     Never,
 }
 
+/// With fewer literals than these the atoms keep their names.
+const FEW: u128 = 256;
+
 struct Trail {
     #[allow(dead_code)]
     units: Vec<(u32, u32)>,
@@ -133,8 +136,7 @@ fn start(premises: &[Vec<Lit>], table: &[Occurrence]) -> Work {
     Work { marks: vec![false; table.len()], standings, ready }
 }
 
-#[inline(never)]
-fn follows(premises: &[Vec<Lit>], goal: &[Lit]) -> Option<Trail> {
+fn follow_plainly(premises: &[Vec<Lit>], goal: &[Lit]) -> Option<Trail> {
     let table = table_of(premises, goal);
     let mut work = start(premises, &table);
     for literal in goal {
@@ -161,6 +163,98 @@ fn follows(premises: &[Vec<Lit>], goal: &[Lit]) -> Option<Trail> {
         }
     }
     None
+}
+
+/// An atom, and the number of a literal that has it.
+#[derive(Clone, Copy)]
+struct Key {
+    atom: u32,
+    number: u32,
+}
+
+impl Key {
+    fn rank(self) -> u64 {
+        self.atom as u64 * 4_294_967_296 + self.number as u64
+    }
+}
+
+fn literal_count(premises: &[Vec<Lit>], goal: &[Lit]) -> u128 {
+    let mut count = goal.len() as u128;
+    for clause in premises {
+        count += clause.len() as u128;
+    }
+    count
+}
+
+fn add_keys(keys: &mut Vec<Key>, from: u32, clause: &[Lit]) {
+    for (place, literal) in clause.iter().enumerate() {
+        if let Lit::Plain { atom, .. } = *literal {
+            keys.push(Key { atom, number: from + place as u32 });
+        }
+    }
+}
+
+/// A name for each literal's atom: the number of the first literal that has the atom.
+fn names_of(premises: &[Vec<Lit>], goal: &[Lit], count: usize) -> Vec<u32> {
+    let mut keys = Vec::new();
+    let mut from = 0;
+    for clause in premises {
+        add_keys(&mut keys, from, clause);
+        from += clause.len() as u32;
+    }
+    add_keys(&mut keys, from, goal);
+    keys.sort_unstable_by_key(|k| k.rank());
+    let mut names = vec![0; count];
+    let mut first = 0;
+    for (at, key) in keys.iter().enumerate() {
+        if key.atom != keys[first].atom {
+            first = at;
+        }
+        names[key.number as usize] = keys[first].number;
+    }
+    names
+}
+
+fn rename(literal: Lit, name: u32) -> Lit {
+    match literal {
+        Lit::Plain { negative, .. } => Lit::Plain { atom: name, negative },
+        Lit::Always => Lit::Always,
+        Lit::Never => Lit::Never,
+    }
+}
+
+fn rename_clause(clause: &[Lit], names: &[u32], from: usize) -> Vec<Lit> {
+    let mut renamed = Vec::with_capacity(clause.len());
+    for (place, literal) in clause.iter().enumerate() {
+        renamed.push(rename(*literal, names[from + place]));
+    }
+    renamed
+}
+
+fn rename_all(premises: &[Vec<Lit>], names: &[u32]) -> Vec<Vec<Lit>> {
+    let mut renamed = Vec::with_capacity(premises.len());
+    let mut from = 0;
+    for clause in premises {
+        renamed.push(rename_clause(clause, names, from));
+        from += clause.len();
+    }
+    renamed
+}
+
+fn follow_renamed(premises: &[Vec<Lit>], goal: &[Lit], count: usize) -> Option<Trail> {
+    let names = names_of(premises, goal, count);
+    let renamed = rename_all(premises, &names);
+    let renamed_goal = rename_clause(goal, &names, count - goal.len());
+    follow_plainly(&renamed, &renamed_goal)
+}
+
+#[inline(never)]
+fn follows(premises: &[Vec<Lit>], goal: &[Lit]) -> Option<Trail> {
+    let count = literal_count(premises, goal);
+    if count < FEW || count >= 4_294_967_296 {
+        return follow_plainly(premises, goal);
+    }
+    follow_renamed(premises, goal, count as usize)
 }
 
 struct Problem {

@@ -10,3 +10,5 @@ pub mod Closing
 pub mod Counts
 pub mod States
 pub mod Progresses
+pub mod Renamings
+pub mod Keys

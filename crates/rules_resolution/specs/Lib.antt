@@ -1,6 +1,8 @@
 pub mod Literal
 pub mod Clause
 pub mod Consequence
+pub mod Renaming
+pub mod Naming
 pub mod Trace
 pub mod Shows
 pub mod Occurrence

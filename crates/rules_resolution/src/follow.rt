@@ -2,6 +2,7 @@
 ghost use Rattle.std.specs.Prelude.{◌≡◌, ◌+◌, ◌<◌, ◌≤◌, ◌^◌, [], ◌∷◌, ◌++◌, length, vec_len, All, IfOk, IfSome, IfNone, OnSome, OnOk, MatchBool, false};
 ghost use Rattle.rules_resolution.specs.Clause.{clauses_of, Entails};
 ghost use Rattle.rules_resolution.specs.Consequence.{Contradicts, Follows, IsConflict};
+ghost use Rattle.rules_resolution.specs.Renaming.{all_literals};
 ghost use Rattle.rules_resolution.specs.Shows.{Shows};
 ghost use Rattle.rules_resolution.specs.Standing.{Advances, AreInRange, AreReady, IsTallied, open_at, total_of};
 ghost use Rattle.rules_resolution.specs.Table.{HasGoal, IsRising, IsTable};
@@ -9,11 +10,17 @@ ghost use Rattle.rules_resolution.specs.Work.{IsMarked, IsSomeState, FalsifiesAl
 ghost use Rattle.rules_resolution.specs.Progress.{IsSomeProgress, GoesOn, Looks};
 
 use crate::literal::{Lit, negate};
+use crate::naming::names_of;
 use crate::occurrence::Occurrence;
+use crate::renaming::{literal_count, rename_all, rename_clause};
 use crate::table::table_of;
 use crate::trail::{Memory, Trail};
 use crate::work::{Work, falsify, is_falsified, start};
 use std::alloc::Global;
+
+/// With fewer literals than these the table stays in the processor's cache, and new names cost more than
+/// they win.
+const FEW: u128 = 256;
 
 /// Makes all literals of the conclusion false.
 fn falsify_all(table: &[Occurrence], goal: &[Lit], work: &mut Work) -> Result<(), Memory>
@@ -133,6 +140,44 @@ fn propagate(
     Ok(None)
 }
 
+/// Follows the conclusion with the atoms as they are.
+fn follow_plainly(
+    alloc: Global,
+    premises: &[Vec<Lit>],
+    goal: &[Lit],
+) -> Result<Option<Trail>, Memory>
+    requires premises { length premises.now < 2 ^ 32 }
+    requires literals { All (λ clause. vec_len clause < 2 ^ 32) premises.now }
+    ensures shown { IfOk result (λ found. IfSome found (Shows (clauses_of premises.now) goal.now)) }
+    ensures none { IfOk result (λ found. IfNone found (Follows (clauses_of premises.now) goal.now → ⊥)) }
+{
+    let table = table_of(alloc, premises, goal)?;
+    let work = start(alloc, premises, &table)?;
+    propagate(alloc, premises, goal, &table, work)
+}
+
+/// Follows the conclusion with each atom renamed to the number of its first literal, so that literals that
+/// stand near each other stand near each other in the table too. A trail names places alone, and so is one
+/// for the clauses as they were.
+fn follow_renamed(
+    alloc: Global,
+    premises: &[Vec<Lit>],
+    goal: &[Lit],
+    count: usize,
+) -> Result<Option<Trail>, Memory>
+    requires premises { length premises.now < 2 ^ 32 }
+    requires literals { All (λ clause. vec_len clause < 2 ^ 32) premises.now }
+    requires count { count ≡ length (all_literals (clauses_of premises.now) goal.now) }
+    requires few { count < 4294967296 }
+    ensures shown { IfOk result (λ found. IfSome found (Shows (clauses_of premises.now) goal.now)) }
+    ensures none { IfOk result (λ found. IfNone found (Follows (clauses_of premises.now) goal.now → ⊥)) }
+{
+    let names = names_of(alloc, premises, goal, count)?;
+    let renamed = rename_all(alloc, premises, &names)?;
+    let renamed_goal = rename_clause(alloc, goal, &names, count - goal.len())?;
+    follow_plainly(alloc, &renamed, &renamed_goal)
+}
+
 /// Whether the conclusion `goal` follows from the premises by unit propagation, with a trail that shows it
 /// (Alethe specification, the rules `resolution` and `th_resolution`, whose pivots aren't used).
 ///
@@ -148,7 +193,9 @@ pub fn follows(alloc: Global, premises: &[Vec<Lit>], goal: &[Lit]) -> Result<Opt
     // what was answered is true wherever the premises are
     ensures sound { IfOk result (λ found. OnSome found (Entails (clauses_of premises.now) goal.now)) }
 {
-    let table = table_of(alloc, premises, goal)?;
-    let work = start(alloc, premises, &table)?;
-    propagate(alloc, premises, goal, &table, work)
+    let count = literal_count(premises, goal);
+    if count < FEW || count >= 4294967296 {
+        return follow_plainly(alloc, premises, goal);
+    }
+    follow_renamed(alloc, premises, goal, count as usize)
 }

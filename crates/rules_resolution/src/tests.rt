@@ -1,5 +1,5 @@
 //! Small sets of clauses, each with the answer that the definition gives by hand.
-ghost use Rattle.std.specs.Prelude.{◌<◌, ◌^◌, vec_len, All, IfOk};
+ghost use Rattle.std.specs.Prelude.{◌<◌, ◌^◌, length, vec_len, All, IfOk, IsTrue};
 
 use crate::{Lit, follows};
 use std::alloc::{AllocError, Global};
@@ -102,5 +102,135 @@ fn a_trail_names_units_and_a_false_premise(rt: HostRuntime) -> Result<(), Fail> 
     let trail = found.ok_or("no trail")?;
     assert_eq!(rt; trail.units.len(), 1);
     assert!(rt; trail.last.is_some());
+    Ok(())
+}
+
+/// How many literals a wide clause has, or implications a chain: with them the atoms get new names.
+const MANY: u32 = 300;
+
+/// The i-th atom's literal. Atoms are spread over all 32-bit numbers.
+fn literal(i: u32, negative: bool) -> Lit {
+    Lit::Plain {
+        atom: i.wrapping_mul(2_654_435_761),
+        negative,
+    }
+}
+
+/// Clauses that each refute one literal of a wide clause, all but the one that is missing, and then the wide
+/// clause.
+fn wide(alloc: Global, missing: Option<u32>) -> Result<Vec<Vec<Lit>>, AllocError> {
+    let mut all = Vec::new(alloc);
+    let mut premises = Vec::new(alloc);
+    for i in 0..MANY {
+        all.push(literal(i, false))?;
+        if missing != Some(i) {
+            premises.push(vec![in alloc; literal(i, true)]?)?;
+        }
+    }
+    premises.push(all)?;
+    Ok(premises)
+}
+
+/// A chain of implications, the last first, from an atom to the last one.
+fn chain(alloc: Global) -> Result<Vec<Vec<Lit>>, AllocError> {
+    let mut premises = Vec::new(alloc);
+    for i in (0..MANY).rev() {
+        premises.push(vec![in alloc; literal(i, true), literal(i.wrapping_add(1), false)]?)?;
+    }
+    premises.push(vec![in alloc; literal(0, false)]?)?;
+    Ok(premises)
+}
+
+/// Adds clauses from which nothing follows by unit propagation, over atoms that the others haven't.
+fn add_unrelated(alloc: Global, premises: &mut Vec<Vec<Lit>>) -> Result<(), AllocError> {
+    for i in 1_000..1_000 + MANY {
+        let first = Lit::Plain {
+            atom: i,
+            negative: false,
+        };
+        let second = Lit::Plain {
+            atom: i + 1,
+            negative: true,
+        };
+        premises.push(vec![in alloc; first, second, Lit::Never]?)?;
+    }
+    Ok(())
+}
+
+/// Whether no clause is too long, and there are not too many, for a call.
+fn fits(premises: &[Vec<Lit>]) -> bool
+    ensures few { IsTrue result → length premises.now < 2 ^ 32 }
+    ensures short { IsTrue result → All (λ clause. vec_len clause < 2 ^ 32) premises.now }
+{
+    premises.len() < 4_294_967_296 && premises.iter().all(|clause| clause.len() < 4_294_967_296)
+}
+
+/// How many units the trail has, if there is one.
+fn unit_count(alloc: Global, premises: &[Vec<Lit>], goal: &[Lit]) -> Result<Option<usize>, Fail> {
+    if !fits(premises) {
+        return Ok(None);
+    }
+    let found = follows(alloc, premises, goal).ok().ok_or("out of memory")?;
+    match found {
+        Some(trail) => Ok(Some(trail.units.len())),
+        None => Ok(None),
+    }
+}
+
+#[test]
+fn answers_stay_among_many_unrelated_clauses(rt: HostRuntime) -> Result<(), Fail> {
+    for (clauses, goal, wanted) in &CASES {
+        let mut premises = vectors(rt.alloc(), *clauses)?;
+        add_unrelated(rt.alloc(), &mut premises)?;
+        let found = unit_count(rt.alloc(), &premises, *goal)?;
+        assert_eq!(rt; found.is_some(), *wanted, "{clauses:?} to {goal:?}");
+    }
+    let mut unrelated = Vec::new(rt.alloc());
+    add_unrelated(rt.alloc(), &mut unrelated)?;
+    assert_eq!(rt; unit_count(rt.alloc(), &unrelated, &[])?, None);
+    Ok(())
+}
+
+#[test]
+fn a_wide_clause_gives_what_is_not_refuted(rt: HostRuntime) -> Result<(), Fail> {
+    let refuted = wide(rt.alloc(), None)?;
+    assert_eq!(rt; unit_count(rt.alloc(), &refuted, &[])?, Some(300));
+    let premises = wide(rt.alloc(), Some(123))?;
+    assert_eq!(rt; unit_count(rt.alloc(), &premises, &[])?, None);
+    assert_eq!(rt;
+        unit_count(rt.alloc(), &premises, &[literal(123, false)])?,
+        Some(299)
+    );
+    assert_eq!(rt;
+        unit_count(rt.alloc(), &premises, &[literal(124, false)])?,
+        None
+    );
+    assert_eq!(rt;
+        unit_count(rt.alloc(), &premises, &[literal(123, true)])?,
+        None
+    );
+    Ok(())
+}
+
+#[test]
+fn a_chain_needs_each_of_its_links(rt: HostRuntime) -> Result<(), Fail> {
+    let mut premises = chain(rt.alloc())?;
+    let last = [literal(MANY, false)];
+    // each of the 301 premises is a unit once, but for the one that is false in the end
+    assert_eq!(rt; unit_count(rt.alloc(), &premises, &last)?, Some(300));
+    assert_eq!(rt;
+        unit_count(rt.alloc(), &premises, &[literal(MANY, true)])?,
+        None
+    );
+    let _first = premises.pop();
+    assert_eq!(rt; unit_count(rt.alloc(), &premises, &last)?, None);
+    assert_eq!(rt;
+        unit_count(
+            rt.alloc(),
+            &premises,
+            &[literal(0, true), literal(MANY, false)]
+        )?,
+        Some(299)
+    );
     Ok(())
 }
