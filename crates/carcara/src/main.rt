@@ -12,6 +12,8 @@ mod problem_tests;
 #[cfg(test)]
 mod sort_tests;
 #[cfg(test)]
+mod term_tests;
+#[cfg(test)]
 mod tests;
 
 /// The status of want of memory.

@@ -1,0 +1,3 @@
+mod ItemTokens
+mod KnownReferences
+mod TermsRead
