@@ -41,10 +41,10 @@ same_some : {X : Type 0} {a b : X} → Some a ≡ Some b → a ≡ b
 same_some e = cc
 
 -- a leaf is that of one variable, and a variable has one leaf
-one_variable : (s : Table) (k : ℕ) (x y : Var) → IsLeaf s k (variable_leaf x) → IsLeaf s k (variable_leaf y) → x ≡ y
+pub one_variable : (s : Table) (k : ℕ) (x y : Var) → IsLeaf s k (variable_leaf x) → IsLeaf s k (variable_leaf y) → x ≡ y
 one_variable s k x y g h = leaf_variable x y (same_some (sym g ∙ h))
 
-one_leaf : (s : Table) → IsTable s → (j k : ℕ) (x y : Var) → IsLeaf s j (variable_leaf x) → IsLeaf s k (variable_leaf y) → x ≡ y → j ≡ k
+pub one_leaf : (s : Table) → IsTable s → (j k : ℕ) (x y : Var) → IsLeaf s j (variable_leaf x) → IsLeaf s k (variable_leaf y) → x ≡ y → j ≡ k
 one_leaf s table j k x y g h e =
     table.apart j k (variable_leaf x) (variable_leaf y) g h (ap (λ (z : Var). Leaf.kind_of 0 (variable_leaf z)) e) (ap (λ (z : Var). Leaf.name_of (variable_leaf z)) e)
 
@@ -75,6 +75,9 @@ adds-same s a b P Q f g h = record {
   only = λ k c. elim (h.only k c) [ inl old ↦ inl old | inr new ↦ inr (new.0, new.1, f new.0 new.2) ];
 }
 
+pub adds-none : (s : Table) (a : List ℕ) (P : Var → Type 0) → ((x : Var) → P x → ⊥) → AddsLeaves s a a P
+adds-none s a P never = record { kept = λ k c. c; all = λ x p. absurd (never x p); only = λ k c. inl c }
+
 pub adds-both : (s : Table) (a b c : List ℕ) (P Q : Var → Type 0) → AddsLeaves s a b P → AddsLeaves s b c Q → AddsLeaves s a c (λ x. P x ⊎ Q x)
 adds-both s a b c P Q g h = record {
   kept = λ k i. h.kept k (g.kept k i);
@@ -92,7 +95,7 @@ adds-both s a b c P Q g h = record {
     only : (k : ℕ) → Contains c k → Contains a k ⊎ IsLeafOfSome s k (λ x. P x ⊎ Q x)
     only k i = elim (h.only k i) [ inl old ↦ first k old | inr new ↦ inr (new.0, new.1, inr new.2) ]
 
-swapped : (P Q : Type 0) → P ⊎ Q → Q ⊎ P
+pub swapped : (P Q : Type 0) → P ⊎ Q → Q ⊎ P
 swapped P Q (inl p) = inr p
 swapped P Q (inr q) = inl q
 
@@ -131,19 +134,23 @@ application-no_let s k ts (let_in bs u) h e = h
 two_leaves : (s : Table) (k : ℕ) (l m : Leaf) → IsLeaf s k l → IsLeaf s k m → l ≡ m
 two_leaves s k l m g h = same_some (sym g ∙ h)
 
-pub variable-adds : (s : Table) (k : ℕ) (x : Var) (ts : List Term) (t : Term) (a b : List ℕ) → IsLeaf s k (variable_leaf x) → AddsOne a b k → IsApplication s k ts t → AddsLeaves s a b (λ y. IsFree y t)
-variable-adds s k x ts (numeral n) a b g one h =
-    absurd (let e = two_leaves s k (variable_leaf x) (Leaf.numeral (pos n)) g h.0 in cc)
-variable-adds s k x ts (operation op us) a b g one h =
-    absurd (let e = two_leaves s k (variable_leaf x) (operator op) g h.0 in cc)
-variable-adds s k x ts (call f us) a b g one h =
-    absurd (let e = two_leaves s k (variable_leaf x) (function_leaf f) g h.0 in cc)
-variable-adds s k x ts (let_in bs u) a b g one h = absurd h
-variable-adds s k x ts (variable y) a b g one h = record {
+pub is_variable : (s : Table) (k : ℕ) (x : Var) (ts : List Term) (t : Term) → IsLeaf s k (variable_leaf x) → IsApplication s k ts t → t ≡ variable x
+is_variable s k x ts (numeral n) g h = absurd (let e = two_leaves s k (variable_leaf x) (Leaf.numeral (pos n)) g h.0 in cc)
+is_variable s k x ts (operation op us) g h = absurd (let e = two_leaves s k (variable_leaf x) (operator op) g h.0 in cc)
+is_variable s k x ts (call f us) g h = absurd (let e = two_leaves s k (variable_leaf x) (function_leaf f) g h.0 in cc)
+is_variable s k x ts (let_in bs u) g h = absurd h
+is_variable s k x ts (variable y) g h = ap (λ (z : Var). variable z) (one_variable s k y x h.0 g)
+
+pub one-adds : (s : Table) (k : ℕ) (x : Var) (a b : List ℕ) → IsLeaf s k (variable_leaf x) → AddsOne a b k → AddsLeaves s a b (λ y. x ≡ y)
+one-adds s k x a b g one = record {
   kept = one.kept;
-  all = λ z e. (k, subst (λ (w : Var). IsLeaf s k (variable_leaf w)) e h.0, one.here);
-  only = λ j c. elim (one.only j c) [ inl old ↦ inl old | inr same ↦ inr (y, subst (λ i. IsLeaf s i (variable_leaf y)) (sym same) h.0, refl) ];
+  all = λ z e. (k, subst (λ (w : Var). IsLeaf s k (variable_leaf w)) e g, one.here);
+  only = λ j c. elim (one.only j c) [ inl old ↦ inl old | inr same ↦ inr (x, subst (λ i. IsLeaf s i (variable_leaf x)) (sym same) g, refl) ];
 }
+
+pub variable-adds : (s : Table) (k : ℕ) (x : Var) (ts : List Term) (t : Term) (a b : List ℕ) → IsLeaf s k (variable_leaf x) → AddsOne a b k → IsApplication s k ts t → AddsLeaves s a b (λ y. IsFree y t)
+variable-adds s k x ts t a b g one h =
+    subst (λ (u : Term). AddsLeaves s a b (λ y. IsFree y u)) (sym (is_variable s k x ts t g h)) (one-adds s k x a b g one)
 
 among-any : (ts : Terms) (x : Var) → IsFreeAmong x ts → IsFreeInAny x (list_of ts)
 among-any no_terms x h = absurd h
@@ -311,16 +318,19 @@ let-adds s v r ks rs body a b c parts first second (let_in bs u) is refers =
     back x (inl h) = inl (bound-any bs x h)
     back x (inr h) = inr h
 
--- leaves that were kept for a term
-pub kept-adds : (s : Table) (leaves a b : List ℕ) (u : Term) → AddsLeaves s [] leaves (λ x. IsFree x u) → AddsUnbound leaves [] a b → AddsLeaves s a b (λ x. IsFree x u)
-kept-adds s leaves a b u free adds = record {
+-- leaves that were kept
+pub added-leaves : (s : Table) (leaves a b : List ℕ) (P : Var → Type 0) → AddsLeaves s [] leaves P → AddsUnbound leaves [] a b → AddsLeaves s a b P
+added-leaves s leaves a b P are adds = record {
   kept = adds.kept;
-  all = λ x h. let r = free.all x h in (r.0, r.1, adds.all r.0 r.2 (none_in r.0));
+  all = λ x h. let r = are.all x h in (r.0, r.1, adds.all r.0 r.2 (none_in r.0));
   only = λ k c. elim (adds.only k c) [ inl old ↦ inl old | inr is ↦ inr (new k is.0) ];
 }
   where
-    new : (k : ℕ) → Contains leaves k → IsLeafOfSome s k (λ x. IsFree x u)
-    new k c = elim (free.only k c) [ inl none ↦ absurd (none_in k none) | inr is ↦ is ]
+    new : (k : ℕ) → Contains leaves k → IsLeafOfSome s k P
+    new k c = elim (are.only k c) [ inl none ↦ absurd (none_in k none) | inr is ↦ is ]
+
+pub kept-adds : (s : Table) (leaves a b : List ℕ) (u : Term) → AddsLeaves s [] leaves (λ x. IsFree x u) → AddsUnbound leaves [] a b → AddsLeaves s a b (λ x. IsFree x u)
+kept-adds s leaves a b u free adds = added-leaves s leaves a b (λ x. IsFree x u) free adds
 
 -- the body of a let, but what is bound
 contains-here : (k : ℕ) (ks : List ℕ) → Contains (k ∷ ks) k
@@ -365,15 +375,19 @@ unbound-adds s table ks leaves a b bs u are free adds = record { kept = adds.kep
     only k c = elim (adds.only k c) [ inl old ↦ inl old | inr is ↦ inr (new k is.0 is.1) ]
 
 -- bodies
-pub bodies-more : (s : Table) (v : TermsView) (old new : Bodies) (r : ℕ) (leaves : Vec ℕ Global) → ((q : ℕ) → get nat_eq new q ≡ cond (eqb r q) (Some leaves) (get nat_eq old q)) → ((t : Term) → RefersTo s v r t → AddsLeaves s [] leaves.items (λ x. IsFree x t)) → AreBodies s v old → AreBodies s v new
-bodies-more s v old new r leaves updates right h = record { each = λ q ls is. go q ls (eqb r q) (eqb_tells r q) (sym (updates q) ∙ is) }
+pub one-more : (P : ℕ → Vec ℕ Global → Type 0) (old new : Bodies) (r : ℕ) (leaves : Vec ℕ Global) → ((q : ℕ) → get nat_eq new q ≡ cond (eqb r q) (Some leaves) (get nat_eq old q)) → P r leaves → ((q : ℕ) (ls : Vec ℕ Global) → get nat_eq old q ≡ Some ls → P q ls) → (q : ℕ) (ls : Vec ℕ Global) → get nat_eq new q ≡ Some ls → P q ls
+one-more P old new r leaves updates right h q ls is = go (eqb r q) (eqb_tells r q) (sym (updates q) ∙ is)
   where
-    go : (q : ℕ) (ls : Vec ℕ Global) (b : Bool) → ((b ≡ true) × (r ≡ q)) ⊎ ((b ≡ false) × (r ≢ q)) → cond b (Some leaves) (get nat_eq old q) ≡ Some ls → (t : Term) → RefersTo s v q t → AddsLeaves s [] ls.items (λ x. IsFree x t)
-    go q ls true (inl both) is t refers =
-        subst (λ (l : Vec ℕ Global). AddsLeaves s [] l.items (λ x. IsFree x t)) (same_some is) (right t (subst (λ p. RefersTo s v p t) (sym both.1) refers))
-    go q ls true (inr both) is t refers = absurd (let z = both.0 in cc)
-    go q ls false (inl both) is t refers = absurd (let z = both.0 in cc)
-    go q ls false (inr both) is t refers = h.each q ls is t refers
+    go : (b : Bool) → ((b ≡ true) × (r ≡ q)) ⊎ ((b ≡ false) × (r ≢ q)) → cond b (Some leaves) (get nat_eq old q) ≡ Some ls → P q ls
+    go true (inl both) is = subst (P q) (same_some is) (subst (λ p. P p leaves) both.1 right)
+    go true (inr both) is = absurd (let z = both.0 in cc)
+    go false (inl both) is = absurd (let z = both.0 in cc)
+    go false (inr both) is = h q ls is
+
+pub bodies-more : (s : Table) (v : TermsView) (old new : Bodies) (r : ℕ) (leaves : Vec ℕ Global) → ((q : ℕ) → get nat_eq new q ≡ cond (eqb r q) (Some leaves) (get nat_eq old q)) → ((t : Term) → RefersTo s v r t → AddsLeaves s [] leaves.items (λ x. IsFree x t)) → AreBodies s v old → AreBodies s v new
+bodies-more s v old new r leaves updates right h = record {
+  each = one-more (λ q ls. (t : Term) → RefersTo s v q t → AddsLeaves s [] ls.items (λ x. IsFree x t)) old new r leaves updates right h.each;
+}
 
 -- the answer
 pub leaves-free : (s : Table) (leaves : List ℕ) (t : Term) → AddsLeaves s [] leaves (λ x. IsFree x t) → AreFreeLeaves s leaves (free_variables t)

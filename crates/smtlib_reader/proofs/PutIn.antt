@@ -1,30 +1,23 @@
--- What is put in for a term by a draft of it.
-use Rattle.std.proofs.Common.{◌≡◌, ℕ, refl, sym, ◌∙◌, subst, List, [], ◌∷◌, ◌++◌, Bool, true, false, ◌&&◌, if◌then◌else◌}
+-- What is put in for the variables of a term that has lets.
+use Rattle.std.proofs.Common.{◌≡◌, inl, refl, sym, ◌∙◌, subst, List, [], ◌∷◌, ◌++◌, Bool, true, false, ◌&&◌, if◌then◌else◌}
 use Rattle.std.specs.List.{list_all}
 use Rattle.pair_pool.specs.Trees.{Tree, leaf, cell}
-use Rattle.pair_pool.specs.Views.{Knows}
 use Rattle.sym_table.specs.Leaf.{Leaf, operator}
 use Rattle.sym_table.specs.Table.{Table}
 use Rattle.term_model.specs.Terms.{Var, var_eq, Term, numeral, variable, operation, call, let_in, Terms, no_terms, term, Bindings, no_bindings, binding}
-use Rattle.term_pool.specs.Building.{PlacesOnlyIn}
 use Rattle.term_pool.specs.StandsFor.{function_leaf, StandsFor, StandsForApplication, StandsForList, StandsForBindings}
 use Rattle.term_pool.specs.Views.{TermsView, RefersTo}
-use Rattle.smtlib_reader.specs.Assigned.{Numbers}
-use Rattle.smtlib_reader.specs.Drafting.{IsBegun}
-use Rattle.smtlib_reader.specs.Drafts.{tree_at, AreDrafts, IsDraftOf}
+use Rattle.smtlib_reader.specs.Expanding.{Says, SaysWhole, IsSaid, HasPart}
 use Rattle.smtlib_reader.specs.Heights.{height}
-use Rattle.smtlib_reader.specs.Images.{PlacesTerm}
-use Rattle.smtlib_reader.specs.Needed.{HasDrafts}
+use Rattle.smtlib_reader.specs.Images.{PlacesTerm, LacksRoomFor}
 use Rattle.smtlib_reader.specs.Replacement.{Replacement, term_at, replaced, replaced_all, replaced_bindings}
 use Rattle.smtlib_reader.specs.Scripts.{Typed}
 use Rattle.smtlib_reader.specs.Values.{IsValue, IsReplacement}
 use Rattle.smtlib_reader.specs.declared.assignments.Assigned.{Assigned}
-use Rattle.smtlib_reader.specs.declared.drafts.Drafts.{Drafts}
 use Rattle.smtlib_reader.specs.declared.values.Bound.{Bound}
 use Rattle.smtlib_reader.specs.declared.values.Value.{Value}
-use Rattle.smtlib_reader.proofs.BuiltDrafts.{placed-none}
-use Rattle.smtlib_reader.proofs.DraftingMoved.{DraftsOne}
-use Rattle.smtlib_reader.proofs.DraftingSteps.{empty_memory}
+use Rattle.smtlib_reader.proofs.Expansions.{PlacesOne, FillsOne}
+use Rattle.smtlib_reader.proofs.NeedLemmas.{part-refl}
 use Rattle.smtlib_reader.proofs.Replacing.{AreLetFree, replaced-let_free}
 
 -- some tree stands for the term, the arguments or each term of a replacement
@@ -104,32 +97,36 @@ pub nothing_placed : (s : Table) (v w : TermsView) (bs : List Bound) (c : Value)
 nothing_placed s v w bs c e t q h k =
     let r = replaced_tree s t.tree h.refers.tree q h.refers.stands (have_trees s v bs q k) in
     subst (λ (x : TermsView). PlacesTerm s v.pass x.pass (replaced q t.tree)) (sym e)
-    (record { tree = r.tree; stands = r.stands; placed = placed-none v.pass r.tree })
+    (record { tree = r.tree; stands = r.stands; placed = λ n a b k. inl k })
 
--- one of the drafts is of the term
-pub record IsPut (s : Table) (v : TermsView) (drafts : Drafts) (root : ℕ) (u : Term) : Type 0 where
-  pub trees : List Tree
-  pub are : AreDrafts v.pass drafts trees
-  pub draft : IsDraftOf s trees root u
+-- what the answer is a part of
+pub record IsWhole (s : Table) (u : Term) : Type 0 where
+  pub tree : Tree
+  pub stands : StandsFor s tree u
+  pub part : HasPart s tree u
 
-pub put_drafted : (s : Table) (v w : TermsView) (old new : Drafts) (assigned : List Assigned) (memo later : Numbers) (bs : List Bound) (c : Value) (root : ℕ) → w ≡ v → memo.entries ≡ [] → ((s : Table) (v : TermsView) (q : Replacement) → IsReplacement s v bs q → IsBegun s v old assigned q) → DraftsOne s v old new assigned memo later c.term root → (t : Typed) (q : Replacement) → IsValue s v c t → IsReplacement s v bs q → IsPut s w new root (replaced q t.tree)
-put_drafted s v w old new assigned memo later bs c root e none begun drafts t q h k =
-    let b = begun s v q k in
-    let d = drafts b.trees q t.tree (record { drafts_are = b.drafts_are; assigned_are = b.assigned_are; memory = empty_memory s v b.trees q memo none }) h.refers in
-    subst (λ (x : TermsView). IsPut s x new root (replaced q t.tree)) (sym e)
-    (record { trees = b.trees ++ d.more; are = d.drafts_are; draft = d.draft })
+pub whole_of : (s : Table) (v : TermsView) (bs : List Bound) (c : Value) (t : Typed) (q : Replacement) → IsValue s v c t → IsReplacement s v bs q → IsWhole s (replaced q t.tree)
+whole_of s v bs c t q h k =
+    let r = replaced_tree s t.tree h.refers.tree q h.refers.stands (have_trees s v bs q k) in
+    record { tree = r.tree; stands = r.stands; part = record { tree = r.tree; stands = r.stands; part = part-refl r.tree } }
 
-pub put_has : (s : Table) (v : TermsView) (drafts : Drafts) (root : ℕ) (u : Term) → IsPut s v drafts root u → HasDrafts v.pass drafts root
-put_has s v drafts root u h = record { trees = h.trees; are = h.are; within = h.draft.within }
+-- what a replacement puts in, for what a term needs
+pub says_of : (s : Table) (v : TermsView) (a : List Assigned) (q : Replacement) (t : Term) → SaysWhole s v a q → Says s v a q t
+says_of s v a q t h = record { variables = h.variables; puts = λ k x leaf n. h.puts k x leaf }
 
-pub put_places : (s : Table) (v w x y : TermsView) (drafts : Drafts) (root : ℕ) (u : Term) → w ≡ v → y ≡ x → (p : IsPut s w drafts root u) → PlacesOnlyIn w.pass x.pass (tree_at p.trees root) → PlacesTerm s v.pass y.pass u
-put_places s v w x y drafts root u e f p placed =
-    subst (λ (z : TermsView). PlacesTerm s z.pass y.pass u) e
-    (subst (λ (z : TermsView). PlacesTerm s w.pass z.pass u) (sym f)
-    (record { tree = tree_at p.trees root; stands = p.draft.stands; placed = placed }))
+pub said_of : (s : Table) (v : TermsView) (a : List Assigned) (bs : List Bound) (c : Value) (t : Typed) (q : Replacement) → IsValue s v c t → SaysWhole s v a q → IsSaid s v a c.term
+said_of s v a bs c t q h k = record { means = t.tree; refers = h.refers; puts = q; says = says_of s v a q t.tree k }
 
-pub put_refers : (s : Table) (w x : TermsView) (drafts : Drafts) (root r : ℕ) (u : Term) → (p : IsPut s w drafts root u) → Knows x.pass r (tree_at p.trees root) → RefersTo s x r u
-put_refers s w x drafts root r u p known = record { tree = tree_at p.trees root; known = known; stands = p.draft.stands }
+pub put_places : (s : Table) (v w x : TermsView) (a : List Assigned) (bs : List Bound) (c : Value) → x ≡ w → PlacesOne s v w a c.term → ((q : Replacement) → IsReplacement s v bs q → SaysWhole s v a q) → (t : Typed) (q : Replacement) → IsValue s v c t → IsReplacement s v bs q → PlacesTerm s v.pass x.pass (replaced q t.tree)
+put_places s v w x a bs c e places says t q h k =
+    let whole = whole_of s v bs c t q h k in
+    subst (λ (z : TermsView). PlacesTerm s v.pass z.pass (replaced q t.tree)) (sym e)
+    (record { tree = whole.tree; stands = whole.stands; placed = places t.tree q whole.tree h.refers (says_of s v a q t.tree (says q k)) whole.part })
+
+pub put_lacks : (s : Table) (v w : TermsView) (a : List Assigned) (bs : List Bound) (c : Value) → FillsOne s v w a c.term → ((q : Replacement) → IsReplacement s v bs q → SaysWhole s v a q) → (t : Typed) (q : Replacement) → IsValue s v c t → IsReplacement s v bs q → LacksRoomFor s w.pass (replaced q t.tree)
+put_lacks s v w a bs c fills says t q h k =
+    let whole = whole_of s v bs c t q h k in
+    record { tree = whole.tree; stands = whole.stands; full = fills t.tree q whole.tree h.refers (says_of s v a q t.tree (says q k)) whole.part }
 
 -- where all that is put in is plain, so is the answer
 both_true : (a b : Bool) → (a && b) ≡ true → (a ≡ true) × (b ≡ true)

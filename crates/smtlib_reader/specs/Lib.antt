@@ -12,6 +12,7 @@ pub mod Terms
 pub mod Problems
 pub mod Soundness
 pub mod Examples
+pub mod Needs
 pub mod Nodes
 pub mod Stepping
 pub mod Layers
@@ -24,6 +25,7 @@ pub mod Known
 pub mod NameNumbers
 pub mod Scope
 pub mod Held
+pub mod Expanding
 pub mod Faults
 pub mod Parameters
 pub mod CommandShapes
@@ -44,9 +46,5 @@ pub mod ProblemViews
 pub mod BoundLeaves
 pub mod ProblemReading
 pub mod Assigned
-pub mod Drafts
-pub mod Drafting
-pub mod Needed
-pub mod Building
 pub mod Applying
 pub mod Leaving

@@ -1,23 +1,19 @@
-//! What is put in for variables while a term is drafted.
-ghost use Rattle.std.specs.Prelude.{◌≡◌, ◌<◌, [], ◌∷◌, length, OnOk};
-ghost use Rattle.smtlib_reader.specs.Assigned.{draft_of};
+//! What is put in for variables while the lets of a term are replaced.
+ghost use Rattle.std.specs.Prelude.{◌≡◌, ◌<◌, ◌≤◌, ◌-◌, [], ◌∷◌, drop, length, OnOk};
+ghost use Rattle.smtlib_reader.specs.Assigned.{assigned_to, term_of, assigned_all};
 ghost use Rattle.smtlib_reader.specs.declared.assignments.Assigned.{Assigned};
 
-use pair_pool::Memory;
+use pair_pool::{Memory, Ref};
 use std::alloc::Global;
 use std::collections::HashMap;
 use std::marker::Model;
 
-/// How often drafts are put in for variables, at most. A term that takes more is refused as for want of memory: what lets
-/// share may be drafted once for each way through them.
-const MOST_PUSHES: u32 = 67_108_864;
-
-/// A variable, told by its leaf, the draft of what is put in for it, and the draft that it has further out.
+/// A variable, told by its leaf, what is put in for it, and what is put in for it further out.
 #[derive(Clone, Copy)]
 pub(crate) struct Assigned {
     variable: u32,
-    draft: u32,
-    outer: Option<u32>,
+    term: Ref,
+    outer: Option<Ref>,
 }
 
 /// What is put in for variables. Contracts see the list of it, the innermost first.
@@ -26,9 +22,7 @@ pub(crate) struct Assigned {
 #[derive(Drop)]
 pub(crate) struct Assignments {
     assigned: Vec<Assigned>,
-    innermost: HashMap<u32, u32>,
-    /// How often a draft was put in.
-    pushes: u32,
+    innermost: HashMap<u32, Ref>,
 }
 
 impl Model for Assignments {
@@ -50,7 +44,6 @@ impl Assignments {
         Assignments {
             assigned: Vec::new(alloc),
             innermost: HashMap::new(alloc),
-            pushes: 0,
         }
     }
 
@@ -61,27 +54,23 @@ impl Assignments {
         self.assigned.len()
     }
 
-    /// The draft of the variable with this leaf.
-    pub(crate) fn find(&self, variable: u32) -> Option<u32>
-        ensures { result ≡ draft_of variable self.now }
+    /// What is put in for the variable with this leaf.
+    pub(crate) fn find(&self, variable: u32) -> Option<Ref>
+        ensures { result ≡ assigned_to variable self.now }
     {
         self.innermost.get(&variable).copied()
     }
 
-    /// Puts in a draft for a variable, inside all others. Refuses want of memory, and that it was asked too often.
-    pub(crate) fn push(&mut self, variable: u32, draft: u32) -> Result<(), Memory>
-        ensures { OnOk result (self.new ≡ record { variable = variable; draft = draft; outer = draft_of variable self.old } ∷ self.old) }
+    /// Puts in a term for a variable, inside all others.
+    pub(crate) fn push(&mut self, variable: u32, term: Ref) -> Result<(), Memory>
+        ensures { OnOk result (self.new ≡ record { variable = variable; term = term; outer = assigned_to variable self.old } ∷ self.old) }
     {
-        if self.pushes >= MOST_PUSHES {
-            return Err(Memory);
-        }
-        self.pushes += 1;
         self.assigned.reserve(1)?;
-        let outer = self.innermost.insert(variable, draft)?;
+        let outer = self.innermost.insert(variable, term)?;
         self.assigned
             .push(Assigned {
                 variable,
-                draft,
+                term,
                 outer,
             })
             .unwrap();
@@ -95,8 +84,8 @@ impl Assignments {
     {
         let last = self.assigned[self.assigned.len() - 1];
         match last.outer {
-            Some(draft) => {
-                let _ = self.innermost.insert(last.variable, draft)?;
+            Some(term) => {
+                let _ = self.innermost.insert(last.variable, term)?;
             }
             None => {
                 let _ = self.innermost.remove(&last.variable);
@@ -105,4 +94,52 @@ impl Assignments {
         let _ = self.assigned.pop();
         Ok(())
     }
+}
+
+/// What stands for the variable with this leaf: the leaf where nothing else does.
+pub(crate) fn number_at(assignments: &Assignments, variable: u32) -> u32
+    ensures { result ≡ term_of variable assignments.now }
+{
+    match assignments.find(variable) {
+        Some(term) => term.number(),
+        None => variable,
+    }
+}
+
+/// What stands for a leaf: itself where nothing is put in for it.
+pub(crate) fn term_at(assignments: &Assignments, leaf: Ref) -> Ref
+    ensures { result ≡ term_of leaf assignments.now }
+{
+    match assignments.find(leaf.number()) {
+        Some(term) => term,
+        None => leaf,
+    }
+}
+
+/// Puts terms in for variables, the first of them innermost.
+pub(crate) fn assign(
+    assignments: &mut Assignments,
+    variables: &[u32],
+    list: &[Ref],
+) -> Result<(), Memory>
+    requires { length variables.now ≡ length list.now }
+    ensures { OnOk result (assignments.new ≡ assigned_all variables.now list.now assignments.old) }
+{
+    let mut at = variables.len();
+    'variables: while at > 0 {
+        at -= 1;
+        assignments.push(variables[at], list[at])?;
+    }
+    Ok(())
+}
+
+/// Takes away all but the outermost `n` variables.
+pub(crate) fn take_back(assignments: &mut Assignments, n: usize) -> Result<(), Memory>
+    requires { n ≤ length assignments.old }
+    ensures { OnOk result (assignments.new ≡ drop (length assignments.old - n) assignments.old) }
+{
+    'variables: while assignments.len() > n {
+        assignments.pop()?;
+    }
+    Ok(())
 }

@@ -42,7 +42,7 @@ struct Region {
 }
 
 /// Whether the leaf is that of a variable.
-fn is_variable(symbols: &Symbols, leaf: u32) -> bool
+pub(crate) fn is_variable(symbols: &Symbols, leaf: u32) -> bool
     requires { leaf < length symbols.now.leaves }
     ensures yes { IsTrue result → (x : Var) × IsLeaf symbols.now leaf (variable_leaf x) }
     ensures no { result ≡ false → (x : Var) → IsLeaf symbols.now leaf (variable_leaf x) → ⊥ }
@@ -268,7 +268,8 @@ fn leaves_of(
 /// The leaves of the free variables of a term (SMT-LIB 2.6, section 3.6.1).
 ///
 /// Goes through each distinct cell once for each distinct body of a let that it stands in, but for those of terms that
-/// were named before, whose leaves are kept, and takes memory for each that it meets there. Takes stack in proportion to the term's height. Refuses want of memory alone.
+/// were named before, whose leaves are kept, and takes memory for each that it meets there. Takes stack in proportion to
+/// the term's height. Refuses want of memory alone.
 pub(crate) fn free_leaves(
     alloc: Global,
     symbols: &Symbols,

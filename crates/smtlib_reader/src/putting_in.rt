@@ -1,22 +1,24 @@
 //! Putting terms in for the variables of a term, and replacing its lets.
 
-ghost use Rattle.std.specs.Prelude.{◌≡◌, ◌≤◌, IfOk, IfErr, true};
+ghost use Rattle.std.specs.Prelude.{◌≡◌, ◌≤◌, ◌^◌, length, IfOk, IfErr, true};
 ghost use Rattle.std.specs.List.{list_all};
-ghost use Rattle.term_pool.specs.Views.{KeepsTerms};
+ghost use Rattle.sym_table.specs.Table.{Table, IsTable};
+ghost use Rattle.term_pool.specs.Views.{TermsView, KeepsTerms};
 ghost use Rattle.sexpr.specs.declared.causes.Refusal.{Refusal};
+ghost use Rattle.smtlib_reader.specs.Expanding.{SaysWhole};
 ghost use Rattle.smtlib_reader.specs.Images.{IsSomeReplacement, IsSomeValue, PlacesTerm, LacksRoomFor};
 ghost use Rattle.smtlib_reader.specs.Replacement.{Replacement, replaced};
 ghost use Rattle.smtlib_reader.specs.Scripts.{Typed};
 ghost use Rattle.smtlib_reader.specs.Values.{IsValue, IsReplacement};
 ghost use Rattle.smtlib_reader.specs.declared.faults.ReadFault.TheVariants as ReadFault;
 
-use crate::building::build;
-use crate::drafting::{begin, draft};
+use crate::assignments::Assignments;
+use crate::expanding::expand;
 use crate::faults::ReadFault;
 use crate::substitution::put_in_plain;
 use crate::term_parts::height_of;
 use crate::values::{Bound, Value};
-use pair_pool::Ref;
+use pair_pool::Memory;
 use std::alloc::Global;
 use std::collections::HashMap;
 use sym_table::Symbols;
@@ -32,11 +34,10 @@ fn all_plain(replacement: &[Bound]) -> bool
 /// The term `what` with all its lets replaced by their bodies and the terms of a replacement put in for its variables
 /// at once.
 ///
-/// A term without lets is gone through as `put_in_plain` does. Else it is drafted first, since what a let binds comes
-/// into the pool only where it is used. Goes through each distinct cell of the term once for each way through the lets
-/// around it, and then through each distinct cell of the answer. Takes memory for each of them, and a few frames of the
-/// stack for each level of the term. Refuses want of memory, and where the pool had no room for a cell of the answer; a
-/// term that takes more than 67,108,864 drafts, or has more variables of lets put in, is refused as for want of memory.
+/// A term without lets is gone through as `put_in_plain` does. Else each distinct cell is gone through once for each
+/// distinct term that it becomes, with the variables that it needs, and what a let binds is left alone where it is not
+/// needed; then the answer is gone through for its height. Takes memory in the same way, and a few frames of the stack for
+/// each level of the term. Refuses want of memory, and where the pool had no room for a cell of the answer.
 pub(crate) fn put_in(
     alloc: Global,
     symbols: &Symbols,
@@ -58,15 +59,29 @@ pub(crate) fn put_in(
     if what.plain {
         return put_in_plain(alloc, symbols, terms, replacement, what);
     }
-    match put_in_drafted(alloc, symbols, terms, replacement, what) {
+    match put_in_expanded(alloc, symbols, terms, replacement, what) {
         Ok(value) => Ok(value),
         Err(TermStop::PoolFull) => Err(ReadFault::PoolFull),
         Err(TermStop::Memory) => Err(ReadFault::Memory),
     }
 }
 
-/// The same, by a draft.
-fn put_in_drafted(
+/// What a replacement puts in. Of two terms for one variable the first counts, so the list is gone through from its end.
+fn begin(alloc: Global, replacement: &[Bound]) -> Result<Assignments, Memory>
+    ensures { IfOk result (λ a. (s : Table) (v : TermsView) (q : Replacement) → IsTable s → length s.leaves ≤ 2 ^ 30 → IsReplacement s v replacement.now q → SaysWhole s v a q) }
+{
+    let mut assignments = Assignments::new(alloc);
+    let mut at = replacement.len();
+    'bounds: while at > 0 {
+        at -= 1;
+        let bound = &replacement[at];
+        assignments.push(bound.variable, bound.value.term)?;
+    }
+    Ok(assignments)
+}
+
+/// The same, where the term has a let.
+fn put_in_expanded(
     alloc: Global,
     symbols: &Symbols,
     terms: &mut Terms<'_>,
@@ -81,19 +96,19 @@ fn put_in_drafted(
     ensures keeps { KeepsTerms terms.old terms.new }
 {
     let _leaves = symbols.count();
-    let mut begun = begin(alloc, replacement)?;
-    let mut memo = HashMap::new(alloc);
-    let root = draft(
+    let mut assignments = begin(alloc, replacement)?;
+    let mut needs = HashMap::new(alloc);
+    let mut done = HashMap::new(alloc);
+    let term = expand(
         alloc,
         symbols,
         terms,
-        &mut begun.drafts,
-        &mut begun.assignments,
-        &mut memo,
+        &mut needs,
+        &mut assignments,
+        &mut done,
         what.height,
         what.term,
     )?;
-    let term = build(alloc, terms, &begun.drafts, root as usize)?;
     let height = height_of(alloc, terms, term)?;
     Ok(Value {
         term,
