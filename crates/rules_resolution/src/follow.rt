@@ -18,8 +18,8 @@ use crate::trail::{Memory, Trail};
 use crate::work::{Work, falsify, is_falsified, start};
 use std::alloc::Global;
 
-/// With fewer literals than these the table stays in the processor's cache, and new names cost more than
-/// they win.
+/// With fewer literals than these the atoms are taken as they are. Steps of proofs mostly have few, and pay nothing for
+/// names then. Between this and some ten thousand literals names cost more time than they win.
 const FEW: u128 = 256;
 
 /// Makes all literals of the conclusion false.
@@ -140,7 +140,7 @@ fn propagate(
     Ok(None)
 }
 
-/// Follows the conclusion with the atoms as they are.
+/// Whether the conclusion follows, by a table of the atoms as they are.
 fn follow_plainly(
     alloc: Global,
     premises: &[Vec<Lit>],
@@ -156,9 +156,9 @@ fn follow_plainly(
     propagate(alloc, premises, goal, &table, work)
 }
 
-/// Follows the conclusion with each atom renamed to the number of its first literal, so that literals that
-/// stand near each other stand near each other in the table too. A trail names places alone, and so is one
-/// for the clauses as they were.
+/// Whether the conclusion follows, with each atom renamed to the number of its first literal, so that literals that
+/// stand near each other in the clauses stand near each other in the table too. A trail names places alone, and so is
+/// one for the clauses as they were.
 fn follow_renamed(
     alloc: Global,
     premises: &[Vec<Lit>],

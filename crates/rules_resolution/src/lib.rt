@@ -4,7 +4,8 @@
 //! The time is that of sorting the literals of the premises and the conclusion, and one search among them for
 //! each literal that becomes false; memory is a constant times these literals. Where there are many, another
 //! sort first names each atom by the number of its first literal, so that literals that are near each other in
-//! the premises are near each other in the sorted table, and searches seldom leave the processor's cache.
+//! the premises are near each other in the sorted table. From some ten thousand literals on, wide clauses and chains
+//! take less time for it.
 #![tactic(auto)]
 
 mod close;

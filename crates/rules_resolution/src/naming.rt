@@ -62,7 +62,8 @@ fn keys_of(alloc: Global, premises: &[Vec<Lit>], goal: &[Lit]) -> Result<Vec<Key
     Ok(keys)
 }
 
-/// Where the run of equal atoms begins that the key at `at` is in, if that before it is in one from `first` on.
+/// Where the run of equal atoms begins that the key at `at` is in, where the key before it is in the run that begins at
+/// `first`.
 #[tactic(auto, using(crate::proofs::Keys::run_kept, crate::proofs::Keys::run_new))]
 fn run_start(keys: &[Key], first: usize, at: usize) -> usize
     requires at { at < length keys.now }
@@ -79,7 +80,7 @@ fn run_start(keys: &[Key], first: usize, at: usize) -> usize
     }
 }
 
-/// A name for each of the literals, those of one atom the number of its first key. The constants' are not used.
+/// For each literal a name: the number of the first literal with its atom. Names of the constants are not used.
 fn names_by(alloc: Global, keys: &[Key], count: usize) -> Result<Vec<u32>, Memory>
     requires rising { IsNonDecreasingBy (λ key. key.atom) keys.now }
     requires keys { AreKeys count keys.now }
