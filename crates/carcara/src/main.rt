@@ -8,6 +8,8 @@ use std::process::ExitCode;
 use std::{env, io};
 
 #[cfg(test)]
+mod doubling_tests;
+#[cfg(test)]
 mod problem_tests;
 #[cfg(test)]
 mod sort_tests;

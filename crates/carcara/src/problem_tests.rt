@@ -475,27 +475,3 @@ fn deep_texts_have_an_answer(rt: HostRuntime) -> Result<(), Fail> {
     assert_eq!(rt; outcome_of(rt.alloc(), &lets, true)?, Stands(1));
     Ok(())
 }
-
-// 126 macros, each of which puts a sum of its parameter with itself into the one before.
-fn doubling(alloc: Global) -> Result<Vec<u8>, Fail> {
-    let mut text = Vec::from_slice(alloc, b"(define-fun d1 ((x Int)) Int (+ x x))")?;
-    for number in 2..127u32 {
-        let before = number - 1;
-        text.extend_from_slice(b"(define-fun d")?;
-        text.extend_from_slice(number.to_string(alloc)?.as_bytes())?;
-        text.extend_from_slice(b" ((x Int)) Int (d")?;
-        text.extend_from_slice(before.to_string(alloc)?.as_bytes())?;
-        text.extend_from_slice(b" (+ x x)))")?;
-    }
-    text.extend_from_slice(b"(assert (= 1 (d126 0)))")?;
-    Ok(text)
-}
-
-// As a tree the term has 2^126 leaves. It is read in a pool of 65,536 places, since a sum of a term with itself takes three
-// cells.
-#[test]
-fn doublings_are_shared(rt: HostRuntime) -> Result<(), Fail> {
-    let text = doubling(rt.alloc())?;
-    assert_eq!(rt; outcome_of(rt.alloc(), &text, false)?, Stands(1));
-    Ok(())
-}
