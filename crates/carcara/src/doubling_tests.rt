@@ -225,3 +225,47 @@ fn lets_of_equal_values(rt: HostRuntime) -> Result<(), Fail> {
     assert_eq!(rt; measures_in(rt.alloc(), &text)?, Some((122, 363)));
     Ok(())
 }
+
+// Adds the bytes, `times` times.
+fn repeat(text: &mut Vec<u8>, bytes: &[u8], times: u32) -> Result<(), Fail> {
+    for _ in 0..times {
+        text.extend_from_slice(bytes)?;
+    }
+    Ok(())
+}
+
+// A text that names a term and uses it in a macro. The term is `middle` within as many of the outer parts as `depth` says.
+fn nested(alloc: Global, outer: [&[u8]; 2], middle: &[u8], depth: u32) -> Result<Vec<u8>, Fail> {
+    let mut text = Vec::from_slice(alloc, DECLARED)?;
+    text.extend_from_slice(b"(assert (let ((x p)) (! ")?;
+    repeat(&mut text, outer[0], depth)?;
+    text.extend_from_slice(middle)?;
+    repeat(&mut text, outer[1], depth)?;
+    text.extend_from_slice(b" :named n)))(define-fun m () Bool (let ((x r)) n))(assert m)")?;
+    Ok(text)
+}
+
+// A term of nearly the greatest height, with lets in one another's bodies: r with 1,990 negations, of height 1,991, where
+// each negation takes a cell for the head with its list, and one for the list.
+#[test]
+fn high_bodies_of_lets(rt: HostRuntime) -> Result<(), Fail> {
+    let text = nested(rt.alloc(), [b"(let ((x (not x))) ", b")"], b"x", 1990)?;
+    assert_eq!(rt; measures_in(rt.alloc(), &text)?, Some((1991, 3980)));
+    Ok(())
+}
+
+// Lets in one another's values. Each is one higher than its value and the variable's negation, so there are 1,990 of them.
+#[test]
+fn high_values_of_lets(rt: HostRuntime) -> Result<(), Fail> {
+    let text = nested(rt.alloc(), [b"(let ((x ", b")) (not x))"], b"x", 1990)?;
+    assert_eq!(rt; measures_in(rt.alloc(), &text)?, Some((1991, 3980)));
+    Ok(())
+}
+
+// A let under 1,990 negations.
+#[test]
+fn a_let_below_many_terms(rt: HostRuntime) -> Result<(), Fail> {
+    let text = nested(rt.alloc(), [b"(not ", b")"], b"(let ((y x)) y)", 1990)?;
+    assert_eq!(rt; measures_in(rt.alloc(), &text)?, Some((1991, 3980)));
+    Ok(())
+}
