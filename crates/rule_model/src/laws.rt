@@ -1,0 +1,1 @@
+//! Laws of the definitions. Each stands as the contract of a function that does nothing, so that the gate proves it.

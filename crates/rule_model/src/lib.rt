@@ -1,0 +1,7 @@
+//! Proofs, scopes and the conditions of rules: what the checker's verdict is about.
+//!
+//! The definitions stand in `specs/`, over the terms of `term_model`. The functions of `laws` do nothing: their
+//! contracts are laws of the definitions, which whoever reads them can hold them against.
+#![tactic(auto)]
+
+pub mod laws;
