@@ -5,3 +5,6 @@
 #![tactic(auto)]
 
 pub mod laws;
+mod rules;
+
+pub use rules::{Mode, Rule, StepCause};
