@@ -1,116 +1,122 @@
 -- Public. The words by which a proof names its rules (Alethe, "List of rules").
-use Rattle.std.specs.Prelude.{◌≢◌, ℕ, List, [], ◌∷◌, All, Contains, codes, if◌then◌else◌}
+use Rattle.std.specs.Prelude.{◌≢◌, ℕ, List, [], ◌∷◌, All, codes, if◌then◌else◌}
 use Rattle.std.specs.Str.{bytes_eq}
 use Rattle.rule_model.specs.declared.rules.Rule.{Rule}
 
--- a rule with its word
-pub record Named : Type 0 where
-  pub word : List ℕ
-  pub rule : Rule
+-- the word of a rule; an assume has none, and the rules that are unknown have words of their own
+abbrev pub word_of : Rule → List ℕ
+word_of Rule.Assume = []
+word_of Rule.Unknown = []
+word_of Rule.Hole = codes "hole"
+word_of Rule.LiaGeneric = codes "lia_generic"
+word_of Rule.RareRewrite = codes "rare_rewrite"
+word_of Rule.AllSimplify = codes "all_simplify"
+word_of Rule.True = codes "true"
+word_of Rule.False = codes "false"
+word_of Rule.NotNot = codes "not_not"
+word_of Rule.AndPos = codes "and_pos"
+word_of Rule.AndNeg = codes "and_neg"
+word_of Rule.OrPos = codes "or_pos"
+word_of Rule.OrNeg = codes "or_neg"
+word_of Rule.XorPos1 = codes "xor_pos1"
+word_of Rule.XorPos2 = codes "xor_pos2"
+word_of Rule.XorNeg1 = codes "xor_neg1"
+word_of Rule.XorNeg2 = codes "xor_neg2"
+word_of Rule.ImpliesPos = codes "implies_pos"
+word_of Rule.ImpliesNeg1 = codes "implies_neg1"
+word_of Rule.ImpliesNeg2 = codes "implies_neg2"
+word_of Rule.EquivPos1 = codes "equiv_pos1"
+word_of Rule.EquivPos2 = codes "equiv_pos2"
+word_of Rule.EquivNeg1 = codes "equiv_neg1"
+word_of Rule.EquivNeg2 = codes "equiv_neg2"
+word_of Rule.ItePos1 = codes "ite_pos1"
+word_of Rule.ItePos2 = codes "ite_pos2"
+word_of Rule.IteNeg1 = codes "ite_neg1"
+word_of Rule.IteNeg2 = codes "ite_neg2"
+word_of Rule.And = codes "and"
+word_of Rule.Or = codes "or"
+word_of Rule.NotOr = codes "not_or"
+word_of Rule.NotAnd = codes "not_and"
+word_of Rule.Xor1 = codes "xor1"
+word_of Rule.Xor2 = codes "xor2"
+word_of Rule.NotXor1 = codes "not_xor1"
+word_of Rule.NotXor2 = codes "not_xor2"
+word_of Rule.Implies = codes "implies"
+word_of Rule.NotImplies1 = codes "not_implies1"
+word_of Rule.NotImplies2 = codes "not_implies2"
+word_of Rule.Equiv1 = codes "equiv1"
+word_of Rule.Equiv2 = codes "equiv2"
+word_of Rule.NotEquiv1 = codes "not_equiv1"
+word_of Rule.NotEquiv2 = codes "not_equiv2"
+word_of Rule.Ite1 = codes "ite1"
+word_of Rule.Ite2 = codes "ite2"
+word_of Rule.NotIte1 = codes "not_ite1"
+word_of Rule.NotIte2 = codes "not_ite2"
+word_of Rule.Contraction = codes "contraction"
+word_of Rule.Reordering = codes "reordering"
+word_of Rule.Weakening = codes "weakening"
+word_of Rule.Tautology = codes "tautology"
+word_of Rule.Resolution = codes "resolution"
+word_of Rule.ThResolution = codes "th_resolution"
+word_of Rule.Refl = codes "refl"
+word_of Rule.Symm = codes "symm"
+word_of Rule.NotSymm = codes "not_symm"
+word_of Rule.Trans = codes "trans"
+word_of Rule.Cong = codes "cong"
+word_of Rule.EqReflexive = codes "eq_reflexive"
+word_of Rule.EqSymmetric = codes "eq_symmetric"
+word_of Rule.EqTransitive = codes "eq_transitive"
+word_of Rule.EqCongruent = codes "eq_congruent"
+word_of Rule.EqCongruentPred = codes "eq_congruent_pred"
+word_of Rule.Subproof = codes "subproof"
+word_of Rule.Let = codes "let"
+word_of Rule.ConnectiveDef = codes "connective_def"
+word_of Rule.IteIntro = codes "ite_intro"
+word_of Rule.DistinctElim = codes "distinct_elim"
+word_of Rule.NotSimplify = codes "not_simplify"
+word_of Rule.ImpliesSimplify = codes "implies_simplify"
+word_of Rule.EquivSimplify = codes "equiv_simplify"
+word_of Rule.BoolSimplify = codes "bool_simplify"
+word_of Rule.IteSimplify = codes "ite_simplify"
+word_of Rule.EqSimplify = codes "eq_simplify"
+word_of Rule.CompSimplify = codes "comp_simplify"
+word_of Rule.AndSimplify = codes "and_simplify"
+word_of Rule.OrSimplify = codes "or_simplify"
+word_of Rule.LaGeneric = codes "la_generic"
+word_of Rule.LaDisequality = codes "la_disequality"
+word_of Rule.LaTotality = codes "la_totality"
+word_of Rule.LaRwEq = codes "la_rw_eq"
+word_of Rule.SumSimplify = codes "sum_simplify"
+word_of Rule.ProdSimplify = codes "prod_simplify"
+word_of Rule.MinusSimplify = codes "minus_simplify"
+word_of Rule.UnaryMinusSimplify = codes "unary_minus_simplify"
 
-abbrev pub named : List ℕ → Rule → Named
-named word rule = record { word = word; rule = rule }
-
--- the rules that are known: each has a condition, or leaves a hole (the first four)
-abbrev pub known_rules : List Named
+-- the rules that are known: the first four leave a hole, and each other one has a condition
+abbrev pub known_rules : List Rule
 known_rules =
-    named (codes "hole") Rule.Hole
-    ∷ named (codes "lia_generic") Rule.LiaGeneric
-    ∷ named (codes "rare_rewrite") Rule.RareRewrite
-    ∷ named (codes "all_simplify") Rule.AllSimplify
-    ∷ named (codes "true") Rule.True
-    ∷ named (codes "false") Rule.False
-    ∷ named (codes "not_not") Rule.NotNot
-    ∷ named (codes "and_pos") Rule.AndPos
-    ∷ named (codes "and_neg") Rule.AndNeg
-    ∷ named (codes "or_pos") Rule.OrPos
-    ∷ named (codes "or_neg") Rule.OrNeg
-    ∷ named (codes "xor_pos1") Rule.XorPos1
-    ∷ named (codes "xor_pos2") Rule.XorPos2
-    ∷ named (codes "xor_neg1") Rule.XorNeg1
-    ∷ named (codes "xor_neg2") Rule.XorNeg2
-    ∷ named (codes "implies_pos") Rule.ImpliesPos
-    ∷ named (codes "implies_neg1") Rule.ImpliesNeg1
-    ∷ named (codes "implies_neg2") Rule.ImpliesNeg2
-    ∷ named (codes "equiv_pos1") Rule.EquivPos1
-    ∷ named (codes "equiv_pos2") Rule.EquivPos2
-    ∷ named (codes "equiv_neg1") Rule.EquivNeg1
-    ∷ named (codes "equiv_neg2") Rule.EquivNeg2
-    ∷ named (codes "ite_pos1") Rule.ItePos1
-    ∷ named (codes "ite_pos2") Rule.ItePos2
-    ∷ named (codes "ite_neg1") Rule.IteNeg1
-    ∷ named (codes "ite_neg2") Rule.IteNeg2
-    ∷ named (codes "and") Rule.And
-    ∷ named (codes "or") Rule.Or
-    ∷ named (codes "not_or") Rule.NotOr
-    ∷ named (codes "not_and") Rule.NotAnd
-    ∷ named (codes "xor1") Rule.Xor1
-    ∷ named (codes "xor2") Rule.Xor2
-    ∷ named (codes "not_xor1") Rule.NotXor1
-    ∷ named (codes "not_xor2") Rule.NotXor2
-    ∷ named (codes "implies") Rule.Implies
-    ∷ named (codes "not_implies1") Rule.NotImplies1
-    ∷ named (codes "not_implies2") Rule.NotImplies2
-    ∷ named (codes "equiv1") Rule.Equiv1
-    ∷ named (codes "equiv2") Rule.Equiv2
-    ∷ named (codes "not_equiv1") Rule.NotEquiv1
-    ∷ named (codes "not_equiv2") Rule.NotEquiv2
-    ∷ named (codes "ite1") Rule.Ite1
-    ∷ named (codes "ite2") Rule.Ite2
-    ∷ named (codes "not_ite1") Rule.NotIte1
-    ∷ named (codes "not_ite2") Rule.NotIte2
-    ∷ named (codes "contraction") Rule.Contraction
-    ∷ named (codes "reordering") Rule.Reordering
-    ∷ named (codes "weakening") Rule.Weakening
-    ∷ named (codes "tautology") Rule.Tautology
-    ∷ named (codes "resolution") Rule.Resolution
-    ∷ named (codes "th_resolution") Rule.ThResolution
-    ∷ named (codes "refl") Rule.Refl
-    ∷ named (codes "symm") Rule.Symm
-    ∷ named (codes "not_symm") Rule.NotSymm
-    ∷ named (codes "trans") Rule.Trans
-    ∷ named (codes "cong") Rule.Cong
-    ∷ named (codes "eq_reflexive") Rule.EqReflexive
-    ∷ named (codes "eq_symmetric") Rule.EqSymmetric
-    ∷ named (codes "eq_transitive") Rule.EqTransitive
-    ∷ named (codes "eq_congruent") Rule.EqCongruent
-    ∷ named (codes "eq_congruent_pred") Rule.EqCongruentPred
-    ∷ named (codes "subproof") Rule.Subproof
-    ∷ named (codes "let") Rule.Let
-    ∷ named (codes "connective_def") Rule.ConnectiveDef
-    ∷ named (codes "ite_intro") Rule.IteIntro
-    ∷ named (codes "distinct_elim") Rule.DistinctElim
-    ∷ named (codes "not_simplify") Rule.NotSimplify
-    ∷ named (codes "implies_simplify") Rule.ImpliesSimplify
-    ∷ named (codes "equiv_simplify") Rule.EquivSimplify
-    ∷ named (codes "bool_simplify") Rule.BoolSimplify
-    ∷ named (codes "ite_simplify") Rule.IteSimplify
-    ∷ named (codes "eq_simplify") Rule.EqSimplify
-    ∷ named (codes "comp_simplify") Rule.CompSimplify
-    ∷ named (codes "and_simplify") Rule.AndSimplify
-    ∷ named (codes "or_simplify") Rule.OrSimplify
-    ∷ named (codes "la_generic") Rule.LaGeneric
-    ∷ named (codes "la_disequality") Rule.LaDisequality
-    ∷ named (codes "la_totality") Rule.LaTotality
-    ∷ named (codes "la_rw_eq") Rule.LaRwEq
-    ∷ named (codes "sum_simplify") Rule.SumSimplify
-    ∷ named (codes "prod_simplify") Rule.ProdSimplify
-    ∷ named (codes "minus_simplify") Rule.MinusSimplify
-    ∷ named (codes "unary_minus_simplify") Rule.UnaryMinusSimplify
-    ∷ []
+    Rule.Hole ∷ Rule.LiaGeneric ∷ Rule.RareRewrite ∷ Rule.AllSimplify ∷ Rule.True ∷ Rule.False ∷ Rule.NotNot
+    ∷ Rule.AndPos ∷ Rule.AndNeg ∷ Rule.OrPos ∷ Rule.OrNeg ∷ Rule.XorPos1 ∷ Rule.XorPos2 ∷ Rule.XorNeg1
+    ∷ Rule.XorNeg2 ∷ Rule.ImpliesPos ∷ Rule.ImpliesNeg1 ∷ Rule.ImpliesNeg2 ∷ Rule.EquivPos1 ∷ Rule.EquivPos2
+    ∷ Rule.EquivNeg1 ∷ Rule.EquivNeg2 ∷ Rule.ItePos1 ∷ Rule.ItePos2 ∷ Rule.IteNeg1 ∷ Rule.IteNeg2 ∷ Rule.And
+    ∷ Rule.Or ∷ Rule.NotOr ∷ Rule.NotAnd ∷ Rule.Xor1 ∷ Rule.Xor2 ∷ Rule.NotXor1 ∷ Rule.NotXor2 ∷ Rule.Implies
+    ∷ Rule.NotImplies1 ∷ Rule.NotImplies2 ∷ Rule.Equiv1 ∷ Rule.Equiv2 ∷ Rule.NotEquiv1 ∷ Rule.NotEquiv2
+    ∷ Rule.Ite1 ∷ Rule.Ite2 ∷ Rule.NotIte1 ∷ Rule.NotIte2 ∷ Rule.Contraction ∷ Rule.Reordering ∷ Rule.Weakening
+    ∷ Rule.Tautology ∷ Rule.Resolution ∷ Rule.ThResolution ∷ Rule.Refl ∷ Rule.Symm ∷ Rule.NotSymm ∷ Rule.Trans
+    ∷ Rule.Cong ∷ Rule.EqReflexive ∷ Rule.EqSymmetric ∷ Rule.EqTransitive ∷ Rule.EqCongruent
+    ∷ Rule.EqCongruentPred ∷ Rule.Subproof ∷ Rule.Let ∷ Rule.ConnectiveDef ∷ Rule.IteIntro ∷ Rule.DistinctElim
+    ∷ Rule.NotSimplify ∷ Rule.ImpliesSimplify ∷ Rule.EquivSimplify ∷ Rule.BoolSimplify ∷ Rule.IteSimplify
+    ∷ Rule.EqSimplify ∷ Rule.CompSimplify ∷ Rule.AndSimplify ∷ Rule.OrSimplify ∷ Rule.LaGeneric
+    ∷ Rule.LaDisequality ∷ Rule.LaTotality ∷ Rule.LaRwEq ∷ Rule.SumSimplify ∷ Rule.ProdSimplify
+    ∷ Rule.MinusSimplify ∷ Rule.UnaryMinusSimplify ∷ []
 
--- the rule of a word by such a list, and Unknown where the list lacks the word
-abbrev pub rule_among : List Named → List ℕ → Rule
+-- the first rule of the list that has the word, and Unknown where none has
+abbrev pub rule_among : List Rule → List ℕ → Rule
 rule_among [] word = Rule.Unknown
-rule_among (n ∷ ns) word = if bytes_eq n.word word then n.rule else rule_among ns word
+rule_among (rule ∷ rules) word = if bytes_eq (word_of rule) word then rule else rule_among rules word
 
 -- the rule that a word names
 abbrev pub rule_named : List ℕ → Rule
 rule_named word = rule_among known_rules word
-
--- the word of a rule by such a list
-abbrev pub IsWordOf : List ℕ → Rule → Type 0
-IsWordOf word rule = Contains known_rules (named word rule)
 
 -- the rules for quantifiers, which are left out
 abbrev pub left_out_rules : List (List ℕ)

@@ -1,0 +1,58 @@
+-- Lists that stand end to end.
+use Rattle.std.proofs.Common.{◌≡◌, ◌≤◌, ◌<◌, ◌-◌, ◌+◌, ℕ, zero, suc, List, [], ◌∷◌, ◌++◌, length, take, drop, slice_get, slice_index, Some, refl, sym, ◌∙◌, ap, arith}
+use Rattle.std.proofs.lemmas.List.{length-append, length-drop, drop-append-le, take-append-le}
+use Rattle.std.proofs.Math.Seq.{take-length, drop-append_seam}
+use Rattle.proof_store.specs.Lists.{parts, start_of, AreEnds}
+
+-- as many lists as ends
+pub parts_count : {X : Type 0} (start : ℕ) (es : List ℕ) (xs : List X) → length (parts start es xs) ≡ length es
+parts_count start [] xs = refl
+parts_count start (e ∷ es) xs = ap suc (parts_count e es xs)
+
+-- the list at a place
+pub parts_get : {X : Type 0} (start : ℕ) (es : List ℕ) (xs : List X) (i : ℕ) → i < length es → slice_get (parts start es xs) i ≡ Some (take (slice_index es i - start_of start es i) (drop (start_of start es i) xs))
+parts_get start [] xs i h = absurd (omega arith)
+parts_get start (e ∷ es) xs zero h = refl
+parts_get start (e ∷ es) xs (suc i) h = parts_get e es xs i (omega arith)
+
+-- a list starts where the one before it ends
+pub start_before : (start : ℕ) (es : List ℕ) (i : ℕ) → i < length es → start_of start es (suc i) ≡ slice_index es i
+start_before start [] i h = absurd (omega arith)
+start_before start (e ∷ es) zero h = refl
+start_before start (e ∷ es) (suc i) h = start_before e es i (omega arith)
+
+pub ends_go_up : (start : ℕ) (es : List ℕ) (end : ℕ) → AreEnds start es end → start ≤ end
+ends_go_up start [] end h = omega arith
+ends_go_up start (e ∷ es) end h = let rest = ends_go_up e es end h.1 in let first = h.0 in omega arith
+
+-- a list starts before it ends, and ends within the items
+pub starts_before_end : (start : ℕ) (es : List ℕ) (end i : ℕ) → AreEnds start es end → i < length es → start_of start es i ≤ slice_index es i
+starts_before_end start [] end i h l = absurd (omega arith)
+starts_before_end start (e ∷ es) end zero h l = h.0
+starts_before_end start (e ∷ es) end (suc i) h l = starts_before_end e es end i h.1 (omega arith)
+
+pub ends_within : (start : ℕ) (es : List ℕ) (end i : ℕ) → AreEnds start es end → i < length es → slice_index es i ≤ end
+ends_within start [] end i h l = absurd (omega arith)
+ends_within start (e ∷ es) end zero h l = ends_go_up e es end h.1
+ends_within start (e ∷ es) end (suc i) h l = ends_within e es end i h.1 (omega arith)
+
+-- a list that starts within the items
+same_part : {X : Type 0} (start e : ℕ) (xs ys : List X) → start ≤ e → e ≤ length xs → take (e - start) (drop start (xs ++ ys)) ≡ take (e - start) (drop start xs)
+same_part start e xs ys h l =
+    let within : e - start ≤ length (drop start xs) = rw (length-drop start xs) (omega arith) in
+    rw (drop-append-le start xs ys (omega arith)) (take-append-le (e - start) (drop start xs) ys within)
+
+-- one more list
+pub parts_add : {X : Type 0} (start : ℕ) (es : List ℕ) (xs ys : List X) → AreEnds start es (length xs) → parts start (es ++ length (xs ++ ys) ∷ []) (xs ++ ys) ≡ parts start es xs ++ ys ∷ []
+parts_add start [] xs ys h = rw (h, length-append xs ys) (ap (λ l. l ∷ []) (last xs ys))
+  where
+    last : {X : Type 0} (xs ys : List X) → take ((length xs + length ys) - length xs) (drop (length xs) (xs ++ ys)) ≡ ys
+    last xs ys =
+        let count : (length xs + length ys) - length xs ≡ length ys = omega arith in
+        rw (count, drop-append_seam xs ys) (take-length ys)
+parts_add start (e ∷ es) xs ys h =
+    rw (same_part start e xs ys h.0 (ends_go_up e es (length xs) h.1)) (ap (λ l. take (e - start) (drop start xs) ∷ l) (parts_add e es xs ys h.1))
+
+pub ends_add : (start : ℕ) (es : List ℕ) (end n : ℕ) → AreEnds start es end → end ≤ n → AreEnds start (es ++ n ∷ []) n
+ends_add start [] end n h l = (omega arith, refl)
+ends_add start (e ∷ es) end n h l = (h.0, ends_add e es end n h.1 l)

@@ -1,0 +1,4 @@
+//! Proofs as flat commands.
+#![tactic(auto)]
+
+mod lists;
