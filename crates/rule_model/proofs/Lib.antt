@@ -1,0 +1,2 @@
+pub mod Consequence
+pub mod Renamings

@@ -5,3 +5,6 @@
 #![tactic(auto)]
 
 pub mod laws;
+mod literal;
+
+pub use literal::Literal;
