@@ -1,2 +1,4 @@
 pub mod Consequence
 pub mod Renamings
+pub mod Resolution
+pub mod StrictResolution

@@ -1,3 +1,5 @@
 pub mod Literals
 pub mod Consequence
 pub mod Renaming
+pub mod Clauses
+pub mod Resolution
