@@ -1,20 +1,19 @@
 -- What a step of resolution concludes is true where its premises are.
-use Rattle.std.proofs.Common.{◌≡◌, ◌⊎◌, ◌↔◌, inl, inr, ⊎_elim, ℕ, zero, suc, ◌<◌, Bool, true, false, not, List, [], ◌∷◌, map, length, refl, sym, ◌∙◌, ap, arith, All, Any, Contains}
+use Rattle.std.proofs.Common.{◌≡◌, inl, inr, Bool, false, not, List, [], ◌∷◌, map, refl, sym, ◌∙◌, ap, arith, All}
 use Rattle.std.proofs.lemmas.List.Elements.{All-head, All-tail, All-nil, All-cons}
 use Rattle.term_model.specs.declared.symbols.Op.{Op}
-use Rattle.term_model.specs.Terms.{Term, numeral, variable, operation, call, let_in, Terms, no_terms, term, not_of}
-use Rattle.term_model.specs.Values.{truth, as_truth}
+use Rattle.term_model.specs.Terms.{Term, operation, no_terms, term, not_of}
+use Rattle.term_model.specs.Values.{as_truth}
 use Rattle.term_model.specs.Interpretations.{Interpretation}
 use Rattle.term_model.specs.Meaning.{Valuation, value}
 use Rattle.term_model.specs.Unsatisfiable.{MakesTrue}
 use Rattle.term_model.proofs.Basics.{any_here, any_later, any_cases}
 use Rattle.term_model.proofs.Meanings.{is_true, true_is}
-use Rattle.rule_model.specs.declared.literal.Literal.{Literal}
-use Rattle.rule_model.specs.declared.literal.Literal.TheVariants.{Plain, Always, Never}
-use Rattle.rule_model.specs.Literals.{negation_of, is_true_under, ClauseTrue}
+use Rattle.rule_model.specs.declared.literal.Literal.TheVariants.{Plain}
+use Rattle.rule_model.specs.Literals.{is_true_under, ClauseTrue}
 use Rattle.rule_model.specs.Clauses.{MakesClauseTrue}
 use Rattle.rule_model.specs.Resolution.{bare_literal, as_literal, as_clause, ResolvesInCheck}
-use Rattle.rule_model.proofs.Consequence.{negation_of-negation_of, negation_of-truth, consequence_sound}
+use Rattle.rule_model.proofs.Consequence.{negation_of-truth, consequence_sound}
 
 -- a term that is no negation is a constant, or an atom
 pub bare_is_bare : (t : Term) → ((u : Term) → t ≡ not_of u → ⊥) → as_literal t ≡ bare_literal t

@@ -1,27 +1,14 @@
 -- What a chain of resolutions concludes is true where its premises are.
-use Rattle.std.proofs.Common.{◌≡◌, ◌⊎◌, inl, inr, ⊎_elim, ℕ, zero, suc, ◌<◌, Bool, true, false, not, List, [], ◌∷◌, ◌++◌, length, refl, sym, ◌∙◌, ap, subst, arith, All, Any, Contains}
-use Rattle.std.proofs.lemmas.List.{get_or_default}
+use Rattle.std.proofs.Common.{◌≡◌, ◌⊎◌, inl, inr, Bool, true, false, not, List, [], ◌∷◌, ◌++◌, sym, ◌∙◌, subst, All, Contains}
 use Rattle.std.proofs.lemmas.List.Elements.{All-head, All-tail, Contains-append_left, Contains-append_right, Contains-push_cases}
-use Rattle.term_model.specs.Terms.{Term, not_of}
+use Rattle.term_model.specs.Terms.{Term}
 use Rattle.term_model.specs.Interpretations.{Interpretation}
 use Rattle.term_model.specs.Meaning.{Valuation}
 use Rattle.term_model.specs.Unsatisfiable.{MakesTrue}
 use Rattle.term_model.proofs.Meanings.{negation_is}
+use Rattle.rule_model.proofs.Lists.{contains_none, contains_cases, contains_head, contains_later}
 use Rattle.rule_model.specs.Clauses.{MakesClauseTrue}
 use Rattle.rule_model.specs.Resolution.{IsWithout, IsFirstsOf, with_sign, IsResolvent, Chains, ResolvesStrictly}
-
-contains_none : {X : Type 0} (x : X) → Contains [] x → ⊥
-contains_none x (k, h, e) = omega (arith, h)
-
-contains_cases : {X : Type 0} (x y : X) (xs : List X) → Contains (x ∷ xs) y → (x ≡ y) ⊎ Contains xs y
-contains_cases x y xs (zero, h, e) = inl e
-contains_cases x y xs (suc k, h, e) = inr (k, omega (arith, h), e)
-
-contains_head : {X : Type 0} (x : X) (xs : List X) → Contains (x ∷ xs) x
-contains_head x xs = (0, omega arith, refl)
-
-contains_later : {X : Type 0} (x y : X) (xs : List X) → Contains xs y → Contains (x ∷ xs) y
-contains_later x y xs (k, h, e) = (suc k, omega (arith, h), e)
 
 -- what is not removed is left
 pub kept_without : (p : Term) (ts rest : List Term) (u : Term) → IsWithout p ts rest → Contains ts u → (u ≡ p) ⊎ Contains rest u

@@ -3,3 +3,4 @@ pub mod Consequence
 pub mod Renaming
 pub mod Clauses
 pub mod Resolution
+pub mod ConsequenceExamples

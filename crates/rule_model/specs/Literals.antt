@@ -1,6 +1,6 @@
 -- Public. Literals and clauses over any atoms: the opposite of a literal, when it is true, when a clause is true, and
 -- when one is true wherever others are. A clause is a list of literals that is read as a set.
-use Rattle.std.specs.Prelude.{◌≡◌, ◌⊎◌, Bool, true, false, not, if◌then◌else◌, List, [], ◌∷◌, All}
+use Rattle.std.specs.Prelude.{◌≡◌, ◌⊎◌, ◌↔◌, Bool, true, false, not, if◌then◌else◌, List, [], ◌∷◌, All, Contains}
 use Rattle.rule_model.specs.declared.literal.Literal.{Literal}
 use Rattle.rule_model.specs.declared.literal.Literal.TheVariants.{Plain, Always, Never}
 
@@ -24,3 +24,7 @@ ClauseTrue v (l ∷ ls) = (is_true_under v l ≡ true) ⊎ ClauseTrue v ls
 -- under all truth values of the atoms that make each premise true, the conclusion is true
 abbrev pub Entails : {A : Type 0} → List (List (Literal A)) → List (Literal A) → Type 0
 Entails {A} premises goal = (v : A → Bool) → All (ClauseTrue v) premises → ClauseTrue v goal
+
+-- two clauses that are the same set of literals
+abbrev pub IsSameClause : {A : Type 0} → List (Literal A) → List (Literal A) → Type 0
+IsSameClause {A} clause other = (l : Literal A) → Contains clause l ↔ Contains other l

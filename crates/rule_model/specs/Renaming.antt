@@ -1,5 +1,5 @@
 -- Public. Clauses that are the same but for the names of their atoms.
-use Rattle.std.specs.Prelude.{◌≡◌, ◌↔◌, Bool, List, Contains, ⊤}
+use Rattle.std.specs.Prelude.{◌≡◌, ◌↔◌, List, Contains, ⊤}
 use Rattle.std.specs.List.{AllZip}
 use Rattle.rule_model.specs.declared.literal.Literal.{Literal}
 use Rattle.rule_model.specs.declared.literal.Literal.TheVariants.{Plain, Always, Never}

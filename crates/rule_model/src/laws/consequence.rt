@@ -1,8 +1,9 @@
 //! What unit consequence means, over any atoms.
 
 ghost use Rattle.std.specs.Prelude.{List, ◌↔◌, ℕ};
+ghost use Rattle.std.specs.List.{AllZip};
 ghost use Rattle.rule_model.specs.Consequence.{Contradicts, Follows, Leads};
-ghost use Rattle.rule_model.specs.Literals.{Entails};
+ghost use Rattle.rule_model.specs.Literals.{Entails, IsSameClause};
 ghost use Rattle.rule_model.specs.Renaming.{AreAllImages, AreImages, IsName, IsOneToOne};
 ghost use Rattle.rule_model.specs.declared.literal.Literal.{Literal};
 
@@ -23,4 +24,10 @@ pub fn renaming_keeps_consequence<A, B>()
         (units : List (ℕ × ℕ)) (last : ℕ) → Leads premises goal units last ↔ Leads named named_goal units last }
     ensures contradictions { (names : List (A × B)) (goal : List (Literal A)) (named_goal : List (Literal B)) →
         IsOneToOne (IsName names) → AreImages (IsName names) goal named_goal → Contradicts goal ↔ Contradicts named_goal }
+{}
+
+/// Clauses are sets of their literals: neither the order nor repeats play a part.
+pub fn clauses_are_sets<A>()
+    ensures { (premises others : List (List (Literal A))) (goal other : List (Literal A)) →
+        AllZip IsSameClause premises others → IsSameClause goal other → Follows premises goal ↔ Follows others other }
 {}

@@ -1,4 +1,4 @@
-use Rattle.std.proofs.Common.{refl, ◌∙◌}
+use Rattle.std.proofs.Common.{◌∙◌}
 use Rattle.rule_model.specs.Resolution.{as_literal}
 use Rattle.rule_model.proofs.Consequence.{negation_of-negation_of}
 use Rattle.rule_model.proofs.Resolution.{bare_is_bare, atom_is_plain}
