@@ -1,10 +1,7 @@
 -- What unit propagation says of clauses it says of the same clauses with new names for their atoms.
-use Rattle.std.proofs.Common.{◌≡◌, ◌⊎◌, ◌↔◌, inl, inr, ℕ, suc, ◌+◌, ◌<◌, Bool, true, ◌&&◌, nat_eq, Option, Some, None, Result, Ok, Err, IfOk, IfSome, IfNone, List, [], ◌∷◌, ◌++◌, length, get_or, refl, sym, ◌∙◌, ap, subst, arith, MatchOption, eq-eqb, length-append, take}
-use Rattle.std.specs.List.{list_any, AllZip}
+use Rattle.std.proofs.Common.{◌≡◌, ◌↔◌, ℕ, suc, ◌+◌, ◌<◌, Option, Some, None, Result, Ok, Err, IfOk, IfSome, IfNone, List, [], ◌∷◌, ◌++◌, length, get_or, refl, sym, ◌∙◌, ap, subst, arith, MatchOption, length-append, take}
 use Rattle.std.specs.Global.{Vec}
-use Rattle.std.proofs.lemmas.Bool.{eqb-true}
-use Rattle.std.proofs.lemmas.List.{get_or_default, get_or-append-add, get_or_append_left, take_more, length-take}
-use Rattle.std.proofs.lemmas.List.Elements.{AllZip-push, AllZip-get_or, length_all_zip}
+use Rattle.std.proofs.lemmas.List.{get_or-append-add, get_or_append_left, take_more, length-take}
 use Rattle.rule_model.specs.Consequence.{literal_at, Leads, Contradicts, Follows}
 use Rattle.rule_model.specs.Renaming.{IsOneToOne, IsImage, AreImages, AreAllImages}
 use Rattle.rule_model.specs.declared.literal.Literal.{Literal}
