@@ -7,10 +7,10 @@ use Rattle.term_model.specs.Values.{as_truth}
 use Rattle.term_model.specs.Interpretations.{Interpretation}
 use Rattle.term_model.specs.Meaning.{value}
 use Rattle.term_model.specs.Unsatisfiable.{MakesTrue, MakesAllTrue, Unsatisfiable}
-use Rattle.rules_resolution.specs.declared.literal.Lit.{Lit}
-use Rattle.rules_resolution.specs.Literal.{is_true_under}
-use Rattle.rules_resolution.specs.Clause.{ClauseTrue, Entails}
-use Rattle.rules_resolution.specs.Consequence.{Follows}
+use Rattle.rule_model.specs.Consequence.{Follows}
+use Rattle.rule_model.specs.Literals.{is_true_under, ClauseTrue, Entails}
+use Rattle.rule_model.specs.declared.literal.Literal.TheVariants.{Plain}
+use Rattle.rules_resolution.specs.Literal.{Lit}
 use Rattle.carcara_cli.specs.declared.literal.Literal.{Literal}
 use Rattle.carcara_cli.specs.Names.{Word, name_at}
 use Rattle.carcara_cli.specs.Texts.{constant, negated, term_of}
@@ -22,10 +22,10 @@ abbrev pub truth_of : Interpretation → List Word → ℕ → Bool
 truth_of I names k = as_truth (value I [] (constant (name_at names k)))
 
 value-negated : (I : Interpretation) (names : List Word) (k n : ℕ) →
-    as_truth (value I [] (negated n (constant (name_at names k)))) ≡ is_true_under (truth_of I names) (Lit.Plain k (is_odd n))
+    as_truth (value I [] (negated n (constant (name_at names k)))) ≡ is_true_under (truth_of I names) (Plain k (is_odd n))
 value-negated I names k zero = refl
 value-negated I names k (suc n) = ap not (value-negated I names k n) ∙ by (is_odd n) where
-  by : (b : Bool) → not (is_true_under (truth_of I names) (Lit.Plain k b)) ≡ is_true_under (truth_of I names) (Lit.Plain k (not b))
+  by : (b : Bool) → not (is_true_under (truth_of I names) (Plain k b)) ≡ is_true_under (truth_of I names) (Plain k (not b))
   by true = not_not (truth_of I names k)
     where
       not_not : (c : Bool) → not (not c) ≡ c

@@ -2,8 +2,8 @@
 use Rattle.std.proofs.Common.{◌≡◌, ℕ, zero, suc, ◌+◌, ◌%◌, ◌<◌, Bool, true, false, not, ◌||◌, nat_eq, below_more, refl, ap, ◌∙◌, sym, inl, inr, arith, List, [], None, Some, Option, length, get_or}
 use Rattle.std.proofs.lemmas.Bool.{eq-eqb}
 use Rattle.std.proofs.lemmas.Bool.Decides.{nat_tests}
-use Rattle.rules_resolution.specs.declared.literal.Lit.{Lit}
-use Rattle.rules_resolution.specs.Consequence.{Contradicts, Leads, Follows}
+use Rattle.rule_model.specs.Consequence.{Contradicts, Leads, Follows}
+use Rattle.rules_resolution.specs.Literal.{Lit}
 use Rattle.rules_resolution.specs.Trace.{Trace}
 use Rattle.rules_resolution.specs.Shows.{Shows}
 use Rattle.std.specs.List.{list_any, Contains}

@@ -1,8 +1,9 @@
 -- The verdict on a proof: which commands are met, and what follows for the proof as a whole.
 use Rattle.std.specs.Prelude.{◌≡◌, ℕ, zero, suc, ◌<◌, Bool, false, not, ◌&&◌, nat_eq, List, [], map, length, Contains, MatchBool}
 use Rattle.std.specs.List.{list_any}
-use Rattle.rules_resolution.specs.declared.literal.Lit.{Lit}
-use Rattle.rules_resolution.specs.Consequence.{Follows}
+use Rattle.rule_model.specs.Consequence.{Follows}
+use Rattle.rule_model.specs.declared.literal.Literal.TheVariants.{Plain}
+use Rattle.rules_resolution.specs.Literal.{Lit}
 use Rattle.carcara_cli.specs.declared.literal.Literal.{Literal}
 use Rattle.carcara_cli.specs.declared.check.Verdict.{Verdict}
 use Rattle.carcara_cli.specs.declared.check.Verdict.TheVariants.{Valid, NoEmptyClause, NotMet, NotAsserted}
@@ -16,7 +17,7 @@ is_odd (suc n) = not (is_odd n)
 
 -- leading pairs of `not` are removed: what is left is the constant, or its negation
 abbrev pub lit_of : Literal → Lit
-lit_of l = Lit.Plain l.name (is_odd l.nots)
+lit_of l = Plain l.name (is_odd l.nots)
 
 -- whether two terms are the same
 abbrev pub same_literal : Literal → Literal → Bool

@@ -5,3 +5,9 @@ pub mod Reading
 pub mod Visibility
 pub mod RuleNames
 pub mod WellFormed
+pub mod Literals
+pub mod Consequence
+pub mod Renaming
+pub mod Clauses
+pub mod Resolution
+pub mod ConsequenceExamples

@@ -8,3 +8,6 @@ pub mod laws;
 mod rules;
 
 pub use rules::{Mode, Rule, StepCause};
+mod literal;
+
+pub use literal::Literal;

@@ -2,18 +2,20 @@
 use Rattle.std.proofs.Common.{◌≡◌, ◌⊎◌, inl, inr, ⊎_elim, ℕ, zero, suc, ◌+◌, ◌<◌, ◌≤◌, Bool, true, false, cond, ◌||◌, nat_eq, List, [], ◌∷◌, length, get_or, refl, sym, ◌∙◌, ap, subst, arith}
 use Rattle.std.specs.List.{list_any}
 use Rattle.std.proofs.lemmas.List.{get_or_default}
+use Rattle.std.proofs.lemmas.List.Elements.{All-from_get_or}
 use Rattle.std.proofs.lemmas.List.Sums.{sum_by-cons}
-use Rattle.rules_resolution.specs.declared.literal.Lit.{Lit}
-use Rattle.rules_resolution.specs.declared.literal.Lit.TheVariants.{Plain, Always, Never}
+use Rattle.rule_model.specs.Consequence.{IsFalse, literal_at, premise_at, IsOnly, IsConflict, IsUnit}
+use Rattle.rule_model.specs.Literals.{negation_of}
+use Rattle.rule_model.specs.declared.literal.Literal.TheVariants.{Plain, Always, Never}
+use Rattle.rules_resolution.specs.Falsity.{is_false_in}
+use Rattle.rules_resolution.specs.Literal.{Lit}
 use Rattle.rules_resolution.specs.declared.occurrence.Occurrence.{Occurrence}
 use Rattle.rules_resolution.specs.declared.standing.Standing.{Standing}
-use Rattle.rules_resolution.specs.Literal.{negation_of}
-use Rattle.rules_resolution.specs.Consequence.{is_false_in, literal_at, premise_at, OnlyBelow, IsConflict, IsUnit}
 use Rattle.rules_resolution.specs.Idle.{IsIdle, IsSettled}
 use Rattle.rules_resolution.specs.Occurrence.{literal_in, rank_of, literal_rank}
 use Rattle.rules_resolution.specs.Table.{IsTable}
 use Rattle.rules_resolution.specs.Standing.{is_always, blank_standings, open_at, places_at, one, place_in, stands, tally, IsTallied}
-use Rattle.rules_resolution.proofs.Literals.{true_or_false}
+use Rattle.rules_resolution.proofs.Literals.{true_or_false, false_from_test, only_from_tests, only-others, only-stays}
 use Rattle.rules_resolution.proofs.Standings.{same_or_not}
 
 abbrev pub nowhere : Occurrence
@@ -225,7 +227,11 @@ module _ (premises : List (List Lit)) (goal falses : List Lit) (table : List Occ
       let few = few_is_premise p h (omega (arith, e)) in
       let sum = tallied.opens p h in
       let none = none_stands falses p table (omega arith) in
-      record { place = few.0; all_false = λ k g. each few none.0 k g (entry_of p k few.0 g) }
+      record {
+        place = few.0;
+        all_false = All-from_get_or (IsFalse falses) (premise_at premises p) Never
+            (λ k g. false_from_test falses (literal_at (premise_at premises p) k) (each few none.0 k g (entry_of p k few.0 g)));
+      }
     where
       each : (p < length premises) × (list_any is_always (premise_at premises p) ≡ false) → ((k : ℕ) → k < length table → (entry table k).premise ≡ p → is_false_in falses (literal_in (entry table k)) ≡ true) → (k : ℕ) → k < length (premise_at premises p) → (literal_at (premise_at premises p) k ≡ Always) ⊎ ((is_false_in falses (literal_at (premise_at premises p) k) ≡ true) ⊎ ((i : ℕ) × (i < length table) × ((entry table i).premise ≡ p) × (literal_in (entry table i) ≡ literal_at (premise_at premises p) k))) → is_false_in falses (literal_at (premise_at premises p) k) ≡ true
       each few none k g (inl always) = absurd (no_always_at (premise_at premises p) few.1 k g always)
@@ -248,9 +254,9 @@ module _ (premises : List (List Lit)) (goal falses : List Lit) (table : List Occ
           let said = entry_place lone.at lone.within in_premises in
           let place : (entry table lone.at).place < length (premise_at premises p) = subst (λ (q : ℕ). (entry table lone.at).place < length (premise_at premises q)) lone.premise said.0 in
           let literal : literal_at (premise_at premises p) (entry table lone.at).place ≡ literal_in (entry table lone.at) = subst (λ (q : ℕ). literal_at (premise_at premises q) (entry table lone.at).place ≡ literal_in (entry table lone.at)) lone.premise said.1 in
-          let only : OnlyBelow falses (premise_at premises p) (length (premise_at premises p)) (entry table lone.at).place =
-          record { place = place; not_false = ap (is_false_in falses) literal ∙ lone.stays; others = λ k g. other few lone literal k g (entry_of p k few.0 g) } in
-          record { place = few.0; only = subst (λ (j : ℕ). OnlyBelow falses (premise_at premises p) (length (premise_at premises p)) j) (sym spot) only }
+          let only : IsOnly falses (premise_at premises p) (entry table lone.at).place =
+          only_from_tests falses (premise_at premises p) (entry table lone.at).place place (ap (is_false_in falses) literal ∙ lone.stays) (λ k g. other few lone literal k g (entry_of p k few.0 g)) in
+          record { place = few.0; only = subst (λ (j : ℕ). IsOnly falses (premise_at premises p) j) (sym spot) only }
         where
           other : (p < length premises) × (list_any is_always (premise_at premises p) ≡ false) → (lone : Lone falses p table) → literal_at (premise_at premises p) (entry table lone.at).place ≡ literal_in (entry table lone.at) → (k : ℕ) → k < length (premise_at premises p) → (literal_at (premise_at premises p) k ≡ Always) ⊎ ((is_false_in falses (literal_at (premise_at premises p) k) ≡ true) ⊎ ((i : ℕ) × (i < length table) × ((entry table i).premise ≡ p) × (literal_in (entry table i) ≡ literal_at (premise_at premises p) k))) → (is_false_in falses (literal_at (premise_at premises p) k) ≡ true) ⊎ (literal_at (premise_at premises p) k ≡ literal_at (premise_at premises p) (entry table lone.at).place)
           other few lone literal k g (inl always) = absurd (no_always_at (premise_at premises p) few.1 k g always)
@@ -275,7 +281,7 @@ module _ (premises : List (List Lit)) (goal falses : List Lit) (table : List Occ
             (λ (gone : is_false_in falses (literal_at (premise_at premises p) some.0) ≡ true). (let s = ap (is_false_in falses) some.2 in cc))
             (λ (same : literal_at (premise_at premises p) some.0 ≡ literal_at (premise_at premises p) j).
             ap (λ (l : Lit). is_false_in falses (negation_of l)) (sym same ∙ some.2))
-            (only.others some.0 some.1);
+            (only-others falses (premise_at premises p) j only some.0 some.1);
       }
 
   pub idle_from_two : (p : ℕ) → p < length premises → is_false_in falses Always ≡ false → 2 ≤ open_at standings p → IsIdle falses (premise_at premises p)
@@ -296,8 +302,8 @@ module _ (premises : List (List Lit)) (goal falses : List Lit) (table : List Occ
                 settled = λ i only. absurd (apart (one_of i only (entry table j).place a.0 (ap (is_false_in falses) a.1 ∙ first.stays)) (one_of i only (entry table k).place b.0 (ap (is_false_in falses) b.1 ∙ second.stays)) a.1 b.1);
               }
             where
-              one_of : (i : ℕ) → OnlyBelow falses (premise_at premises p) (length (premise_at premises p)) i → (m : ℕ) → m < length (premise_at premises p) → is_false_in falses (literal_at (premise_at premises p) m) ≡ false → literal_at (premise_at premises p) m ≡ literal_at (premise_at premises p) i
-              one_of i only m l stays = ⊎_elim (λ (gone : is_false_in falses (literal_at (premise_at premises p) m) ≡ true). absurd (let x : true ≡ false = sym gone ∙ stays in cc)) (λ same. same) (only.others m l)
+              one_of : (i : ℕ) → IsOnly falses (premise_at premises p) i → (m : ℕ) → m < length (premise_at premises p) → is_false_in falses (literal_at (premise_at premises p) m) ≡ false → literal_at (premise_at premises p) m ≡ literal_at (premise_at premises p) i
+              one_of i only m l stays = ⊎_elim (λ (gone : is_false_in falses (literal_at (premise_at premises p) m) ≡ true). absurd (let x : true ≡ false = sym gone ∙ stays in cc)) (λ same. same) (only-others falses (premise_at premises p) i only m l)
 
               apart : {l : Lit} → literal_at (premise_at premises p) (entry table j).place ≡ l → literal_at (premise_at premises p) (entry table k).place ≡ l → literal_at (premise_at premises p) (entry table j).place ≡ literal_in (entry table j) → literal_at (premise_at premises p) (entry table k).place ≡ literal_in (entry table k) → ⊥
               apart x y la lb =
@@ -322,7 +328,7 @@ module _ (premises : List (List Lit)) (goal falses : List Lit) (table : List Occ
             place = a.0;
             not_false = ap (is_false_in falses) a.1 ∙ one_left.1.stays;
             settled = λ j only. ⊎_elim
-                (λ (gone : is_false_in falses (literal_at (premise_at premises p) j) ≡ true). absurd (let x : true ≡ false = sym gone ∙ only.not_false in cc))
+                (λ (gone : is_false_in falses (literal_at (premise_at premises p) j) ≡ true). absurd (let x : true ≡ false = sym gone ∙ only-stays falses (premise_at premises p) j only in cc))
                 (λ (same : literal_at (premise_at premises p) j ≡ settled.literal). ap (λ (l : Lit). is_false_in falses (negation_of l)) same ∙ settled.is_true)
                 (settled.others j only.place);
           }

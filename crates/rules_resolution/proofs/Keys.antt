@@ -9,12 +9,12 @@ use Rattle.std.proofs.lemmas.List.Concat.{flat_map-append}
 use Rattle.std.proofs.lemmas.List.Elements.{All-nil, All-cons, All-append, Contains-append_left, Contains-append_right}
 use Rattle.std.proofs.lemmas.List.Folds.{flat_map-map, length-flat_map-take}
 use Rattle.std.proofs.lemmas.List.Sorted.{Contains-permutation, All-permutation}
-use Rattle.rules_resolution.specs.declared.literal.Lit.{Lit}
-use Rattle.rules_resolution.specs.declared.literal.Lit.TheVariants.{Plain, Always, Never}
+use Rattle.rule_model.specs.Consequence.{literal_at}
+use Rattle.rule_model.specs.declared.literal.Literal.TheVariants.{Plain, Always, Never}
+use Rattle.rules_resolution.specs.Clause.{clauses_of}
+use Rattle.rules_resolution.specs.Literal.{Lit}
 use Rattle.rules_resolution.specs.declared.naming.Key.{Key}
 use Rattle.rules_resolution.specs.declared.trail.Memory.{Memory}
-use Rattle.rules_resolution.specs.Clause.{clauses_of}
-use Rattle.rules_resolution.specs.Consequence.{literal_at}
 use Rattle.rules_resolution.specs.Renaming.{all_literals, atom_of, name_at, AreNames, joined}
 use Rattle.rules_resolution.specs.Naming.{key_rank, key_at, keys_from, IsKeyOf, AreKeys, IsRun, name_in, HasNames}
 use Rattle.rules_resolution.proofs.Literals.{true_or_false}

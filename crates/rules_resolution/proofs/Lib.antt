@@ -1,5 +1,4 @@
 pub mod Literals
-pub mod Soundness
 pub mod Premises
 pub mod Stuck
 pub mod Ranks

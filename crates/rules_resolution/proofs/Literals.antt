@@ -1,12 +1,14 @@
 -- Literals that are the same, opposite or false.
-use Rattle.std.proofs.Common.{◌≡◌, ◌⊎◌, inl, inr, ℕ, Bool, true, false, not, ◌&&◌, ◌||◌, List, [], ◌∷◌, ◌++◌, nat_eq, refl, sym, ◌∙◌, eq-eqb}
+use Rattle.std.proofs.Common.{◌≡◌, ◌⊎◌, inl, inr, ℕ, suc, ◌<◌, Bool, true, false, ◌&&◌, ◌||◌, List, [], ◌∷◌, ◌++◌, nat_eq, length, refl, sym, ◌∙◌, ap, arith, eq-eqb}
 use Rattle.std.specs.List.{list_any}
-use Rattle.std.proofs.lemmas.List.Folds.{list_any-append}
+use Rattle.std.proofs.lemmas.List.{get_or_default}
+use Rattle.std.proofs.lemmas.List.Elements.{All-from_get_or}
+use Rattle.std.proofs.lemmas.List.Folds.{list_any-append, list_any_at}
 use Rattle.std.proofs.lemmas.Bool.{eqb-true}
-use Rattle.rules_resolution.specs.declared.literal.Lit.{Lit}
-use Rattle.rules_resolution.specs.declared.literal.Lit.TheVariants.{Plain, Always, Never}
-use Rattle.rules_resolution.specs.Literal.{negation_of, same_bool, same_literal, is_true_under}
-use Rattle.rules_resolution.specs.Consequence.{is_false_in}
+use Rattle.rule_model.specs.Consequence.{IsFalse, IsOnly, literal_at}
+use Rattle.rule_model.specs.declared.literal.Literal.TheVariants.{Plain, Always, Never}
+use Rattle.rules_resolution.specs.Falsity.{same_bool, same_literal, is_false_in}
+use Rattle.rules_resolution.specs.Literal.{Lit}
 
 pub or_cases : (a b : Bool) → (a || b) ≡ true → (a ≡ true) ⊎ (b ≡ true)
 or_cases true b e = inl refl
@@ -53,12 +55,6 @@ same_literal-refl (Plain a m) = rw (eq-eqb a a refl) (same_bool-refl m)
 same_literal-refl Always = refl
 same_literal-refl Never = refl
 
-pub negation_of-negation_of : (l : Lit) → negation_of (negation_of l) ≡ l
-negation_of-negation_of (Plain a true) = refl
-negation_of-negation_of (Plain a false) = refl
-negation_of-negation_of Always = refl
-negation_of-negation_of Never = refl
-
 -- a literal is false that was made false last, that was false before, and no other
 pub push_new : (falses : List Lit) (m : Lit) → is_false_in (falses ++ m ∷ []) m ≡ true
 push_new falses m =
@@ -93,16 +89,52 @@ push_cases falses m l e =
           ]
     ]
 
-pub negation_of-truth : (v : ℕ → Bool) (l : Lit) → is_true_under v (negation_of l) ≡ not (is_true_under v l)
-negation_of-truth v (Plain a true) = not_not (v a)
-  where
-    not_not : (b : Bool) → b ≡ not (not b)
-    not_not true = refl
-    not_not false = refl
-negation_of-truth v (Plain a false) = refl
-negation_of-truth v Always = refl
-negation_of-truth v Never = refl
-
 pub true_or_false : (b : Bool) → (b ≡ true) ⊎ (b ≡ false)
 true_or_false true = inl refl
 true_or_false false = inr refl
+
+-- a literal of the list stands at some place of it
+pub among_place : (l : Lit) (ls : List Lit) → list_any (same_literal l) ls ≡ true → (k : ℕ) × (k < length ls) × (literal_at ls k ≡ l)
+among_place l [] e = cc
+among_place l (m ∷ ms) e =
+    elim (or_cases (same_literal l m) (list_any (same_literal l) ms) e) [
+      | inl here ↦ (0, omega arith, sym (same_literal-true l m here))
+      | inr later ↦ (let p = among_place l ms later in (suc p.0, omega (arith, p.1), p.2))
+    ]
+
+-- the test and what it decides
+pub false_from_test : (falses : List Lit) (l : Lit) → is_false_in falses l ≡ true → IsFalse falses l
+false_from_test falses l e =
+    elim (or_cases (same_literal l Never) (list_any (same_literal l) falses) e) [
+      | inl never ↦ inl (same_literal-true l Never never)
+      | inr among ↦ inr (let p = among_place l falses among in (p.0, p.1, get_or_default falses p.0 l Never p.1 ∙ p.2))
+    ]
+
+pub test_of_false : (falses : List Lit) (l : Lit) → IsFalse falses l → is_false_in falses l ≡ true
+test_of_false falses l (inl never) =
+    or_left (same_literal l Never) (list_any (same_literal l) falses) (ap (λ (m : Lit). same_literal m Never) never)
+test_of_false falses l (inr (k, h, here)) =
+    or_right (same_literal l Never) (list_any (same_literal l) falses)
+    (list_any_at (same_literal l) falses k l h (ap (same_literal l) here ∙ same_literal-refl l))
+
+-- the only literal that is not false, by the test
+pub only_from_tests : (falses clause : List Lit) (j : ℕ) → j < length clause → is_false_in falses (literal_at clause j) ≡ false
+    → ((k : ℕ) → k < length clause → (is_false_in falses (literal_at clause k) ≡ true) ⊎ (literal_at clause k ≡ literal_at clause j)) → IsOnly falses clause j
+only_from_tests falses clause j place stays others =
+    record {
+      place = place;
+      not_false = λ gone. (let e = test_of_false falses (literal_at clause j) gone in cc (e, stays));
+      others = All-from_get_or (λ l. IsFalse falses l ⊎ (l ≡ literal_at clause j)) clause Never
+          (λ k h. elim (others k h) [ inl gone ↦ inl (false_from_test falses (literal_at clause k) gone) | inr same ↦ inr same ]);
+    }
+
+pub only-others : (falses clause : List Lit) (j : ℕ) → IsOnly falses clause j → (k : ℕ) → k < length clause → (is_false_in falses (literal_at clause k) ≡ true) ⊎ (literal_at clause k ≡ literal_at clause j)
+only-others falses clause j only k h =
+    elim (only.others k Never h) [ inl gone ↦ inl (test_of_false falses (literal_at clause k) gone) | inr same ↦ inr same ]
+
+pub only-stays : (falses clause : List Lit) (j : ℕ) → IsOnly falses clause j → is_false_in falses (literal_at clause j) ≡ false
+only-stays falses clause j only =
+    elim (true_or_false (is_false_in falses (literal_at clause j))) [
+      | inl gone ↦ absurd (only.not_false (false_from_test falses (literal_at clause j) gone))
+      | inr stays ↦ stays
+    ]

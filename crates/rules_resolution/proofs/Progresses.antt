@@ -3,12 +3,14 @@ use Rattle.std.proofs.Common.{◌≡◌, ◌⊎◌, inl, inr, ⊎_elim, ℕ, ◌
 use Rattle.std.specs.List.{Any, list_any}
 use Rattle.std.proofs.lemmas.List.{append-nil, map-append, get_or_default, get_or_append_left, take_more}
 use Rattle.std.proofs.lemmas.List.Elements.{All-contains, Contains-push, Contains-push_cases}
-use Rattle.rules_resolution.specs.declared.literal.Lit.{Lit}
-use Rattle.rules_resolution.specs.declared.literal.Lit.TheVariants.{Plain, Always, Never}
+use Rattle.rule_model.specs.Consequence.{literal_at, premise_at, literal_of, IsOnly, IsConflict, IsUnit, Leads, Contradicts, Follows}
+use Rattle.rule_model.specs.Literals.{negation_of, Entails}
+use Rattle.rule_model.specs.declared.literal.Literal.TheVariants.{Plain, Always, Never}
+use Rattle.rules_resolution.specs.Clause.{clauses_of}
+use Rattle.rules_resolution.specs.Falsity.{same_literal, is_false_in}
+use Rattle.rules_resolution.specs.Literal.{Lit}
 use Rattle.rules_resolution.specs.declared.occurrence.Occurrence.{Occurrence}
 use Rattle.rules_resolution.specs.declared.standing.Standing.{Standing}
-use Rattle.rules_resolution.specs.Literal.{negation_of, same_literal}
-use Rattle.rules_resolution.specs.Consequence.{is_false_in, literal_at, premise_at, literal_of, OnlyBelow, IsConflict, IsUnit, Leads, Contradicts, Follows}
 use Rattle.rules_resolution.specs.Idle.{IsIdle, IsSettled, AllIdleBelow}
 use Rattle.rules_resolution.specs.Occurrence.{literal_in}
 use Rattle.rules_resolution.specs.Table.{HasGoal}
@@ -21,10 +23,9 @@ use Rattle.rules_resolution.specs.declared.trail.Memory.{Memory}
 use Rattle.rules_resolution.specs.Trace.{Trace}
 use Rattle.rules_resolution.specs.Shows.{Shows}
 use Rattle.std.proofs.lemmas.Bool.{cases_lt}
-use Rattle.rules_resolution.specs.Clause.{clauses_of, Entails}
 use Rattle.rules_resolution.proofs.Premises.{length-clauses_of, premise_here}
-use Rattle.rules_resolution.proofs.Literals.{push_new, push_kept, push_cases, or_cases, true_or_false, negation_of-negation_of}
-use Rattle.rules_resolution.proofs.Soundness.{among_place, consequence_sound}
+use Rattle.rules_resolution.proofs.Literals.{push_new, push_kept, push_cases, or_cases, true_or_false, among_place, false_from_test, test_of_false, only-others}
+use Rattle.rule_model.proofs.Consequence.{negation_of-negation_of, consequence_sound}
 use Rattle.rules_resolution.proofs.Stuck.{nothing_leads}
 use Rattle.rules_resolution.proofs.Counts.{conflict_from_none, unit_from_one, idle_from_two, idle_from_settled}
 
@@ -98,9 +99,9 @@ no_contradiction_found goal alone (l, (k, below, here), gone) =
     let me : IsAlone goal l = subst (λ (m : Lit). IsAlone goal m) at (alone k below) in
     ⊎_elim
     (λ (never : l ≡ Never).
-    (let always : is_false_in goal Always ≡ true = sym (ap (λ (m : Lit). is_false_in goal (negation_of m)) never) ∙ gone in
+    (let always : is_false_in goal Always ≡ true = sym (ap (λ (m : Lit). is_false_in goal (negation_of m)) never) ∙ test_of_false goal (negation_of l) gone in
     with_always always))
-    (λ (stays : is_false_in goal (negation_of l) ≡ false). (let x : true ≡ false = sym gone ∙ stays in cc)) me
+    (λ (stays : is_false_in goal (negation_of l) ≡ false). (let x : true ≡ false = sym (test_of_false goal (negation_of l) gone) ∙ stays in cc)) me
   where
     with_always : is_false_in goal Always ≡ true → ⊥
     with_always e =
@@ -109,14 +110,14 @@ no_contradiction_found goal alone (l, (k, below, here), gone) =
         ⊎_elim (λ (never : Always ≡ Never). (let x = ap (same_literal Always) never in cc)) (λ (stays : true ≡ false). cc) other
 
 pub contradiction_found : (goal : List Lit) (k : ℕ) (d : Lit) → k < length goal → is_false_in goal (negation_of (get_or goal k d)) ≡ true → Contradicts goal
-contradiction_found goal k d h e = (get_or goal k d, (k, h, get_or_default goal k (get_or goal k d) d h), e)
+contradiction_found goal k d h e = (get_or goal k d, (k, h, get_or_default goal k (get_or goal k d) d h), false_from_test goal (negation_of (get_or goal k d)) e)
 
 -- the conclusion has no constant `true` where it doesn't contradict itself
 no_always : (goal : List Lit) → (Contradicts goal → ⊥) → is_false_in goal Always ≡ false
 no_always goal alone =
     ⊎_elim
     (λ (gone : is_false_in goal Always ≡ true).
-    (let p = among_place Always goal gone in absurd (alone (Always, (p.0, p.1, get_or_default goal p.0 Always Never p.1 ∙ p.2), refl))))
+    (let p = among_place Always goal gone in absurd (alone (Always, (p.0, p.1, get_or_default goal p.0 Always Never p.1 ∙ p.2), inl refl))))
     (λ f. f) (true_or_false (is_false_in goal Always))
 
 falses_of-push : (premises : List (List Lit)) (goal : List Lit) (units : List (ℕ × ℕ)) (u : ℕ × ℕ) → falses_of premises goal (units ++ u ∷ []) ≡ falses_of premises goal units ++ negation_of (literal_of premises u) ∷ []
@@ -136,12 +137,12 @@ progress_at_start premises goal table marks standings ready state alone are_read
       each = λ p h. (let size = state.tallied.size in inr (⊎_elim (λ two. inr (inl two)) (λ c. inl c) (are_ready.each p (omega arith))));
     }
 
-settled_from_unit : (falses new clause : List Lit) (j : ℕ) → ((l : Lit) → is_false_in falses l ≡ true → is_false_in new l ≡ true) → OnlyBelow falses clause (length clause) j → is_false_in new (negation_of (literal_at clause j)) ≡ true → IsSettled new clause
+settled_from_unit : (falses new clause : List Lit) (j : ℕ) → ((l : Lit) → is_false_in falses l ≡ true → is_false_in new l ≡ true) → IsOnly falses clause j → is_false_in new (negation_of (literal_at clause j)) ≡ true → IsSettled new clause
 settled_from_unit falses new clause j more only e =
     record {
       literal = literal_at clause j;
       is_true = e;
-      others = λ k h. ⊎_elim (λ gone. inl (more (literal_at clause k) gone)) (λ same. inr same) (only.others k h);
+      others = λ k h. ⊎_elim (λ gone. inl (more (literal_at clause k) gone)) (λ same. inr same) (only-others falses clause j only k h);
     }
 
 settled_more : (falses new clause : List Lit) → ((l : Lit) → is_false_in falses l ≡ true → is_false_in new l ≡ true) → IsSettled falses clause → IsSettled new clause
@@ -246,9 +247,7 @@ progress_by_unit premises goal units table m0 m1 s0 s1 r0 r1 p h e falsifies adv
         ⊎_elim (λ (before : is_false_in (falses_of premises goal units) Always ≡ true). absurd (let x : true ≡ false = sym before ∙ progress.always_open in cc))
         (λ (same : Always ≡ negation_of (literal_of premises (p, places_at s0 p))).
         (let back : literal_of premises (p, places_at s0 p) ≡ Never = sym (negation_of-negation_of (literal_of premises (p, places_at s0 p))) ∙ sym (ap negation_of same) in
-        let n = only.only.not_false in
-        let x : true ≡ false = sym (ap (is_false_in (falses_of premises goal units)) back) ∙ n in
-        absurd (let y : true ≡ false = x in cc)))
+        absurd (only.only.not_false (inl back))))
         (push_cases (falses_of premises goal units) (negation_of (literal_of premises (p, places_at s0 p))) Always gone))
         (λ f. f) (true_or_false (is_false_in (falses_of premises goal units ++ negation_of (literal_of premises (p, places_at s0 p)) ∷ []) Always))
 

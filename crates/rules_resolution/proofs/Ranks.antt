@@ -2,9 +2,9 @@
 use Rattle.std.proofs.Common.{◌≡◌, ◌⊎◌, inl, inr, ⊎_elim, ℕ, ◌+◌, ◌<◌, ◌≤◌, Bool, true, false, nat_eq, List, length, get_or, refl, sym, ap, arith, eq-eqb}
 use Rattle.std.proofs.lemmas.Bool.{eqb-true, cases_lt}
 use Rattle.std.proofs.lemmas.List.{get_or_default}
-use Rattle.rules_resolution.specs.declared.literal.Lit.TheVariants.{Plain}
+use Rattle.rule_model.specs.declared.literal.Literal.TheVariants.{Plain}
+use Rattle.rules_resolution.specs.Falsity.{same_bool}
 use Rattle.rules_resolution.specs.declared.occurrence.Occurrence.{Occurrence}
-use Rattle.rules_resolution.specs.Literal.{same_bool}
 use Rattle.rules_resolution.specs.Occurrence.{literal_in, literal_rank, rank_of, is_of}
 use Rattle.rules_resolution.specs.Table.{IsLeader, IsRising}
 use Rattle.rules_resolution.proofs.Literals.{and_both, same_bool-true, same_bool-refl}

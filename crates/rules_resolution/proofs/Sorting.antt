@@ -11,7 +11,7 @@ use Rattle.std.proofs.lemmas.List.Elements.{All-get_or, All-from_recursion, All-
 use Rattle.std.proofs.lemmas.List.Filters.{All-dedup}
 use Rattle.std.proofs.lemmas.List.Kept.{Any-dedup, AllPairs-cons, IsStrictlySortedBy-dedup}
 use Rattle.std.proofs.lemmas.List.Sorted.{Contains-permutation, All-permutation}
-use Rattle.rules_resolution.specs.declared.literal.Lit.{Lit}
+use Rattle.rules_resolution.specs.Literal.{Lit}
 use Rattle.rules_resolution.specs.declared.occurrence.Occurrence.{Occurrence}
 use Rattle.rules_resolution.specs.Occurrence.{literal_in, rank_of}
 use Rattle.rules_resolution.specs.Table.{all_occurrences, StandsIn, IsRising, IsTable}

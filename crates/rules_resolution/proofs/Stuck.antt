@@ -1,25 +1,27 @@
 -- Where no premise offers anything more, nothing leads to a conflict.
 use Rattle.std.proofs.Common.{◌≡◌, ◌⊎◌, inl, inr, ℕ, ◌<◌, true, List, [], ◌∷◌, ◌++◌, length, ◌∙◌, ap}
-use Rattle.rules_resolution.specs.declared.literal.Lit.{Lit}
-use Rattle.rules_resolution.specs.Literal.{negation_of}
-use Rattle.rules_resolution.specs.Consequence.{is_false_in, literal_at, premise_at, literal_of, OnlyBelow, Leads}
+use Rattle.rule_model.specs.Consequence.{literal_at, premise_at, literal_of, IsOnly, Leads}
+use Rattle.rule_model.specs.Literals.{negation_of}
+use Rattle.rule_model.specs.declared.literal.Literal.TheVariants.{Never}
+use Rattle.rules_resolution.specs.Falsity.{is_false_in}
+use Rattle.rules_resolution.specs.Literal.{Lit}
 use Rattle.rules_resolution.specs.Idle.{IsIdle, AllIdleBelow}
-use Rattle.rules_resolution.proofs.Literals.{push_cases, true_or_false}
+use Rattle.rules_resolution.proofs.Literals.{push_cases, true_or_false, test_of_false, only_from_tests, only-others}
 
 -- all that is false in the one is false in the other
 abbrev pub More : List Lit → List Lit → Type 0
 More falses stuck = (l : Lit) → is_false_in falses l ≡ true → is_false_in stuck l ≡ true
 
 -- an idle clause's only literal is true already
-unit_settled : (falses stuck clause : List Lit) (j : ℕ) → More falses stuck → IsIdle stuck clause → OnlyBelow falses clause (length clause) j → is_false_in stuck (negation_of (literal_at clause j)) ≡ true
+unit_settled : (falses stuck clause : List Lit) (j : ℕ) → More falses stuck → IsIdle stuck clause → IsOnly falses clause j → is_false_in stuck (negation_of (literal_at clause j)) ≡ true
 unit_settled falses stuck clause j more idle only =
     elim (true_or_false (is_false_in stuck (literal_at clause j))) [
       | inl gone ↦ absurd (all_gone gone)
-      | inr not_gone ↦ idle.settled j (record { place = only.place; not_false = not_gone; others = others })
+      | inr not_gone ↦ idle.settled j (only_from_tests stuck clause j only.place not_gone others)
     ]
   where
     others : (k : ℕ) → k < length clause → (is_false_in stuck (literal_at clause k) ≡ true) ⊎ (literal_at clause k ≡ literal_at clause j)
-    others k h = elim (only.others k h) [ inl f ↦ inl (more (literal_at clause k) f) | inr s ↦ inr s ]
+    others k h = elim (only-others falses clause j only k h) [ inl f ↦ inl (more (literal_at clause k) f) | inr s ↦ inr s ]
 
     all_gone : is_false_in stuck (literal_at clause j) ≡ true → ⊥
     all_gone gone =
@@ -31,7 +33,7 @@ unit_settled falses stuck clause j more idle only =
 pub nothing_leads : (premises : List (List Lit)) (stuck : List Lit) → AllIdleBelow premises stuck (length premises) → (falses : List Lit) (units : List (ℕ × ℕ)) (last : ℕ) → More falses stuck → Leads premises falses units last → ⊥
 nothing_leads premises stuck idle falses [] last more conflict =
     let here = idle last conflict.place in
-    let gone = more (literal_at (premise_at premises last) here.open_at) (conflict.all_false here.open_at here.place) in
+    let gone = more (literal_at (premise_at premises last) here.open_at) (test_of_false falses (literal_at (premise_at premises last) here.open_at) (conflict.all_false here.open_at Never here.place)) in
     cc (gone, here.not_false)
 nothing_leads premises stuck idle falses (u ∷ us) last more leads =
     nothing_leads premises stuck idle (falses ++ negation_of (literal_of premises u) ∷ []) us last

@@ -3,12 +3,12 @@ use Rattle.std.proofs.Common.{◌≡◌, ℕ, zero, suc, ◌+◌, ◌<◌, Bool,
 use Rattle.std.specs.Global.{Vec}
 use Rattle.std.proofs.lemmas.List.{append-nil, take_more, map-append, length-take}
 use Rattle.std.proofs.lemmas.List.Elements.{All-nil, All-cons, All-append, Contains-append_left, Contains-append_right}
-use Rattle.rules_resolution.specs.declared.literal.Lit.{Lit}
-use Rattle.rules_resolution.specs.declared.literal.Lit.TheVariants.{Plain, Always, Never}
-use Rattle.rules_resolution.specs.declared.occurrence.Occurrence.{Occurrence}
+use Rattle.rule_model.specs.Consequence.{literal_at, premise_at}
+use Rattle.rule_model.specs.declared.literal.Literal.TheVariants.{Plain, Always, Never}
 use Rattle.rules_resolution.specs.Clause.{clauses_of}
+use Rattle.rules_resolution.specs.Literal.{Lit}
+use Rattle.rules_resolution.specs.declared.occurrence.Occurrence.{Occurrence}
 use Rattle.rules_resolution.proofs.Premises.{length-clauses_of}
-use Rattle.rules_resolution.specs.Consequence.{literal_at, premise_at}
 use Rattle.rules_resolution.specs.Table.{occurrence_at, occurrences_of, goal_occurrences, occurrences_in, all_occurrences, StandsIn}
 
 pub occurrences_of-push : (p k n : ℕ) (xs : List Lit) (l : Lit) → n ≡ k + length xs → occurrences_of p k (xs ++ l ∷ []) ≡ occurrences_of p k xs ++ occurrence_at p n l

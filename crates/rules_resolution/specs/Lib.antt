@@ -1,6 +1,6 @@
 pub mod Literal
 pub mod Clause
-pub mod Consequence
+pub mod Falsity
 pub mod Renaming
 pub mod Naming
 pub mod Trace

@@ -1,9 +1,9 @@
--- Keys, by which the literals of an atom come together.
+-- Private. Keys, by which the literals of an atom come together.
 use Rattle.std.specs.Prelude.{◌≡◌, ℕ, ◌+◌, ◌*◌, ◌<◌, ◌≤◌, nat_eq, if◌then◌else◌, Some, List, [], ◌∷◌, ◌++◌, length, slice_index_or, All}
-use Rattle.rules_resolution.specs.declared.literal.Lit.{Lit}
-use Rattle.rules_resolution.specs.declared.literal.Lit.TheVariants.{Plain, Always, Never}
+use Rattle.rule_model.specs.Consequence.{literal_at}
+use Rattle.rule_model.specs.declared.literal.Literal.TheVariants.{Plain, Always, Never}
+use Rattle.rules_resolution.specs.Literal.{Lit}
 use Rattle.rules_resolution.specs.declared.naming.Key.{Key}
-use Rattle.rules_resolution.specs.Consequence.{literal_at}
 use Rattle.rules_resolution.specs.Renaming.{atom_of, name_at}
 
 -- by atom, then number

@@ -1,9 +1,9 @@
--- Occurrences of literals, and their order.
+-- Private. Occurrences of literals, and their order.
 use Rattle.std.specs.Prelude.{ℕ, ◌+◌, ◌*◌, Bool, ◌&&◌, nat_eq, if◌then◌else◌}
-use Rattle.rules_resolution.specs.declared.literal.Lit.{Lit}
-use Rattle.rules_resolution.specs.declared.literal.Lit.TheVariants.{Plain}
+use Rattle.rule_model.specs.declared.literal.Literal.TheVariants.{Plain}
+use Rattle.rules_resolution.specs.Falsity.{same_bool}
+use Rattle.rules_resolution.specs.Literal.{Lit}
 use Rattle.rules_resolution.specs.declared.occurrence.Occurrence.{Occurrence}
-use Rattle.rules_resolution.specs.Literal.{same_bool}
 
 abbrev pub literal_in : Occurrence → Lit
 literal_in o = Plain o.atom o.negative

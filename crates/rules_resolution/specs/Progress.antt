@@ -1,10 +1,11 @@
--- How far propagation has come.
+-- Private. How far propagation has come.
 use Rattle.std.specs.Prelude.{◌≡◌, ◌⊎◌, ℕ, ◌<◌, ◌≤◌, Bool, true, false, List, ◌++◌, length, All, Contains}
-use Rattle.rules_resolution.specs.declared.literal.Lit.{Lit}
+use Rattle.rule_model.specs.Consequence.{premise_at, IsConflict, Leads}
+use Rattle.rule_model.specs.declared.literal.Literal.TheVariants.{Always}
+use Rattle.rules_resolution.specs.Falsity.{is_false_in}
+use Rattle.rules_resolution.specs.Literal.{Lit}
 use Rattle.rules_resolution.specs.declared.occurrence.Occurrence.{Occurrence}
 use Rattle.rules_resolution.specs.declared.standing.Standing.{Standing}
-use Rattle.rules_resolution.specs.declared.literal.Lit.TheVariants.{Always}
-use Rattle.rules_resolution.specs.Consequence.{is_false_in, premise_at, IsConflict, Leads}
 use Rattle.rules_resolution.specs.Idle.{IsSettled}
 use Rattle.rules_resolution.specs.Standing.{open_at}
 use Rattle.rules_resolution.specs.Work.{IsState, falses_of}

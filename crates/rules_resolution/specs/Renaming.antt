@@ -1,9 +1,9 @@
--- Clauses whose atoms have new names.
+-- Private. Clauses whose atoms have new names.
 use Rattle.std.specs.Prelude.{◌≡◌, ℕ, ◌+◌, Option, Some, None, List, [], ◌∷◌, ◌++◌, length, slice_index_or}
 use Rattle.std.specs.List.{flat_map}
-use Rattle.rules_resolution.specs.declared.literal.Lit.{Lit}
-use Rattle.rules_resolution.specs.declared.literal.Lit.TheVariants.{Plain, Always, Never}
-use Rattle.rules_resolution.specs.Consequence.{literal_at}
+use Rattle.rule_model.specs.Consequence.{literal_at}
+use Rattle.rule_model.specs.declared.literal.Literal.TheVariants.{Plain, Always, Never}
+use Rattle.rules_resolution.specs.Literal.{Lit}
 
 -- the literals of all clauses, one clause after the other
 abbrev pub joined : List (List Lit) → List Lit

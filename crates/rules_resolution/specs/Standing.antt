@@ -1,11 +1,11 @@
--- How many literals of each premise are not false.
+-- Private. How many literals of each premise are not false.
 use Rattle.std.specs.Prelude.{◌≡◌, ◌⊎◌, ℕ, ◌+◌, ◌-◌, ◌<◌, ◌≤◌, Bool, true, false, nat_eq, nat_le, if◌then◌else◌, List, [], ◌∷◌, ◌++◌, length, map, slice_index_or, All, Contains}
 use Rattle.std.specs.List.{list_any, sum_by}
-use Rattle.rules_resolution.specs.declared.literal.Lit.{Lit}
-use Rattle.rules_resolution.specs.declared.literal.Lit.TheVariants.{Plain, Always, Never}
+use Rattle.rule_model.specs.declared.literal.Literal.TheVariants.{Plain, Always, Never}
+use Rattle.rules_resolution.specs.Falsity.{is_false_in}
+use Rattle.rules_resolution.specs.Literal.{Lit}
 use Rattle.rules_resolution.specs.declared.occurrence.Occurrence.{Occurrence}
 use Rattle.rules_resolution.specs.declared.standing.Standing.{Standing}
-use Rattle.rules_resolution.specs.Consequence.{is_false_in}
 use Rattle.rules_resolution.specs.Occurrence.{literal_in, is_of}
 
 abbrev pub is_always : Lit → Bool

@@ -1,10 +1,10 @@
--- All occurrences, in order, in which no premise has a literal twice.
+-- Private. All occurrences, in order, in which no premise has a literal twice.
 use Rattle.std.specs.Prelude.{◌≡◌, ℕ, ◌+◌, ◌<◌, ◌≤◌, Bool, true, false, List, [], ◌∷◌, ◌++◌, length, slice_index_or, All}
 use Rattle.std.specs.List.{Any, AllPairs}
-use Rattle.rules_resolution.specs.declared.literal.Lit.{Lit}
-use Rattle.rules_resolution.specs.declared.literal.Lit.TheVariants.{Plain, Always, Never}
+use Rattle.rule_model.specs.Consequence.{literal_at, premise_at}
+use Rattle.rule_model.specs.declared.literal.Literal.TheVariants.{Plain, Always, Never}
+use Rattle.rules_resolution.specs.Literal.{Lit}
 use Rattle.rules_resolution.specs.declared.occurrence.Occurrence.{Occurrence}
-use Rattle.rules_resolution.specs.Consequence.{literal_at, premise_at}
 use Rattle.rules_resolution.specs.Occurrence.{literal_in, rank_of, is_of}
 
 -- the occurrence of a literal at place k of premise p, if it is no constant

@@ -1,4 +1,4 @@
--- What a trail says.
+-- Public. What a trail says.
 use Rattle.std.specs.Prelude.{ℕ, List, Option}
 
 -- the literals that are made true, each by its premise's place and its own place there, and the place of

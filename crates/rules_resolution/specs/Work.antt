@@ -1,10 +1,11 @@
--- What is known while literals are made false.
+-- Private. What is known while literals are made false.
 use Rattle.std.specs.Prelude.{◌≡◌, ℕ, ◌<◌, Bool, false, List, [], ◌∷◌, ◌++◌, length, map, slice_index_or}
-use Rattle.rules_resolution.specs.declared.literal.Lit.{Lit}
+use Rattle.rule_model.specs.Consequence.{literal_of}
+use Rattle.rule_model.specs.Literals.{negation_of}
+use Rattle.rules_resolution.specs.Falsity.{is_false_in}
+use Rattle.rules_resolution.specs.Literal.{Lit}
 use Rattle.rules_resolution.specs.declared.occurrence.Occurrence.{Occurrence}
 use Rattle.rules_resolution.specs.declared.standing.Standing.{Standing}
-use Rattle.rules_resolution.specs.Literal.{negation_of}
-use Rattle.rules_resolution.specs.Consequence.{is_false_in, literal_of}
 use Rattle.rules_resolution.specs.Occurrence.{literal_in}
 use Rattle.rules_resolution.specs.Table.{IsTable}
 use Rattle.rules_resolution.specs.Standing.{IsTallied}

@@ -1,7 +1,8 @@
 //! Unit propagation from the negated conclusion.
 ghost use Rattle.std.specs.Prelude.{◌≡◌, ◌+◌, ◌<◌, ◌≤◌, ◌^◌, [], ◌∷◌, ◌++◌, length, vec_len, All, IfOk, IfSome, IfNone, OnSome, OnOk, MatchBool, false};
-ghost use Rattle.rules_resolution.specs.Clause.{clauses_of, Entails};
-ghost use Rattle.rules_resolution.specs.Consequence.{Contradicts, Follows, IsConflict};
+ghost use Rattle.rule_model.specs.Consequence.{Contradicts, Follows, IsConflict};
+ghost use Rattle.rule_model.specs.Literals.{Entails};
+ghost use Rattle.rules_resolution.specs.Clause.{clauses_of};
 ghost use Rattle.rules_resolution.specs.Renaming.{all_literals};
 ghost use Rattle.rules_resolution.specs.Shows.{Shows};
 ghost use Rattle.rules_resolution.specs.Standing.{Advances, AreInRange, AreReady, IsTallied, open_at, total_of};
@@ -18,8 +19,9 @@ use crate::trail::{Memory, Trail};
 use crate::work::{Work, falsify, is_falsified, start};
 use std::alloc::Global;
 
-/// With fewer literals than these the atoms are taken as they are. Steps of proofs mostly have few, and pay nothing for
-/// names then. Between this and some ten thousand literals names cost more time than they win.
+/// With fewer literals than these the atoms are taken as they are. Steps of proofs mostly have few, and so pay nothing
+/// for names. The bound was chosen, not measured: names begin to win time beyond some ten thousand literals in chains,
+/// beyond some twenty thousand in wide clauses, and at no size in random clauses.
 const FEW: u128 = 256;
 
 /// Makes all literals of the conclusion false.

@@ -1,15 +1,11 @@
 //! Literals, and the opposite of one.
 ghost use Rattle.std.specs.Prelude.{◌≡◌};
-ghost use Rattle.rules_resolution.specs.Literal.{negation_of};
+ghost use Rattle.rule_model.specs.Literals.{negation_of};
 
-/// A literal of a clause. `Always` stands for the constant `true` and `Never` for the constant `false`
-/// (SMT-LIB 2.6, section 3.7.1); every other literal is an atom, or its negation.
-#[derive(Clone, Copy, Debug, PartialEq, Eq)]
-pub enum Lit {
-    Plain { atom: u32, negative: bool },
-    Always,
-    Never,
-}
+use rule_model::Literal;
+
+/// A literal of a clause, over atoms that are numbers.
+pub type Lit = Literal<u32>;
 
 /// The opposite literal.
 pub(crate) fn negate(literal: Lit) -> Lit

@@ -1,13 +1,13 @@
 //! What is known while literals are made false.
-ghost use Rattle.std.specs.Prelude.{◌≡◌, ◌⊎◌, ◌+◌, ◌<◌, ◌≤◌, List, [], length, vec_len, IfOk, OnOk, true, false};
+ghost use Rattle.std.specs.Prelude.{◌≡◌, ◌⊎◌, ◌+◌, ◌<◌, ◌≤◌, ℕ, List, [], length, vec_len, IfOk, OnOk, true, false};
 ghost use Rattle.std.specs.List.{Any};
+ghost use Rattle.rule_model.specs.declared.literal.Literal.{Literal};
 ghost use Rattle.rules_resolution.specs.Clause.{clauses_of};
-ghost use Rattle.rules_resolution.specs.Consequence.{is_false_in};
+ghost use Rattle.rules_resolution.specs.Falsity.{is_false_in};
 ghost use Rattle.rules_resolution.specs.Occurrence.{literal_in};
 ghost use Rattle.rules_resolution.specs.Standing.{Advances, AreInRange, AreReady, IsTallied};
 ghost use Rattle.rules_resolution.specs.Table.{IsRising, IsTable};
 ghost use Rattle.rules_resolution.specs.Work.{IsMarked, IsSomeState, IsState, Falsifies};
-ghost use Rattle.rules_resolution.specs.declared.literal.Lit.{Lit};
 
 use crate::close::close_all;
 use crate::literal::Lit;
@@ -53,8 +53,8 @@ pub(crate) fn is_falsified(table: &[Occurrence], marks: &[bool], literal: Lit) -
     requires rising { IsRising table.now }
     requires range { AreInRange 4294967296 table.now }
     requires marks { length marks.now ≡ length table.now }
-    ensures yes { (falses : List Lit) → IsMarked falses table.now marks.now → result ≡ true → is_false_in falses literal ≡ true }
-    ensures no { (falses : List Lit) → IsMarked falses table.now marks.now → (literal ≡ Lit.Never) ⊎ Any (λ o. literal_in o ≡ literal) table.now → result ≡ false → is_false_in falses literal ≡ false }
+    ensures yes { (falses : List (Literal ℕ)) → IsMarked falses table.now marks.now → result ≡ true → is_false_in falses literal ≡ true }
+    ensures no { (falses : List (Literal ℕ)) → IsMarked falses table.now marks.now → (literal ≡ Literal.Never) ⊎ Any (λ o. literal_in o ≡ literal) table.now → result ≡ false → is_false_in falses literal ≡ false }
 {
     match literal {
         Lit::Plain { atom, negative } => is_marked(table, marks, atom, negative),
@@ -67,8 +67,8 @@ fn is_marked(table: &[Occurrence], marks: &[bool], atom: u32, negative: bool) ->
     requires rising { IsRising table.now }
     requires range { AreInRange 4294967296 table.now }
     requires marks { length marks.now ≡ length table.now }
-    ensures yes { (falses : List Lit) → IsMarked falses table.now marks.now → result ≡ true → is_false_in falses (Lit.Plain atom negative) ≡ true }
-    ensures no { (falses : List Lit) → IsMarked falses table.now marks.now → Any (λ o. literal_in o ≡ Lit.Plain atom negative) table.now → result ≡ false → is_false_in falses (Lit.Plain atom negative) ≡ false }
+    ensures yes { (falses : List (Literal ℕ)) → IsMarked falses table.now marks.now → result ≡ true → is_false_in falses (Literal.Plain atom negative) ≡ true }
+    ensures no { (falses : List (Literal ℕ)) → IsMarked falses table.now marks.now → Any (λ o. literal_in o ≡ Literal.Plain atom negative) table.now → result ≡ false → is_false_in falses (Literal.Plain atom negative) ≡ false }
 {
     match leader_of(table, atom, negative) {
         Some(first) => marks[first],
@@ -101,7 +101,7 @@ fn falsify_plain(
 ) -> Result<(), Memory>
     requires state { IsSomeState table.now work.old.marks.items work.old.standings.items }
     requires small { length work.old.standings.items ≤ 4294967296 }
-    ensures falsifies { OnOk result (Falsifies (Lit.Plain atom negative) table.now work.old.marks.items work.old.standings.items work.new.marks.items work.new.standings.items) }
+    ensures falsifies { OnOk result (Falsifies (Literal.Plain atom negative) table.now work.old.marks.items work.old.standings.items work.new.marks.items work.new.standings.items) }
     ensures advances { OnOk result (Advances work.old.standings.items work.new.standings.items work.old.ready.items work.new.ready.items) }
 {
     let first = match leader_of(table, atom, negative) {

@@ -1,5 +1,5 @@
 use Rattle.std.proofs.Common.{ℕ, ◌<◌}
-use Rattle.rules_resolution.specs.Consequence.{literal_at}
+use Rattle.rule_model.specs.Consequence.{literal_at}
 use Rattle.rules_resolution.proofs.Progresses.{IsAlone}
 use Rattle.rules_resolution.proofs.follow.contradicts.Given as goal
 

@@ -1,6 +1,6 @@
 use Rattle.std.proofs.Common.{◌++◌, List, take, subst, arith}
 use Rattle.std.proofs.lemmas.List.{take_all}
-use Rattle.rules_resolution.specs.declared.literal.Lit.{Lit}
+use Rattle.rules_resolution.specs.Literal.{Lit}
 use Rattle.rules_resolution.specs.Work.{IsState}
 use Rattle.rules_resolution.proofs.Progresses.{falsifies_more, advances_trans}
 use Rattle.rules_resolution.proofs.follow.falsify_all.Goals as goal

@@ -1,7 +1,7 @@
 use Rattle.std.proofs.Common.{◌-◌, ℕ, List, length, ◌∙◌, ap, arith, length-append}
 use Rattle.std.specs.Global.{Vec}
-use Rattle.rules_resolution.specs.declared.literal.Lit.{Lit}
 use Rattle.rules_resolution.specs.Clause.{clauses_of}
+use Rattle.rules_resolution.specs.Literal.{Lit}
 use Rattle.rules_resolution.specs.Renaming.{renamed_from, renamed_in, joined}
 use Rattle.rules_resolution.proofs.Renamings.{shown_before, none_before, length-renamed}
 use Rattle.rules_resolution.proofs.follow.follow_renamed.Goals as goal

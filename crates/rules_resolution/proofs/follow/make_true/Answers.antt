@@ -1,9 +1,10 @@
 use Rattle.std.proofs.Common.{◌≡◌, ℕ, ◌<◌, length, vec_len, sym, ◌∙◌, ap, subst, arith}
 use Rattle.std.specs.Global.{Vec}
-use Rattle.rules_resolution.specs.declared.literal.Lit.{Lit}
+use Rattle.rule_model.specs.Consequence.{literal_of}
+use Rattle.rule_model.specs.Literals.{negation_of}
 use Rattle.rules_resolution.specs.Clause.{clauses_of}
-use Rattle.rules_resolution.specs.Consequence.{is_false_in, literal_of}
-use Rattle.rules_resolution.specs.Literal.{negation_of}
+use Rattle.rules_resolution.specs.Falsity.{is_false_in}
+use Rattle.rules_resolution.specs.Literal.{Lit}
 use Rattle.rules_resolution.specs.Standing.{places_at}
 use Rattle.rules_resolution.specs.Work.{IsMarked, Falsifies, falses_of}
 use Rattle.rules_resolution.proofs.Premises.{length-clauses_of}

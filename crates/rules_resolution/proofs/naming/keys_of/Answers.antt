@@ -1,7 +1,7 @@
 use Rattle.std.proofs.Common.{length, ap, arith, length-append}
 use Rattle.std.specs.Global.{Vec}
-use Rattle.rules_resolution.specs.declared.literal.Lit.{Lit}
 use Rattle.rules_resolution.specs.Clause.{clauses_of}
+use Rattle.rules_resolution.specs.Literal.{Lit}
 use Rattle.rules_resolution.specs.Renaming.{joined}
 use Rattle.rules_resolution.proofs.Keys.{joined-le, keys_joined, joined_length, keys_all}
 use Rattle.rules_resolution.proofs.naming.keys_of.Goals as goal

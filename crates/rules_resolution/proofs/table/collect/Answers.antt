@@ -1,6 +1,6 @@
 use Rattle.std.proofs.Common.{sym, ap}
 use Rattle.std.specs.Global.{Vec}
-use Rattle.rules_resolution.specs.declared.literal.Lit.{Lit}
+use Rattle.rules_resolution.specs.Literal.{Lit}
 use Rattle.rules_resolution.specs.Table.{occurrences_of}
 use Rattle.rules_resolution.proofs.Tables.{occurrences_in-more}
 use Rattle.rules_resolution.proofs.table.collect.Goals as goal

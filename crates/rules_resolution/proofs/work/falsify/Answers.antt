@@ -1,5 +1,5 @@
 use Rattle.std.proofs.Common.{◌++◌, ◌∷◌, []}
-use Rattle.rules_resolution.specs.declared.literal.Lit.TheVariants.{Always, Never}
+use Rattle.rule_model.specs.declared.literal.Literal.TheVariants.{Always, Never}
 use Rattle.rules_resolution.proofs.States.{state_same, same_with_always, same_with_never}
 use Rattle.rules_resolution.proofs.work.falsify.Goals as goal
 

@@ -1,6 +1,6 @@
 use Rattle.std.proofs.Common.{◌≡◌, ◌++◌, ◌∷◌, [], ◌<◌, true, false, length, sym, ◌∙◌, arith}
-use Rattle.rules_resolution.specs.declared.literal.Lit.TheVariants.{Plain}
-use Rattle.rules_resolution.specs.Consequence.{is_false_in}
+use Rattle.rule_model.specs.declared.literal.Literal.TheVariants.{Plain}
+use Rattle.rules_resolution.specs.Falsity.{is_false_in}
 use Rattle.rules_resolution.proofs.States.{state_same, state_closed, same_where_none, same_where_false, mark_says, mark_read, room_for}
 use Rattle.rules_resolution.proofs.work.falsify_plain.Goals as goal
 

@@ -1,0 +1,70 @@
+-- Public. Resolution (Alethe specification, the rules `resolution` and `th_resolution`).
+use Rattle.std.specs.Prelude.{◌≡◌, ◌≢◌, ◌⊎◌, Bool, true, false, not, List, [], ◌∷◌, ◌++◌, map, Contains}
+use Rattle.term_model.specs.declared.symbols.Op.{Op}
+use Rattle.term_model.specs.Terms.{Term, operation, no_terms, term, not_of}
+use Rattle.rule_model.specs.declared.literal.Literal.{Literal}
+use Rattle.rule_model.specs.declared.literal.Literal.TheVariants.{Plain, Always, Never}
+use Rattle.rule_model.specs.Literals.{negation_of}
+use Rattle.rule_model.specs.Consequence.{Follows}
+
+-- a term that is no negation, as a literal: a constant, or an atom
+abbrev pub bare_literal : Term → Literal Term
+bare_literal (operation Op.True no_terms) = Always
+bare_literal (operation Op.False no_terms) = Never
+bare_literal t = Plain t false
+
+-- a term as a literal: leading pairs of `not` are removed, and one that is left is the literal's sign
+abbrev pub as_literal : Term → Literal Term
+as_literal (operation Op.Not (term t no_terms)) = negation_of (as_literal t)
+as_literal t = bare_literal t
+
+abbrev pub as_clause : List Term → List (Literal Term)
+as_clause terms = map as_literal terms
+
+-- Check mode: the clause follows from the premises' clauses by unit propagation. The order of the premises plays no
+-- part, and pivots play none.
+abbrev pub ResolvesInCheck : List (List Term) → List Term → Type 0
+ResolvesInCheck premises clause = Follows (map as_clause premises) (as_clause clause)
+
+-- the list is what is left of another where every occurrence of a term is removed
+abbrev pub IsWithout : Term → List Term → List Term → Type 0
+IsWithout p [] rest = rest ≡ []
+IsWithout p (t ∷ ts) rest =
+    ((t ≡ p) × IsWithout p ts rest) ⊎ ((t ≢ p) × ((us : List Term) × (rest ≡ t ∷ us) × IsWithout p ts us))
+
+-- the list is what is left of another where each term is dropped that stands before it, or is one of those seen
+abbrev pub IsFirstsOf : List Term → List Term → List Term → Type 0
+IsFirstsOf seen [] rest = rest ≡ []
+IsFirstsOf seen (t ∷ ts) rest =
+    (Contains seen t × IsFirstsOf seen ts rest)
+    ⊎ ((Contains seen t → ⊥) × ((us : List Term) × (rest ≡ t ∷ us) × IsFirstsOf (seen ++ t ∷ []) ts us))
+
+-- a pivot where it is true, and its negation where it is false
+abbrev pub with_sign : Term → Bool → Term
+with_sign p true = p
+with_sign p false = not_of p
+
+-- One step of a chain. The pivot stands with its sign on the left, and with the other on the right. All occurrences
+-- of each are removed from their side, what is left is joined, and later repeats are dropped.
+pub record IsResolvent (left right : List Term) (pivot : Term) (sign : Bool) (result : List Term) : Type 0 where
+  pub on_left : Contains left (with_sign pivot sign)
+  pub on_right : Contains right (with_sign pivot (not sign))
+  pub left_rest : List Term
+  pub left_is : IsWithout (with_sign pivot sign) left left_rest
+  pub right_rest : List Term
+  pub right_is : IsWithout (with_sign pivot (not sign)) right right_rest
+  pub firsts : IsFirstsOf [] (left_rest ++ right_rest) result
+
+-- a chain from a clause through others, with a pivot for each, to its result
+abbrev pub Chains : List Term → List (List Term) → List (Term × Bool) → List Term → Type 0
+Chains left [] [] result = left ≡ result
+Chains left [] (pivot ∷ pivots) result = ⊥
+Chains left (right ∷ premises) [] result = ⊥
+Chains left (right ∷ premises) (pivot ∷ pivots) result =
+    (next : List Term) × IsResolvent left right pivot.0 pivot.1 next × Chains next premises pivots result
+
+-- Strict mode: the chain from the first premise through the others, in order, ends in exactly the clause. There is at
+-- least one premise, and a pivot for each of the others.
+abbrev pub ResolvesStrictly : List (Term × Bool) → List (List Term) → List Term → Type 0
+ResolvesStrictly pivots [] clause = ⊥
+ResolvesStrictly pivots (first ∷ premises) clause = Chains first premises pivots clause
