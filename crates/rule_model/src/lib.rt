@@ -5,9 +5,8 @@
 #![tactic(auto)]
 
 pub mod laws;
+mod literal;
 mod rules;
 
-pub use rules::{Mode, Rule, StepCause};
-mod literal;
-
 pub use literal::Literal;
+pub use rules::{Mode, Rule, StepCause};
