@@ -11,3 +11,5 @@ pub mod States
 pub mod Progresses
 pub mod Renamings
 pub mod Keys
+pub mod TermLiterals
+pub mod TermAnswers

@@ -26,6 +26,7 @@ use Rattle.std.proofs.lemmas.Bool.{cases_lt}
 use Rattle.rules_resolution.proofs.Premises.{length-clauses_of, premise_here}
 use Rattle.rules_resolution.proofs.Literals.{push_new, push_kept, push_cases, or_cases, true_or_false, among_place, false_from_test, test_of_false, only-others}
 use Rattle.rule_model.proofs.Consequence.{negation_of-negation_of, consequence_sound}
+use Rattle.rules_resolution.proofs.Renamings.{shown_follows}
 use Rattle.rules_resolution.proofs.Stuck.{nothing_leads}
 use Rattle.rules_resolution.proofs.Counts.{conflict_from_none, unit_from_one, idle_from_two, idle_from_settled}
 
@@ -335,8 +336,4 @@ last_of_none (Some x) A B m not_some = absurd (not_some x refl)
 pub sound_from_shown : (premises : List (List Lit)) (goal : List Lit) (r : Result (Option Trace) Memory) → IfOk r (λ found. IfSome found (Shows premises goal)) → IfOk r (λ found. OnSome found (Entails premises goal))
 sound_from_shown premises goal (Err e) shown = shown
 sound_from_shown premises goal (Ok None) shown = shown
-sound_from_shown premises goal (Ok (Some t)) shown = consequence_sound premises goal (follows_from t.last t.units shown)
-  where
-    follows_from : (last : Option ℕ) (units : List (ℕ × ℕ)) → MatchOption last ((units ≡ []) × Contradicts goal) (λ l. (Contradicts goal → ⊥) × Leads premises goal units l) → Follows premises goal
-    follows_from None units s = inl s.1
-    follows_from (Some l) units s = inr (units, l, s.1)
+sound_from_shown premises goal (Ok (Some t)) shown = consequence_sound premises goal (shown_follows premises goal t shown)

@@ -1,5 +1,5 @@
 -- What unit propagation says of clauses it says of the same clauses with new names for their atoms.
-use Rattle.std.proofs.Common.{◌≡◌, ◌↔◌, ℕ, suc, ◌+◌, ◌<◌, Option, Some, None, Result, Ok, Err, IfOk, IfSome, IfNone, List, [], ◌∷◌, ◌++◌, length, get_or, refl, sym, ◌∙◌, ap, subst, arith, MatchOption, length-append, take}
+use Rattle.std.proofs.Common.{◌≡◌, ◌↔◌, inl, inr, ℕ, suc, ◌+◌, ◌<◌, Option, Some, None, Result, Ok, Err, IfOk, IfSome, IfNone, List, [], ◌∷◌, ◌++◌, length, get_or, refl, sym, ◌∙◌, ap, subst, arith, MatchOption, length-append, take}
 use Rattle.std.specs.Global.{Vec}
 use Rattle.std.proofs.lemmas.List.{get_or-append-add, get_or_append_left, take_more, length-take}
 use Rattle.rule_model.specs.Consequence.{literal_at, Leads, Contradicts, Follows}
@@ -31,6 +31,13 @@ shows_renamed R one ps qs g h trail zs z = (on trail.last, back trail.last)
     back : (last : Option ℕ) → MatchOption last ((trail.units ≡ []) × Contradicts h) (λ k. (Contradicts h → ⊥) × Leads qs h trail.units k) → MatchOption last ((trail.units ≡ []) × Contradicts g) (λ k. (Contradicts g → ⊥) × Leads ps g trail.units k)
     back None shows = (shows.0, same.1 shows.1)
     back (Some k) shows = (λ wrong. shows.0 (same.0 wrong), (leads_renamed R one ps qs g h trail.units k zs z).1 shows.1)
+
+-- what a trail shows follows
+pub shown_follows : {A : Type 0} (premises : List (List (Literal A))) (goal : List (Literal A)) (trail : Trace) → Shows premises goal trail → Follows premises goal
+shown_follows premises goal trail = by trail.last where
+  by : (last : Option ℕ) → MatchOption last ((trail.units ≡ []) × Contradicts goal) (λ n. (Contradicts goal → ⊥) × Leads premises goal trail.units n) → Follows premises goal
+  by None shows = inl shows.1
+  by (Some n) shows = inr (trail.units, n, shows.1)
 
 -- the atom of one of these literals, and the literal's name
 abbrev pub IsNameIn : List Lit → List ℕ → ℕ → ℕ → Type 0

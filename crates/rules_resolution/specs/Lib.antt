@@ -11,3 +11,5 @@ pub mod Standing
 pub mod Work
 pub mod Idle
 pub mod Progress
+pub mod References
+pub mod TermLiterals

@@ -16,6 +16,7 @@ mod laws;
 mod literal;
 mod naming;
 mod occurrence;
+mod references;
 mod renaming;
 mod search;
 mod standing;
@@ -26,6 +27,7 @@ mod work;
 pub use follow::follows;
 pub use laws::consequence_is_sound;
 pub use literal::Lit;
+pub use references::entails_by_units;
 pub use trail::{Memory, Trail};
 
 #[cfg(test)]
