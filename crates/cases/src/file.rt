@@ -67,7 +67,8 @@ fn reads(
     wanted: Reading,
 ) -> Result<bool> {
     let found = reading(rt.alloc(), problem, wanted.last.is_some())?;
-    if found == Some(wanted) {
+    let wanted = Some(wanted);
+    if found == wanted {
         return Ok(true);
     }
     println!(rt; "{name}\n  wanted {wanted:?}\n  found {found:?}")?;

@@ -1,5 +1,5 @@
 //! Runs the checker's top call on cases that stand in files, over files and an output in memory, and compares what it
-//! answers with what is wanted. Each word names a file of cases; `docs/CASES.md` has their form.
+//! answers with what is wanted. Each word names a file of cases; `README.md` has their form.
 //!
 //! - `line`: a line of a file; `reader`: the lines of a file as cases, over `draft`s; `fault`: why a file is none.
 //! - `case`: a case; `answer`: what the top call answers; `reading`: what a problem's text comes to.
