@@ -1,12 +1,7 @@
 -- References that a pass knows.
-use Rattle.std.proofs.Common.{◌≡◌, ℕ, List, All, Some, slice_get, subst}
-use Rattle.std.proofs.lemmas.Option.{get_or_from_slice_get, slice_get_within}
-use Rattle.pair_pool.specs.Views.{PassView, IsKnown}
+use Rattle.std.proofs.Common.{ℕ}
+use Rattle.pair_pool.specs.Views.{IsKnown}
 use Rattle.term_pool.specs.Views.{TermsView, KeepsTerms}
 
 pub known_stays : (v w : TermsView) → KeepsTerms v w → (r : ℕ) → IsKnown v.pass r → IsKnown w.pass r
 known_stays v w keeps r known = record { tree = known.tree; stands = keeps.pass.grows r known.tree known.stands }
-
--- one of a list of references that are known
-pub known_item : (pass : PassView) (rs : List ℕ) (i r : ℕ) → All (IsKnown pass) rs → slice_get rs i ≡ Some r → IsKnown pass r
-known_item pass rs i r known at = subst (IsKnown pass) (get_or_from_slice_get rs i r r at) (known i r (slice_get_within rs i r at))

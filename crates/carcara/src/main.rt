@@ -8,15 +8,7 @@ use std::process::ExitCode;
 use std::{env, io};
 
 #[cfg(test)]
-mod doubling_tests;
-#[cfg(test)]
-mod problem_tests;
-#[cfg(test)]
-mod sort_tests;
-#[cfg(test)]
 mod term_tests;
-#[cfg(test)]
-mod tests;
 
 /// The status of want of memory.
 const NO_MEMORY: u8 = 7;

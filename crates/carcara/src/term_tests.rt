@@ -1,4 +1,4 @@
-//! Terms that are read behind a problem, with their first faults by the rules of SMT-LIB 2.6, section 3.6.
+//! Terms that are read behind a problem, with their first faults by the rules of SMT-LIB 2.6, "Terms and Formulas".
 
 ghost use Rattle.std.specs.Prelude.{◌≡◌, ℕ, IfOk, IfSome};
 ghost use Rattle.carcara.specs.TermTexts.{StandsInItems, StandsAt};

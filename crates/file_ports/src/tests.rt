@@ -95,6 +95,8 @@ fn a_real_file_is_read_whole(rt: HostRuntime) -> Result<(), Fail> {
     let mut folder = RealFolder::new(&rt, rt.alloc());
     expect_whole(&rt, &mut folder, PATH, Ok(long.as_slice()));
     expect_whole(&rt, &mut folder, "no such file", Err(ReadStop::Fault));
+    // A directory is opened, and not read.
+    expect_whole(&rt, &mut folder, ".", Err(ReadStop::Fault));
     fs::remove_file(&rt, PATH)?;
     Ok(())
 }

@@ -1,0 +1,50 @@
+//! What the top call answers over files and an output in memory.
+use crate::case::{Answer, Call};
+use carcara_cli::carcara;
+use file_ports::{MemoryFolder, MemorySink, OpenGate};
+use std::alloc::{AllocError, Global};
+
+// A short file is read in many pieces, so that its reading is tried too, and a long one in as few as may be.
+const SHORT_BYTES: usize = 65_536;
+
+const SMALL_PIECE: usize = 7;
+
+const WRITE_PIECE: usize = 16;
+
+/// The answer to the words, where the files at the paths `PROBLEM` and `PROOF` have these bytes.
+pub fn answer(
+    rt: &impl AllocGlobal,
+    call: Call,
+    problem: Option<Vec<u8>>,
+    proof: Option<Vec<u8>>,
+) -> Result<Answer, AllocError> {
+    let most = piece_bytes(&problem).max(piece_bytes(&proof));
+    let files = files(rt.alloc(), problem, proof)?;
+    let mut folder = MemoryFolder::new(files, most, call.failing_reads);
+    let mut out = MemorySink::new(WRITE_PIECE, call.failing_writes);
+    let status = carcara(rt, &call.words, &mut folder, &mut out, &OpenGate);
+    let output = Vec::from_slice(rt.alloc(), out.written())?;
+    Ok(Answer { status, output })
+}
+
+fn piece_bytes(text: &Option<Vec<u8>>) -> usize {
+    match text {
+        Some(text) if text.len() > SHORT_BYTES => SHORT_BYTES,
+        _ => SMALL_PIECE,
+    }
+}
+
+fn files(
+    alloc: Global,
+    problem: Option<Vec<u8>>,
+    proof: Option<Vec<u8>>,
+) -> Result<Vec<(String, Vec<u8>)>, AllocError> {
+    let mut files = Vec::new(alloc);
+    if let Some(text) = problem {
+        files.push((String::from_str(alloc, "PROBLEM")?, text))?;
+    }
+    if let Some(text) = proof {
+        files.push((String::from_str(alloc, "PROOF")?, text))?;
+    }
+    Ok(files)
+}
