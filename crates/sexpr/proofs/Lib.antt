@@ -9,3 +9,4 @@ pub mod OneReading
 pub mod Respelling
 pub mod Scanning
 pub mod Spelling
+pub mod ReadingBack

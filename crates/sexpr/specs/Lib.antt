@@ -8,3 +8,4 @@ pub mod Form
 pub mod Grammar
 pub mod Items
 pub mod Source
+pub mod Printing

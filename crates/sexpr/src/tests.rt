@@ -1,5 +1,7 @@
 //! Texts with the tokens and the form that the rules of SMT-LIB 2.6, section 3.1, give them.
-use crate::{Lexer, Token, TokenKind, WordKind, cause_text, form, symbol_name, word_kind};
+use crate::{
+    Lexer, Token, TokenKind, WordKind, cause_text, form, print_symbol, symbol_name, word_kind,
+};
 use std::alloc::{AllocError, Global};
 use std::process::Abort;
 use std::test::Fail;
@@ -565,4 +567,22 @@ fn words_have_their_kinds(rt: HostRuntime) {
     for (word, kind) in cases {
         assert_eq!(rt; word_kind(word), kind);
     }
+}
+
+#[test]
+fn symbols_are_printed(rt: HostRuntime) -> Result<(), Fail> {
+    let cases: [(&[u8], &[u8]); 6] = [
+        (b"a-b", b"a-b"),
+        (b"p q", b"|p q|"),
+        (b"", b"||"),
+        (b":a", b"|:a|"),
+        (b"1x", b"|1x|"),
+        (b"x1", b"x1"),
+    ];
+    for (name, printed) in cases {
+        let mut text = Vec::from_slice(rt.alloc(), b"step ")?;
+        print_symbol(name, &mut text)?;
+        assert_eq!(rt; &text.as_slice()[5..], printed);
+    }
+    Ok(())
 }

@@ -83,7 +83,7 @@ fn is_bit_literal(word: &[u8]) -> bool
 }
 
 /// A word that begins with no digit and is neither a keyword nor a literal.
-fn is_symbol(word: &[u8]) -> bool
+pub(crate) fn is_symbol(word: &[u8]) -> bool
     ensures { result ≡ is_symbol word.now }
 {
     match word {
