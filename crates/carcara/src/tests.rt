@@ -1,5 +1,5 @@
 // What the program prints through the top call, over files and an output in memory.
-use carcara_cli::carcara;
+use carcara_cli::{Judgement, carcara, judge};
 use file_ports::{MemoryFolder, MemorySink, OpenGate};
 use std::alloc::{AllocError, Global};
 use std::test::Fail;
@@ -261,19 +261,90 @@ fn operands_that_begin_with_a_hyphen(rt: HostRuntime) -> Result<(), Fail> {
     Ok(())
 }
 
-#[test]
-fn a_problem_that_is_too_long(rt: HostRuntime) -> Result<(), Fail> {
+// The answer where the file at a path has one byte more than a file may have, and another file stands beside it or none.
+fn answer_to_long(
+    rt: &HostRuntime,
+    path: &str,
+    other: Option<(&str, &[u8])>,
+) -> Result<(u8, Vec<u8>), AllocError> {
     let mut all = Vec::new(rt.alloc());
     let spaces = vec![in rt.alloc(); b' '; 268_435_457]?;
-    all.push((
-        String::from_str(rt.alloc(), "a.alethe")?,
-        Vec::from_slice(rt.alloc(), b"")?,
-    ))?;
-    all.push((String::from_str(rt.alloc(), "a.smt2")?, spaces))?;
+    all.push((String::from_str(rt.alloc(), path)?, spaces))?;
+    if let Some((path, text)) = other {
+        let text = Vec::from_slice(rt.alloc(), text)?;
+        all.push((String::from_str(rt.alloc(), path)?, text))?;
+    }
     let folder = MemoryFolder::new(all, 65_536, Vec::new(rt.alloc()));
     let out = MemorySink::new(16, Vec::new(rt.alloc()));
-    let (status, printed) = answer(&rt, &["check", "a.alethe", "a.smt2"], folder, out)?;
-    assert_eq!(rt; status, 9);
-    assert_eq!(rt; printed.as_slice(), b"too long\n".as_slice());
+    answer(rt, &["check", "a.alethe", "a.smt2"], folder, out)
+}
+
+// The first that answers decides: the problem's file, then the proof's file, then the problem's text.
+#[test]
+fn files_are_read_in_order(rt: HostRuntime) -> Result<(), Fail> {
+    let cases: [(&str, Option<(&str, &[u8])>, u8, &[u8]); 3] = [
+        ("a.smt2", None, 9, b"too long\n"),
+        ("a.alethe", Some(("a.smt2", b"(")), 9, b"too long\n"),
+        ("a.alethe", None, 5, b"read fault\n"),
+    ];
+    for (path, other, status, printed) in cases {
+        let (found, text) = answer_to_long(&rt, path, other)?;
+        assert_eq!(rt; found, status);
+        assert_eq!(rt; text.as_slice(), printed);
+    }
+    Ok(())
+}
+
+// Adds the bytes, `times` times.
+fn repeat(text: &mut Vec<u8>, bytes: &[u8], times: u32) -> Result<(), AllocError> {
+    for _ in 0..times {
+        text.extend_from_slice(bytes)?;
+    }
+    Ok(())
+}
+
+// A problem of four lines, whose macro m has 100 unary minuses and whose macro q puts m into itself sixteen times.
+fn minuses(alloc: Global) -> Result<Vec<u8>, AllocError> {
+    let mut text = Vec::from_slice(alloc, b"(define-fun m ((x Int)) Int ")?;
+    repeat(&mut text, b"(- ", 100)?;
+    text.extend_from_slice(b"x")?;
+    repeat(&mut text, b")", 100)?;
+    text.extend_from_slice(b")\n(define-fun n ((x Int)) Int (m (m (m (m x)))))\n")?;
+    text.extend_from_slice(b"(define-fun q ((x Int)) Int (n (n (n (n x)))))\n")?;
+    text.extend_from_slice(b"(assert (= (q 1) (q 2)))\n")?;
+    Ok(text)
+}
+
+// Three chains of 1,600 minuses, over x, 1 and 2, have 3,200 cells each, and the equality 3: 9,603 cells. So a pool of 2^12
+// places and one of 2^13 are full, and one of 2^14 serves.
+#[test]
+fn a_full_pool_is_read_again(rt: HostRuntime) -> Result<(), Fail> {
+    let problem = minuses(rt.alloc())?;
+    let (status, printed) = checked(&rt, b"", &problem, &[], &[])?;
+    assert_eq!(rt; status, 1);
+    assert_eq!(rt; printed.as_slice(), b"invalid\nno empty clause\n".as_slice());
+    Ok(())
+}
+
+// Whether the texts are judged to want more places than so many bits give. None where the judgement is another one than
+// that the proof reaches no empty clause.
+fn is_full(alloc: Global, problem: &[u8], bits: u32) -> Result<Option<bool>, Fail> {
+    if problem.len() > 268_435_456 || !(12..=26).contains(&bits) {
+        return Ok(None);
+    }
+    match judge(alloc, problem, false, b"", bits) {
+        Ok(Judgement::PoolFull) => Ok(Some(true)),
+        Ok(Judgement::NoEmptyClause) => Ok(Some(false)),
+        _ => Ok(None),
+    }
+}
+
+// Where the largest pool that may be made is full, that is what is answered, and no want of memory.
+#[test]
+fn the_largest_pool_is_full(rt: HostRuntime) -> Result<(), Fail> {
+    let problem = minuses(rt.alloc())?;
+    for (bits, full) in [(12, true), (13, true), (14, false), (26, false)] {
+        assert_eq!(rt; is_full(rt.alloc(), &problem, bits)?, Some(full));
+    }
     Ok(())
 }
