@@ -3,7 +3,7 @@ use Rattle.std.proofs.Common.{◌≡◌, ◌⊎◌, ℕ, ◌+◌, ◌^◌, ◌<�
 use Rattle.std.proofs.lemmas.Bool.{cases_lt}
 use Rattle.pair_pool.specs.Trees.{Tree, cell}
 use Rattle.pair_pool.specs.Views.{PassView, IsListed, IsPlaced, IsSeen, IsOneToOne, HasListsInOrder}
-use Rattle.sym_table.specs.Table.{Table}
+use Rattle.sym_table.specs.Table.{Table, IsTable}
 use Rattle.smtlib_reader.specs.Making.{PlacesCellsOf, LacksCellOf, IsCellOf}
 use Rattle.smtlib_reader.specs.ProblemViews.{IsCounted}
 use Rattle.carcara_cli.specs.Cells.{IsCellOfText, HasMoreCells}
@@ -13,6 +13,7 @@ unfolding IsListed
 none_listed r a b l = absurd (omega (arith, l.1))
 
 module _ (s : Table) (old pass : PassView) (text : List ℕ) (replaces_lets : Bool)
+    (is_table : IsTable s)
     (nothing : old.placed ≡ []) (all : pass.shares ≡ 65)
     (one : IsOneToOne pass) (order : HasListsInOrder pass)
     (placed : PlacesCellsOf s old pass (IsCounted text replaces_lets))
@@ -84,6 +85,7 @@ module _ (s : Table) (old pass : PassView) (text : List ℕ) (replaces_lets : Bo
   pub has_more_cells : (n : ℕ) → pass.places ≡ n → HasMoreCells text replaces_lets n
   has_more_cells n e = record {
     table = s;
+    is_table = is_table;
     cells = λ i. cell_at i (cases_lt i pass.places);
     are = λ i within. is_of_text _ _ (at_place i (cases_lt i pass.places));
     apart = λ i j within within' same. other_place i j (cases_lt i pass.places) (cases_lt j pass.places) (omega (arith, e, within)) (omega (arith, e, within'))

@@ -1,28 +1,32 @@
--- The answer of a verdict on the two texts.
-use Rattle.std.proofs.Common.{◌≡◌, ℕ, zero, suc, ◌<◌, Bool, List, [], ◌∷◌, length, get_or, refl, arith}
+-- The judgement of a verdict on the two texts, and what a valid one shows.
+use Rattle.std.proofs.Common.{◌≡◌, ℕ, zero, suc, ◌<◌, ◌≤◌, Bool, List, [], ◌∷◌, length, get_or, map, refl, arith, Option, None, Some, inl, inr}
 use Rattle.std.specs.List.{Contains}
-use Rattle.carcara_cli.specs.declared.literal.Literal.{Literal}
-use Rattle.carcara_cli.specs.declared.answer.Answer.{Answer}
-use Rattle.carcara_cli.specs.declared.answer.Answer.TheVariants.{Valid, NoEmptyClause, NotMet, NotAsserted, RefusedProblem, RefusedProof, ReadFault, PoolFull, TooLong, Usage}
-use Rattle.carcara_cli.specs.declared.check.Verdict.{Verdict}
-use Rattle.carcara_cli.specs.declared.check.Verdict.TheVariants as verdict
-use Rattle.carcara_cli.specs.Names.{Word}
-use Rattle.carcara_cli.specs.Proof.{ProofCommand}
-use Rattle.carcara_cli.specs.Verdict.{IsVerdict}
-use Rattle.std.specs.Prelude.{Option, None, Some, Result, Ok, Err, IfOk, map}
 use Rattle.term_model.specs.Terms.{Term}
 use Rattle.term_model.specs.Unsatisfiable.{MakesTrue, MakesAllTrue, Unsatisfiable}
 use Rattle.smtlib_reader.specs.Scripts.{Script}
+use Rattle.file_ports.specs.declared.whole.ReadStop.{ReadStop}
+use Rattle.file_ports.specs.declared.whole.ReadStop.TheVariants as stops
+use Rattle.file_ports.specs.Faults.{HasRisen}
 use Rattle.file_ports.specs.Texts.{AreTold}
-use Rattle.rules_resolution.specs.declared.trail.Memory.{Memory}
+use Rattle.carcara_cli.specs.declared.literal.Literal.{Literal}
+use Rattle.carcara_cli.specs.declared.judgement.Judgement.{Judgement}
+use Rattle.carcara_cli.specs.declared.judgement.Judgement.TheVariants.{Valid, NoEmptyClause, NotMet, NotAsserted, RefusedProblem, RefusedProof, PoolFull}
+use Rattle.carcara_cli.specs.declared.answer.Answer.{Answer}
+use Rattle.carcara_cli.specs.declared.answer.Answer.TheVariants.{Usage, ReadFault, TooLong, Judged}
+use Rattle.carcara_cli.specs.declared.check.Verdict.{Verdict}
+use Rattle.carcara_cli.specs.declared.check.Verdict.TheVariants as verdict
+use Rattle.carcara_cli.specs.Names.{Word}
 use Rattle.carcara_cli.specs.Texts.{IsTerm, term_of}
 use Rattle.carcara_cli.specs.Problem.{AreLiterals, IsProblemText}
-use Rattle.carcara_cli.specs.Answers.{status_of}
-use Rattle.carcara_cli.specs.Proof.{HaveEarlierPremises}
+use Rattle.carcara_cli.specs.Proof.{ProofCommand, HaveEarlierPremises}
+use Rattle.carcara_cli.specs.Verdict.{IsVerdict}
 use Rattle.carcara_cli.specs.CommandLine.{Asked}
-use Rattle.carcara_cli.specs.Judgement.{IsProofText, IsJudgedAs, IsWithin, IsNamed, IsJudged, IsJudgedIfTold, IsAnswer, IsUnsatisfiableIfTold, ShowsUnsatisfiable}
+use Rattle.carcara_cli.specs.Judgement.{IsProofText, IsJudgedAs, IsJudged}
+use Rattle.carcara_cli.specs.Printed.{status_of}
+use Rattle.carcara_cli.specs.TopCall.{most_bytes, most_bits, IsWithinLimit, IsTooLong, IsJudgedIfTold, IsJudgedOfFiles, IsAnswer, IsUnsatisfiableIfTold, ShowsUnsatisfiable}
+use Rattle.carcara_cli.specs.Answering.{IsUnread, IsWithin, IsNamed}
 
-module _ (problem : List ℕ) (replaces_lets : Bool) (proof : List ℕ) (script : Script) (names ids : List Word) (assertions : List Literal) (commands : List ProofCommand)
+module _ (problem : List ℕ) (replaces_lets : Bool) (proof : List ℕ) (bits : ℕ) (script : Script) (names ids : List Word) (assertions : List Literal) (commands : List ProofCommand)
     (problem_text : IsProblemText problem replaces_lets script names assertions) (proof_text : IsProofText proof names ids commands) where
   judged_as : (v : Verdict) → IsVerdict assertions commands v → IsJudgedAs problem replaces_lets proof v ids
   judged_as v h = record { script = script; names = names; assertions = assertions; commands = commands; problem_text = problem_text; proof_text = proof_text; verdict = h }
@@ -33,40 +37,45 @@ module _ (problem : List ℕ) (replaces_lets : Bool) (proof : List ℕ) (script 
   verdict_within (verdict.NotMet k) h = omega (arith, h.0.within, proof_text.proof.each_id)
   verdict_within (verdict.NotAsserted k) h = omega (arith, h.0.within, proof_text.proof.each_id)
 
-  pub named_is_judged : (v : Verdict) (a : Answer) → IsVerdict assertions commands v → IsNamed ids v a → IsJudged problem replaces_lets proof a
+  pub named_is_judged : (v : Verdict) (j : Judgement) → IsVerdict assertions commands v → IsNamed ids v j → IsJudged problem replaces_lets proof bits j
   named_is_judged v Valid h n = (ids, judged_as verdict.Valid (rw n at h))
   named_is_judged v NoEmptyClause h n = (ids, judged_as verdict.NoEmptyClause (rw n at h))
   named_is_judged v (NotMet id) h n = (ids, n.0, judged_as (verdict.NotMet n.0) (rw n.1 at h), n.2)
   named_is_judged v (NotAsserted id) h n = (ids, n.0, judged_as (verdict.NotAsserted n.0) (rw n.1 at h), n.2)
   named_is_judged v (RefusedProblem r) h n = absurd n
   named_is_judged v (RefusedProof r) h n = absurd n
-  named_is_judged v ReadFault h n = absurd n
   named_is_judged v PoolFull h n = absurd n
-  named_is_judged v TooLong h n = absurd n
-  named_is_judged v Usage h n = absurd n
 
-if_told : (replaces_lets : Bool) (x y : Option (List ℕ)) (problem proof : List ℕ) (a : Answer) → AreTold x problem → AreTold y proof → IsJudged problem replaces_lets proof a → IsJudgedIfTold replaces_lets x y a
-if_told replaces_lets None y problem proof a told told' h = tt
-if_told replaces_lets (Some t) None problem proof a told told' h = tt
-if_told replaces_lets (Some t) (Some u) problem proof a told told' h = rw (told, told') at h
+-- what was read of a file that is within the limit is all that is told
+pub within_told : (told : Option (List ℕ)) (bytes : List ℕ) → AreTold told bytes → length bytes ≤ most_bytes → IsWithinLimit told
+within_told None bytes is within = tt
+within_told (Some told) bytes is within = rw is at within
 
-module _ (content : List ℕ → Option (List ℕ)) (before after : ℕ) (p : Asked) (problem proof : List ℕ)
-    (told : AreTold (content p.problem) problem) (told' : AreTold (content p.proof) proof) where
-  judged_is_answer : (a : Answer) → IsJudged problem p.replaces_lets proof a → IsAnswer content before after (Some p) a
-  judged_is_answer Valid h = if_told p.replaces_lets (content p.problem) (content p.proof) problem proof Valid told told' h
-  judged_is_answer NoEmptyClause h = if_told p.replaces_lets (content p.problem) (content p.proof) problem proof NoEmptyClause told told' h
-  judged_is_answer (NotMet id) h = if_told p.replaces_lets (content p.problem) (content p.proof) problem proof (NotMet id) told told' h
-  judged_is_answer (NotAsserted id) h = if_told p.replaces_lets (content p.problem) (content p.proof) problem proof (NotAsserted id) told told' h
-  judged_is_answer (RefusedProblem r) h = if_told p.replaces_lets (content p.problem) (content p.proof) problem proof (RefusedProblem r) told told' h
-  judged_is_answer (RefusedProof r) h = if_told p.replaces_lets (content p.problem) (content p.proof) problem proof (RefusedProof r) told told' h
-  judged_is_answer PoolFull h = if_told p.replaces_lets (content p.problem) (content p.proof) problem proof PoolFull told told' h
-  judged_is_answer ReadFault h = absurd h
-  judged_is_answer TooLong h = absurd h
-  judged_is_answer Usage h = absurd h
+if_told : (replaces_lets : Bool) (x y : Option (List ℕ)) (problem proof : List ℕ) (j : Judgement) → AreTold x problem → AreTold y proof → IsJudged problem replaces_lets proof most_bits j → IsJudgedIfTold replaces_lets x y j
+if_told replaces_lets None y problem proof j told told' h = tt
+if_told replaces_lets (Some t) None problem proof j told told' h = tt
+if_told replaces_lets (Some t) (Some u) problem proof j told told' h = rw (told, told') at h
 
-  pub answer_is : (asked : Option Asked) → Some p ≡ asked → (r : Result Answer Memory) → IfOk r (IsJudged problem p.replaces_lets proof) → IfOk r (IsAnswer content before after asked)
-  answer_is asked e (Ok a) h = rw (← e) (judged_is_answer a h)
-  answer_is asked e (Err m) h = tt
+pub judged_of_files : (replaces_lets : Bool) (x y : Option (List ℕ)) (problem proof : List ℕ) (j : Judgement)
+    → AreTold x problem → AreTold y proof → length problem ≤ most_bytes → length proof ≤ most_bytes
+    → IsJudged problem replaces_lets proof most_bits j → IsJudgedOfFiles replaces_lets x y j
+judged_of_files replaces_lets x y problem proof j told told' within within' h = record {
+  problem_within = within_told x problem told within;
+  proof_within = within_told y proof told' within';
+  judged = if_told replaces_lets x y problem proof j told told' h;
+}
+
+pub answer_is : (content : List ℕ → Option (List ℕ)) (before after : ℕ) (p : Asked) (asked : Option Asked) (j : Judgement)
+    → Some p ≡ asked → IsJudgedOfFiles p.replaces_lets (content p.problem) (content p.proof) j → IsAnswer content before after asked (Judged j)
+answer_is content before after p asked j e h = rw (← e) h
+
+-- the answer where a file was not read
+pub unread_is : (content : List ℕ → Option (List ℕ)) (before after : ℕ) (p : Asked) (asked : Option Asked) (stop : ReadStop) (a : Answer)
+    → Some p ≡ asked → (stop ≡ stops.TooLong → IsTooLong (content p.problem) (content p.proof)) → (stop ≡ stops.Fault → HasRisen before after)
+    → IsUnread stop a → IsAnswer content before after asked a
+unread_is content before after p asked stops.Fault a e too_long fault h = rw (← e, ← h) (fault refl)
+unread_is content before after p asked stops.TooLong a e too_long fault h = rw (← e, ← h) (too_long refl)
+unread_is content before after p asked stops.Memory a e too_long fault h = absurd h
 
 -- a list that has all of an unsatisfiable list's terms is unsatisfiable too
 more_assertions : (all some : List Term) → ((t : Term) → Contains some t → Contains all t) → Unsatisfiable some → Unsatisfiable all
@@ -104,15 +113,18 @@ module _ (sound : (names : List Word) (assertions : List Literal) (commands : Li
             (sound j.names j.assertions j.commands (λ k within. (j.proof_text.proof.each k within).earlier) j.verdict),
       )
 
+  valid_shows_told : (replaces_lets : Bool) (x y : Option (List ℕ)) (j : Judgement) → IsJudgedIfTold replaces_lets x y j → status_of (Judged j) ≡ 0 → IsUnsatisfiableIfTold replaces_lets x y
+  valid_shows_told replaces_lets x y Valid h e = valid_told replaces_lets x y h
+  valid_shows_told replaces_lets x y NoEmptyClause h e = absurd (omega (arith, e))
+  valid_shows_told replaces_lets x y (NotMet id) h e = absurd (omega (arith, e))
+  valid_shows_told replaces_lets x y (NotAsserted id) h e = absurd (omega (arith, e))
+  valid_shows_told replaces_lets x y (RefusedProblem r) h e = absurd (omega (arith, e))
+  valid_shows_told replaces_lets x y (RefusedProof r) h e = absurd (omega (arith, e))
+  valid_shows_told replaces_lets x y PoolFull h e = absurd (omega (arith, e))
+
   pub valid_shows : (content : List ℕ → Option (List ℕ)) (before after : ℕ) (asked : Option Asked) (a : Answer) → IsAnswer content before after asked a → status_of a ≡ 0 → ShowsUnsatisfiable content asked
-  valid_shows content before after None Valid h e = absurd h
-  valid_shows content before after (Some p) Valid h e = valid_told p.replaces_lets (content p.problem) (content p.proof) h
-  valid_shows content before after asked NoEmptyClause h e = absurd (omega (arith, e))
-  valid_shows content before after asked (NotMet id) h e = absurd (omega (arith, e))
-  valid_shows content before after asked (NotAsserted id) h e = absurd (omega (arith, e))
-  valid_shows content before after asked (RefusedProblem r) h e = absurd (omega (arith, e))
-  valid_shows content before after asked (RefusedProof r) h e = absurd (omega (arith, e))
-  valid_shows content before after asked ReadFault h e = absurd (omega (arith, e))
-  valid_shows content before after asked PoolFull h e = absurd (omega (arith, e))
-  valid_shows content before after asked TooLong h e = absurd (omega (arith, e))
+  valid_shows content before after None (Judged j) h e = absurd h
+  valid_shows content before after (Some p) (Judged j) h e = valid_shows_told p.replaces_lets (content p.problem) (content p.proof) j h.judged e
   valid_shows content before after asked Usage h e = absurd (omega (arith, e))
+  valid_shows content before after asked ReadFault h e = absurd (omega (arith, e))
+  valid_shows content before after asked TooLong h e = absurd (omega (arith, e))

@@ -8,5 +8,6 @@ pub mod Soundness
 pub mod JudgementLemmas
 pub mod ConstantLemmas
 pub mod CellLemmas
+pub mod CellSums
 pub mod LiteralLemmas
 pub mod ProblemTexts

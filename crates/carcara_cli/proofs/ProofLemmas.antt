@@ -6,7 +6,8 @@ use Rattle.std.proofs.lemmas.List.{map-append, get_or_append_left}
 use Rattle.std.proofs.Math.Seq.{get_or-append_seam}
 use Rattle.std.proofs.lemmas.List.Elements.{All-push, All-head, All-tail}
 use Rattle.carcara_cli.specs.declared.literal.Literal.{Literal}
-use Rattle.carcara_cli.specs.Names.{Word, name_at, is_symbol_word, IsNoName, IsPlaceOf}
+use Rattle.carcara_cli.specs.Names.{Word, name_at, IsNoName, IsPlaceOf}
+use Rattle.sexpr.specs.Printing.{is_plain_symbol}
 use Rattle.carcara_cli.specs.Reading.{Reads}
 use Rattle.carcara_cli.specs.Texts.{opened, closed, spelled_term, IsTerm, IsReadTerm}
 use Rattle.carcara_cli.specs.Proof.{ProofCommand, assume, step, premises_of, IsCommandAt, AreCommands, spelled_command, spelled_from, IsReadCommand, AreReadCommands, IsProof, IsReadAssume, IsReadClause, AreReadTerms, AreReadIds, IsReadPremises}
@@ -120,7 +121,7 @@ IsCommandAt-push names cs c each last k within = elim (cases_lt k (length cs)) [
   | inr past ↦ let is : k ≡ length cs = omega (arith, length-append cs (c ∷ [])) in rw (is, get_or-append_seam cs c [] (step [] [])) last
 ]
 
-pub commands_more : (words names ids : List Word) (cs : List ProofCommand) (c : ProofCommand) (middle to : ℕ) → AreReadCommands words names ids cs middle → IsReadCommand words names ids middle c to → IsNoName ids (name_at words (middle + 2)) → is_symbol_word (name_at words (middle + 2)) ≡ true →
+pub commands_more : (words names ids : List Word) (cs : List ProofCommand) (c : ProofCommand) (middle to : ℕ) → AreReadCommands words names ids cs middle → IsReadCommand words names ids middle c to → IsNoName ids (name_at words (middle + 2)) → is_plain_symbol (name_at words (middle + 2)) ≡ true →
     AreReadCommands words names (ids ++ name_at words (middle + 2) ∷ []) (cs ++ c ∷ []) to
 commands_more words names ids cs c middle to r s none symbol =
     let id = name_at words (middle + 2) in
@@ -132,7 +133,7 @@ commands_more words names ids cs c middle to r s none symbol =
           spelled_from-push names (ids ++ id ∷ more) 0 cs c ∙ ap (λ l. spelled_from names (ids ++ id ∷ more) 0 cs ++ l) (rw place (spelled_command-more names ids id more c s.earlier)) in
           rw (append_assoc ids (id ∷ []) more, spelled) all;
       each_id = omega (arith, length-append ids (id ∷ []), length-append cs (c ∷ []), r.each_id);
-      symbols = All-push (λ w. is_symbol_word w ≡ true) ids id r.symbols symbol;
+      symbols = All-push (λ w. is_plain_symbol w ≡ true) ids id r.symbols symbol;
       apart = AreApart-push ids id r.apart none;
       each = IsCommandAt-push names cs c r.each (record { terms = s.terms; earlier = rw (← r.each_id) s.earlier; some = s.some });
     }

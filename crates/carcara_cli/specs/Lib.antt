@@ -4,10 +4,13 @@ pub mod TextWords
 pub mod Texts
 pub mod Problem
 pub mod Cells
+pub mod CellSums
 pub mod Proof
 pub mod Commands
 pub mod Verdict
-pub mod Answers
-pub mod Reads
-pub mod CommandLine
 pub mod Judgement
+pub mod Printed
+pub mod CommandLine
+pub mod TopCall
+pub mod Reads
+pub mod Answering

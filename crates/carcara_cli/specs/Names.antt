@@ -1,8 +1,6 @@
 -- Names by their places.
-use Rattle.std.specs.Prelude.{◌≡◌, ◌≢◌, ℕ, ◌<◌, List, [], length, map, slice_index_or, Vec, Bool, true, ◌&&◌}
-use Rattle.std.specs.List.{list_all}
-use Rattle.sexpr.specs.Characters.{is_word_byte}
-use Rattle.sexpr.specs.Words.{is_symbol}
+use Rattle.std.specs.Prelude.{◌≡◌, ◌≢◌, ℕ, ◌<◌, List, [], length, map, slice_index_or, Vec, true}
+use Rattle.sexpr.specs.Printing.{is_plain_symbol}
 use Rattle.sym_table.specs.Words.{IsBuiltIn}
 use Rattle.std.specs.Global.{Global}
 
@@ -31,11 +29,7 @@ IsNoName names name = (k : ℕ) → k < length names → name_at names k ≢ nam
 abbrev pub AreApart : List Word → Type 0
 AreApart names = (i j : ℕ) → i < j → j < length names → name_at names i ≢ name_at names j
 
--- a symbol that is spelled without bars: every byte is one of a word
-abbrev pub is_symbol_word : Word → Bool
-is_symbol_word w = is_symbol w && list_all is_word_byte w
-
--- a name that may be declared: a symbol that is not built in
+-- a name that may be declared: a symbol that is spelled without bars and not built in
 pub record MayDeclare (w : Word) : Type 0 where
-  pub symbol : is_symbol_word w ≡ true
+  pub symbol : is_plain_symbol w ≡ true
   pub free : IsBuiltIn w → ⊥

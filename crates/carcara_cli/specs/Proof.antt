@@ -2,7 +2,8 @@
 -- with premises.
 use Rattle.std.specs.Prelude.{◌≡◌, true, ℕ, ◌+◌, ◌<◌, List, [], ◌∷◌, ◌++◌, flat_map, map, length, codes, All, slice_index_or}
 use Rattle.carcara_cli.specs.declared.literal.Literal.{Literal}
-use Rattle.carcara_cli.specs.Names.{Word, name_at, AreApart, is_symbol_word}
+use Rattle.carcara_cli.specs.Names.{Word, name_at, AreApart}
+use Rattle.sexpr.specs.Printing.{is_plain_symbol}
 use Rattle.carcara_cli.specs.Reading.{Reads}
 use Rattle.carcara_cli.specs.Texts.{spelled_term, IsTerm}
 
@@ -70,7 +71,7 @@ AreCommands names commands = (k : ℕ) → k < length commands → IsCommandAt n
 pub record IsProof (words : List Word) (names ids : List Word) (commands : List ProofCommand) : Type 0 where
   pub spelled : words ≡ spelled_from names ids 0 commands
   pub each_id : length ids ≡ length commands
-  pub symbols : All (λ w. is_symbol_word w ≡ true) ids
+  pub symbols : All (λ w. is_plain_symbol w ≡ true) ids
   pub apart : AreApart ids
   pub each : AreCommands names commands
 
@@ -107,6 +108,6 @@ pub record IsReadCommand (words names ids : List Word) (from : ℕ) (c : ProofCo
 pub record AreReadCommands (words names ids : List Word) (commands : List ProofCommand) (to : ℕ) : Type 0 where
   pub read : (more : List Word) → Reads words 0 (spelled_from names (ids ++ more) 0 commands) to
   pub each_id : length ids ≡ length commands
-  pub symbols : All (λ w. is_symbol_word w ≡ true) ids
+  pub symbols : All (λ w. is_plain_symbol w ≡ true) ids
   pub apart : AreApart ids
   pub each : AreCommands names commands

@@ -8,9 +8,9 @@ ghost use Rattle.carcara_cli.specs.Commands.{command_of, commands_of, IsShort};
 use crate::command::Command;
 use crate::literal::Literal;
 use crate::names::NameTable;
-use crate::symbol::is_symbol_word;
 use crate::term::read_term;
 use crate::words::Words;
+use sexpr::is_plain_symbol;
 use std::alloc::{AllocError, Global};
 
 /// An assume, whose id is its third word, and the place after it.
@@ -198,7 +198,7 @@ pub fn read_proof(
             return Ok(None);
         };
         let id = words.at(at + 2);
-        if !is_symbol_word(id) {
+        if !is_plain_symbol(id) {
             return Ok(None);
         }
         if !ids.add(alloc, id)? {

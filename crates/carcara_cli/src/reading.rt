@@ -1,8 +1,7 @@
 //! Reading a problem into a pool that is large enough for its terms.
 ghost use Rattle.std.specs.Prelude.{◌≤◌, ◌^◌, length, IfOk};
-ghost use Rattle.carcara_cli.specs.Cells.{IsPoolSize};
-ghost use Rattle.carcara_cli.specs.Judgement.{most_bytes};
-ghost use Rattle.carcara_cli.specs.Reads.{IsReading};
+ghost use Rattle.carcara_cli.specs.Reads.{IsPoolSize, IsReading};
+ghost use Rattle.carcara_cli.specs.TopCall.{most_bytes};
 
 use crate::problem::{Problem, literals_of_problem};
 use pair_pool::Pool;
@@ -22,18 +21,21 @@ pub enum Reading {
 }
 
 /// The least number of bits of a pool.
-const LEAST_BITS: u32 = 12;
+pub const LEAST_BITS: u32 = 12;
 
 /// The greatest number of bits of a pool.
-const MOST_BITS: u32 = 26;
+pub const MOST_BITS: u32 = 26;
 
-/// The number of bits of the first pool, for texts of so many bytes: the least that gives four places for each byte.
-fn pool_bits(bytes: usize) -> u32
-    requires { bytes ≤ 2 ^ 30 }
-    ensures { IsPoolSize bytes result }
+/// The number of bits of the first pool, for texts of so many bytes: the least that gives a place for each two bytes,
+/// and no more than may be.
+fn pool_bits(bytes: usize, most_bits: u32) -> u32
+    requires bytes { bytes ≤ 2 ^ 30 }
+    requires least { LEAST_BITS ≤ most_bits }
+    requires most { most_bits ≤ MOST_BITS }
+    ensures { IsPoolSize bytes most_bits result }
 {
     let mut bits = LEAST_BITS;
-    while bits < MOST_BITS && (1usize << bits) < 4 * bytes {
+    while bits < most_bits && 2 * (1usize << bits) < bytes {
         bits += 1;
     }
     bits
@@ -64,6 +66,7 @@ fn read_into(alloc: Global, bits: u32, text: &[u8], replaces_lets: bool) -> Resu
         )?)),
         Err(ReadFault::Text(refusal)) => Ok(Reading::Refused(refusal)),
         Err(ReadFault::PoolFull) => {
+            let _leaves = symbols.count();
             let pass = terms.into_pass();
             pass.one_to_one();
             pass.lists_in_order();
@@ -74,22 +77,26 @@ fn read_into(alloc: Global, bits: u32, text: &[u8], replaces_lets: bool) -> Resu
 }
 
 /// Reads a problem, of whose text and its proof's there are so many bytes, with its lets or with their bodies in their
-/// places. Where the pool has no room for its terms, it is read again into one that is twice as large.
+/// places. Where the pool has no room for its terms, it is read again into one that is twice as large, up to one of
+/// 2^most_bits places.
 pub fn read(
     alloc: Global,
     text: &[u8],
     replaces_lets: bool,
     bytes: usize,
+    most_bits: u32,
 ) -> Result<Reading, Memory>
     requires size { length text.now ≤ most_bytes }
     requires bytes { bytes ≤ 2 ^ 30 }
-    ensures { IfOk result (IsReading text.now replaces_lets MOST_BITS) }
+    requires least { LEAST_BITS ≤ most_bits }
+    requires most { most_bits ≤ MOST_BITS }
+    ensures { IfOk result (IsReading text.now replaces_lets most_bits) }
 {
-    for bits in pool_bits(bytes)..MOST_BITS {
+    for bits in pool_bits(bytes, most_bits)..most_bits {
         match read_into(alloc, bits, text, replaces_lets)? {
             Reading::PoolFull => {}
             reading => return Ok(reading),
         }
     }
-    read_into(alloc, MOST_BITS, text, replaces_lets)
+    read_into(alloc, most_bits, text, replaces_lets)
 }

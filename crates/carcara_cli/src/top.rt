@@ -1,20 +1,44 @@
 //! The top call: from the words of the command line to the status.
-ghost use Rattle.std.specs.Prelude.{◌≡◌, ◌≢◌, ◌≤◌, ◌↔◌, ℕ, List, length, map, string_bytes, IsTrue, IfOk, IsErrOf};
+ghost use Rattle.std.specs.Prelude.{◌≡◌, ◌≢◌, ◌⊎◌, ◌≤◌, ◌↔◌, ℕ, List, length, map, string_bytes, IsTrue, IfOk, IsErrOf};
 ghost use Rattle.std.specs.Io.KnownBytes.{Appends};
 ghost use Rattle.file_ports.specs.Faults.{HasRisen};
-ghost use Rattle.file_ports.specs.Texts.{AppendsFront};
-ghost use Rattle.carcara_cli.specs.declared.answer.Answer.{Answer};
-ghost use Rattle.carcara_cli.specs.Answers as spec;
+ghost use Rattle.file_ports.specs.Texts.{AreTold, AppendsFront};
+ghost use Rattle.carcara_cli.specs.Printed as spec;
 ghost use Rattle.carcara_cli.specs.CommandLine.{asked_of};
-ghost use Rattle.carcara_cli.specs.Judgement.{IsUnread, IsAnswer, MayAskBoth, ShowsUnsatisfiable};
+ghost use Rattle.carcara_cli.specs.TopCall.{most_bytes, IsTooLong, IsAnswer, IsPrinted, MayAskBoth, ShowsUnsatisfiable};
+ghost use Rattle.carcara_cli.specs.Answering.{IsUnread};
 
 use crate::answer::{Answer, status_of, text_of};
 use crate::check::valid_proofs_are_sound;
-use crate::command_line::asked_of;
-use crate::judge::judge;
+use crate::command_line::{Request, asked_of};
+use crate::judging::judge;
+use crate::reading::MOST_BITS;
 use file_ports::{Folder, Gate, OutStop, ReadStop, Sink, read_whole, write_whole};
 use rules_resolution::Memory;
 use std::alloc::Global;
+
+/// The bytes of the two files.
+#[derive(Drop)]
+struct Files {
+    problem: Vec<u8>,
+    proof: Vec<u8>,
+}
+
+/// Reads the problem's file whole, and then the proof's.
+fn read_both<F: Folder>(alloc: Global, folder: &mut F, asked: &Request<'_>) -> Result<Files, ReadStop>
+    requires problem { F.may_ask folder.old asked.now.problem.now }
+    requires proof { F.may_ask folder.old asked.now.proof.now }
+    ensures problem { IfOk result (λ files. AreTold (F.content folder.old asked.now.problem.now) files.problem.items) }
+    ensures proof { IfOk result (λ files. AreTold (F.content folder.old asked.now.proof.now) files.proof.items) }
+    ensures problem_within { IfOk result (λ files. length files.problem.items ≤ most_bytes) }
+    ensures proof_within { IfOk result (λ files. length files.proof.items ≤ most_bytes) }
+    ensures too_long { IsErrOf result ReadStop.TooLong → IsTooLong (F.content folder.old asked.now.problem.now) (F.content folder.old asked.now.proof.now) }
+    ensures fault { IsErrOf result ReadStop.Fault → HasRisen (F.faults folder.old) (F.faults folder.new) }
+{
+    let problem = read_whole(alloc, folder, asked.problem)?;
+    let proof = read_whole(alloc, folder, asked.proof)?;
+    Ok(Files { problem, proof })
+}
 
 /// The answer where a file was not read.
 fn unread(stop: ReadStop) -> Result<Answer, Memory>
@@ -27,7 +51,7 @@ fn unread(stop: ReadStop) -> Result<Answer, Memory>
     }
 }
 
-/// The answer to the words of the command line, over the files of a folder. The problem is read before the proof.
+/// The answer to the words of the command line, over the files of a folder.
 fn answer_to<F: Folder>(alloc: Global, words: &[String], folder: &mut F) -> Result<Answer, Memory>
     requires { MayAskBoth (F.may_ask folder.old) (asked_of (map string_bytes words.now)) }
     ensures { IfOk result (IsAnswer (F.content folder.old) (F.faults folder.old) (F.faults folder.new) (asked_of (map string_bytes words.now))) }
@@ -35,21 +59,18 @@ fn answer_to<F: Folder>(alloc: Global, words: &[String], folder: &mut F) -> Resu
     let Some(asked) = asked_of(alloc, words)? else {
         return Ok(Answer::Usage);
     };
-    let problem = match read_whole(alloc, folder, asked.problem) {
-        Ok(problem) => problem,
+    let files = match read_both(alloc, folder, &asked) {
+        Ok(files) => files,
         Err(stop) => return unread(stop),
     };
-    let proof = match read_whole(alloc, folder, asked.proof) {
-        Ok(proof) => proof,
-        Err(stop) => return unread(stop),
-    };
-    judge(alloc, &problem, asked.replaces_lets, &proof)
+    let judgement = judge(alloc, &files.problem, asked.replaces_lets, &files.proof, MOST_BITS)?;
+    Ok(Answer::Judged(judgement))
 }
 
 /// Prints an answer, and says the status with which the program ends.
 fn report<S: Sink>(alloc: Global, answer: &Answer, out: &mut S) -> u8
     ensures whole { result ≢ 6 → result ≢ 7 → (result ≡ spec.status_of answer.now) × Appends (S.written out.old) (S.written out.new) (spec.text_of answer.now) }
-    ensures front { result ≡ 6 → AppendsFront (S.written out.old) (S.written out.new) (spec.text_of answer.now) }
+    ensures front { (result ≡ 6) ⊎ (result ≡ 7) → AppendsFront (S.written out.old) (S.written out.new) (spec.text_of answer.now) }
     ensures failed { result ≡ 6 → HasRisen (S.faults out.old) (S.faults out.new) }
 {
     let Ok(text) = text_of(alloc, answer) else {
@@ -70,7 +91,10 @@ fn report<S: Sink>(alloc: Global, answer: &Answer, out: &mut S) -> u8
 ///
 /// Status 0 is `valid`, 1 `invalid`, 3 `refused`, 5 a read fault, 6 a write fault, 7 want of memory, 8 a problem whose
 /// terms have more than 2^26 distinct cells, 9 a file of more than 268,435,456 bytes, and 64 words that spell no command.
-/// Nothing is written before the answer is known.
+///
+/// The first that answers decides, in this order: the words, the problem's file, the proof's file, the problem's text,
+/// the proof's text, the verdict. Nothing is written before the answer is known. Where it can't be written whole, the
+/// status is 6, or 7 for want of memory, and what was written is a front of its text.
 pub fn carcara<R: AllocGlobal, F: Folder, S: Sink, G: Gate>(
     rt: &R,
     words: &[String],
@@ -80,17 +104,14 @@ pub fn carcara<R: AllocGlobal, F: Folder, S: Sink, G: Gate>(
 ) -> u8
     requires { MayAskBoth (F.may_ask folder.old) (asked_of (map string_bytes words.now)) }
 
-    // With any status but those of a failed write and of want of memory, the whole text of an answer was printed.
-    ensures answer { result ≢ 6 → result ≢ 7 → (a : Answer) × (result ≡ spec.status_of a) × IsAnswer (F.content folder.old) (F.faults folder.old) (F.faults folder.new) (asked_of (map string_bytes words.now)) a × Appends (S.written out.old) (S.written out.new) (spec.text_of a) }
+    // What was printed is the whole text of an answer of the status, and after a failed write or want of memory a front.
+    ensures printed { IsPrinted (IsAnswer (F.content folder.old) (F.faults folder.old) (F.faults folder.new) (asked_of (map string_bytes words.now))) (S.written out.old) (S.written out.new) result }
 
     // `valid` shows that no interpretation makes every assertion of the problem true.
     ensures unsatisfiable { result ≡ 0 → ShowsUnsatisfiable (F.content folder.old) (asked_of (map string_bytes words.now)) }
 
     ensures read_fault { result ≡ 5 → HasRisen (F.faults folder.old) (F.faults folder.new) }
     ensures write_fault { result ≡ 6 → HasRisen (S.faults out.old) (S.faults out.new) }
-
-    // After a failed write the front of an answer was printed.
-    ensures front { result ≡ 6 → (a : Answer) × IsAnswer (F.content folder.old) (F.faults folder.old) (F.faults folder.new) (asked_of (map string_bytes words.now)) a × AppendsFront (S.written out.old) (S.written out.new) (spec.text_of a) }
 {
     valid_proofs_are_sound();
     match answer_to(rt.alloc(), words, folder) {

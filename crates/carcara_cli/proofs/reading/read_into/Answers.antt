@@ -16,4 +16,4 @@ returns-in-Err-PoolFull c =
     let order : HasListsInOrder new = rw c.into_pass-pass.ensures.pass at c.lists_in_order.ensures in
     let placed : PlacesCellsOf c.read_problem.new.symbols old new (IsCounted c.args.text.now c.args.replaces_lets) = c.read_problem.ensures.placed in
     let lacks : LacksCellOf c.read_problem.new.symbols new (IsCounted c.args.text.now c.args.replaces_lets) = c.read_problem.ensures.full (c.in-Err-PoolFull.is ∙ ap Err c.in-Err-PoolFull.field-0-is) in
-    has_more_cells c.read_problem.new.symbols old new c.args.text.now c.args.replaces_lets nothing (c.read_problem.ensures.keeps.pass.shares ∙ shares) one order placed lacks (2 ^ c.args.bits) (c.read_problem.ensures.keeps.pass.places ∙ places)
+    has_more_cells c.read_problem.new.symbols old new c.args.text.now c.args.replaces_lets c.count-leaves.ensures.table nothing (c.read_problem.ensures.keeps.pass.shares ∙ shares) one order placed lacks (2 ^ c.args.bits) (c.read_problem.ensures.keeps.pass.places ∙ places)

@@ -1,9 +1,18 @@
-use Rattle.std.proofs.Common.{arith, ◌≡◌, ◌≢◌, sym, ◌∙◌}
+use Rattle.std.proofs.Common.{arith, ◌≡◌, ◌≢◌, sym, ◌∙◌, refl, inl, inr}
 use Rattle.std.specs.Prelude.{map, string_bytes}
 use Rattle.carcara_cli.specs.CommandLine.{asked_of}
-use Rattle.carcara_cli.specs.Answers.{status_of}
+use Rattle.carcara_cli.specs.Printed.{status_of}
 use Rattle.carcara_cli.proofs.JudgementLemmas.{valid_shows}
 use Rattle.carcara_cli.proofs.top.carcara.Goals as goal
+
+pub returns-in-Ok-clause-printed : goal.returns-in-Ok-clause-printed
+returns-in-Ok-clause-printed g c = record {
+  whole = λ no_fault no_want.
+      let whole = c.report.ensures.whole no_fault no_want in
+      record { answer = c.in-Ok.answer; may_answer = c.in-Ok.ensures; is_status = whole.0; printed = whole.1 };
+  write_fault = λ six. record { answer = c.in-Ok.answer; may_answer = c.in-Ok.ensures; printed = c.report.ensures.front (inl six) };
+  memory = λ seven. inl (record { answer = c.in-Ok.answer; may_answer = c.in-Ok.ensures; printed = c.report.ensures.front (inr seven) });
+}
 
 pub returns-in-Ok-clause-unsatisfiable : goal.returns-in-Ok-clause-unsatisfiable
 returns-in-Ok-clause-unsatisfiable g c = λ zero.

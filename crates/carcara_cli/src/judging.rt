@@ -1,14 +1,16 @@
-//! The answer on the two texts.
+//! The judgement of the two texts.
 ghost use Rattle.std.specs.Prelude.{◌≡◌, ◌<◌, ◌≤◌, length, All, IfOk, IfErr};
 ghost use Rattle.carcara_cli.specs.Names.{name_at};
 ghost use Rattle.carcara_cli.specs.Commands.{commands_of, IsShort};
-ghost use Rattle.carcara_cli.specs.Judgement.{left_out, most_bytes, IsWithin, IsNamed, IsProofText, IsRefusalOf, IsJudged};
+ghost use Rattle.carcara_cli.specs.Judgement.{left_out, IsProofText, IsRefusalOf, IsJudged};
+ghost use Rattle.carcara_cli.specs.Answering.{IsWithin, IsNamed};
+ghost use Rattle.carcara_cli.specs.TopCall.{most_bytes};
 
-use crate::answer::Answer;
 use crate::check::{Verdict, check};
+use crate::judgement::Judgement;
 use crate::names::NameTable;
 use crate::proof::{Proof, read_proof};
-use crate::reading::{Reading, read};
+use crate::reading::{LEAST_BITS, MOST_BITS, Reading, read};
 use crate::words::words_of;
 use rules_resolution::Memory;
 use sexpr::{Cause, Refusal, form};
@@ -55,38 +57,45 @@ fn owned_id(alloc: Global, ids: &NameTable, place: usize) -> Result<Vec<u8>, All
     Vec::from_slice(alloc, ids.at(place))
 }
 
-/// The answer that a verdict is, with the id of its faulty command.
-fn named(alloc: Global, verdict: Verdict, ids: &NameTable) -> Result<Answer, AllocError>
+/// The judgement that a verdict is, with the id of its faulty command.
+fn named(alloc: Global, verdict: Verdict, ids: &NameTable) -> Result<Judgement, AllocError>
     requires { IsWithin (length ids.now) verdict }
     ensures { IfOk result (IsNamed ids.now verdict) }
 {
     match verdict {
-        Verdict::Valid => Ok(Answer::Valid),
-        Verdict::NoEmptyClause => Ok(Answer::NoEmptyClause),
-        Verdict::NotMet(place) => Ok(Answer::NotMet(owned_id(alloc, ids, place)?)),
-        Verdict::NotAsserted(place) => Ok(Answer::NotAsserted(owned_id(alloc, ids, place)?)),
+        Verdict::Valid => Ok(Judgement::Valid),
+        Verdict::NoEmptyClause => Ok(Judgement::NoEmptyClause),
+        Verdict::NotMet(place) => Ok(Judgement::NotMet(owned_id(alloc, ids, place)?)),
+        Verdict::NotAsserted(place) => Ok(Judgement::NotAsserted(owned_id(alloc, ids, place)?)),
     }
 }
 
-/// The answer on the two texts, with the problem's lets or with their bodies in their places.
+/// Judges the texts of a problem and of a proof, with the problem's lets or with their bodies in their places. The
+/// terms are read into pools of at most 2^most_bits places, 12 to 26 bits: the top call hands in 26.
+///
+/// The problem's text is read first: its refusal, or a full pool, is answered whatever the proof's text is.
 pub fn judge(
     alloc: Global,
     problem: &[u8],
     replaces_lets: bool,
     proof: &[u8],
-) -> Result<Answer, Memory>
+    most_bits: u32,
+) -> Result<Judgement, Memory>
     requires problem { length problem.now ≤ most_bytes }
     requires proof { length proof.now ≤ most_bytes }
-    ensures { IfOk result (IsJudged problem.now replaces_lets proof.now) }
+    requires least { LEAST_BITS ≤ most_bits }
+    requires most { most_bits ≤ MOST_BITS }
+    ensures { IfOk result (IsJudged problem.now replaces_lets proof.now most_bits) }
 {
-    let problem = match read(alloc, problem, replaces_lets, problem.len() + proof.len())? {
+    let bytes = problem.len() + proof.len();
+    let problem = match read(alloc, problem, replaces_lets, bytes, most_bits)? {
         Reading::Read(problem) => problem,
-        Reading::Refused(refusal) => return Ok(Answer::RefusedProblem(refusal)),
-        Reading::PoolFull => return Ok(Answer::PoolFull),
+        Reading::Refused(refusal) => return Ok(Judgement::RefusedProblem(refusal)),
+        Reading::PoolFull => return Ok(Judgement::PoolFull),
     };
     let proof = match proof_of(alloc, proof, &problem.names)? {
         Ok(proof) => proof,
-        Err(refusal) => return Ok(Answer::RefusedProof(refusal)),
+        Err(refusal) => return Ok(Judgement::RefusedProof(refusal)),
     };
     let verdict = check(alloc, &problem.assertions, &proof.commands)?;
     Ok(named(alloc, verdict, &proof.ids)?)

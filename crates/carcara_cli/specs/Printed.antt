@@ -1,0 +1,50 @@
+-- What an answer prints, and the status with which it ends. Public.
+use Rattle.std.specs.Prelude.{ℕ, List, [], ◌∷◌, ◌++◌, codes, decimal}
+use Rattle.sexpr.specs.declared.causes.Refusal.{Refusal}
+use Rattle.sexpr.specs.Causes.{text_of_cause}
+use Rattle.sexpr.specs.Printing.{printed_symbol}
+use Rattle.carcara_cli.specs.declared.judgement.Judgement.{Judgement}
+use Rattle.carcara_cli.specs.declared.judgement.Judgement.TheVariants.{Valid, NoEmptyClause, NotMet, NotAsserted, RefusedProblem, RefusedProof, PoolFull}
+use Rattle.carcara_cli.specs.declared.answer.Answer.{Answer}
+use Rattle.carcara_cli.specs.declared.answer.Answer.TheVariants.{Usage, ReadFault, TooLong, Judged}
+
+-- the end of a line
+abbrev pub line_end : List ℕ
+line_end = 10 ∷ []
+
+-- a faulty step is named by the symbol of its id
+abbrev pub step_text : List ℕ → List ℕ → List ℕ
+step_text id cause = codes "invalid" ++ (line_end ++ (codes "step " ++ (printed_symbol id ++ (codes ": " ++ (cause ++ line_end)))))
+
+abbrev pub refusal_text : List ℕ → Refusal → List ℕ
+refusal_text which r = codes "refused" ++ (line_end ++ (which ++ (decimal r.at ++ (codes ": " ++ (text_of_cause r.cause ++ line_end)))))
+
+abbrev pub text_of_judgement : Judgement → List ℕ
+text_of_judgement Valid = codes "valid" ++ line_end
+text_of_judgement NoEmptyClause = codes "invalid" ++ (line_end ++ (codes "no empty clause" ++ line_end))
+text_of_judgement (NotMet id) = step_text id.items (codes "condition not met")
+text_of_judgement (NotAsserted id) = step_text id.items (codes "not asserted")
+text_of_judgement (RefusedProblem r) = refusal_text (codes "problem ") r
+text_of_judgement (RefusedProof r) = refusal_text (codes "proof ") r
+text_of_judgement PoolFull = codes "pool full" ++ line_end
+
+abbrev pub status_of_judgement : Judgement → ℕ
+status_of_judgement Valid = 0
+status_of_judgement NoEmptyClause = 1
+status_of_judgement (NotMet id) = 1
+status_of_judgement (NotAsserted id) = 1
+status_of_judgement (RefusedProblem r) = 3
+status_of_judgement (RefusedProof r) = 3
+status_of_judgement PoolFull = 8
+
+abbrev pub text_of : Answer → List ℕ
+text_of Usage = codes "usage: carcara (check | elaborate) PROOF PROBLEM [options] | carcara generate N [options]" ++ line_end
+text_of ReadFault = codes "read fault" ++ line_end
+text_of TooLong = codes "too long" ++ line_end
+text_of (Judged j) = text_of_judgement j
+
+abbrev pub status_of : Answer → ℕ
+status_of Usage = 64
+status_of ReadFault = 5
+status_of TooLong = 9
+status_of (Judged j) = status_of_judgement j
