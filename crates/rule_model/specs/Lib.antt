@@ -5,3 +5,4 @@ pub mod Reading
 pub mod Visibility
 pub mod RuleNames
 pub mod WellFormed
+pub mod Writing
