@@ -6,12 +6,12 @@ use Rattle.std.specs.List.{AllByRecursion}
 use Rattle.std.proofs.lemmas.Option.{slice_get-get_or, slice_get_within}
 use Rattle.std.proofs.lemmas.List.{length-append}
 use Rattle.rule_model.specs.declared.rules.Rule.{Rule}
-use Rattle.rule_model.specs.RuleNames.{word_of}
+use Rattle.rule_model.specs.RuleNames.{word_of, is_unknown}
 use Rattle.proof_store.specs.declared.answers.Ratio.{Ratio}
 use Rattle.proof_store.specs.declared.commands.Row.{Row}
 use Rattle.proof_store.specs.declared.commands.Columns.{Columns}
 use Rattle.proof_store.specs.declared.commands.NewCommand.{NewCommand}
-use Rattle.proof_store.specs.Stored.{Stored, is_unknown, named, name_in, KeepsNames, HasName, stored_at, stored_from, stored, IsLong, AgreesTo, HasAt, AreInStep}
+use Rattle.proof_store.specs.Stored.{Stored, named, name_in, KeepsNames, HasName, stored_at, stored_from, stored, IsLong, AgreesTo, HasAt, AreInStep}
 use Rattle.proof_store.proofs.ListLemmas.{get_agreed, get_from_slice_get}
 
 pub stored_count : (columns : Columns) (names : List (List ℕ)) (k : ℕ) (rows : List Row) → length (stored_from columns names k rows) ≡ length rows

@@ -4,7 +4,7 @@ use Rattle.std.specs.Borrow.{Bor}
 use Rattle.std.specs.List.{AllByRecursion}
 use Rattle.std.specs.Option.{option_map, unwrap_or}
 use Rattle.rule_model.specs.declared.rules.Rule.{Rule}
-use Rattle.rule_model.specs.RuleNames.{word_of}
+use Rattle.rule_model.specs.RuleNames.{word_of, is_unknown}
 use Rattle.proof_store.specs.declared.answers.Ratio.{Ratio}
 use Rattle.proof_store.specs.declared.commands.Row.{Row}
 use Rattle.proof_store.specs.declared.commands.Columns.{Columns}
@@ -25,11 +25,7 @@ pub record Stored : Type 0 where
   pub closes : Bool
   pub fresh : ℕ
 
--- an unknown rule has a name of its own
-abbrev pub is_unknown : Rule → Bool
-is_unknown Rule.Unknown = true
-is_unknown _ = false
-
+-- an unknown rule has a name of its own, which is kept
 abbrev pub named : Rule → List ℕ → List ℕ
 named rule name = if is_unknown rule then name else word_of rule
 

@@ -4,7 +4,8 @@ ghost use Rattle.std.specs.Prelude.{◌≡◌, ◌<◌, ◌≤◌, ◌+◌, ◌-
 ghost use Rattle.std.specs.Borrow.{Bor};
 ghost use Rattle.std.specs.Option.{option_map};
 ghost use Rattle.proof_store.specs.declared.answers.Ratio.{Ratio};
-ghost use Rattle.proof_store.specs.Stored.{named, name_in, is_unknown, KeepsNames, IsLong, AgreesTo, HasAt, stored};
+ghost use Rattle.rule_model.specs.RuleNames.{is_unknown};
+ghost use Rattle.proof_store.specs.Stored.{named, name_in, KeepsNames, IsLong, AgreesTo, HasAt, stored};
 
 use crate::answers::Ratio;
 use crate::lists::Lists;

@@ -3,6 +3,7 @@
 
 mod answers;
 mod commands;
+mod drafts;
 mod lists;
 mod names;
 mod scopes;
