@@ -13,10 +13,11 @@ use Rattle.rule_model.specs.Writing.{is_open_id, add_step, open_anchor, close_sc
 use Rattle.rule_model.proofs.Writing.{entry_last, lines_open, lines_close, scopes_open, scopes_close, same_nesting}
 use Rattle.proof_store.specs.declared.commands.NewCommand.{NewCommand}
 use Rattle.proof_store.specs.declared.drafts.Draft.{Draft}
+use Rattle.proof_store.specs.Steps.{anchor_with}
 use Rattle.proof_store.specs.Stored.{Stored}
 use Rattle.proof_store.specs.StoredScopes.{StoredScope, scope_with}
 use Rattle.proof_store.specs.Events.{Event, opened, closed, apply}
-use Rattle.proof_store.specs.Drafts.{event_of, step_of, anchors_of, events_from, fresh_in, proof_of, kept, IsAnchored, AreAnchored, IsDraft, with_command, step_of_new, anchor_with, Writes}
+use Rattle.proof_store.specs.Drafts.{event_of, step_of, anchors_of, events_from, fresh_in, proof_of, kept, IsAnchored, AreAnchored, IsDraft, with_command, step_of_new, Writes}
 use Rattle.proof_store.proofs.ListLemmas.{slice_get_last}
 use Rattle.proof_store.proofs.EventLemmas.{events_open, anchors_push, anchors_count, written_more}
 use Rattle.proof_store.proofs.DraftLemmas.{command_count, anchored_stays, lines_stay, push_keeps, proof_more, draft_more}

@@ -19,10 +19,11 @@ use Rattle.proof_store.specs.declared.answers.Ratio.{Ratio}
 use Rattle.proof_store.specs.declared.commands.NewCommand.{NewCommand}
 use Rattle.proof_store.specs.declared.drafts.Draft.{Draft}
 use Rattle.proof_store.specs.Ratios.{fraction_of, fractions}
+use Rattle.proof_store.specs.Steps.{anchor_with}
 use Rattle.proof_store.specs.Stored.{Stored, named, stored}
 use Rattle.proof_store.specs.StoredScopes.{StoredScope, scope_with}
 use Rattle.proof_store.specs.Events.{Event, opened, closed, stepped, apply}
-use Rattle.proof_store.specs.Drafts.{step_of, event_of, anchors_of, events_from, fresh_in, proof_of, kept, assume_step, stored_assume, IsAnchored, AreAnchored, IsDraft, with_command, step_of_new, anchor_with, Writes}
+use Rattle.proof_store.specs.Drafts.{step_of, event_of, anchors_of, events_from, fresh_in, proof_of, kept, assume_step, stored_assume, IsAnchored, AreAnchored, IsDraft, with_command, step_of_new, Writes}
 use Rattle.proof_store.proofs.ListLemmas.{slice_get_last}
 use Rattle.proof_store.proofs.EventLemmas.{events_open, anchors_push, anchors_count, written_more}
 use Rattle.proof_store.proofs.DraftLemmas.{command_count, anchored_stays, lines_stay, push_keeps, proof_more, draft_more}

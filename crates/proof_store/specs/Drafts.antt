@@ -11,7 +11,8 @@ use Rattle.rule_model.specs.WellFormed.{AreWellFormed, IsWellPlaced}
 use Rattle.proof_store.specs.declared.answers.Ratio.{Ratio}
 use Rattle.proof_store.specs.declared.commands.NewCommand.{NewCommand}
 use Rattle.proof_store.specs.declared.drafts.Draft.{Draft}
-use Rattle.proof_store.specs.Ratios.{fraction_of, fractions}
+use Rattle.proof_store.specs.Ratios.{fraction_of}
+use Rattle.proof_store.specs.Steps.{step_with}
 use Rattle.proof_store.specs.Stored.{Stored}
 use Rattle.proof_store.specs.StoredScopes.{StoredScope, with_last}
 use Rattle.proof_store.specs.Events.{Event, assumed, stepped, opened, closed, written}
@@ -130,19 +131,8 @@ with_command d c owner = record {
 
 -- a new command as a step
 abbrev pub step_of_new : NewCommand → Step ℕ
-step_of_new c = record {
-  id = c.id.now;
-  rule = c.rule;
-  rule_name = c.rule_name.now;
-  clause = c.clause.now;
-  premises = c.premises.now;
-  discharged = c.discharged.now;
-  pivots = c.pivots.now;
-  ratios = fractions c.ratios;
-}
-
-abbrev pub anchor_with : List ℕ → List (ℕ × ℕ) → Anchor ℕ ℕ
-anchor_with id bindings = record { id = id; bindings = bindings }
+step_of_new c =
+    step_with c.id.now c.rule c.rule_name.now c.clause.now c.premises.now c.discharged.now c.pivots.now c.ratios
 
 -- the arrays stand for this proof
 pub record Writes (d : Draft) (scope : Scope ℕ ℕ) : Type 0 where

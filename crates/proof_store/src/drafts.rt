@@ -4,8 +4,9 @@ ghost use Rattle.std.specs.Prelude.{◌≡◌, ◌<◌, ◌+◌, ◌-◌, ◌^�
 ghost use Rattle.rule_model.specs.Scopes.{next_index, next_scope};
 ghost use Rattle.rule_model.specs.WellFormed.{IsNewId, MayOpen};
 ghost use Rattle.rule_model.specs.Writing.{is_open_id, add_assume, open_anchor, take_step, MayTake, unwritten};
+ghost use Rattle.proof_store.specs.Steps.{anchor_with};
 ghost use Rattle.proof_store.specs.Stored.{stored};
-ghost use Rattle.proof_store.specs.Drafts.{proof_of, IsDraft, with_command, anchor_with, step_of_new, stored_assume, Writes};
+ghost use Rattle.proof_store.specs.Drafts.{proof_of, IsDraft, with_command, step_of_new, stored_assume, Writes};
 
 use crate::commands::{Commands, NewCommand};
 use crate::scopes::Scopes;
