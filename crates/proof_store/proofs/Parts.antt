@@ -1,6 +1,6 @@
 -- Lists that stand end to end.
 use Rattle.std.proofs.Common.{◌≡◌, ◌≤◌, ◌<◌, ◌-◌, ◌+◌, ℕ, zero, suc, List, [], ◌∷◌, ◌++◌, length, take, drop, slice_get, slice_index, Some, refl, sym, ◌∙◌, ap, arith}
-use Rattle.std.proofs.lemmas.List.{length-append, length-drop, drop-append-le, take-append-le}
+use Rattle.std.proofs.lemmas.List.{length-append, length-drop, length-take-le, drop-append-le, take-append-le, drop-take, take-take}
 use Rattle.std.proofs.Math.Seq.{take-length, drop-append_seam}
 use Rattle.proof_store.specs.Lists.{parts, start_of, AreEnds}
 
@@ -56,3 +56,35 @@ parts_add start (e ∷ es) xs ys h =
 pub ends_add : (start : ℕ) (es : List ℕ) (end n : ℕ) → AreEnds start es end → end ≤ n → AreEnds start (es ++ n ∷ []) n
 ends_add start [] end n h l = (omega arith, refl)
 ends_add start (e ∷ es) end n h l = (h.0, ends_add e es end n h.1 l)
+
+-- the lists up to a place
+pub starts_within : (start : ℕ) (es : List ℕ) (end i : ℕ) → AreEnds start es end → i ≤ length es → start_of start es i ≤ end
+starts_within start es end zero h l = ends_go_up start es end h
+starts_within start [] end (suc i) h l = absurd (omega arith)
+starts_within start (e ∷ es) end (suc i) h l = starts_within e es end i h.1 (omega arith)
+
+pub starts_after : (start : ℕ) (es : List ℕ) (end i : ℕ) → AreEnds start es end → i ≤ length es → start ≤ start_of start es i
+starts_after start es end zero h l = omega arith
+starts_after start [] end (suc i) h l = absurd (omega arith)
+starts_after start (e ∷ es) end (suc i) h l = let rest = starts_after e es end i h.1 (omega arith) in let first = h.0 in omega arith
+
+pub ends_take : (start : ℕ) (es : List ℕ) (end i : ℕ) → AreEnds start es end → i ≤ length es → AreEnds start (take i es) (start_of start es i)
+ends_take start es end zero h l = refl
+ends_take start [] end (suc i) h l = absurd (omega arith)
+ends_take start (e ∷ es) end (suc i) h l = (h.0, ends_take e es end i h.1 (omega arith))
+
+-- a part that ends before the items are cut
+cut_part : {X : Type 0} (start e n : ℕ) (xs : List X) → e ≤ n → start ≤ e → take (e - start) (drop start (take n xs)) ≡ take (e - start) (drop start xs)
+cut_part start e n xs h l =
+    let whole : start + (n - start) ≡ n = omega arith in
+    ap (λ k. take (e - start) (drop start (take k xs))) (sym whole)
+    ∙ (ap (λ ys. take (e - start) ys) (drop-take start (n - start) xs) ∙ take-take (e - start) (n - start) (drop start xs) (omega arith))
+
+pub parts_take : {X : Type 0} (start : ℕ) (es : List ℕ) (xs : List X) (i : ℕ) → AreEnds start es (length xs) → i ≤ length es → parts start (take i es) (take (start_of start es i) xs) ≡ take i (parts start es xs)
+parts_take start es xs zero h l = refl
+parts_take start [] xs (suc i) h l = absurd (omega arith)
+parts_take start (e ∷ es) xs (suc i) h l =
+    rw (cut_part start e (start_of e es i) xs (starts_after e es (length xs) i h.1 (omega arith)) h.0) (ap (λ t. take (e - start) (drop start xs) ∷ t) (parts_take e es xs i h.1 (omega arith)))
+
+pub ends_cut : {X : Type 0} (es : List ℕ) (xs : List X) (i : ℕ) → AreEnds 0 es (length xs) → i ≤ length es → AreEnds 0 (take i es) (length (take (start_of 0 es i) xs))
+ends_cut es xs i h l = rw (length-take-le (start_of 0 es i) xs (starts_within 0 es (length xs) i h l)) (ends_take 0 es (length xs) i h l)

@@ -1,4 +1,19 @@
 //! Proofs as flat commands.
 #![tactic(auto)]
 
+mod added;
+mod answers;
+mod builder;
+mod commands;
+mod drafts;
 mod lists;
+mod names;
+mod proof;
+mod scopes;
+mod words;
+
+pub use added::{Added, Link};
+pub use answers::{Answer, Ratio, RuleStop, Status};
+pub use builder::ProofBuilder;
+pub use proof::Proof;
+pub use words::word;

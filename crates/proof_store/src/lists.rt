@@ -1,6 +1,6 @@
 //! Lists of lists, kept end to end.
 
-ghost use Rattle.std.specs.Prelude.{◌≡◌, ◌<◌, ◌++◌, [], ◌∷◌, length, slice_get, Some, OnOk, OnErr};
+ghost use Rattle.std.specs.Prelude.{◌≡◌, ◌<◌, ◌≤◌, ◌++◌, [], ◌∷◌, length, take, slice_get, Some, OnOk, OnErr};
 ghost use Rattle.proof_store.specs.Lists.{parts, start_of, AreEnds};
 
 use pair_pool::Memory;
@@ -10,12 +10,12 @@ use std::marker::Model;
 /// Lists that are only added to: their items stand end to end in one vector, and another has the end of each. A list
 /// takes 8 bytes beside its items, and adding one grows each vector at most once.
 #[derive(Drop)]
-pub(crate) struct Lists<T: Copy> {
+pub(crate) struct Lists<T: Copy + Drop> {
     items: Vec<T>,
     ends: Vec<usize>,
 }
 
-impl<T: Copy> Model for Lists<T> {
+impl<T: Copy + Drop> Model for Lists<T> {
     ghost use Rattle.std.specs.Prelude.{List, length};
     ghost use Rattle.proof_store.specs.Lists.{parts, AreEnds};
 
@@ -29,7 +29,7 @@ impl<T: Copy> Model for Lists<T> {
 /// Where the list at place `i` starts.
 #[tactic(auto, using(crate::proofs::Parts::start_before))]
 fn start(ends: &[usize], i: usize) -> usize
-    requires { i < length ends.now }
+    requires { i ≤ length ends.now }
     ensures { result ≡ start_of 0 ends.now i }
 {
     if i == 0 { 0 } else { ends[i - 1] }
@@ -37,7 +37,7 @@ fn start(ends: &[usize], i: usize) -> usize
 
 /// The list at place `i`.
 #[tactic(auto, using(crate::proofs::Parts::starts_before_end, crate::proofs::Parts::ends_within, crate::proofs::Parts::parts_get))]
-fn part<'a, T: Copy>(items: &'a [T], ends: &[usize], i: usize) -> &'a [T]
+fn part<'a, T: Copy + Drop>(items: &'a [T], ends: &[usize], i: usize) -> &'a [T]
     requires there { i < length ends.now }
     requires ends { AreEnds 0 ends.now (length items.now) }
     ensures { slice_get (parts 0 ends.now items.now) i ≡ Some result.now }
@@ -47,12 +47,26 @@ fn part<'a, T: Copy>(items: &'a [T], ends: &[usize], i: usize) -> &'a [T]
     &items[start..end]
 }
 
+/// Takes away the lists from place `i` on.
+#[tactic(auto, using(crate::proofs::Parts::parts_take, crate::proofs::Parts::ends_cut))]
+fn cut<T: Copy + Drop>(items: &mut Vec<T>, ends: &mut Vec<usize>, i: usize)
+    requires ends { AreEnds 0 ends.old.items (length items.old.items) }
+    requires there { i ≤ length ends.old.items }
+    ensures ends { AreEnds 0 ends.new.items (length items.new.items) }
+    ensures parts { parts 0 ends.new.items items.new.items ≡ take i (parts 0 ends.old.items items.old.items) }
+{
+    let end = start(ends, i);
+    ends.truncate(i);
+    items.truncate(end);
+}
+
 /// Adds a list at the end.
 #[tactic(auto, using(crate::proofs::Parts::parts_add, crate::proofs::Parts::ends_add))]
-fn add<T: Copy>(items: &mut Vec<T>, ends: &mut Vec<usize>, list: &[T]) -> Result<(), Memory>
+fn add<T: Copy + Drop>(items: &mut Vec<T>, ends: &mut Vec<usize>, list: &[T]) -> Result<(), Memory>
     requires { AreEnds 0 ends.old.items (length items.old.items) }
     ensures ends { AreEnds 0 ends.new.items (length items.new.items) }
     ensures parts { OnOk result (parts 0 ends.new.items items.new.items ≡ parts 0 ends.old.items items.old.items ++ list.now ∷ []) }
+    ensures refused { OnErr result (parts 0 ends.new.items items.new.items ≡ parts 0 ends.old.items items.old.items) }
 {
     ends.reserve(1)?;
     items.extend_from_slice(list)?;
@@ -60,7 +74,7 @@ fn add<T: Copy>(items: &mut Vec<T>, ends: &mut Vec<usize>, list: &[T]) -> Result
     Ok(())
 }
 
-impl<T: Copy> Lists<T> {
+impl<T: Copy + Drop> Lists<T> {
     /// No lists.
     pub(crate) fn new(alloc: Global) -> Lists<T>
         ensures { result ≡ [] }
@@ -80,10 +94,15 @@ impl<T: Copy> Lists<T> {
         part(&self.items, &self.ends, i)
     }
 
-    /// Adds a list.
-    pub(crate) fn push(&mut self, list: &[T]) -> Result<(), Memory>
-        ensures { OnOk result (self.new ≡ self.old ++ list.now ∷ []) }
+    #[tactic(auto, using(crate::proofs::Parts::parts_count, crate::proofs::ListLemmas::slice_get_put, crate::proofs::ListLemmas::take_put, crate::proofs::ListLemmas::length_put, crate::proofs::ListLemmas::take_same, crate::proofs::ListLemmas::length_same))]
+    /// Puts a list at place `i`, and takes away what stood there and behind it, the list itself where it is refused.
+    pub(crate) fn put(&mut self, i: usize, list: &[T]) -> Result<(), Memory>
+        requires { i ≤ length self.old }
+        ensures put { OnOk result (slice_get self.new i ≡ Some list.now) }
+        ensures agrees { take i self.new ≡ take i self.old }
+        ensures there { i ≤ length self.new }
     {
+        cut(&mut self.items, &mut self.ends, i);
         add(&mut self.items, &mut self.ends, list)
     }
 }

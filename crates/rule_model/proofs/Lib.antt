@@ -5,3 +5,6 @@ pub mod StrictResolution
 pub mod Lists
 pub mod ConsequenceExamples
 pub mod Sets
+pub mod Numbers
+pub mod Writing
+pub mod RuleWords

@@ -84,6 +84,17 @@ scopes_in nesting (with_subproof items bindings proof s) =
     scopes_in nesting items
     ++ scope_entry (inner nesting items bindings s) proof ∷ scopes_in (inner nesting items bindings s) proof
 
+-- the scopes whose anchors stand before that of a scope, each as far as it is written there
+abbrev pub scopes_before : {V T : Type 0} → Nesting V T → List (ScopeEntry V T)
+scopes_before outermost = []
+scopes_before (inside around before anchor) =
+    scopes_before around ++ scope_entry around before ∷ scopes_in around before
+
+-- all scopes up to where a scope is written
+abbrev pub scopes_to : {V T : Type 0} → Scope V T → List (ScopeEntry V T)
+scopes_to scope =
+    scopes_before scope.nesting ++ scope_entry scope.nesting scope.items ∷ scopes_in scope.nesting scope.items
+
 -- the commands and the scopes of a whole proof
 abbrev pub entries : {V T : Type 0} → Items V T → List (Entry T)
 entries proof = map entry_of (lines_in outermost proof)

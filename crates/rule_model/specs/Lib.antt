@@ -11,3 +11,4 @@ pub mod Renaming
 pub mod Clauses
 pub mod Resolution
 pub mod ConsequenceExamples
+pub mod Writing

@@ -1,5 +1,5 @@
 -- Public. The words by which a proof names its rules (Alethe, "List of rules").
-use Rattle.std.specs.Prelude.{◌≢◌, ℕ, List, [], ◌∷◌, All, codes, if◌then◌else◌}
+use Rattle.std.specs.Prelude.{◌≢◌, ℕ, Bool, true, false, List, [], ◌∷◌, All, codes, if◌then◌else◌}
 use Rattle.std.specs.Str.{bytes_eq}
 use Rattle.rule_model.specs.declared.rules.Rule.{Rule}
 
@@ -91,6 +91,15 @@ word_of Rule.ProdSimplify = codes "prod_simplify"
 word_of Rule.MinusSimplify = codes "minus_simplify"
 word_of Rule.UnaryMinusSimplify = codes "unary_minus_simplify"
 
+-- whether a command with this rule is an assume, or has a word of its own
+abbrev pub is_assume : Rule → Bool
+is_assume Rule.Assume = true
+is_assume _ = false
+
+abbrev pub is_unknown : Rule → Bool
+is_unknown Rule.Unknown = true
+is_unknown _ = false
+
 -- the rules that are known: the first four leave a hole, and each other one has a condition
 abbrev pub known_rules : List Rule
 known_rules =
@@ -115,7 +124,7 @@ rule_among [] word = Rule.Unknown
 rule_among (rule ∷ rules) word = if bytes_eq (word_of rule) word then rule else rule_among rules word
 
 -- the rule that a word names
-abbrev pub rule_named : List ℕ → Rule
+unfoldable pub rule_named : List ℕ → Rule
 rule_named word = rule_among known_rules word
 
 -- the rules for quantifiers, which are left out

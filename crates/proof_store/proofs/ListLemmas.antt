@@ -1,0 +1,46 @@
+-- Lists that are put at a place, and what stands before it.
+use Rattle.std.proofs.Common.{◌≡◌, ◌≤◌, ◌<◌, ◌+◌, ℕ, zero, suc, List, [], ◌∷◌, ◌++◌, length, take, slice_get, slice_index_or, Some, refl, sym, ◌∙◌, ap, arith}
+use Rattle.std.proofs.lemmas.List.{length-append, length-take-le, take-append-le, take-take}
+use Rattle.std.proofs.Math.Seq.{take-length}
+
+-- what is pushed stands last, and what stood before stays
+pub slice_get_last : {X : Type 0} (xs : List X) (x : X) → slice_get (xs ++ x ∷ []) (length xs) ≡ Some x
+slice_get_last [] x = refl
+slice_get_last (y ∷ ys) x = slice_get_last ys x
+
+pub slice_get_kept : {X : Type 0} (xs ys : List X) (k : ℕ) → k < length xs → slice_get (xs ++ ys) k ≡ slice_get xs k
+slice_get_kept [] ys k h = absurd (omega arith)
+slice_get_kept (x ∷ xs) ys zero h = refl
+slice_get_kept (x ∷ xs) ys (suc k) h = slice_get_kept xs ys k (omega arith)
+
+pub slice_get_put : {X : Type 0} (i : ℕ) (xs : List X) (x : X) → i ≤ length xs → slice_get (take i xs ++ x ∷ []) i ≡ Some x
+slice_get_put zero xs x h = refl
+slice_get_put (suc i) [] x h = absurd (omega arith)
+slice_get_put (suc i) (y ∷ ys) x h = slice_get_put i ys x (omega arith)
+
+pub take_put : {X : Type 0} (i : ℕ) (xs : List X) (x : X) → i ≤ length xs → take i (take i xs ++ x ∷ []) ≡ take i xs
+take_put zero xs x h = refl
+take_put (suc i) [] x h = absurd (omega arith)
+take_put (suc i) (y ∷ ys) x h = ap (λ t. y ∷ t) (take_put i ys x (omega arith))
+
+pub length_put : {X : Type 0} (i : ℕ) (xs : List X) (x : X) → i ≤ length xs → i ≤ length (take i xs ++ x ∷ [])
+length_put i xs x h = rw (length-append (take i xs) (x ∷ []), length-take-le i xs h) (omega arith)
+
+pub take_same : {X : Type 0} (i : ℕ) (xs : List X) → take i (take i xs) ≡ take i xs
+take_same i xs = take-take i i xs (omega arith)
+
+pub length_same : {X : Type 0} (i : ℕ) (xs : List X) → i ≤ length xs → i ≤ length (take i xs)
+length_same i xs h = rw (length-take-le i xs h) (omega arith)
+
+-- lists that agree up to a place have the same items before it
+pub get_agreed : {X : Type 0} (n : ℕ) (xs ys : List X) (d : X) (k : ℕ) → take n ys ≡ take n xs → k < n → slice_index_or ys k d ≡ slice_index_or xs k d
+get_agreed n xs ys d k e h = sym (get_taken n ys d k h) ∙ (ap (λ zs. slice_index_or zs k d) e ∙ get_taken n xs d k h)
+  where
+    get_taken : {X : Type 0} (n : ℕ) (xs : List X) (d : X) (k : ℕ) → k < n → slice_index_or (take n xs) k d ≡ slice_index_or xs k d
+    get_taken zero xs d k h = absurd (omega arith)
+    get_taken (suc n) [] d k h = refl
+    get_taken (suc n) (x ∷ xs) d zero h = refl
+    get_taken (suc n) (x ∷ xs) d (suc k) h = get_taken n xs d k (omega arith)
+
+pub get_from_slice_get : {X : Type 0} (xs : List X) (k : ℕ) (x d : X) → slice_get xs k ≡ Some x → slice_index_or xs k d ≡ x
+get_from_slice_get xs k x d e = Rattle.std.proofs.lemmas.Option.get_or_from_slice_get xs k x d e

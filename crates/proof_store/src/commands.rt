@@ -1,0 +1,271 @@
+//! The commands of a proof in file order.
+
+ghost use Rattle.std.specs.Prelude.{◌≡◌, ◌<◌, ◌≤◌, ◌+◌, ◌-◌, ◌^◌, ◌++◌, [], ◌∷◌, ℕ, List, length, true, slice_get, Option, Some, IfOk, OnOk, OnErr};
+ghost use Rattle.std.specs.Borrow.{Bor};
+ghost use Rattle.std.specs.Option.{option_map};
+ghost use Rattle.proof_store.specs.declared.answers.Ratio.{Ratio};
+ghost use Rattle.rule_model.specs.RuleNames.{is_unknown};
+ghost use Rattle.proof_store.specs.Stored.{named, name_in, KeepsNames, IsLong, AgreesTo, HasAt, stored};
+
+use crate::answers::Ratio;
+use crate::lists::Lists;
+use crate::names::Names;
+use crate::words::word;
+use pair_pool::{Memory, Ref};
+use rule_model::Rule;
+use std::alloc::Global;
+use std::marker::Model;
+
+/// What is kept of a command beside its lists: 16 bytes.
+#[derive(Clone, Copy)]
+struct Row {
+    rule: Rule,
+    /// Whether it has coefficients.
+    has_ratios: bool,
+    /// Whether it closes the scope in which it is reached.
+    closes: bool,
+    /// The number of the rule's name, where the rule is unknown.
+    name: u32,
+    /// The number of the scope in which it is reached.
+    inner: u32,
+    /// How many anchors stand between it and the command before it.
+    fresh: u32,
+}
+
+/// The lists of the commands, each by the command's index.
+#[derive(Drop)]
+struct Columns {
+    ids: Lists<u8>,
+    clauses: Lists<Ref>,
+    premises: Lists<u32>,
+    discharged: Lists<u32>,
+    pivots: Lists<(Ref, bool)>,
+    ratios: Lists<Ratio>,
+}
+
+/// The commands of a proof in file order. A command takes 40 bytes beside the items of its lists: its row of 16, and 8
+/// for the end of each of its lists of three kinds ..
+#[derive(Drop)]
+pub(crate) struct Commands {
+    rows: Vec<Row>,
+    columns: Columns,
+    names: Names,
+}
+
+impl Model for Commands {
+    ghost use Rattle.std.specs.Prelude.{List};
+    ghost use Rattle.proof_store.specs.Stored.{Stored, stored_from, AreInStep};
+
+    ghost Value = { List Stored };
+
+    ghost view = { λ a. stored_from a.columns a.names 0 a.rows.items };
+
+    ghost invariant = { λ a. AreInStep a.rows.items a.columns a.names };
+}
+
+/// A command that is to be added.
+#[derive(Clone, Copy)]
+pub(crate) struct NewCommand<'a> {
+    pub(crate) rule: Rule,
+    pub(crate) rule_name: &'a [u8],
+    /// Empty where the command closes a scope: the anchor has its id.
+    pub(crate) id: &'a [u8],
+    pub(crate) clause: &'a [Ref],
+    pub(crate) premises: &'a [u32],
+    pub(crate) discharged: &'a [u32],
+    pub(crate) pivots: &'a [(Ref, bool)],
+    pub(crate) ratios: Option<&'a [Ratio]>,
+    pub(crate) inner: u32,
+    pub(crate) closes: bool,
+    pub(crate) fresh: u32,
+}
+
+/// The number of a rule's name, where the rule is unknown, and 0 where it is not.
+fn name_number(names: &mut Names, rule: Rule, name: &[u8]) -> Result<u32, Memory>
+    requires few { length names.old < 2 ^ 32 - 1 }
+    ensures named { IfOk result (λ k. name_in names.new rule k ≡ named rule name.now) }
+    ensures numbered { IfOk result (λ k. is_unknown rule ≡ true → k < length names.new) }
+    ensures keeps { KeepsNames names.old names.new }
+    ensures count { length names.new ≤ length names.old + 1 }
+    ensures refused { OnErr result (names.new ≡ names.old) }
+{
+    match rule {
+        Rule::Unknown => Ok(names.number(name)? as u32),
+        _ => Ok(0),
+    }
+}
+
+/// Puts the lists of a command at place `n`.
+fn put(columns: &mut Columns, n: usize, command: &NewCommand<'_>) -> Result<(), Memory>
+    requires { IsLong n columns.old }
+    ensures put { OnOk result (HasAt n columns.new command.now) }
+    ensures agrees { AgreesTo n columns.old columns.new }
+    ensures long { IsLong n columns.new }
+{
+    columns.ids.put(n, command.id)?;
+    columns.clauses.put(n, command.clause)?;
+    columns.premises.put(n, command.premises)?;
+    columns.discharged.put(n, command.discharged)?;
+    columns.pivots.put(n, command.pivots)?;
+    match command.ratios {
+        Some(ratios) => columns.ratios.put(n, ratios),
+        None => columns.ratios.put(n, &[]),
+    }
+}
+
+/// The row at place `i`.
+fn row_at(rows: &[Row], i: usize) -> Row
+    requires { i < length rows.now }
+    ensures { slice_get rows.now i ≡ Some result }
+{
+    rows[i]
+}
+
+impl Commands {
+    /// No commands.
+    pub(crate) fn new(alloc: Global) -> Commands
+        ensures { result ≡ [] }
+    {
+        Commands {
+            rows: Vec::new(alloc),
+            columns: Columns {
+                ids: Lists::new(alloc),
+                clauses: Lists::new(alloc),
+                premises: Lists::new(alloc),
+                discharged: Lists::new(alloc),
+                pivots: Lists::new(alloc),
+                ratios: Lists::new(alloc),
+            },
+            names: Names::new(alloc),
+        }
+    }
+
+    /// How many commands there are.
+    #[tactic(auto, using(crate::proofs::StoredLemmas::stored_count))]
+    pub(crate) fn len(&self) -> u32
+        ensures { result ≡ length self.now }
+    {
+        self.rows.len() as u32
+    }
+
+    /// Adds a command.
+    #[tactic(auto, using(crate::proofs::StoredLemmas::stored_count, crate::proofs::StoredLemmas::stored_push, crate::proofs::StoredLemmas::stored_refused, crate::proofs::StoredLemmas::in_step_push, crate::proofs::StoredLemmas::in_step_refused))]
+    pub(crate) fn push(&mut self, command: NewCommand<'_>) -> Result<(), Memory>
+        requires { length self.old < 2 ^ 32 - 1 }
+        ensures pushed { OnOk result (self.new ≡ self.old ++ stored command.entry ∷ []) }
+        ensures refused { OnErr result (self.new ≡ self.old) }
+    {
+        let n = self.rows.len();
+        self.rows.reserve(1)?;
+        put(&mut self.columns, n, &command)?;
+        let name = name_number(&mut self.names, command.rule, command.rule_name)?;
+        let row = Row {
+            rule: command.rule,
+            has_ratios: command.ratios.is_some(),
+            closes: command.closes,
+            name,
+            inner: command.inner,
+            fresh: command.fresh,
+        };
+        self.rows.push(row).unwrap();
+        Ok(())
+    }
+
+    /// The rule of command `i`.
+    #[tactic(auto, using(crate::proofs::StoredLemmas::stored_count, crate::proofs::StoredLemmas::row_rule))]
+    pub(crate) fn rule(&self, i: usize) -> Rule
+        requires { i < length self.now }
+        ensures { option_map (λ s. s.rule) (slice_get self.now i) ≡ Some result }
+    {
+        row_at(&self.rows, i).rule
+    }
+
+    /// The name of its rule.
+    #[tactic(auto, using(crate::proofs::StoredLemmas::stored_count, crate::proofs::StoredLemmas::unknown_name, crate::proofs::StoredLemmas::known_name, crate::proofs::StoredLemmas::has_name))]
+    pub(crate) fn rule_name(&self, i: usize) -> &[u8]
+        requires { i < length self.now }
+        ensures { option_map (λ s. s.rule_name) (slice_get self.now i) ≡ Some result.now }
+    {
+        let row = row_at(&self.rows, i);
+        match row.rule {
+            Rule::Unknown => self.names.name(row.name as usize),
+            rule => word(rule),
+        }
+    }
+
+    /// Its id, which is empty where it closes a scope.
+    #[tactic(auto, using(crate::proofs::StoredLemmas::stored_count, crate::proofs::StoredLemmas::kept_id))]
+    pub(crate) fn id(&self, i: usize) -> &[u8]
+        requires { i < length self.now }
+        ensures { option_map (λ s. s.id) (slice_get self.now i) ≡ Some result.now }
+    {
+        self.columns.ids.get(i)
+    }
+
+    /// Its clause.
+    #[tactic(auto, using(crate::proofs::StoredLemmas::stored_count, crate::proofs::StoredLemmas::kept_clause))]
+    pub(crate) fn clause(&self, i: usize) -> &[Ref]
+        requires { i < length self.now }
+        ensures { option_map (λ s. s.clause) (slice_get self.now i) ≡ Some result.now }
+    {
+        self.columns.clauses.get(i)
+    }
+
+    /// Its premises.
+    #[tactic(auto, using(crate::proofs::StoredLemmas::stored_count, crate::proofs::StoredLemmas::kept_premises))]
+    pub(crate) fn premises(&self, i: usize) -> &[u32]
+        requires { i < length self.now }
+        ensures { option_map (λ s. s.premises) (slice_get self.now i) ≡ Some result.now }
+    {
+        self.columns.premises.get(i)
+    }
+
+    /// The assumes that it discharges.
+    #[tactic(auto, using(crate::proofs::StoredLemmas::stored_count, crate::proofs::StoredLemmas::kept_discharged))]
+    pub(crate) fn discharged(&self, i: usize) -> &[u32]
+        requires { i < length self.now }
+        ensures { option_map (λ s. s.discharged) (slice_get self.now i) ≡ Some result.now }
+    {
+        self.columns.discharged.get(i)
+    }
+
+    /// Its pivots.
+    #[tactic(auto, using(crate::proofs::StoredLemmas::stored_count, crate::proofs::StoredLemmas::kept_pivots))]
+    pub(crate) fn pivots(&self, i: usize) -> &[(Ref, bool)]
+        requires { i < length self.now }
+        ensures { option_map (λ s. s.pivots) (slice_get self.now i) ≡ Some result.now }
+    {
+        self.columns.pivots.get(i)
+    }
+
+    /// Its coefficients, where it has a list of them.
+    #[tactic(auto, using(crate::proofs::StoredLemmas::stored_count, crate::proofs::StoredLemmas::some_ratios, crate::proofs::StoredLemmas::no_ratios))]
+    pub(crate) fn ratios(&self, i: usize) -> Option<&[Ratio]>
+        requires { i < length self.now }
+        ensures { option_map (λ s. s.ratios) (slice_get self.now i) ≡ Some (option_map (λ (qs : Bor (List Ratio)). qs.now) result) }
+    {
+        if row_at(&self.rows, i).has_ratios {
+            Some(self.columns.ratios.get(i))
+        } else {
+            None
+        }
+    }
+
+    /// The scope in which it is reached.
+    #[tactic(auto, using(crate::proofs::StoredLemmas::stored_count, crate::proofs::StoredLemmas::row_inner))]
+    pub(crate) fn inner(&self, i: usize) -> u32
+        requires { i < length self.now }
+        ensures { option_map (λ s. s.inner) (slice_get self.now i) ≡ Some result }
+    {
+        row_at(&self.rows, i).inner
+    }
+
+    /// Whether it closes this scope.
+    #[tactic(auto, using(crate::proofs::StoredLemmas::stored_count, crate::proofs::StoredLemmas::row_closes))]
+    pub(crate) fn closes(&self, i: usize) -> bool
+        requires { i < length self.now }
+        ensures { option_map (λ s. s.closes) (slice_get self.now i) ≡ Some result }
+    {
+        row_at(&self.rows, i).closes
+    }
+}
