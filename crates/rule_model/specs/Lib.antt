@@ -6,3 +6,4 @@ pub mod Visibility
 pub mod RuleNames
 pub mod WellFormed
 pub mod Writing
+pub mod Worked

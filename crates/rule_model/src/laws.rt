@@ -1,1 +1,6 @@
 //! Laws of the definitions. Each stands as the contract of a function that does nothing, so that the gate proves it.
+
+pub mod commands;
+pub mod rules;
+pub mod scopes;
+pub mod worked;
