@@ -8,3 +8,6 @@ pub mod Sets
 pub mod Numbers
 pub mod Writing
 pub mod RuleWords
+pub mod Lines
+pub mod Standing
+pub mod Tree

@@ -12,3 +12,4 @@ pub mod Clauses
 pub mod Resolution
 pub mod ConsequenceExamples
 pub mod Writing
+pub mod Worked

@@ -3,7 +3,8 @@ use Rattle.std.specs.Prelude.{◌≡◌, ℕ, List, Bool, true, false, if◌then
 use Rattle.std.specs.Str.{bytes_eq}
 use Rattle.rule_model.specs.Proofs.{Step, Items, no_items, with_assume, with_step, with_subproof}
 use Rattle.rule_model.specs.Scopes.{Anchor, Nesting, outermost, inside, Scope, at}
-use Rattle.rule_model.specs.WellFormed.{MayStand, MayClose}
+use Rattle.rule_model.specs.Commands.{Command, assume, step, closing}
+use Rattle.rule_model.specs.WellFormed.{IsNewId, MayStand, MayClose}
 
 -- nothing is written
 abbrev pub unwritten : {V T : Type 0} → Scope V T
@@ -42,3 +43,16 @@ MayCloseHere (inside around before anchor) items s = MayClose around before (ins
 pub record MayTake {V T : Type 0} (scope : Scope V T) (s : Step T) : Type 0 where
   pub closing : is_open_id scope.nesting s.id ≡ true → MayCloseHere scope.nesting scope.items s
   pub standing : is_open_id scope.nesting s.id ≡ false → MayStand scope.nesting scope.items s
+
+-- where the scope stands to which a command belongs: a closing step belongs to the scope around
+abbrev pub own_nesting : {V T : Type 0} → Nesting V T → Command T → Nesting V T
+own_nesting nesting (assume id t) = nesting
+own_nesting nesting (step s) = nesting
+own_nesting outermost (closing s) = outermost
+own_nesting (inside around before anchor) (closing s) = around
+
+-- the command may stand where the scope is written up to now
+abbrev pub MayAddHere : {V T : Type 0} → Scope V T → Command T → Type 0
+MayAddHere scope (assume id t) = IsNewId scope.nesting scope.items id
+MayAddHere scope (step s) = MayStand scope.nesting scope.items s
+MayAddHere scope (closing s) = MayCloseHere scope.nesting scope.items s

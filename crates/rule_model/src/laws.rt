@@ -3,3 +3,7 @@
 pub mod consequence;
 pub mod consequence_examples;
 pub mod resolution;
+pub mod commands;
+pub mod rules;
+pub mod scopes;
+pub mod worked;
