@@ -1,4 +1,7 @@
 //! What the top call answers over files and an output in memory.
+
+ghost use Rattle.std.specs.Prelude.{◌≤◌};
+
 use crate::case::{Answer, Call};
 use carcara_cli::carcara;
 use file_ports::{MemoryFolder, MemorySink, OpenGate};
@@ -18,7 +21,7 @@ pub fn answer(
     problem: Option<Vec<u8>>,
     proof: Option<Vec<u8>>,
 ) -> Result<Answer, AllocError> {
-    let most = piece_bytes(&problem).max(piece_bytes(&proof));
+    let most = piece_bytes(is_long(&problem) || is_long(&proof));
     let files = files(rt.alloc(), problem, proof)?;
     let mut folder = MemoryFolder::new(files, most, call.failing_reads);
     let mut out = MemorySink::new(WRITE_PIECE, call.failing_writes);
@@ -27,11 +30,15 @@ pub fn answer(
     Ok(Answer { status, output })
 }
 
-fn piece_bytes(text: &Option<Vec<u8>>) -> usize {
-    match text {
-        Some(text) if text.len() > SHORT_BYTES => SHORT_BYTES,
-        _ => SMALL_PIECE,
-    }
+fn is_long(text: &Option<Vec<u8>>) -> bool {
+    text.as_ref().is_some_and(|text| text.len() > SHORT_BYTES)
+}
+
+// How many bytes a read gives at most.
+fn piece_bytes(long: bool) -> usize
+    ensures { 1 ≤ result }
+{
+    if long { SHORT_BYTES } else { SMALL_PIECE }
 }
 
 fn files(

@@ -63,27 +63,51 @@ impl Draft {
     /// The case, where it has all parts of what it asks: words, a status and an output, or a problem and how many
     /// assertions it has, or both.
     pub fn finished(self, alloc: Global) -> Result<Case, Fault> {
-        let read = reading_of(self.assertions, self.measures)?;
-        let called = match (self.words, self.status, self.output) {
-            (Some(words), Some(status), Some(output)) => Some(Called {
-                call: Call {
+        let Draft {
+            name,
+            problem,
+            proof,
+            words,
+            failing_reads,
+            failing_writes,
+            status,
+            output,
+            assertions,
+            measures,
+        } = self;
+        let read = reading_of(assertions, measures)?;
+        if read.is_some() && problem.is_none() {
+            return Err(Fault::PartAbsent);
+        }
+        let called = match words {
+            Some(words) => {
+                let call = Call {
                     words,
-                    failing_reads: self.failing_reads.unwrap_or(Vec::new(alloc)),
-                    failing_writes: self.failing_writes.unwrap_or(Vec::new(alloc)),
-                },
-                wanted: Answer { status, output },
-            }),
-            (None, None, None) if read.is_some() && self.problem.is_some() => None,
-            _ => return Err(Fault::PartAbsent),
+                    failing_reads: failing_reads.unwrap_or(Vec::new(alloc)),
+                    failing_writes: failing_writes.unwrap_or(Vec::new(alloc)),
+                };
+                let wanted = answer_of(status, output)?;
+                Some(Called { call, wanted })
+            }
+            None if read.is_none() || status.is_some() || output.is_some() => {
+                return Err(Fault::PartAbsent);
+            }
+            None => None,
         };
         Ok(Case {
-            name: self.name,
-            problem: self.problem,
-            proof: self.proof,
+            name,
+            problem,
+            proof,
             called,
             read,
         })
     }
+}
+
+fn answer_of(status: Option<u8>, output: Option<Vec<u8>>) -> Result<Answer, Fault> {
+    let status = status.ok_or(Fault::PartAbsent)?;
+    let output = output.ok_or(Fault::PartAbsent)?;
+    Ok(Answer { status, output })
 }
 
 fn reading_of(assertions: Option<usize>, last: Option<Measures>) -> Result<Option<Reading>, Fault> {

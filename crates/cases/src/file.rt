@@ -48,13 +48,19 @@ pub fn run(rt: &(impl Files + Print + AllocGlobal), path: &str) -> Result<Count>
 
 /// Whether a case comes to what it wants. Where it doesn't, both are printed.
 fn passes(rt: &(impl Print + AllocGlobal), case: Case) -> Result<bool> {
-    let name = case.name;
-    let reads = match (case.read, &case.problem) {
+    let Case {
+        name,
+        problem,
+        proof,
+        called,
+        read,
+    } = case;
+    let reads = match (read, &problem) {
         (Some(wanted), Some(problem)) => reads(rt, &name, problem, wanted)?,
         _ => true,
     };
-    let answers = match case.called {
-        Some(called) => answers(rt, &name, called, case.problem, case.proof)?,
+    let answers = match called {
+        Some(called) => answers(rt, &name, called, problem, proof)?,
         None => true,
     };
     Ok(reads && answers)
