@@ -5,3 +5,9 @@ pub mod StrictResolution
 pub mod Lists
 pub mod ConsequenceExamples
 pub mod Sets
+pub mod Arguments
+pub mod TruthTables
+pub mod Instances
+pub mod ClausalTables
+pub mod ArgumentLists
+pub mod ConditionLaws

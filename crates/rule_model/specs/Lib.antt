@@ -11,3 +11,7 @@ pub mod Renaming
 pub mod Clauses
 pub mod Resolution
 pub mod ConsequenceExamples
+pub mod Judged
+pub mod Schemas
+pub mod Clausal
+pub mod Conditions
