@@ -11,3 +11,9 @@ pub mod RuleWords
 pub mod Lines
 pub mod Standing
 pub mod Tree
+pub mod Arguments
+pub mod TruthTables
+pub mod Instances
+pub mod ClausalTables
+pub mod ArgumentLists
+pub mod ConditionLaws

@@ -13,3 +13,7 @@ pub mod Resolution
 pub mod ConsequenceExamples
 pub mod Writing
 pub mod Worked
+pub mod Judged
+pub mod Schemas
+pub mod Clausal
+pub mod Conditions

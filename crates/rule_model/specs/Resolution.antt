@@ -4,6 +4,7 @@ use Rattle.term_model.specs.declared.symbols.Op.{Op}
 use Rattle.term_model.specs.Terms.{Term, operation, no_terms, term, not_of}
 use Rattle.rule_model.specs.declared.literal.Literal.{Literal}
 use Rattle.rule_model.specs.declared.literal.Literal.TheVariants.{Plain, Always, Never}
+use Rattle.rule_model.specs.declared.rules.Mode.{Mode}
 use Rattle.rule_model.specs.Literals.{negation_of}
 use Rattle.rule_model.specs.Consequence.{Follows}
 
@@ -68,3 +69,8 @@ Chains left (right ∷ premises) (pivot ∷ pivots) result =
 abbrev pub ResolvesStrictly : List (Term × Bool) → List (List Term) → List Term → Type 0
 ResolvesStrictly pivots [] clause = ⊥
 ResolvesStrictly pivots (first ∷ premises) clause = Chains first premises pivots clause
+
+-- the condition of both rules, in either mode
+abbrev pub Resolves : Mode → List (Term × Bool) → List (List Term) → List Term → Type 0
+Resolves Mode.Check pivots premises clause = ResolvesInCheck premises clause
+Resolves Mode.Strict pivots premises clause = ResolvesStrictly pivots premises clause

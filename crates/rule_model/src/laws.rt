@@ -1,5 +1,6 @@
 //! Laws of the definitions. Each stands as the contract of a function that does nothing, so that the gate proves it.
 
+pub mod conditions;
 pub mod consequence;
 pub mod consequence_examples;
 pub mod resolution;

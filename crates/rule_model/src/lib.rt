@@ -5,8 +5,10 @@
 #![tactic(auto)]
 
 pub mod laws;
+mod letter;
 mod literal;
 mod rules;
 
+pub use letter::Letter;
 pub use literal::Literal;
 pub use rules::{Mode, Rule, StepCause};

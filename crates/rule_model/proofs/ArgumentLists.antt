@@ -1,0 +1,118 @@
+-- The rules over the arguments of `and` and `or` keep truth.
+use Rattle.std.proofs.Common.{◌≡◌, ◌⊎◌, inl, inr, List, [], ◌∷◌, map, Bool, true, false, refl, sym, ap, ◌∙◌, subst, All, Any, Contains}
+use Rattle.std.proofs.lemmas.List.Elements.{All-nil, All-cons, All-contains}
+use Rattle.term_model.specs.declared.symbols.Op.{Op}
+use Rattle.term_model.specs.Terms.{Term, operation, list_of, terms_of, not_of}
+use Rattle.term_model.specs.Values.{as_truth}
+use Rattle.term_model.specs.Interpretations.{Interpretation}
+use Rattle.term_model.specs.Meaning.{Valuation, value}
+use Rattle.term_model.specs.Unsatisfiable.{MakesTrue}
+use Rattle.term_model.proofs.Basics.{any_here, any_later}
+use Rattle.term_model.proofs.Meanings.{is_true, true_is, negation_is, conjunction_is, disjunction_is}
+use Rattle.rule_model.specs.Clauses.{MakesClauseTrue}
+use Rattle.rule_model.specs.Clausal.{itself, GivesOne, GivesAll}
+
+-- arguments from a list are that list
+pub list_of-terms_of : (ts : List Term) → list_of (terms_of ts) ≡ ts
+list_of-terms_of [] = refl
+list_of-terms_of (t ∷ ts) = ap (λ us. t ∷ us) (list_of-terms_of ts)
+
+any_contained : {X : Type 0} (P : X → Type 0) (xs : List X) (x : X) → Contains xs x → P x → Any P xs
+any_contained P xs x (k, below, same) p = (k, x, below, same, p)
+
+module _ (I : Interpretation) (r : Valuation) where
+  -- each term is true or not
+  true_or_not : (t : Term) → MakesTrue I r t ⊎ (¬ MakesTrue I r t)
+  true_or_not t = go (as_truth (value I r t)) refl
+    where
+      go : (b : Bool) → as_truth (value I r t) ≡ b → MakesTrue I r t ⊎ (¬ MakesTrue I r t)
+      go true e = inl (is_true (value I r t) e)
+      go false e = inr (λ h. absurd (let f = true_is (value I r t) h in cc))
+
+  all_of_and : (ts : List Term) → MakesTrue I r (operation Op.And (terms_of ts)) → All (MakesTrue I r) ts
+  all_of_and ts h = subst (All (MakesTrue I r)) (list_of-terms_of ts) ((conjunction_is I r (terms_of ts)).0 h)
+
+  and_of_all : (ts : List Term) → All (MakesTrue I r) ts → MakesTrue I r (operation Op.And (terms_of ts))
+  and_of_all ts h = (conjunction_is I r (terms_of ts)).1 (subst (All (MakesTrue I r)) (sym (list_of-terms_of ts)) h)
+
+  some_of_or : (ts : List Term) → MakesTrue I r (operation Op.Or (terms_of ts)) → Any (MakesTrue I r) ts
+  some_of_or ts h = subst (Any (MakesTrue I r)) (list_of-terms_of ts) ((disjunction_is I r (terms_of ts)).0 h)
+
+  or_of_some : (ts : List Term) → Any (MakesTrue I r) ts → MakesTrue I r (operation Op.Or (terms_of ts))
+  or_of_some ts h = (disjunction_is I r (terms_of ts)).1 (subst (Any (MakesTrue I r)) (sym (list_of-terms_of ts)) h)
+
+  some_negation : (ts : List Term) → ¬ All (MakesTrue I r) ts → Any (MakesTrue I r) (map not_of ts)
+  some_negation [] n = absurd (n (All-nil (MakesTrue I r)))
+  some_negation (t ∷ ts) n =
+      elim (true_or_not t) [
+        | inl here ↦ any_later (MakesTrue I r) (not_of t) (map not_of ts) (some_negation ts (λ all. n (All-cons (MakesTrue I r) t ts here all)))
+        | inr fails ↦ any_here (MakesTrue I r) (not_of t) (map not_of ts) ((negation_is I r t).1 fails)
+      ]
+
+  first_literal : (t : Term) (ts : List Term) → MakesTrue I r t → MakesClauseTrue I r (t ∷ ts)
+  first_literal t ts h = any_here (MakesTrue I r) t ts h
+
+  later_literal : (t : Term) (ts : List Term) → MakesClauseTrue I r ts → MakesClauseTrue I r (t ∷ ts)
+  later_literal t ts h = any_later (MakesTrue I r) t ts h
+
+  pub and_pos_keeps : (whole : Term) (rest : List Term) → GivesOne Op.And not_of itself whole rest → MakesClauseTrue I r (whole ∷ rest)
+  and_pos_keeps whole rest g =
+      rw (g.whole_is, g.rest_is)
+      (let all = operation Op.And (terms_of g.arguments) in
+      elim (true_or_not all) [
+        | inl h ↦ later_literal (not_of all) (g.argument ∷ []) (first_literal g.argument [] (All-contains (MakesTrue I r) g.arguments g.argument (all_of_and g.arguments h) g.among))
+        | inr n ↦ first_literal (not_of all) (g.argument ∷ []) ((negation_is I r all).1 n)
+      ])
+
+  pub and_neg_keeps : (whole : Term) (rest : List Term) → GivesAll Op.And itself not_of whole rest → MakesClauseTrue I r (whole ∷ rest)
+  and_neg_keeps whole rest g =
+      rw (g.whole_is, g.rest_is)
+      (let ts = g.first ∷ g.others in
+      elim (true_or_not (operation Op.And (terms_of ts))) [
+        | inl h ↦ first_literal (operation Op.And (terms_of ts)) (map not_of ts) h
+        | inr n ↦ later_literal (operation Op.And (terms_of ts)) (map not_of ts) (some_negation ts (λ all. n (and_of_all ts all)))
+      ])
+
+  map-itself : (ts : List Term) → map itself ts ≡ ts
+  map-itself [] = refl
+  map-itself (t ∷ ts) = ap (λ us. t ∷ us) (map-itself ts)
+
+  pub or_pos_keeps : (whole : Term) (rest : List Term) → GivesAll Op.Or not_of itself whole rest → MakesClauseTrue I r (whole ∷ rest)
+  or_pos_keeps whole rest g =
+      rw (g.whole_is, g.rest_is ∙ map-itself (g.first ∷ g.others))
+      (let ts = g.first ∷ g.others in
+      elim (true_or_not (operation Op.Or (terms_of ts))) [
+        | inl h ↦ later_literal (not_of (operation Op.Or (terms_of ts))) ts (some_of_or ts h)
+        | inr n ↦ first_literal (not_of (operation Op.Or (terms_of ts))) ts ((negation_is I r (operation Op.Or (terms_of ts))).1 n)
+      ])
+
+  pub or_neg_keeps : (whole : Term) (rest : List Term) → GivesOne Op.Or itself not_of whole rest → MakesClauseTrue I r (whole ∷ rest)
+  or_neg_keeps whole rest g =
+      rw (g.whole_is, g.rest_is)
+      (let some = operation Op.Or (terms_of g.arguments) in
+      elim (true_or_not g.argument) [
+        | inl h ↦ first_literal some (not_of g.argument ∷ []) (or_of_some g.arguments (any_contained (MakesTrue I r) g.arguments g.argument g.among h))
+        | inr n ↦ later_literal some (not_of g.argument ∷ []) (first_literal (not_of g.argument) [] ((negation_is I r g.argument).1 n))
+      ])
+
+  pub and_keeps : (whole : Term) (rest : List Term) → GivesOne Op.And itself itself whole rest → MakesTrue I r whole → MakesClauseTrue I r rest
+  and_keeps whole rest g h =
+      rw g.rest_is
+      (first_literal g.argument [] (All-contains (MakesTrue I r) g.arguments g.argument (all_of_and g.arguments (subst (MakesTrue I r) g.whole_is h)) g.among))
+
+  pub or_keeps : (whole : Term) (rest : List Term) → GivesAll Op.Or itself itself whole rest → MakesTrue I r whole → MakesClauseTrue I r rest
+  or_keeps whole rest g h =
+      rw (g.rest_is ∙ map-itself (g.first ∷ g.others)) (some_of_or (g.first ∷ g.others) (subst (MakesTrue I r) g.whole_is h))
+
+  pub not_or_keeps : (whole : Term) (rest : List Term) → GivesOne Op.Or not_of not_of whole rest → MakesTrue I r whole → MakesClauseTrue I r rest
+  not_or_keeps whole rest g h =
+      let none = (negation_is I r (operation Op.Or (terms_of g.arguments))).0 (subst (MakesTrue I r) g.whole_is h) in
+      rw g.rest_is
+      (first_literal (not_of g.argument) []
+      ((negation_is I r g.argument).1 (λ k. none (or_of_some g.arguments (any_contained (MakesTrue I r) g.arguments g.argument g.among k)))))
+
+  pub not_and_keeps : (whole : Term) (rest : List Term) → GivesAll Op.And not_of not_of whole rest → MakesTrue I r whole → MakesClauseTrue I r rest
+  not_and_keeps whole rest g h =
+      let ts = g.first ∷ g.others in
+      let fails = (negation_is I r (operation Op.And (terms_of ts))).0 (subst (MakesTrue I r) g.whole_is h) in
+      rw g.rest_is (some_negation ts (λ all. fails (and_of_all ts all)))

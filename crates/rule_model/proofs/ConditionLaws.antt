@@ -1,0 +1,91 @@
+-- The condition of each rule keeps truth. A family of rules that has a condition adds its case.
+use Rattle.std.proofs.Common.{inl, inr, List, [], ◌∷◌, subst, arith, refl, All, Any, Contains, Option, Some, None, IsPermutation}
+use Rattle.std.proofs.lemmas.List.Elements.{All-head}
+use Rattle.std.proofs.lemmas.List.Sorted.{Contains-permutation}
+use Rattle.term_model.specs.Terms.{Term}
+use Rattle.term_model.specs.Interpretations.{Interpretation}
+use Rattle.term_model.specs.Meaning.{Valuation, ValuationFits}
+use Rattle.term_model.specs.Unsatisfiable.{MakesTrue}
+use Rattle.term_model.proofs.Basics.{any_here, any_cases}
+use Rattle.rule_model.specs.declared.rules.Mode.{Mode}
+use Rattle.rule_model.specs.declared.rules.Rule.{Rule}
+use Rattle.rule_model.specs.Clausal.{schema_of, Begins, IsGiven, Changes, HasEachOnce, HasEach, IsTautology, MeetsClausal}
+use Rattle.rule_model.specs.Clauses.{MakesClauseTrue}
+use Rattle.rule_model.specs.Conditions.{MeetsRule, Met, IsClauseOfTruths, IsWellSortedStep, KeepsTruth}
+use Rattle.rule_model.specs.Judged.{Judged}
+use Rattle.rule_model.specs.Resolution.{Resolves}
+use Rattle.rule_model.specs.Schemas.{Schema, IsInstanceOf}
+use Rattle.rule_model.proofs.ArgumentLists.{and_pos_keeps, and_neg_keeps, or_pos_keeps, or_neg_keeps, and_keeps, or_keeps, not_or_keeps, not_and_keeps}
+use Rattle.rule_model.proofs.ClausalTables.{IsSound, clausal_tables}
+use Rattle.rule_model.proofs.Instances.{instance_keeps_truth}
+use Rattle.rule_model.proofs.Resolution.{check_sound}
+use Rattle.rule_model.proofs.StrictResolution.{strict_sound}
+
+-- a clause with the literals of one that is true
+any_moved : {X : Type 0} (P : X → Type 0) (xs ys : List X) → ((x : X) → Contains xs x → Contains ys x) → Any P xs → Any P ys
+any_moved P xs ys moves (k, x, below, same, p) = go (moves x (k, below, same))
+  where
+    go : Contains ys x → Any P ys
+    go (j, there, is) = (j, x, there, is, p)
+
+module _ (I : Interpretation) (r : Valuation) where
+  begins_keeps : (gives : Term → List Term → Type 0) → ((whole : Term) (rest : List Term) → gives whole rest → MakesClauseTrue I r (whole ∷ rest)) → (premises : List (List Term)) (clause : List Term) → Begins gives premises clause → MakesClauseTrue I r clause
+  begins_keeps gives keeps premises clause b = rw b.literals (keeps b.whole b.rest b.given)
+
+  given_keeps : (gives : Term → List Term → Type 0) → ((whole : Term) (rest : List Term) → gives whole rest → MakesTrue I r whole → MakesClauseTrue I r rest) → (premises : List (List Term)) (clause : List Term) → IsGiven gives premises clause → All (MakesClauseTrue I r) premises → MakesClauseTrue I r clause
+  given_keeps gives keeps premises clause g all =
+      let unit = All-head (MakesClauseTrue I r) (g.whole ∷ []) [] (subst (All (MakesClauseTrue I r)) g.unit all) in
+      keeps g.whole clause g.given
+      (elim (any_cases (MakesTrue I r) g.whole [] unit) [ inl here ↦ here | inr later ↦ absurd (omega (arith, later.2)) ])
+
+  changes_keeps : (relation : List Term → List Term → Type 0) → ((old new : List Term) → relation old new → MakesClauseTrue I r old → MakesClauseTrue I r new) → (premises : List (List Term)) (clause : List Term) → Changes relation premises clause → All (MakesClauseTrue I r) premises → MakesClauseTrue I r clause
+  changes_keeps relation keeps premises clause c all =
+      keeps c.premise clause c.changed
+      (All-head (MakesClauseTrue I r) c.premise [] (subst (All (MakesClauseTrue I r)) c.one all))
+
+  contraction_keeps : (old new : List Term) → HasEachOnce old new → MakesClauseTrue I r old → MakesClauseTrue I r new
+  contraction_keeps old new h some = any_moved (MakesTrue I r) old new (λ t. (h.same t).0) some
+
+  reordering_keeps : (old new : List Term) → IsPermutation old new → MakesClauseTrue I r old → MakesClauseTrue I r new
+  reordering_keeps old new h some = any_moved (MakesTrue I r) old new (λ t. Contains-permutation old new t h) some
+
+  weakening_keeps : (old new : List Term) → HasEach old new → MakesClauseTrue I r old → MakesClauseTrue I r new
+  weakening_keeps old new h some = any_moved (MakesTrue I r) old new h some
+
+  tautology_keeps : (old new : List Term) → IsTautology old new → MakesClauseTrue I r old → MakesClauseTrue I r new
+  tautology_keeps old new h some = rw h.constant (any_here (MakesTrue I r) _ [] refl)
+
+  schema_keeps : (schema : Option Schema) → IsSound schema → (premises : List (List Term)) (clause : List Term) → IsInstanceOf schema premises clause → ValuationFits r → All IsClauseOfTruths premises → IsClauseOfTruths clause → All (MakesClauseTrue I r) premises → MakesClauseTrue I r clause
+  schema_keeps (Some schema) sound premises clause i fits units literals all =
+      instance_keeps_truth schema premises clause I r sound i fits units literals all
+  schema_keeps None sound premises clause i fits units literals all = absurd i
+
+  -- the clausal rules
+  clausal_keeps : (rule : Rule) (premises : List (List Term)) (clause : List Term) → MeetsClausal rule premises clause → ValuationFits r → All IsClauseOfTruths premises → IsClauseOfTruths clause → All (MakesClauseTrue I r) premises → MakesClauseTrue I r clause
+  clausal_keeps Rule.AndPos premises clause met fits units literals all = begins_keeps _ (and_pos_keeps I r) premises clause met
+  clausal_keeps Rule.AndNeg premises clause met fits units literals all = begins_keeps _ (and_neg_keeps I r) premises clause met
+  clausal_keeps Rule.OrPos premises clause met fits units literals all = begins_keeps _ (or_pos_keeps I r) premises clause met
+  clausal_keeps Rule.OrNeg premises clause met fits units literals all = begins_keeps _ (or_neg_keeps I r) premises clause met
+  clausal_keeps Rule.And premises clause met fits units literals all = given_keeps _ (and_keeps I r) premises clause met all
+  clausal_keeps Rule.Or premises clause met fits units literals all = given_keeps _ (or_keeps I r) premises clause met all
+  clausal_keeps Rule.NotOr premises clause met fits units literals all = given_keeps _ (not_or_keeps I r) premises clause met all
+  clausal_keeps Rule.NotAnd premises clause met fits units literals all = given_keeps _ (not_and_keeps I r) premises clause met all
+  clausal_keeps Rule.Contraction premises clause met fits units literals all = changes_keeps _ contraction_keeps premises clause met all
+  clausal_keeps Rule.Reordering premises clause met fits units literals all = changes_keeps _ reordering_keeps premises clause met all
+  clausal_keeps Rule.Weakening premises clause met fits units literals all = changes_keeps _ weakening_keeps premises clause met all
+  clausal_keeps Rule.Tautology premises clause met fits units literals all = changes_keeps _ tautology_keeps premises clause met all
+  clausal_keeps rule premises clause met fits units literals all =
+      schema_keeps (schema_of rule) (clausal_tables rule) premises clause met fits units literals all
+
+  -- resolution and th_resolution
+  resolution_keeps : (mode : Mode) (j : Judged) → Resolves mode j.pivots j.premises j.clause → KeepsTruth I r j
+  resolution_keeps Mode.Check j met all = check_sound I r j.premises j.clause met all
+  resolution_keeps Mode.Strict j met all = strict_sound I r j.pivots j.premises j.clause met all
+
+  rule_keeps : (rule : Rule) (j : Judged) → MeetsRule rule j → IsWellSortedStep r j → KeepsTruth I r j
+  rule_keeps Rule.Resolution j met sorted = resolution_keeps j.mode j met
+  rule_keeps Rule.ThResolution j met sorted = resolution_keeps j.mode j met
+  rule_keeps rule j met sorted = clausal_keeps rule j.premises j.clause met sorted.values sorted.premises sorted.clause
+
+  pub met_keeps : (j : Judged) → Met j → IsWellSortedStep r j → KeepsTruth I r j
+  met_keeps j met sorted = rule_keeps j.rule j met sorted

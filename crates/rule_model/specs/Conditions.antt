@@ -1,0 +1,38 @@
+-- Public. The condition of each rule (Alethe specification, "List of rules"), for steps that close no scope, and what is
+-- asked of a step's terms and of the values of variables for a condition to keep truth. Each family of rules has a file of
+-- its own.
+use Rattle.std.specs.Prelude.{List, All}
+use Rattle.term_model.specs.declared.symbols.Sort.{Sort}
+use Rattle.term_model.specs.Interpretations.{Interpretation}
+use Rattle.term_model.specs.Meaning.{Valuation, ValuationFits}
+use Rattle.term_model.specs.Sorts.{IsOf}
+use Rattle.term_model.specs.Terms.{Term}
+use Rattle.rule_model.specs.declared.rules.Rule.{Rule}
+use Rattle.rule_model.specs.Clausal.{MeetsClausal}
+use Rattle.rule_model.specs.Clauses.{MakesClauseTrue}
+use Rattle.rule_model.specs.Judged.{Judged}
+use Rattle.rule_model.specs.Resolution.{Resolves}
+
+-- What a step meets under a rule. Rules that have no condition here yet are met by no step: they have no schema.
+abbrev pub MeetsRule : Rule → Judged → Type 0
+MeetsRule Rule.Resolution j = Resolves j.mode j.pivots j.premises j.clause
+MeetsRule Rule.ThResolution j = Resolves j.mode j.pivots j.premises j.clause
+MeetsRule rule j = MeetsClausal rule j.premises j.clause
+
+-- the step meets the condition of its rule
+abbrev pub Met : Judged → Type 0
+Met j = MeetsRule j.rule j
+
+-- all literals of a clause are well-sorted terms of Bool
+abbrev pub IsClauseOfTruths : List Term → Type 0
+IsClauseOfTruths clause = All (λ t. IsOf t Sort.Bool) clause
+
+-- the step's clause and its premises' clauses are of Bool, and each variable has a value of its sort
+pub record IsWellSortedStep (r : Valuation) (j : Judged) : Type 0 where
+  pub clause : IsClauseOfTruths j.clause
+  pub premises : All IsClauseOfTruths j.premises
+  pub values : ValuationFits r
+
+-- where the premises' clauses are true, the clause is true
+abbrev pub KeepsTruth : Interpretation → Valuation → Judged → Type 0
+KeepsTruth I r j = All (MakesClauseTrue I r) j.premises → MakesClauseTrue I r j.clause

@@ -1,0 +1,5 @@
+pub mod OverLemmas
+pub mod ReferLemmas
+pub mod Steps
+pub mod Shapes
+pub mod Loops
