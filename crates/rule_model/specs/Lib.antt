@@ -1,0 +1,4 @@
+pub mod Heights
+pub mod Replacement
+pub mod Substitution
+pub mod Contexts
