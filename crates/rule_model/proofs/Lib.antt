@@ -17,3 +17,10 @@ pub mod Instances
 pub mod ClausalTables
 pub mod ArgumentLists
 pub mod ConditionLaws
+pub mod Freedom
+pub mod Replacing
+pub mod HeightLaws
+pub mod Substituting
+pub mod SubstitutedValues
+pub mod ContextLaws
+pub mod ReplacementLists

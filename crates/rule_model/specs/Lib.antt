@@ -17,3 +17,7 @@ pub mod Judged
 pub mod Schemas
 pub mod Clausal
 pub mod Conditions
+pub mod Heights
+pub mod Replacement
+pub mod Substitution
+pub mod Contexts

@@ -8,3 +8,6 @@ pub mod commands;
 pub mod rules;
 pub mod scopes;
 pub mod worked;
+pub mod contexts;
+pub mod replacement;
+pub mod substitution;

@@ -1,0 +1,10 @@
+//! Putting closed terms in for the free variables of a term, by cells.
+//!
+//! The contracts speak of terms: `put_in` of `rule_model` and `IsFree` of `term_model`. The code walks cells with lists of
+//! its own, so no term takes stack.
+#![tactic(auto)]
+
+mod free;
+mod leaves;
+
+pub use free::free_in;
