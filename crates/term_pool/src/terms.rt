@@ -7,6 +7,7 @@ ghost use Rattle.term_model.specs.Terms.{Term};
 ghost use Rattle.term_pool.specs.Views.{RefersTo};
 
 mod building;
+mod flips;
 mod measures;
 mod parts;
 mod putting;
