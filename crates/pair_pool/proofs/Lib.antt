@@ -4,3 +4,4 @@ pub mod ProbeLemmas
 pub mod TableLemmas
 pub mod PassLemmas
 pub mod StateLemmas
+pub mod DecodingLemmas

@@ -113,13 +113,13 @@ module _ (words : List ℕ) (pass : PassView) (truth : TellsTruth words pass) (t
 
 -- ---- the cells that words spell
 
-Contains-cons : {X : Type 0} → (c : X) (cs : List X) (x : X) → Contains cs x → Contains (c ∷ cs) x
+pub Contains-cons : {X : Type 0} → (c : X) (cs : List X) (x : X) → Contains cs x → Contains (c ∷ cs) x
 Contains-cons c cs x h = Contains-append_right (c ∷ []) cs x h
 
-Contains-head : {X : Type 0} → (c : X) (cs : List X) → Contains (c ∷ cs) c
+pub Contains-head : {X : Type 0} → (c : X) (cs : List X) → Contains (c ∷ cs) c
 Contains-head c cs = Contains-append_left (c ∷ []) cs c (Contains-push [] c)
 
-Contains-cons_cases : {X : Type 0} → (c : X) (cs : List X) (x : X) → Contains (c ∷ cs) x → Contains cs x ⊎ (c ≡ x)
+pub Contains-cons_cases : {X : Type 0} → (c : X) (cs : List X) (x : X) → Contains (c ∷ cs) x → Contains cs x ⊎ (c ≡ x)
 Contains-cons_cases c cs x h = go (Contains-append_cases (c ∷ []) cs x h)
   where
     only : Contains [] x ⊎ (c ≡ x) → Contains cs x ⊎ (c ≡ x)

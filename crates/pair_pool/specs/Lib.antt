@@ -4,3 +4,4 @@ pub mod Words
 pub mod GoodStates
 pub mod OnlyPass
 pub mod Writes
+pub mod Decoding

@@ -1,10 +1,15 @@
 -- Binary trees, and when a reference stands for one.
-use Rattle.std.specs.Prelude.{◌≡◌, ℕ, ◌<◌, ◌^◌}
+use Rattle.std.specs.Prelude.{◌≡◌, ℕ, suc, ◌<◌, ◌^◌, max}
 
 -- what a reference stands for: a numbered leaf, or a cell of two trees
 pub data Tree : Type 0 where
   leaf : ℕ → Tree
   cell : Tree → Tree → Tree
+
+-- how many cells there are on the longest way down
+abbrev pub depth : Tree → ℕ
+depth (leaf k) = 0
+depth (cell s t) = suc (max (depth s) (depth t))
 
 -- By cells, where `cells r a b` says that r is the reference of the cell (a, b), the reference r stands for a tree:
 -- a leaf's reference is its number, below 2^30, and a cell's parts stand for the two parts of the tree.

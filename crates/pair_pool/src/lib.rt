@@ -16,7 +16,7 @@ mod table;
 #[cfg(test)]
 mod tests;
 
-pub use laws::{all_shares_all_cells, one_address_one_term};
+pub use laws::{all_shares_all_cells, leaves_are_known, one_address_one_term};
 pub use pool::{Pass, Pool};
 pub use reference::Ref;
 pub use stops::{Memory, PoolFull};

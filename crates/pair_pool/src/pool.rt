@@ -2,6 +2,7 @@
 
 ghost use Rattle.std.specs.Prelude.{◌≡◌, ◌≢◌, ℕ, ◌+◌, ◌*◌, ◌^◌, ◌<◌, ◌≤◌, [], IfOk, OnOk, OnErr};
 ghost use Rattle.pair_pool.specs.Trees.{Tree, leaf, cell};
+ghost use Rattle.pair_pool.specs.Decoding.{HasTreesWithin};
 ghost use Rattle.pair_pool.specs.Views.{PoolView, PassView, Cell, IsOf, IsSeen, HasCell, IsPlaced, Knows, IsKnown, Grows, AddsAtMost, SeesMore, IsUnchanged, IsFullFor, IsOneToOne, HasPartsOfTrees, HasListsInOrder};
 
 use crate::reference::Ref;
@@ -151,6 +152,13 @@ impl Pass {
     /// What a pass placed it knows, what it knows it has seen, and with all 65 shares it placed all that it has seen.
     pub fn lists_in_order(&self)
         ensures { HasListsInOrder self.now }
+    {
+        let _words = &self.words;
+    }
+
+    /// The tree of a known reference is a function of what the pass knows.
+    pub fn trees_within(&self)
+        ensures { HasTreesWithin self.now }
     {
         let _words = &self.words;
     }

@@ -155,7 +155,7 @@ memo_more p old new r h right noted heights = record {
     go q g t known (inl before) = right.right q g t before known
     go q g t known (inr last) = last.1 ∙ heights t (rw last.0 at known)
 
-head_is_let : (p : PassView) → IsOneToOne p → HasPartsOfTrees p → (a : ℕ) (t : Tree) → Knows p a t → nat_eq a 1 ≡ is_let_head t
+pub head_is_let : (p : PassView) → IsOneToOne p → HasPartsOfTrees p → (a : ℕ) (t : Tree) → Knows p a t → nat_eq a 1 ≡ is_let_head t
 head_is_let p one parts a (leaf k) known = let n = parts.leaf_number a k known in ap (λ (m : ℕ). nat_eq m 1) n.0
 head_is_let p one parts a (cell s t) known =
     let above : 2 ^ 30 ≤ a = one.high a s t known in let other : a ≢ 1 = omega arith in grind (arith, nat_tests)
@@ -307,7 +307,7 @@ walk_end p memo new r at h way e w noted right t known =
 pub none_left : (xs ys : List ℕ) (n : ℕ) → n ≡ 0 → ys ≡ take (n - 1) xs → xs ≡ ys ++ [] → xs ≡ []
 none_left xs ys n z rest whole = whole ∙ rw (rest, z)
 
-other_head : (s : Table) (k : ℕ) (l : Leaf) → IsLeaf s 1 let_head → IsLeaf s k l → l ≢ let_head → nat_eq k 1 ≡ false
+pub other_head : (s : Table) (k : ℕ) (l : Leaf) → IsLeaf s 1 let_head → IsLeaf s k l → l ≢ let_head → nat_eq k 1 ≡ false
 other_head s k l h p apart = let other = not_let s k l h p apart in grind (arith, nat_tests)
 
 -- what a tree has as a term is the height of the term

@@ -16,3 +16,6 @@ pub mod CountLemmas
 pub mod ListLemmas
 pub mod PartLemmas
 pub mod PuttingLemmas
+pub mod Ways
+pub mod PairLemmas
+pub mod FlipLemmas

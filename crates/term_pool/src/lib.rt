@@ -11,6 +11,7 @@
 
 mod build;
 mod cells;
+mod flips;
 mod heights;
 mod laws;
 mod lists;

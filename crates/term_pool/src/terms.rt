@@ -8,6 +8,7 @@ ghost use Rattle.term_pool.specs.Views.{RefersTo};
 
 mod building;
 mod cells;
+mod flips;
 mod measures;
 mod parts;
 mod putting;

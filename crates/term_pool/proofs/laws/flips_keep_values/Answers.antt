@@ -1,0 +1,11 @@
+use Rattle.term_pool.proofs.FlipLemmas.{flips_turned, flips_value, let_alone}
+use Rattle.term_pool.proofs.laws.flips_keep_values.Goals as goal
+
+pub returns-clause-turned : goal.returns-clause-turned
+returns-clause-turned c = flips_turned
+
+pub returns-clause-value : goal.returns-clause-value
+returns-clause-value c = flips_value
+
+pub returns-clause-let_alone : goal.returns-clause-let_alone
+returns-clause-let_alone c = let_alone
