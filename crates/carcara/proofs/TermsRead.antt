@@ -12,9 +12,10 @@ use Rattle.term_pool.specs.Views.{TermsView}
 use Rattle.smtlib_reader.specs.Lexers.{IsFirstOfItem, GoesOnWith}
 use Rattle.smtlib_reader.specs.Names.{Place}
 use Rattle.smtlib_reader.specs.ProblemViews.{ReaderView, IsReaderOf, ReadsTerm}
-use Rattle.smtlib_reader.specs.Scripts.{Typed, Script, Outcome}
+use Rattle.smtlib_reader.specs.TypedTerms.{Typed}
+use Rattle.smtlib_reader.specs.Scripts.{Script, Outcome}
 use Rattle.smtlib_reader.specs.Terms.{read_term}
-use Rattle.smtlib_reader.specs.declared.faults.ReadFault.{ReadFault}
+use Rattle.term_names.specs.declared.faults.ReadFault.{ReadFault}
 use Rattle.carcara.specs.TermTexts.{StandsInItems, StandsAt}
 use Rattle.carcara.proofs.ItemTokens.{stands_behind}
 

@@ -4,15 +4,15 @@ use Rattle.sym_table.specs.Table.{Table, IsFunctionName, Keeps}
 use Rattle.term_model.specs.Terms.{Term}
 use Rattle.term_pool.specs.StandsFor.{function_leaf}
 use Rattle.term_pool.specs.Views.{TermsView, ReferToAll, KeepsTerms}
-use Rattle.smtlib_reader.specs.Known.{KnownView, known_entry}
-use Rattle.smtlib_reader.specs.Names.{Place}
-use Rattle.smtlib_reader.specs.Reading.{IsIdle}
-use Rattle.smtlib_reader.specs.Scripts.{Script}
-use Rattle.smtlib_reader.specs.Standing.{named_in, macro_in, function_in, HasNoEntry, IsNoFunction, IsMeant, IsScript}
-use Rattle.smtlib_reader.specs.Words.{is_among}
-use Rattle.smtlib_reader.specs.declared.known.KnownEntry.{KnownEntry}
-use Rattle.smtlib_reader.specs.declared.reader.Reader.{Reader}
-use Rattle.smtlib_reader.proofs.Staying.{table_keeps_none, keeps_none, refers_stays, scope_stays, macro_stays, named_stays}
+use Rattle.term_names.specs.Known.{KnownView, known_entry}
+use Rattle.problem_text.specs.Names.{Place}
+use Rattle.term_reader.specs.Reading.{IsIdle}
+use Rattle.problem_text.specs.Scripts.{Script}
+use Rattle.term_names.specs.Standing.{named_in, macro_in, function_in, HasNoEntry, IsNoFunction, IsMeant, IsScript}
+use Rattle.problem_text.specs.Words.{is_among}
+use Rattle.term_names.specs.declared.known.KnownEntry.{KnownEntry}
+use Rattle.term_reader.specs.declared.reader.Reader.{Reader}
+use Rattle.term_reader.proofs.Staying.{table_keeps_none, keeps_none, refers_stays, scope_stays, macro_stays, named_stays}
 
 -- both scripts say the same of the name
 pub record AgreesOn (a b : Script) (name : List ℕ) : Type 0 where

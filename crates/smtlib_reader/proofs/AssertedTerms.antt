@@ -9,23 +9,24 @@ use Rattle.sym_table.specs.Table.{Table}
 use Rattle.term_model.specs.declared.symbols.Sort.{Sort}
 use Rattle.term_model.specs.Terms.{Term, sort_eq}
 use Rattle.term_pool.specs.Views.{TermsView, RefersTo, ReferToAll, KeepsTerms}
-use Rattle.smtlib_reader.specs.Commands.{assert_term}
-use Rattle.smtlib_reader.specs.Forms.{form_of}
-use Rattle.smtlib_reader.specs.Problems.{term_asserted, performed}
-use Rattle.smtlib_reader.specs.Reading.{IsReadTerm, Reads}
-use Rattle.smtlib_reader.specs.Scripts.{Typed, Script, Outcome, done, refuse, goes_on, with_assertion}
+use Rattle.problem_text.specs.Commands.{assert_term}
+use Rattle.problem_text.specs.Forms.{form_of}
+use Rattle.problem_text.specs.Problems.{term_asserted, performed}
+use Rattle.term_reader.specs.Reading.{IsReadTerm, Reads}
+use Rattle.problem_text.specs.TypedTerms.{Typed}
+use Rattle.problem_text.specs.Scripts.{Script, Outcome, done, refuse, goes_on, with_assertion}
 use Rattle.smtlib_reader.specs.Sessions.{top, IsSession, IsReadBy, Performs}
-use Rattle.smtlib_reader.specs.Standing.{AddsNoSymbols}
-use Rattle.smtlib_reader.specs.Terms.{read_term}
-use Rattle.smtlib_reader.specs.declared.faults.ReadFault.{ReadFault}
-use Rattle.smtlib_reader.specs.declared.reader.Reader.{Reader}
+use Rattle.term_names.specs.Standing.{AddsNoSymbols}
+use Rattle.problem_text.specs.Terms.{read_term}
+use Rattle.term_names.specs.declared.faults.ReadFault.{ReadFault}
+use Rattle.term_reader.specs.declared.reader.Reader.{Reader}
 use Rattle.smtlib_reader.specs.declared.session.Session.{Session}
-use Rattle.smtlib_reader.specs.declared.values.Value.{Value}
+use Rattle.term_expansion.specs.declared.values.Value.{Value}
 use Rattle.smtlib_reader.proofs.AgreeingScripts.{script_agrees}
 use Rattle.smtlib_reader.proofs.DefinedCommands.{checked}
-use Rattle.smtlib_reader.proofs.Growing as growing
+use Rattle.problem_text.proofs.Growing as growing
 use Rattle.smtlib_reader.proofs.KeptByReading.{DeclaresSame, same_declared}
-use Rattle.smtlib_reader.proofs.Staying.{places_more, lacks_more, refers_stays}
+use Rattle.term_reader.proofs.Staying.{places_more, lacks_more, refers_stays}
 
 -- references still stand for their terms
 pub all_stay : (s z : Table) (v w : TermsView) → AddsNoSymbols s z → KeepsTerms v w → (rs : List ℕ) (ts : List Term) → ReferToAll s v rs ts → ReferToAll z w rs ts

@@ -5,16 +5,16 @@ use Rattle.sexpr.specs.declared.causes.Refusal.{Refusal}
 use Rattle.sym_table.specs.Table.{Table}
 use Rattle.term_pool.specs.Views.{TermsView}
 use Rattle.smtlib_reader.specs.CommandShapes.{Says}
-use Rattle.smtlib_reader.specs.Commands as shape
-use Rattle.smtlib_reader.specs.Problems.{performed}
-use Rattle.smtlib_reader.specs.Scripts.{Script, Outcome, done}
+use Rattle.problem_text.specs.Commands as shape
+use Rattle.problem_text.specs.Problems.{performed}
+use Rattle.problem_text.specs.Scripts.{Script, Outcome, done}
 use Rattle.smtlib_reader.specs.Sessions.{IsSession, top, IsReadBy, Performs}
 use Rattle.smtlib_reader.specs.declared.commands.Command.{Command}
-use Rattle.smtlib_reader.specs.declared.faults.ReadFault.{ReadFault}
-use Rattle.smtlib_reader.specs.declared.nodes.Node.{Node}
+use Rattle.term_names.specs.declared.faults.ReadFault.{ReadFault}
+use Rattle.text_items.specs.declared.nodes.Node.{Node}
 use Rattle.smtlib_reader.specs.declared.session.Session.{Session}
 use Rattle.smtlib_reader.proofs.AgreeingScripts.{idle_agrees}
-use Rattle.smtlib_reader.proofs.Staying.{places_none}
+use Rattle.term_reader.proofs.Staying.{places_none}
 
 module _ (s : Table) (v : TermsView) (d : Session) where
   pub performs_done : (o : Outcome ⊤) (sc : Script) → o ≡ done tt sc → IsSession s v d sc → Performs s v v d o (Ok tt)

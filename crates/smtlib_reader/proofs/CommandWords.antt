@@ -6,8 +6,9 @@ use Rattle.sexpr.specs.declared.causes.Refusal.{Refusal}
 use Rattle.sexpr.specs.Words.{is_symbol}
 use Rattle.sexpr.specs.Items.{Item, word, quoted, string, list, Items, no_items, item, place_of}
 use Rattle.smtlib_reader.specs.declared.command_words.CommandWord.{CommandWord}
-use Rattle.smtlib_reader.specs.Words.{is_among, left_out_commands}
-use Rattle.smtlib_reader.specs.Commands.{Command as Shape, refused, items_of, command_named, headed_command, command_of}
+use Rattle.problem_text.specs.Words.{is_among, left_out_commands}
+use Rattle.text_items.specs.ItemShapes.{items_of}
+use Rattle.problem_text.specs.Commands.{Command as Shape, refused, command_named, headed_command, command_of}
 use Rattle.smtlib_reader.specs.CommandShapes.{head_word, word_named, command_so}
 
 -- f of a choice, where each side is f of its own

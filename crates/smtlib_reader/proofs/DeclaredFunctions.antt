@@ -1,7 +1,7 @@
 -- A function is declared: the tables stand for the script with the function then.
-use Rattle.std.proofs.Common.{◌≡◌, ◌⊎◌, inl, inr, ℕ, Bool, true, false, cond, ◌||◌, List, [], ◌∷◌, ◌++◌, map, length, position, Option, Some, None, IsTrue, refl, sym, ap, subst, ◌∙◌}
+use Rattle.std.proofs.Common.{◌≡◌, ◌⊎◌, inl, inr, ℕ, Bool, true, false, cond, ◌||◌, List, [], ◌∷◌, ◌++◌, length, Option, Some, None, IsTrue, refl, sym, ap, subst, ◌∙◌}
 use Rattle.std.specs.Option.{option_or}
-use Rattle.std.specs.Prelude.{bytes_eq, find, slice_get, IsSomeAnd}
+use Rattle.std.specs.Prelude.{bytes_eq, slice_get, IsSomeAnd}
 use Rattle.std.proofs.lemmas.Bool.{or_parts}
 use Rattle.std.proofs.lemmas.List.{map-append}
 use Rattle.std.proofs.lemmas.List.Folds.{find-append, list_any-append}
@@ -13,36 +13,23 @@ use Rattle.sym_table.specs.Words.{IsBuiltIn}
 use Rattle.term_model.specs.Terms.{Fun}
 use Rattle.term_pool.specs.StandsFor.{function_leaf}
 use Rattle.term_pool.specs.Views.{TermsView}
-use Rattle.smtlib_reader.specs.Known.{KnownView, known_entry}
-use Rattle.smtlib_reader.specs.Scripts.{Script, is_taken, with_name, with_function}
+use Rattle.term_names.specs.Known.{KnownView, known_entry}
+use Rattle.problem_text.specs.Scripts.{Script, is_taken, with_name, with_function}
 use Rattle.smtlib_reader.specs.Sessions.{IsSession, top}
-use Rattle.smtlib_reader.specs.Standing.{function_in, HasNoEntry, IsFunctionAt, IsFreeName, IsMeant, IsScript}
-use Rattle.smtlib_reader.specs.Words.{is_among, is_built_in}
+use Rattle.term_names.specs.Standing.{function_in, HasNoEntry, IsFunctionAt, IsFreeName, IsMeant, IsScript}
+use Rattle.problem_text.specs.Words.{is_among, is_built_in}
 use Rattle.smtlib_reader.specs.declared.session.Session.{Session}
 use Rattle.smtlib_reader.proofs.AgreeingScripts.{meant_moves, idle_moves, all_refer_still}
 use Rattle.smtlib_reader.proofs.DeclaredSorts.{is_no_word}
-use Rattle.smtlib_reader.proofs.GivenNames.{apart, no_entry}
-use Rattle.smtlib_reader.proofs.HeldVariables.{slice_get-last}
-use Rattle.smtlib_reader.proofs.Positions.{next_place, position_cons, slice_get-push_cases}
-use Rattle.smtlib_reader.proofs.Staying.{keeps_none}
+use Rattle.term_reader.proofs.GivenNames.{apart, no_entry}
+use Rattle.term_names.proofs.HeldVariables.{slice_get-last}
+use Rattle.term_names.proofs.Positions.{slice_get-push_cases}
+use Rattle.term_reader.proofs.Staying.{keeps_none}
 
 -- a name that is free is not refused
 pub function_is_free : (s : Table) (name : List ℕ) → is_built_in name ≡ false → (IsFunctionName s name → ⊥) → IsBuiltIn name ⊎ IsFunctionName s name → ⊥
 function_is_free s name word none (inl h) = is_no_word name word h
 function_is_free s name word none (inr h) = none h
-
--- a name that no function has stands nowhere among their names
-pub no_position : (fs : List Fun) (name : List ℕ) → find (λ f. bytes_eq f.name name) fs ≡ None → position (bytes_eq name) (map (λ f. f.name) fs) ≡ None
-no_position [] name none = refl
-no_position (f ∷ fs) name none =
-    position_cons (bytes_eq name) f.name (map (λ g. g.name) fs) ∙ go (bytes_eq f.name name) refl (no_position fs name) none
-  where
-    go : (b : Bool) → bytes_eq f.name name ≡ b
-        → (find (λ g. bytes_eq g.name name) fs ≡ None → position (bytes_eq name) (map (λ g. g.name) fs) ≡ None)
-        → cond b (Some f) (find (λ g. bytes_eq g.name name) fs) ≡ None
-        → next_place (bytes_eq name f.name) (position (bytes_eq name) (map (λ g. g.name) fs)) ≡ None
-    go true e rest h = cc
-    go false e rest h = rw (apart f.name name e) (rw (rest h) refl)
 
 -- what the table says of a name that is free
 pub free_name : (s : Table) (v : TermsView) (k : KnownView) (sc : Script) (name : List ℕ) → IsScript s v k sc → is_taken sc name ≡ false → HasNoEntry sc name × IsFreeName s sc name

@@ -5,13 +5,13 @@ use Rattle.sexpr.specs.declared.causes.Cause.TheVariants.{Repeated, LeftOut}
 use Rattle.sexpr.specs.declared.causes.Refusal.{Refusal}
 use Rattle.sym_table.specs.Table.{Table}
 use Rattle.term_pool.specs.Views.{TermsView}
-use Rattle.smtlib_reader.specs.Commands.{set_logic}
-use Rattle.smtlib_reader.specs.Forms.{Name}
-use Rattle.smtlib_reader.specs.Problems.{performed}
-use Rattle.smtlib_reader.specs.Scripts.{Script, Outcome, done, refuse}
+use Rattle.problem_text.specs.Commands.{set_logic}
+use Rattle.text_items.specs.ItemShapes.{Name}
+use Rattle.problem_text.specs.Problems.{performed}
+use Rattle.problem_text.specs.Scripts.{Script, Outcome, done, refuse}
 use Rattle.smtlib_reader.specs.Sessions.{IsSession, top, Performs}
-use Rattle.smtlib_reader.specs.Words.{is_among, logics}
-use Rattle.smtlib_reader.specs.declared.faults.ReadFault.{ReadFault}
+use Rattle.problem_text.specs.Words.{is_among, logics}
+use Rattle.term_names.specs.declared.faults.ReadFault.{ReadFault}
 use Rattle.smtlib_reader.specs.declared.session.Session.{Session}
 use Rattle.smtlib_reader.proofs.AgreeingScripts.{idle_agrees}
 use Rattle.smtlib_reader.proofs.CommandSteps.{performs_done, performs_refused}

@@ -12,20 +12,20 @@ use Rattle.sym_table.specs.Table.{Table, IsSortName, IsDeclaredSort, Keeps, with
 use Rattle.sym_table.specs.Words.{IsBuiltIn, built_in_words}
 use Rattle.term_model.specs.declared.symbols.Sort.{Sort}
 use Rattle.term_pool.specs.Views.{TermsView}
-use Rattle.smtlib_reader.specs.Commands.{declare_sort}
-use Rattle.smtlib_reader.specs.Forms.{Name}
-use Rattle.smtlib_reader.specs.Known.{KnownView, known_entry}
-use Rattle.smtlib_reader.specs.Problems.{performed}
-use Rattle.smtlib_reader.specs.Scripts as spec
-use Rattle.smtlib_reader.specs.Scripts.{Script, Outcome, done, refuse}
+use Rattle.problem_text.specs.Commands.{declare_sort}
+use Rattle.text_items.specs.ItemShapes.{Name}
+use Rattle.term_names.specs.Known.{KnownView, known_entry}
+use Rattle.problem_text.specs.Problems.{performed}
+use Rattle.problem_text.specs.Scripts as spec
+use Rattle.problem_text.specs.Scripts.{Script, Outcome, done, refuse}
 use Rattle.smtlib_reader.specs.Sessions.{IsSession, top, Performs}
-use Rattle.smtlib_reader.specs.Standing.{IsScript}
-use Rattle.smtlib_reader.specs.Words.{is_among, is_built_in}
-use Rattle.smtlib_reader.specs.declared.faults.ReadFault.{ReadFault}
+use Rattle.term_names.specs.Standing.{IsScript}
+use Rattle.problem_text.specs.Words.{is_among, is_built_in}
+use Rattle.term_names.specs.declared.faults.ReadFault.{ReadFault}
 use Rattle.smtlib_reader.specs.declared.session.Session.{Session}
 use Rattle.smtlib_reader.proofs.AgreeingScripts.{meant_moves, idle_moves, all_refer_still}
 use Rattle.smtlib_reader.proofs.CommandSteps.{performs_done, performs_refused, performs_memory}
-use Rattle.smtlib_reader.proofs.Staying.{keeps_none}
+use Rattle.term_reader.proofs.Staying.{keeps_none}
 
 -- a name at a place is among the names, and one among them has a place
 among_at : (names : List (List ℕ)) (n : ℕ) (name : List ℕ) → slice_get names n ≡ Some name → is_among names name ≡ true

@@ -5,19 +5,20 @@ use Rattle.sym_table.specs.Table.{Table}
 use Rattle.term_model.specs.Terms.{Var}
 use Rattle.term_pool.specs.Views.{TermsView}
 use Rattle.smtlib_reader.specs.Defining.{within, body_read, IsReady, ReadsBody}
-use Rattle.smtlib_reader.specs.Forms.{form_of}
-use Rattle.smtlib_reader.specs.Known.{KnownView, known_entry}
-use Rattle.smtlib_reader.specs.Reading.{IsIdle, Reads}
-use Rattle.smtlib_reader.specs.Replacement.{HasNoLet}
-use Rattle.smtlib_reader.specs.Scope.{Scoped}
-use Rattle.smtlib_reader.specs.Scripts.{Typed, Macro, Script, Outcome, done}
-use Rattle.smtlib_reader.specs.Standing.{IsScript, IsMeant, macro_in}
-use Rattle.smtlib_reader.specs.Terms.{read_term}
-use Rattle.smtlib_reader.specs.declared.faults.ReadFault.{ReadFault}
-use Rattle.smtlib_reader.specs.declared.known.KnownEntry.{KnownEntry}
-use Rattle.smtlib_reader.specs.declared.reader.Reader.{Reader}
-use Rattle.smtlib_reader.specs.declared.values.Value.{Value}
-use Rattle.smtlib_reader.proofs.LetFreeTerms.{IsFreeIn, parameters-free, term-free}
+use Rattle.problem_text.specs.Forms.{form_of}
+use Rattle.term_names.specs.Known.{KnownView, known_entry}
+use Rattle.term_reader.specs.Reading.{IsIdle, Reads}
+use Rattle.problem_text.specs.Replacement.{HasNoLet}
+use Rattle.term_names.specs.Scope.{Scoped}
+use Rattle.problem_text.specs.TypedTerms.{Typed}
+use Rattle.problem_text.specs.Scripts.{Macro, Script, Outcome, done}
+use Rattle.term_names.specs.Standing.{IsScript, IsMeant, macro_in}
+use Rattle.problem_text.specs.Terms.{read_term}
+use Rattle.term_names.specs.declared.faults.ReadFault.{ReadFault}
+use Rattle.term_names.specs.declared.known.KnownEntry.{KnownEntry}
+use Rattle.term_reader.specs.declared.reader.Reader.{Reader}
+use Rattle.term_expansion.specs.declared.values.Value.{Value}
+use Rattle.problem_text.proofs.LetFreeTerms.{IsFreeIn, parameters-free, term-free}
 
 -- no macro that a name is found to be has a let
 abbrev MacrosHaveNoLet : Script → Type 0

@@ -9,25 +9,26 @@ use Rattle.term_model.specs.declared.symbols.Sort.{Sort}
 use Rattle.term_model.specs.Terms.{Var, Term, sort_eq}
 use Rattle.term_model.proofs.Tests.{sort_eq_decides}
 use Rattle.term_pool.specs.Views.{TermsView}
-use Rattle.smtlib_reader.specs.Commands.{refused}
+use Rattle.problem_text.specs.Commands.{refused}
 use Rattle.smtlib_reader.specs.Defining.{within, body_read, macro_defined, AreListed, ReadsBody, Defines}
-use Rattle.smtlib_reader.specs.Entries.{lookup}
-use Rattle.smtlib_reader.specs.Forms.{form_of}
-use Rattle.smtlib_reader.specs.Known.{KnownView}
-use Rattle.smtlib_reader.specs.Reading.{IsReadTerm}
-use Rattle.smtlib_reader.specs.Scripts.{Typed, Macro, Script, Outcome, done, refuse, goes_on, with_macro}
+use Rattle.term_names.specs.Entries.{lookup}
+use Rattle.problem_text.specs.Forms.{form_of}
+use Rattle.term_names.specs.Known.{KnownView}
+use Rattle.term_reader.specs.Reading.{IsReadTerm}
+use Rattle.problem_text.specs.TypedTerms.{Typed}
+use Rattle.problem_text.specs.Scripts.{Macro, Script, Outcome, done, refuse, goes_on, with_macro}
 use Rattle.smtlib_reader.specs.Sessions.{IsReadBy}
-use Rattle.smtlib_reader.specs.Standing.{IsReservedName, AddsNoSymbols}
+use Rattle.term_names.specs.Standing.{IsReservedName, AddsNoSymbols}
 use Rattle.smtlib_reader.specs.declared.defining.Listed.{Listed}
-use Rattle.smtlib_reader.specs.declared.entries.Entry.{Entry}
-use Rattle.smtlib_reader.specs.declared.entries.Macro as held_macro
-use Rattle.smtlib_reader.specs.declared.faults.ReadFault.{ReadFault}
-use Rattle.smtlib_reader.specs.declared.reader.Reader.{Reader}
-use Rattle.smtlib_reader.specs.declared.values.Value.{Value}
+use Rattle.term_names.specs.declared.entries.Entry.{Entry}
+use Rattle.term_names.specs.declared.entries.Macro as held_macro
+use Rattle.term_names.specs.declared.faults.ReadFault.{ReadFault}
+use Rattle.term_reader.specs.declared.reader.Reader.{Reader}
+use Rattle.term_expansion.specs.declared.values.Value.{Value}
 use Rattle.smtlib_reader.proofs.DefinedMacros.{PutsMacro, defined_script, reserved_name, own_reserved}
-use Rattle.smtlib_reader.proofs.Growing.{Reads, reads_then}
+use Rattle.problem_text.proofs.Growing.{Reads, reads_then}
 use Rattle.smtlib_reader.proofs.KeptByReading.{IsReservedIn, still_reserved}
-use Rattle.smtlib_reader.proofs.Staying.{leaves_stay, places_more, lacks_more}
+use Rattle.term_reader.proofs.Staying.{leaves_stay, places_more, lacks_more}
 
 -- a sort is the expected one, or refused
 abbrev pub checked : Bool → ℕ → Result ⊤ Refusal

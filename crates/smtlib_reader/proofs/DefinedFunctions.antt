@@ -9,28 +9,30 @@ use Rattle.sym_table.specs.Table.{Table}
 use Rattle.term_model.specs.declared.symbols.Sort.{Sort}
 use Rattle.term_model.specs.Terms.{Var, sort_eq}
 use Rattle.term_pool.specs.Views.{TermsView, KeepsTerms}
-use Rattle.smtlib_reader.specs.Commands.{Command, define_fun}
+use Rattle.problem_text.specs.Commands.{Command, define_fun}
 use Rattle.smtlib_reader.specs.Defining.{Signature, signature_from, IsSignatureRead, within, body_read, macro_defined, IsDefining, Defines}
-use Rattle.smtlib_reader.specs.Entries.{EntriesView, lookup}
-use Rattle.smtlib_reader.specs.Forms.{Name, form_of}
-use Rattle.smtlib_reader.specs.Known.{KnownView}
-use Rattle.smtlib_reader.specs.Problems.{performed}
-use Rattle.smtlib_reader.specs.Scripts.{Typed, Script, Outcome, done, refuse, given, goes_on, and_then, is_taken, with_name, with_macro}
+use Rattle.term_names.specs.Entries.{EntriesView, lookup}
+use Rattle.text_items.specs.ItemShapes.{Name}
+use Rattle.problem_text.specs.Forms.{form_of}
+use Rattle.term_names.specs.Known.{KnownView}
+use Rattle.problem_text.specs.Problems.{performed}
+use Rattle.problem_text.specs.TypedTerms.{Typed}
+use Rattle.problem_text.specs.Scripts.{Script, Outcome, done, refuse, given, goes_on, and_then, is_taken, with_name, with_macro}
 use Rattle.smtlib_reader.specs.Sessions.{IsSession, Performs}
-use Rattle.smtlib_reader.specs.Sorts.{chained, sort_from, parameters_from}
-use Rattle.smtlib_reader.specs.Standing.{AddsNoSymbols}
-use Rattle.smtlib_reader.specs.Words.{is_among, is_built_in}
-use Rattle.smtlib_reader.specs.declared.faults.ReadFault.{ReadFault}
-use Rattle.smtlib_reader.specs.declared.nodes.Node.{Node}
+use Rattle.problem_text.specs.Sorts.{chained, sort_from, parameters_from}
+use Rattle.term_names.specs.Standing.{AddsNoSymbols}
+use Rattle.problem_text.specs.Words.{is_among, is_built_in}
+use Rattle.term_names.specs.declared.faults.ReadFault.{ReadFault}
+use Rattle.text_items.specs.declared.nodes.Node.{Node}
 use Rattle.smtlib_reader.specs.declared.parameters.Parameter.{Parameter}
-use Rattle.smtlib_reader.specs.declared.reader.Reader.{Reader}
+use Rattle.term_reader.specs.declared.reader.Reader.{Reader}
 use Rattle.smtlib_reader.specs.declared.session.Session.{Session}
 use Rattle.smtlib_reader.proofs.AssertedTerms.{all_stay}
 use Rattle.smtlib_reader.proofs.DefinedMacros.{TakesName, name_reserved, reserved_script, no_base_entry}
-use Rattle.smtlib_reader.proofs.GivenNames.{either_false, no_entry}
+use Rattle.term_reader.proofs.GivenNames.{either_false, no_entry}
 use Rattle.smtlib_reader.proofs.KeptByReading.{same_declared}
-use Rattle.smtlib_reader.proofs.Outcomes.{Ends, ends-and_then}
-use Rattle.smtlib_reader.proofs.Staying.{places_none}
+use Rattle.problem_text.proofs.Outcomes.{Ends, ends-and_then}
+use Rattle.term_reader.proofs.Staying.{places_none}
 
 -- The functions and the assertions are the same, and the same commands stand before.
 pub record IsStill (old new : Script) : Type 0 where

@@ -6,19 +6,19 @@ use Rattle.std.proofs.lemmas.List.Folds.{find-append, list_any-append}
 use Rattle.std.proofs.lemmas.Slice.Eq.{bytes_eq-Decides}
 use Rattle.sym_table.specs.Table.{Table}
 use Rattle.term_pool.specs.Views.{TermsView}
-use Rattle.smtlib_reader.specs.Entries.{EntriesView, lookup}
-use Rattle.smtlib_reader.specs.Known.{KnownView, known_entry, own_entry, base_entry, PutsKnown, macro_of, named_of}
-use Rattle.smtlib_reader.specs.Scripts.{Macro, Script, with_name, with_macro}
-use Rattle.smtlib_reader.specs.Standing.{IsScript, IsMeant, IsMacroOf, HasNoEntry, IsFunctionAt, IsFreeName, IsReservedName, macro_in}
-use Rattle.smtlib_reader.specs.Words.{is_among}
-use Rattle.smtlib_reader.specs.declared.entries.Entry.{Entry}
-use Rattle.smtlib_reader.specs.declared.entries.Macro as macro
-use Rattle.smtlib_reader.specs.declared.entries.Named as held_named
-use Rattle.smtlib_reader.specs.declared.known.KnownEntry.{KnownEntry}
-use Rattle.smtlib_reader.specs.declared.known.Which.{Which}
-use Rattle.smtlib_reader.specs.declared.known.Which.TheVariants.{Base, Own}
-use Rattle.smtlib_reader.proofs.GivenNames.{slice_get-before, macros_kept, apart, or_none, or_false}
-use Rattle.smtlib_reader.proofs.HeldVariables.{slice_get-last}
+use Rattle.term_names.specs.Entries.{EntriesView, lookup}
+use Rattle.term_names.specs.Known.{KnownView, known_entry, own_entry, base_entry, PutsKnown, macro_of, named_of}
+use Rattle.problem_text.specs.Scripts.{Macro, Script, with_name, with_macro}
+use Rattle.term_names.specs.Standing.{IsScript, IsMeant, IsMacroOf, HasNoEntry, IsFunctionAt, IsFreeName, IsReservedName, macro_in}
+use Rattle.problem_text.specs.Words.{is_among}
+use Rattle.term_names.specs.declared.entries.Entry.{Entry}
+use Rattle.term_names.specs.declared.entries.Macro as macro
+use Rattle.term_names.specs.declared.entries.Named as held_named
+use Rattle.term_names.specs.declared.known.KnownEntry.{KnownEntry}
+use Rattle.term_names.specs.declared.known.Which.{Which}
+use Rattle.term_names.specs.declared.known.Which.TheVariants.{Base, Own}
+use Rattle.term_reader.proofs.GivenNames.{slice_get-before, macros_kept, apart, or_none, or_false}
+use Rattle.term_names.proofs.HeldVariables.{slice_get-last}
 use Rattle.smtlib_reader.proofs.KeptByReading.{IsReservedIn}
 
 named_same : (old new : KnownView) → new.own.named ≡ old.own.named → new.base ≡ old.base → (w : Which) → named_of new w ≡ named_of old w

@@ -9,22 +9,22 @@ use Rattle.term_model.specs.Terms.{Var}
 use Rattle.term_pool.specs.StandsFor.{variable_leaf}
 use Rattle.term_pool.specs.Views.{TermsView}
 use Rattle.smtlib_reader.specs.Defining.{IsAdded, AreListed, IsReady}
-use Rattle.smtlib_reader.specs.Heights.{height}
-use Rattle.smtlib_reader.specs.InScope.{IsScope, AreBound}
-use Rattle.smtlib_reader.specs.Names.{Bound, Place, itself, inside}
+use Rattle.problem_text.specs.Heights.{height}
+use Rattle.term_names.specs.InScope.{IsScope, AreBound}
+use Rattle.problem_text.specs.Names.{Bound, Place, itself, inside}
 use Rattle.smtlib_reader.specs.Parameters.{IsParameter, AreParameters}
-use Rattle.smtlib_reader.specs.Reading.{IsIdle}
-use Rattle.smtlib_reader.specs.Scope.{Scoped}
-use Rattle.smtlib_reader.specs.Scripts.{Script}
+use Rattle.term_reader.specs.Reading.{IsIdle}
+use Rattle.term_names.specs.Scope.{Scoped}
+use Rattle.problem_text.specs.Scripts.{Script}
 use Rattle.smtlib_reader.specs.Sessions.{top}
-use Rattle.smtlib_reader.specs.Standing.{AreLeavesOf, AddsNoSymbols}
-use Rattle.smtlib_reader.specs.Values.{IsValue}
+use Rattle.term_names.specs.Standing.{AreLeavesOf, AddsNoSymbols}
+use Rattle.term_expansion.specs.Values.{IsValue}
 use Rattle.smtlib_reader.specs.declared.defining.Listed.{Listed}
-use Rattle.smtlib_reader.specs.declared.nodes.Node.{Node}
+use Rattle.text_items.specs.declared.nodes.Node.{Node}
 use Rattle.smtlib_reader.specs.declared.parameters.Parameter.{Parameter}
-use Rattle.smtlib_reader.specs.declared.reader.Reader.{Reader}
-use Rattle.smtlib_reader.specs.declared.values.Value.{Value}
-use Rattle.smtlib_reader.proofs.Staying.{bound_stays, keeps_none, scope_stays, script_stays}
+use Rattle.term_reader.specs.declared.reader.Reader.{Reader}
+use Rattle.term_expansion.specs.declared.values.Value.{Value}
+use Rattle.term_reader.proofs.Staying.{bound_stays, keeps_none, scope_stays, script_stays}
 
 -- a leaf, as a term
 pub is_added : (s : Table) (v : TermsView) (old new : List Value) (k : ℕ) (name : List ℕ) (sort : Sort) (x : Var) (c : Value)

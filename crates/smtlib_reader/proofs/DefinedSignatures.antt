@@ -5,12 +5,12 @@ use Rattle.sexpr.specs.Items.{Item, Items, no_items, item}
 use Rattle.term_model.specs.declared.symbols.Sort.{Sort}
 use Rattle.term_model.specs.Terms.{Var}
 use Rattle.smtlib_reader.specs.Defining.{signature_from}
-use Rattle.smtlib_reader.specs.Nodes.{AreNodes}
+use Rattle.text_items.specs.Nodes.{AreNodes}
 use Rattle.smtlib_reader.specs.Parameters.{AreParameters}
-use Rattle.smtlib_reader.specs.Sorts.{chained, sort_from, parameter_from, parameters_from}
-use Rattle.smtlib_reader.specs.declared.nodes.Node.{Node}
+use Rattle.problem_text.specs.Sorts.{chained, sort_from, parameter_from, parameters_from}
+use Rattle.text_items.specs.declared.nodes.Node.{Node}
 use Rattle.smtlib_reader.specs.declared.parameters.Parameter.{Parameter}
-use Rattle.smtlib_reader.proofs.NodeSteps.{node_behind}
+use Rattle.text_items.proofs.NodeSteps.{node_behind}
 
 abbrev read_list : List Var → Result (List Var) Refusal
 read_list xs = Ok xs

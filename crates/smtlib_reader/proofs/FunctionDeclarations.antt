@@ -9,18 +9,19 @@ use Rattle.sym_table.specs.Leaf.{function}
 use Rattle.sym_table.specs.Table.{Table, IsFunctionName, Keeps, with_leaf}
 use Rattle.term_model.specs.declared.symbols.Sort.{Sort}
 use Rattle.term_pool.specs.Views.{TermsView}
-use Rattle.smtlib_reader.specs.Commands.{declare_fun}
-use Rattle.smtlib_reader.specs.Faults.{IsFaultOf}
-use Rattle.smtlib_reader.specs.Forms.{Name}
-use Rattle.smtlib_reader.specs.Problems.{performed}
-use Rattle.smtlib_reader.specs.Scripts.{Script, is_taken, with_name, with_function, Outcome, done, refuse, given, and_then}
+use Rattle.problem_text.specs.Commands.{declare_fun}
+use Rattle.term_names.specs.Faults.{IsFaultOf}
+use Rattle.text_items.specs.ItemShapes.{Name}
+use Rattle.problem_text.specs.Problems.{performed}
+use Rattle.problem_text.specs.Scripts.{Script, is_taken, with_name, with_function, Outcome, done, refuse, given, and_then}
 use Rattle.smtlib_reader.specs.Sessions.{IsSession, Performs}
-use Rattle.smtlib_reader.specs.Sorts.{sort_from, sorts_from}
-use Rattle.smtlib_reader.specs.Words.{is_among, is_built_in}
-use Rattle.smtlib_reader.specs.declared.faults.ReadFault.{ReadFault}
+use Rattle.problem_text.specs.Sorts.{sort_from, sorts_from}
+use Rattle.problem_text.specs.Words.{is_among, is_built_in}
+use Rattle.term_names.specs.declared.faults.ReadFault.{ReadFault}
 use Rattle.smtlib_reader.specs.declared.session.Session.{Session}
 use Rattle.smtlib_reader.proofs.CommandSteps.{performs_done, performs_refused, performs_memory}
-use Rattle.smtlib_reader.proofs.DeclaredFunctions.{no_position, free_name, function_session}
+use Rattle.term_reader.proofs.FunctionNames.{no_position}
+use Rattle.smtlib_reader.proofs.DeclaredFunctions.{free_name, function_session}
 
 -- a name that is not taken is that of no function
 module _ (s : Table) (v : TermsView) (d : Session) (sc : Script) (name : List ℕ) (is : IsSession s v d sc) (untaken : is_taken sc name ≡ false) where

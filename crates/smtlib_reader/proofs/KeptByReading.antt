@@ -7,15 +7,17 @@ use Rattle.sexpr.specs.declared.causes.Cause.TheVariants.{Repeated, TooHigh}
 use Rattle.sexpr.specs.declared.causes.Refusal.{Refusal}
 use Rattle.term_model.specs.declared.symbols.Sort.{Sort}
 use Rattle.term_model.specs.Terms.{Term, numeral}
-use Rattle.smtlib_reader.specs.Words.{is_among, is_built_in}
-use Rattle.smtlib_reader.specs.Forms.{Name, Form, faulty, number, symbol, application, let_form, annotated, Forms, no_forms, form, Binds, no_binds, bind}
-use Rattle.smtlib_reader.specs.Heights.{height, most_height}
-use Rattle.smtlib_reader.specs.Scripts.{Typed, Named, Script, is_taken, with_named, with_term, with_let_name, Outcome, done, refuse, and_then}
-use Rattle.smtlib_reader.specs.Names.{Place, Meaning, meaning_of, applied, inside, let_term}
-use Rattle.smtlib_reader.specs.Standing.{named_in, macro_in, function_in}
-use Rattle.smtlib_reader.specs.Terms.{settled, with_meaning, with_names, term_from, terms_from, bounds_from}
-use Rattle.smtlib_reader.proofs.GivenNames.{named_before, taken_before}
-use Rattle.smtlib_reader.proofs.Outcomes.{Ends, ends-and_then}
+use Rattle.problem_text.specs.Words.{is_among, is_built_in}
+use Rattle.text_items.specs.ItemShapes.{Name}
+use Rattle.problem_text.specs.Forms.{Form, faulty, number, symbol, application, let_form, annotated, Forms, no_forms, form, Binds, no_binds, bind}
+use Rattle.problem_text.specs.Heights.{height, most_height}
+use Rattle.problem_text.specs.TypedTerms.{Typed}
+use Rattle.problem_text.specs.Scripts.{Named, Script, is_taken, with_named, with_term, with_let_name, Outcome, done, refuse, and_then}
+use Rattle.problem_text.specs.Names.{Place, Meaning, meaning_of, applied, inside, let_term}
+use Rattle.term_names.specs.Standing.{named_in, macro_in, function_in}
+use Rattle.problem_text.specs.Terms.{settled, with_meaning, with_names, term_from, terms_from, bounds_from}
+use Rattle.term_reader.proofs.GivenNames.{named_before, taken_before}
+use Rattle.problem_text.proofs.Outcomes.{Ends, ends-and_then}
 
 abbrev Anything : {A : Type 0} → A → Type 0
 Anything a = ⊤

@@ -2,11 +2,11 @@
 use Rattle.std.proofs.Common.{◌≡◌, ℕ, ◌+◌, ◌<◌, ◌≤◌, ◌∙◌, List, slice_get, Option, Some, None, refl, sym, ap, subst}
 use Rattle.std.specs.Option.{option_or}
 use Rattle.sexpr.specs.Items.{Item, word, quoted, string, list, Items, no_items, item, place_of}
-use Rattle.smtlib_reader.specs.declared.nodes.Node.{Node}
-use Rattle.smtlib_reader.specs.Forms.{excess, symbol_fault, pair_fault, pairs_fault}
-use Rattle.smtlib_reader.specs.Commands.{items_of}
-use Rattle.smtlib_reader.specs.Nodes.{IsNode, AreNodes}
-use Rattle.smtlib_reader.proofs.NodeItems.{place_told, next_told, begin_with, none_left, children}
+use Rattle.text_items.specs.declared.nodes.Node.{Node}
+use Rattle.text_items.specs.ItemShapes.{excess, symbol_fault, pair_fault, pairs_fault}
+use Rattle.text_items.specs.ItemShapes.{items_of}
+use Rattle.text_items.specs.Nodes.{IsNode, AreNodes}
+use Rattle.text_items.proofs.NodeItems.{place_told, next_told, begin_with, none_left, children}
 
 -- the fault of a pair by what stands in it
 abbrev inside : ℕ → Items → Option ℕ

@@ -15,17 +15,17 @@ use Rattle.sexpr.specs.Items.{Item, word, quoted, string, list, Items, no_items,
 use Rattle.term_model.specs.declared.symbols.Sort.{Sort}
 use Rattle.term_model.specs.Terms.{Var}
 use Rattle.sym_table.specs.Words.{built_in_words}
-use Rattle.smtlib_reader.specs.declared.faults.ReadFault.{ReadFault}
-use Rattle.smtlib_reader.specs.declared.nodes.Node.{Node}
+use Rattle.term_names.specs.declared.faults.ReadFault.{ReadFault}
+use Rattle.text_items.specs.declared.nodes.Node.{Node}
 use Rattle.smtlib_reader.specs.declared.parameters.Parameter.{Parameter}
-use Rattle.smtlib_reader.specs.Words.{is_among, is_built_in}
-use Rattle.smtlib_reader.specs.Forms.{Name, name_at, excess, symbol_fault, pair_fault, pairs_fault}
-use Rattle.smtlib_reader.specs.Commands.{refused}
-use Rattle.smtlib_reader.specs.Sorts.{chained, sort_from, parameter_from, parameters_from}
-use Rattle.smtlib_reader.specs.Nodes.{IsNode, AreNodes}
-use Rattle.smtlib_reader.specs.Layers.{IsNameNode}
+use Rattle.problem_text.specs.Words.{is_among, is_built_in}
+use Rattle.text_items.specs.ItemShapes.{Name, name_at, excess, symbol_fault, pair_fault, pairs_fault}
+use Rattle.problem_text.specs.Commands.{refused}
+use Rattle.problem_text.specs.Sorts.{chained, sort_from, parameter_from, parameters_from}
+use Rattle.text_items.specs.Nodes.{IsNode, AreNodes}
+use Rattle.text_items.specs.NameNodes.{IsNameNode}
 use Rattle.smtlib_reader.specs.Parameters.{IsParameter, AreParameters, AreNames, IsParameterRead, AreParametersRead}
-use Rattle.smtlib_reader.proofs.NodeItems.{has_first, same_node, next_told, name_here, begin_with, none_left}
+use Rattle.text_items.proofs.NodeItems.{has_first, same_node, next_told, name_here, begin_with, none_left}
 
 -- a pair without fault is a symbol at the node after the bracket, and an item at the node after that
 pub record HasPair (source : List ℕ) (nodes : List Node) (k : ℕ) (i : Item) (m : ℕ) : Type 0 where

@@ -10,16 +10,16 @@ use Rattle.sexpr.specs.Source.{source, position}
 use Rattle.sym_table.specs.Table.{Table}
 use Rattle.term_model.specs.Terms.{Term}
 use Rattle.term_pool.specs.Views.{TermsView, ReferToAll}
-use Rattle.smtlib_reader.specs.Making.{PlacesCellsOf, LacksCellOf}
+use Rattle.term_names.specs.Making.{PlacesCellsOf, LacksCellOf}
 use Rattle.smtlib_reader.specs.ProblemReading.{AreLeft, ReadsAll}
-use Rattle.smtlib_reader.specs.ProblemViews.{IsCounted}
-use Rattle.smtlib_reader.specs.Problems.{problem, StandsForProblem, IsFirstFault}
-use Rattle.smtlib_reader.specs.Reading.{EndsWith}
-use Rattle.smtlib_reader.specs.Scripts.{Script, Outcome, empty_script, done}
+use Rattle.term_reader.specs.ProblemViews.{IsCounted}
+use Rattle.problem_text.specs.Problems.{problem, StandsForProblem, IsFirstFault}
+use Rattle.term_reader.specs.Reading.{EndsWith}
+use Rattle.problem_text.specs.Scripts.{Script, Outcome, empty_script, done}
 use Rattle.smtlib_reader.specs.Sessions.{IsSession, IsReadBy}
-use Rattle.smtlib_reader.specs.declared.faults.ReadFault.{ReadFault}
+use Rattle.term_names.specs.declared.faults.ReadFault.{ReadFault}
 use Rattle.smtlib_reader.specs.declared.session.Session.{Session}
-use Rattle.smtlib_reader.proofs.Staying.{places_more, lacks_more}
+use Rattle.term_reader.proofs.Staying.{places_more, lacks_more}
 
 -- at the start all commands of the text are left
 starts : (text : List ℕ) (replaces : Bool) (items : Items) → StandsForItems text items → AreLeft text replaces 0 empty_script (problem replaces items)

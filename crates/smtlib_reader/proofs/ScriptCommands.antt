@@ -7,20 +7,20 @@ use Rattle.sym_table.specs.Table.{Table}
 use Rattle.term_model.specs.Terms.{Term}
 use Rattle.term_pool.specs.Views.{TermsView}
 use Rattle.smtlib_reader.specs.CommandShapes.{IsCommand, Says}
-use Rattle.smtlib_reader.specs.Commands.{Command, command_of}
-use Rattle.smtlib_reader.specs.Nodes.{IsNode}
+use Rattle.problem_text.specs.Commands.{Command, command_of}
+use Rattle.text_items.specs.Nodes.{IsNode}
 use Rattle.smtlib_reader.specs.ProblemReading.{HasItems, IsFirstItem, AreLeft, ReadsCommand}
-use Rattle.smtlib_reader.specs.Problems.{performed, ends, goes_on_after, commands}
-use Rattle.smtlib_reader.specs.Reading.{EndsWith}
-use Rattle.smtlib_reader.specs.Scripts.{Script, Outcome, done, goes_on, and_then}
+use Rattle.problem_text.specs.Problems.{performed, ends, goes_on_after, commands}
+use Rattle.term_reader.specs.Reading.{EndsWith}
+use Rattle.problem_text.specs.Scripts.{Script, Outcome, done, goes_on, and_then}
 use Rattle.smtlib_reader.specs.Sessions.{IsSession, IsReadBy, Performs}
 use Rattle.smtlib_reader.specs.declared.commands.Command as code
 use Rattle.smtlib_reader.specs.declared.commands.Command.TheVariants.{SetLogic, WithoutEffect, DeclareSort, DeclareFun, DefineFun, Assert, CheckSat, Exit}
-use Rattle.smtlib_reader.specs.declared.faults.ReadFault.{ReadFault}
-use Rattle.smtlib_reader.specs.declared.nodes.Node.{Node}
+use Rattle.term_names.specs.declared.faults.ReadFault.{ReadFault}
+use Rattle.text_items.specs.declared.nodes.Node.{Node}
 use Rattle.smtlib_reader.specs.declared.session.Session.{Session}
-use Rattle.smtlib_reader.proofs.Growing.{by_commands}
-use Rattle.smtlib_reader.proofs.Staying.{places_none, places_more, lacks_more}
+use Rattle.problem_text.proofs.Growing.{by_commands}
+use Rattle.term_reader.proofs.Staying.{places_none, places_more, lacks_more}
 
 -- the first of the commands, by its shape
 abbrev comes_of : Bool → Script → Items → Result Command Refusal → Outcome ⊤

@@ -6,10 +6,10 @@ use Rattle.sexpr.specs.declared.lexing.Token.{Token}
 use Rattle.sexpr.specs.Items.{Item, word, quoted, string, list, Items, no_items, item, IsItem, AreItems}
 use Rattle.sexpr.specs.Source.{source, position}
 use Rattle.sexpr.specs.Tokens.{Read, next_token, AreTokens}
-use Rattle.smtlib_reader.specs.Lexers.{GoesOnWith}
-use Rattle.smtlib_reader.specs.Nodes.{IsNode}
+use Rattle.text_items.specs.Lexers.{GoesOnWith}
+use Rattle.text_items.specs.Nodes.{IsNode}
 use Rattle.smtlib_reader.specs.ProblemReading.{HasItems, IsFirstItem}
-use Rattle.smtlib_reader.specs.declared.nodes.Node.{Node}
+use Rattle.text_items.specs.declared.nodes.Node.{Node}
 
 -- what reading one token tells of the tokens that are left
 abbrev Begins : Read → List Token → Type 0

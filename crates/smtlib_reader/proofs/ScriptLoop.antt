@@ -5,13 +5,13 @@ use Rattle.sexpr.specs.declared.lexing.Lexer.{Lexer}
 use Rattle.sexpr.specs.Source.{source, position}
 use Rattle.sym_table.specs.Table.{Table, Keeps}
 use Rattle.term_pool.specs.Views.{TermsView, KeepsTerms}
-use Rattle.smtlib_reader.specs.Making.{PlacesCellsOf}
+use Rattle.term_names.specs.Making.{PlacesCellsOf}
 use Rattle.smtlib_reader.specs.ProblemReading.{AreLeft, ReadsCommand, ReadsAll, most_after}
-use Rattle.smtlib_reader.specs.Scripts.{Script, Outcome}
+use Rattle.problem_text.specs.Scripts.{Script, Outcome}
 use Rattle.smtlib_reader.specs.Sessions.{IsSession, IsReadBy}
-use Rattle.smtlib_reader.specs.declared.faults.ReadFault.{ReadFault}
+use Rattle.term_names.specs.declared.faults.ReadFault.{ReadFault}
 use Rattle.smtlib_reader.specs.declared.session.Session.{Session}
-use Rattle.smtlib_reader.proofs.Staying.{table_keeps_none, table_keeps_then, keeps_none, keeps_then, places_none, places_then}
+use Rattle.term_reader.proofs.Staying.{table_keeps_none, table_keeps_then, keeps_none, keeps_then, places_none, places_then}
 
 -- The reading began with these, and is here now.
 pub record IsUnderWay (l : Lexer) (s : Table) (v : TermsView) (d : Session) (m : Lexer) (z : Table) (w : TermsView) (e : Session) : Type 0 where

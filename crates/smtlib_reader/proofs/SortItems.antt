@@ -17,46 +17,13 @@ use Rattle.sexpr.specs.Tokens.{AreTokens, token_text}
 use Rattle.sexpr.specs.Items.{Item, word, quoted, string, list, IsToken, IsBracket, name_spelled}
 use Rattle.term_model.specs.declared.symbols.Sort.{Sort}
 use Rattle.sym_table.specs.Table.{Table, IsDeclaredSort}
-use Rattle.smtlib_reader.specs.Commands.{refused}
-use Rattle.smtlib_reader.specs.Lexers.{GoesOnWith}
-use Rattle.smtlib_reader.specs.Sorts.{sort_from, sort_spelled, declared_sort}
-
--- the token has this kind, place and spelling, and then comes the rest
-pub record IsThis (text : List ℕ) (t : Token) (after : List Token) (kind : TokenKind) (at : ℕ) (spelling : List ℕ) (rest : List Token) : Type 0 where
-  pub kinds : t.kind ≡ kind
-  pub places : t.start ≡ at
-  pub spellings : token_text text t ≡ spelling
-  pub rests : after ≡ rest
-
-pub record SameFront (t u : Token) (after rest : List Token) : Type 0 where
-  pub first : t ≡ u
-  pub rests : after ≡ rest
-
-pub same_front : (t u : Token) (after rest : List Token) → ◌≡◌ {A = List Token} (t ∷ after) (u ∷ rest) → SameFront t u after rest
-same_front t u after rest e = record { first = cc; rests = cc }
-
-pub is_this : (text : List ℕ) (t : Token) (after : List Token) (kind : TokenKind) (at : ℕ) (spelling : List ℕ) (rest : List Token)
-    → IsToken text (t ∷ after) kind at spelling rest → IsThis text t after kind at spelling rest
-is_this text t after kind at spelling rest is =
-    let f = same_front t is.token after rest is.first in
-    record {
-      kinds = ap (λ u. u.kind) f.first ∙ is.same_kind;
-      places = ap (λ u. u.start) f.first ∙ is.same_place;
-      spellings = ap (token_text text) f.first ∙ is.same_spelling;
-      rests = f.rests;
-    }
+use Rattle.problem_text.specs.Commands.{refused}
+use Rattle.text_items.specs.Lexers.{GoesOnWith}
+use Rattle.problem_text.specs.Sorts.{sort_from, sort_spelled, declared_sort}
+use Rattle.text_items.proofs.FirstTokens.{IsThis, is_this, open_is_quoted, open_is_text, open_is_word, same_front}
 
 opens : (t bracket : Token) (after inside : List Token) → IsBracket (t ∷ after) Open bracket inside → t ≡ bracket
 opens t bracket after inside is = (same_front t bracket after inside is.first).first
-
-pub open_is_word : ◌≡◌ {A = TokenKind} Open Word → ⊥
-open_is_word e = cc
-
-pub open_is_quoted : ◌≡◌ {A = TokenKind} Open Quoted → ⊥
-open_is_quoted e = cc
-
-pub open_is_text : ◌≡◌ {A = TokenKind} Open Text → ⊥
-open_is_text e = cc
 
 -- an opening bracket begins a list
 pub list_left_out : (sorts : List (List ℕ)) (l : Lexer) (t : Token) → t.kind ≡ Open → (i : Item) (rest : List Token) → GoesOnWith l t i rest → refused LeftOut t.start ≡ sort_from sorts i

@@ -9,12 +9,12 @@ use Rattle.sexpr.specs.declared.lexing.TokenKind.TheVariants.{Open, Text, Quoted
 use Rattle.sexpr.specs.Tokens.{token_text}
 use Rattle.sexpr.specs.Items.{Item, word, quoted, string, list, Items, no_items, item, name_spelled}
 use Rattle.term_model.specs.declared.symbols.Sort.{Sort}
-use Rattle.smtlib_reader.specs.declared.nodes.Node.{Node}
-use Rattle.smtlib_reader.specs.Commands.{refused}
-use Rattle.smtlib_reader.specs.Nodes.{HasNode, IsTokenNode, IsNode, AreNodes}
-use Rattle.smtlib_reader.specs.Sorts.{chained, sort_from, sorts_from, sort_spelled}
-use Rattle.smtlib_reader.proofs.NodeRanges.{node_after, nodes_order}
-use Rattle.smtlib_reader.proofs.SortItems.{open_is_word, open_is_quoted, open_is_text}
+use Rattle.text_items.specs.declared.nodes.Node.{Node}
+use Rattle.problem_text.specs.Commands.{refused}
+use Rattle.text_items.specs.Nodes.{HasNode, IsTokenNode, IsNode, AreNodes}
+use Rattle.problem_text.specs.Sorts.{chained, sort_from, sorts_from, sort_spelled}
+use Rattle.text_items.proofs.NodeRanges.{node_after, nodes_order}
+use Rattle.text_items.proofs.FirstTokens.{open_is_word, open_is_quoted, open_is_text}
 
 -- where an item stands is a node, whose token lies in the text
 pub record Begins (source : List ℕ) (nodes : List Node) (k m : ℕ) : Type 0 where

@@ -5,10 +5,10 @@ use Rattle.sexpr.specs.declared.lexing.TokenKind.TheVariants.{Word}
 use Rattle.sexpr.specs.Tokens.{token_text}
 use Rattle.sexpr.specs.Words.{is_numeral}
 use Rattle.sexpr.specs.Items.{Item, word, quoted, string, list}
-use Rattle.smtlib_reader.specs.declared.nodes.Node.{Node}
-use Rattle.smtlib_reader.specs.Commands.{numeral_fault, value_of}
-use Rattle.smtlib_reader.specs.Nodes.{IsNode}
-use Rattle.smtlib_reader.proofs.NodeItems.{spelling_told}
+use Rattle.text_items.specs.declared.nodes.Node.{Node}
+use Rattle.problem_text.specs.Commands.{numeral_fault, value_of}
+use Rattle.text_items.specs.Nodes.{IsNode}
+use Rattle.text_items.proofs.NodeItems.{spelling_told}
 use Rattle.smtlib_reader.proofs.NumeralWords.{zero_numeral}
 
 has_numeral : (p : ℕ) (b : Bool) → (if b then None else Some p) ≡ None → b ≡ true

@@ -1,40 +1,17 @@
--- Commands as nodes spell them.
-use Rattle.std.specs.Prelude.{◌≡◌, ℕ, ◌<◌, ◌≤◌, ◌==◌, Bool, List, [], ◌∷◌, length, slice_get, Option, Some, None, if◌then◌else◌, codes, bytes_eq, Result, Ok, Err}
+-- Private. Commands as nodes spell them.
+use Rattle.std.specs.Prelude.{◌≡◌, ℕ, ◌≤◌, ◌==◌, Bool, List, [], ◌∷◌, Option, Some, None, if◌then◌else◌, codes, bytes_eq, Result, Ok, Err}
 use Rattle.sexpr.specs.declared.causes.Cause.TheVariants.{BadCommand, LeftOut, UnknownCommand}
 use Rattle.sexpr.specs.declared.causes.Refusal.{Refusal}
 use Rattle.sexpr.specs.Words.{is_symbol}
-use Rattle.sexpr.specs.Items.{Item, word, quoted, string, list, Items, no_items, item}
-use Rattle.smtlib_reader.specs.declared.nodes.Node.{Node}
+use Rattle.sexpr.specs.Items.{Item, word, quoted, string, list, Items}
+use Rattle.text_items.specs.declared.nodes.Node.{Node}
 use Rattle.smtlib_reader.specs.declared.commands.Command.{Command}
 use Rattle.smtlib_reader.specs.declared.command_words.CommandWord.{CommandWord}
-use Rattle.smtlib_reader.specs.Words.{is_among, left_out_commands}
-use Rattle.smtlib_reader.specs.Forms.{Name, excess, pairs_fault}
-use Rattle.smtlib_reader.specs.Commands.{Command as Shape, set_logic, without_effect, declare_sort, declare_fun, define_fun, assert_term, check_sat, exit, refused, shaped, assert_shape, declare_fun_shape, declare_const_shape, define_fun_shape, declare_sort_shape, set_logic_shape, attribute_shape}
-use Rattle.smtlib_reader.specs.Nodes.{IsNode, AreNodes}
-use Rattle.smtlib_reader.specs.Layers.{BeginsAt, IsNameNode}
-
--- The node's token lies in the text, and the node after its item lies behind it, at the end of the nodes at most.
-pub record IsSpan (source : List ℕ) (nodes : List Node) (k : ℕ) (node : Node) : Type 0 where
-  pub some : node.token.start < node.token.end
-  pub within : node.token.end ≤ length source
-  pub behind : k < node.next
-  pub inside : node.next ≤ length nodes
-
-abbrev pub AreSpans : List ℕ → List Node → Type 0
-AreSpans source nodes = (k : ℕ) (node : Node) → slice_get nodes k ≡ Some node → IsSpan source nodes k node
-
--- The first of the items is at node k, and the others begin at node next.
-pub record BeginWith (source : List ℕ) (nodes : List Node) (k : ℕ) (items : Items) (next last : ℕ) : Type 0 where
-  pub first : Item
-  pub others : Items
-  pub same : items ≡ item first others
-  pub here : IsNode source nodes k first next
-  pub there : AreNodes source nodes next others last
-
--- The first of the items was taken, or there is none, which is a bad command at this place.
-abbrev pub IsTaken : List ℕ → List Node → ℕ → Items → ℕ → ℕ → Result ℕ Refusal → Type 0
-IsTaken source nodes place items next last (Ok k) = BeginWith source nodes k items next last
-IsTaken source nodes place items next last (Err r) = (items ≡ no_items) × (r ≡ record { cause = BadCommand; at = place })
+use Rattle.problem_text.specs.Words.{is_among, left_out_commands}
+use Rattle.text_items.specs.ItemShapes.{Name, excess, pairs_fault}
+use Rattle.problem_text.specs.Commands.{Command as Shape, set_logic, without_effect, declare_sort, declare_fun, define_fun, assert_term, check_sat, exit, refused, shaped, assert_shape, declare_fun_shape, declare_const_shape, define_fun_shape, declare_sort_shape, set_logic_shape, attribute_shape}
+use Rattle.text_items.specs.Nodes.{IsNode, AreNodes}
+use Rattle.text_items.specs.NameNodes.{BeginsAt, IsNameNode}
 
 -- The nodes say the command: a name and nodes of sorts, parameters and terms, with what kind of numeral an arity is.
 pub record SaysSort (source : List ℕ) (nodes : List Node) (name arity : ℕ) (is_zero : Bool) (d : Shape) : Type 0 where

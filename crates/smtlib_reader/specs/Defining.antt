@@ -1,4 +1,4 @@
--- The parts of a command that defines a function (SMT-LIB 2.6, section 4.2.3), as the code holds them.
+-- Private. The parts of a command that defines a function (SMT-LIB 2.6, section 4.2.3), as the code holds them.
 use Rattle.std.specs.Prelude.{◌≡◌, ◌≤◌, ◌+◌, ℕ, true, if◌then◌else◌, List, [], ◌∷◌, ◌++◌, map, length, None, Result, Ok, Err, ⊤}
 use Rattle.sexpr.specs.declared.causes.Cause.TheVariants.{SortMismatch}
 use Rattle.sexpr.specs.declared.causes.Refusal.{Refusal}
@@ -8,24 +8,25 @@ use Rattle.term_model.specs.declared.symbols.Sort.{Sort}
 use Rattle.term_model.specs.Terms.{Var, variable, sort_eq}
 use Rattle.term_pool.specs.StandsFor.{variable_leaf}
 use Rattle.term_pool.specs.Views.{TermsView}
-use Rattle.smtlib_reader.specs.Entries.{lookup}
-use Rattle.smtlib_reader.specs.InScope.{IsScope}
-use Rattle.smtlib_reader.specs.Making.{PlacesCellsOf}
-use Rattle.smtlib_reader.specs.Names.{Place, itself}
+use Rattle.term_names.specs.Entries.{lookup}
+use Rattle.term_names.specs.InScope.{IsScope}
+use Rattle.term_names.specs.Making.{PlacesCellsOf}
+use Rattle.problem_text.specs.Names.{Place, itself}
 use Rattle.smtlib_reader.specs.Parameters.{AreParameters}
-use Rattle.smtlib_reader.specs.Reading.{IsReadTerm, EndsWith, IsIdle}
-use Rattle.smtlib_reader.specs.Scripts.{Typed, Script, Outcome, done, refuse, and_then, with_macro}
+use Rattle.term_reader.specs.Reading.{IsReadTerm, EndsWith, IsIdle}
+use Rattle.problem_text.specs.TypedTerms.{Typed}
+use Rattle.problem_text.specs.Scripts.{Script, Outcome, done, refuse, and_then, with_macro}
 use Rattle.smtlib_reader.specs.Sessions.{IsReadBy, top}
-use Rattle.smtlib_reader.specs.Sorts.{chained, sort_from, parameters_from}
-use Rattle.smtlib_reader.specs.Standing.{AreLeavesOf, IsScript, IsReservedName}
-use Rattle.smtlib_reader.specs.Terms.{read_term}
-use Rattle.smtlib_reader.specs.Values.{IsValue}
+use Rattle.problem_text.specs.Sorts.{chained, sort_from, parameters_from}
+use Rattle.term_names.specs.Standing.{AreLeavesOf, IsScript, IsReservedName}
+use Rattle.problem_text.specs.Terms.{read_term}
+use Rattle.term_expansion.specs.Values.{IsValue}
 use Rattle.smtlib_reader.specs.declared.defining.Listed.{Listed}
-use Rattle.smtlib_reader.specs.declared.faults.ReadFault.{ReadFault}
-use Rattle.smtlib_reader.specs.declared.nodes.Node.{Node}
+use Rattle.term_names.specs.declared.faults.ReadFault.{ReadFault}
+use Rattle.text_items.specs.declared.nodes.Node.{Node}
 use Rattle.smtlib_reader.specs.declared.parameters.Parameter.{Parameter}
-use Rattle.smtlib_reader.specs.declared.reader.Reader.{Reader}
-use Rattle.smtlib_reader.specs.declared.values.Value.{Value}
+use Rattle.term_reader.specs.declared.reader.Reader.{Reader}
+use Rattle.term_expansion.specs.declared.values.Value.{Value}
 
 -- what stands before the body: the parameters, and the sort of the uses
 pub record Signature : Type 0 where

@@ -1,14 +1,14 @@
--- The parameters of a defined function as nodes spell them.
+-- Private. The parameters of a defined function as nodes spell them.
 use Rattle.std.specs.Prelude.{◌≡◌, ℕ, List, [], ◌∷◌, bytes_eq, Result, Ok, Err}
 use Rattle.std.specs.Borrow.{Bor}
 use Rattle.std.specs.List.{list_any}
 use Rattle.sexpr.specs.declared.causes.Refusal.{Refusal}
 use Rattle.term_model.specs.Terms.{Var}
-use Rattle.smtlib_reader.specs.declared.faults.ReadFault.{ReadFault}
-use Rattle.smtlib_reader.specs.declared.nodes.Node.{Node}
+use Rattle.term_names.specs.declared.faults.ReadFault.{ReadFault}
+use Rattle.text_items.specs.declared.nodes.Node.{Node}
 use Rattle.smtlib_reader.specs.declared.parameters.Parameter.{Parameter}
-use Rattle.smtlib_reader.specs.Words.{is_among}
-use Rattle.smtlib_reader.specs.Layers.{IsNameNode}
+use Rattle.problem_text.specs.Words.{is_among}
+use Rattle.text_items.specs.NameNodes.{IsNameNode}
 
 -- The parameter's node has the name of the variable, and its sort is the variable's.
 pub record IsParameter (source : List ℕ) (nodes : List Node) (p : Parameter) (x : Var) : Type 0 where

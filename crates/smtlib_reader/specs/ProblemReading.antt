@@ -1,18 +1,18 @@
--- A problem's text that is being read, item by item.
+-- Private. A problem's text that is being read, item by item.
 use Rattle.std.specs.Prelude.{◌≡◌, ◌+◌, ◌-◌, ℕ, Bool, true, false, List, [], length, Result, Ok, Err, ⊤}
 use Rattle.sexpr.specs.Items.{Item, Items, no_items, item, AreItems}
 use Rattle.sexpr.specs.Tokens.{AreTokens}
 use Rattle.sexpr.specs.declared.lexing.Token.{Token}
 use Rattle.sym_table.specs.Table.{Table}
 use Rattle.term_pool.specs.Views.{TermsView}
-use Rattle.smtlib_reader.specs.Making.{PlacesCellsOf}
-use Rattle.smtlib_reader.specs.Nodes.{IsNode}
-use Rattle.smtlib_reader.specs.Problems.{commands}
-use Rattle.smtlib_reader.specs.Reading.{EndsWith}
-use Rattle.smtlib_reader.specs.Scripts.{Script, Outcome, done}
+use Rattle.term_names.specs.Making.{PlacesCellsOf}
+use Rattle.text_items.specs.Nodes.{IsNode}
+use Rattle.problem_text.specs.Problems.{commands}
+use Rattle.term_reader.specs.Reading.{EndsWith}
+use Rattle.problem_text.specs.Scripts.{Script, Outcome, done}
 use Rattle.smtlib_reader.specs.Sessions.{IsSession, IsReadBy}
-use Rattle.smtlib_reader.specs.declared.faults.ReadFault.{ReadFault}
-use Rattle.smtlib_reader.specs.declared.nodes.Node.{Node}
+use Rattle.term_names.specs.declared.faults.ReadFault.{ReadFault}
+use Rattle.text_items.specs.declared.nodes.Node.{Node}
 use Rattle.smtlib_reader.specs.declared.session.Session.{Session}
 
 -- from this place on the text is that of these items

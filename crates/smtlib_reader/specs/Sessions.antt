@@ -1,13 +1,13 @@
--- A problem that is being read, command by command.
+-- Private. A problem that is being read, command by command.
 use Rattle.std.specs.Prelude.{◌≡◌, Bool, [], map, Contains, Result, Ok, Err, ⊤}
 use Rattle.sym_table.specs.Table.{Table}
 use Rattle.term_model.specs.Terms.{Term}
 use Rattle.term_pool.specs.Views.{TermsView, ReferToAll}
-use Rattle.smtlib_reader.specs.Making.{PlacesCellsOf}
-use Rattle.smtlib_reader.specs.Names.{Place}
-use Rattle.smtlib_reader.specs.Reading.{IsIdle, EndsWith}
-use Rattle.smtlib_reader.specs.Scripts.{Script, Outcome, done}
-use Rattle.smtlib_reader.specs.declared.faults.ReadFault.{ReadFault}
+use Rattle.term_names.specs.Making.{PlacesCellsOf}
+use Rattle.problem_text.specs.Names.{Place}
+use Rattle.term_reader.specs.Reading.{IsIdle, EndsWith}
+use Rattle.problem_text.specs.Scripts.{Script, Outcome, done}
+use Rattle.term_names.specs.declared.faults.ReadFault.{ReadFault}
 use Rattle.smtlib_reader.specs.declared.session.Session.{Session}
 
 -- at the top of a problem no variable is in scope

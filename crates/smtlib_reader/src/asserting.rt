@@ -4,21 +4,21 @@ ghost use Rattle.sexpr.specs.Source.{source};
 ghost use Rattle.sym_table.specs.Table.{Keeps};
 ghost use Rattle.term_pool.specs.Views.{KeepsTerms};
 ghost use Rattle.smtlib_reader.specs.CommandShapes.{Says};
-ghost use Rattle.smtlib_reader.specs.Commands as shape;
-ghost use Rattle.smtlib_reader.specs.Problems.{performed};
-ghost use Rattle.smtlib_reader.specs.Scripts.{Script};
+ghost use Rattle.problem_text.specs.Commands as shape;
+ghost use Rattle.problem_text.specs.Problems.{performed};
+ghost use Rattle.problem_text.specs.Scripts.{Script};
 ghost use Rattle.smtlib_reader.specs.Sessions.{IsSession, Performs};
 ghost use Rattle.smtlib_reader.specs.declared.commands.Command.TheVariants as command;
 
 use crate::expected_sorts::expect_sort;
-use crate::faults::ReadFault;
-use crate::nodes::Node;
-use crate::reading::read;
 use crate::session::Session;
 use sexpr::Lexer;
 use sym_table::Symbols;
 use term_model::Sort;
+use term_names::faults::ReadFault;
 use term_pool::Terms;
+use term_reader::reading::read;
+use text_items::nodes::Node;
 
 /// Asserts the formula at a node.
 pub(crate) fn assert_term(

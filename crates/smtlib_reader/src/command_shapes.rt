@@ -3,14 +3,15 @@ ghost use Rattle.std.specs.Prelude.{◌≡◌, ◌<◌, ◌≤◌, ◌==◌, ℕ
 ghost use Rattle.sexpr.specs.Items.{Item, Items};
 ghost use Rattle.sexpr.specs.Source.{source};
 ghost use Rattle.sexpr.specs.Words as spell;
-ghost use Rattle.smtlib_reader.specs.Commands as shape;
-ghost use Rattle.smtlib_reader.specs.Forms as spec;
-ghost use Rattle.smtlib_reader.specs.Nodes.{IsNode, AreNodes};
-ghost use Rattle.smtlib_reader.specs.CommandShapes.{AreSpans, head_word};
+ghost use Rattle.problem_text.specs.Commands as shape;
+ghost use Rattle.text_items.specs.ItemShapes as item_shape;
+ghost use Rattle.text_items.specs.Nodes.{IsNode, AreNodes};
+ghost use Rattle.text_items.specs.Children.{AreSpans};
+ghost use Rattle.smtlib_reader.specs.CommandShapes.{head_word};
 
-use crate::children::{excess, node_at};
-use crate::nodes::Node;
 use sexpr::{Lexer, TokenKind, WordKind, symbol_name, word_kind};
+use text_items::children::excess;
+use text_items::nodes::{Node, node_at};
 
 fn fault_unless(fits: bool, place: u64) -> Option<u64>
     ensures { result ≡ (if fits then None else Some place) }
@@ -35,7 +36,7 @@ pub(crate) fn head_word<'a>(text: &Lexer<'a>, nodes: &[Node], k: usize) -> Optio
 pub(crate) fn symbol_fault(text: &Lexer<'_>, nodes: &[Node], k: usize) -> Option<u64>
     requires spans { AreSpans (source text.now) nodes.now }
     requires inside { k < length nodes.now }
-    ensures { (i : Item) (m : ℕ) → IsNode (source text.now) nodes.now k i m → result ≡ spec.symbol_fault i }
+    ensures { (i : Item) (m : ℕ) → IsNode (source text.now) nodes.now k i m → result ≡ item_shape.symbol_fault i }
 {
     let token = node_at(nodes, k).token;
     fault_unless(symbol_name(text, &token).is_some(), token.start)
@@ -133,7 +134,7 @@ pub(crate) fn parameters_fault(text: &Lexer<'_>, nodes: &[Node], k: usize) -> Op
 fn pairs_fault(text: &Lexer<'_>, nodes: &[Node], first: usize, end: usize) -> Option<u64>
     requires spans { AreSpans (source text.now) nodes.now }
     requires inside { end ≤ length nodes.now }
-    ensures { (items : Items) → AreNodes (source text.now) nodes.now first items end → result ≡ spec.pairs_fault items }
+    ensures { (items : Items) → AreNodes (source text.now) nodes.now first items end → result ≡ item_shape.pairs_fault items }
 {
     let mut k = first;
     while k < end {
@@ -150,7 +151,7 @@ fn pairs_fault(text: &Lexer<'_>, nodes: &[Node], first: usize, end: usize) -> Op
 fn pair_fault(text: &Lexer<'_>, nodes: &[Node], k: usize) -> Option<u64>
     requires spans { AreSpans (source text.now) nodes.now }
     requires inside { k < length nodes.now }
-    ensures { (i : Item) (m : ℕ) → IsNode (source text.now) nodes.now k i m → result ≡ spec.pair_fault i }
+    ensures { (i : Item) (m : ℕ) → IsNode (source text.now) nodes.now k i m → result ≡ item_shape.pair_fault i }
 {
     let pair = node_at(nodes, k);
     if k + 1 >= pair.next {

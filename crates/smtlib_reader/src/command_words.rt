@@ -2,7 +2,7 @@
 ghost use Rattle.std.specs.Prelude.{◌≡◌};
 ghost use Rattle.smtlib_reader.specs.CommandShapes as spec;
 
-use crate::words::is_among;
+use term_names::words::is_among;
 
 /// What a command's word asks for.
 #[derive(Clone, Copy)]

@@ -1,20 +1,20 @@
 //! The commands of a problem (SMT-LIB 2.6, sections 3.9 and 4.2) and their shapes, over the nodes of one top item.
-ghost use Rattle.std.specs.Prelude.{◌≡◌, ◌<◌, ◌≤◌, ℕ, List, length};
+ghost use Rattle.std.specs.Prelude.{◌≡◌, ◌<◌, ℕ, List, length};
 ghost use Rattle.sexpr.specs.Items.{Item, Items};
 ghost use Rattle.sexpr.specs.Source.{source};
-ghost use Rattle.smtlib_reader.specs.Commands as spec;
-ghost use Rattle.smtlib_reader.specs.Forms as form;
-ghost use Rattle.smtlib_reader.specs.Nodes.{IsNode, AreNodes};
-ghost use Rattle.smtlib_reader.specs.CommandShapes.{AreSpans, IsCommand, command_so, unless};
+ghost use Rattle.problem_text.specs.Commands as spec;
+ghost use Rattle.text_items.specs.Nodes.{IsNode, AreNodes};
+ghost use Rattle.text_items.specs.Children.{AreSpans};
+ghost use Rattle.smtlib_reader.specs.CommandShapes.{IsCommand, command_so, unless};
 
-use crate::children::{bad_command, excess, node_at, place_at, take};
 use crate::command_shapes::{
     head_word, is_zero, keyword_fault, list_fault, numeral_fault, parameters_fault, symbol_fault,
 };
 use crate::command_words::{CommandWord, word_named};
-use crate::nodes::Node;
-use crate::sorts::refused;
 use sexpr::{Cause, Lexer, Refusal};
+use text_items::children::{bad_command, excess, place_at, take};
+use text_items::nodes::Node;
+use text_items::refusals::refused;
 
 /// A command by the places of its nodes. Sorts, parameters and terms are still to be read. The sorts of arguments
 /// and the parameters stand from `first` to before `end`, and a declared constant has none.
@@ -212,7 +212,7 @@ fn declare_const(
     )
 }
 
-#[tactic(auto, using(crate::proofs::NodeSteps::node_behind))]
+#[tactic(auto, using(text_items::proofs::NodeSteps::node_behind))]
 fn define_fun(text: &Lexer<'_>, nodes: &[Node], start: u64, at: usize) -> Result<Command, Refusal>
     requires { AreSpans (source text.now) nodes.now }
     ensures { (items : Items) → AreNodes (source text.now) nodes.now at items (length nodes.now) → IsCommand (source text.now) nodes.now result (spec.define_fun_shape start items) }

@@ -5,28 +5,28 @@ ghost use Rattle.sym_table.specs.Leaf.{function};
 ghost use Rattle.sym_table.specs.Table.{Keeps, IsFunctionName, with_leaf, with_sort};
 ghost use Rattle.term_pool.specs.Views.{KeepsTerms};
 ghost use Rattle.smtlib_reader.specs.CommandShapes.{Says};
-ghost use Rattle.smtlib_reader.specs.Commands as shape;
-ghost use Rattle.smtlib_reader.specs.Problems.{performed};
-ghost use Rattle.smtlib_reader.specs.Scripts.{Script};
+ghost use Rattle.problem_text.specs.Commands as shape;
+ghost use Rattle.problem_text.specs.Problems.{performed};
+ghost use Rattle.problem_text.specs.Scripts.{Script};
 ghost use Rattle.smtlib_reader.specs.Sessions.{IsSession, Performs};
-ghost use Rattle.smtlib_reader.specs.Words.{is_among, is_built_in};
+ghost use Rattle.problem_text.specs.Words.{is_among, is_built_in};
 ghost use Rattle.smtlib_reader.specs.declared.commands.Command.TheVariants as command;
-ghost use Rattle.smtlib_reader.specs.declared.faults.ReadFault.TheVariants as ReadFault;
+ghost use Rattle.term_names.specs.declared.faults.ReadFault.TheVariants as ReadFault;
 
-use crate::faults::ReadFault;
-use crate::name_numbers::NameNumbers;
-use crate::nodes::{Node, node_at};
-use crate::repeats;
 use crate::session::Session;
-use crate::shapes::name_of;
-use crate::sorts::refused;
 use crate::sorts_at::{sort_at, sorts_at};
-use crate::taken::is_taken;
-use crate::words::is_logic;
 use sexpr::{Cause, Lexer};
 use sym_table::{NameFault, Symbols};
 use term_model::Sort;
+use term_names::faults::ReadFault;
+use term_names::name_numbers::NameNumbers;
+use term_names::words::is_logic;
 use term_pool::Terms;
+use term_reader::repeats;
+use term_reader::taken::is_taken;
+use text_items::nodes::{Node, node_at};
+use text_items::refusals::refused;
+use text_items::shapes::name_of;
 
 /// Sets the logic by the name at a node, once.
 pub(crate) fn set_logic(

@@ -2,18 +2,18 @@
 ghost use Rattle.std.specs.Prelude.{◌≡◌, ℕ, List, if◌then◌else◌, Ok};
 ghost use Rattle.sexpr.specs.Items.{Item, place_of};
 ghost use Rattle.term_model.specs.Terms.{sort_eq};
-ghost use Rattle.smtlib_reader.specs.Commands as spec;
-ghost use Rattle.smtlib_reader.specs.Nodes.{IsNode};
+ghost use Rattle.problem_text.specs.Commands as spec;
+ghost use Rattle.text_items.specs.Nodes.{IsNode};
 ghost use Rattle.sexpr.specs.declared.causes.Cause.TheVariants as cause;
 
-use crate::children::place_at;
-use crate::nodes::Node;
-use crate::sorts::refused;
 use sexpr::{Cause, Refusal};
 use term_model::Sort;
+use text_items::children::place_at;
+use text_items::nodes::Node;
+use text_items::refusals::refused;
 
 /// Refuses the term at a node, which has this sort, where another one is expected.
-#[tactic(auto, using(crate::proofs::NodeSteps::item_within))]
+#[tactic(auto, using(text_items::proofs::NodeSteps::item_within))]
 pub(crate) fn expect_sort(
     nodes: &[Node],
     k: usize,

@@ -1,80 +1,8 @@
-//! Laws of the definitions. The functions do nothing: their contracts are the laws.
-ghost use Rattle.std.specs.Prelude.{◌≡◌, ◌++◌, ◌↔◌, ◌⊎◌, [], List, ℕ, Bool, Contains};
-ghost use Rattle.sexpr.specs.declared.causes.Refusal.{Refusal};
-ghost use Rattle.sexpr.specs.declared.lexing.Lexer.{Lexer};
-ghost use Rattle.sexpr.specs.declared.lexing.Token.{Token};
-ghost use Rattle.sexpr.specs.Form.{HasForm};
-ghost use Rattle.sexpr.specs.Items.{Item};
-ghost use Rattle.sexpr.specs.Source.{source};
-ghost use Rattle.sym_table.specs.Table.{Table};
-ghost use Rattle.term_model.specs.FreeVariables.{IsFree};
-ghost use Rattle.term_model.specs.Interpretations.{Interpretation};
-ghost use Rattle.term_model.specs.Meaning.{Valuation, value};
-ghost use Rattle.term_model.specs.Sorts.{IsOf};
-ghost use Rattle.term_model.specs.Terms.{Var, Term, Bindings, let_in};
-ghost use Rattle.term_model.specs.declared.symbols.Sort.{Sort};
-ghost use Rattle.term_pool.specs.Views.{TermsView, KeepsTerms};
-ghost use Rattle.smtlib_reader.specs.Replacement.{Replacement, replaced, values_put, HasNoLet, free_variables};
-ghost use Rattle.smtlib_reader.specs.Scripts.{Script};
-ghost use Rattle.smtlib_reader.specs.Lexers.{IsFirstOfItem, GoesOnWith};
-ghost use Rattle.smtlib_reader.specs.Names.{Place};
-ghost use Rattle.smtlib_reader.specs.ProblemViews.{ProblemView, ReaderView, IsProblemOf, IsReaderOf};
-ghost use Rattle.smtlib_reader.specs.Problems.{StandsForProblem, IsFirstFault};
-ghost use Rattle.smtlib_reader.specs.Standing.{AddsNoSymbols};
-ghost use Rattle.smtlib_reader.specs.Soundness.{IsSound, HasNoLets};
+//! Laws of the definitions, and of what was read. The functions do nothing: their contracts are the laws.
 
-use sexpr::{faults_are_unique, items_are_unique};
-
-/// A term whose lets are replaced has the value of the term, where its variables have the values of what is put in
-/// for them. No let is left.
-pub fn replacing_lets_keeps_values()
-    ensures value { (t : Term) (I : Interpretation) (v : Valuation) (r : Replacement) →
-        value I v (replaced r t) ≡ value I (values_put I v r ++ v) t }
-    ensures lets { (bs : Bindings) (t : Term) (I : Interpretation) (v : Valuation) →
-        value I v (replaced [] (let_in bs t)) ≡ value I v (let_in bs t) }
-    ensures none_left { (t : Term) → HasNoLet (replaced [] t) }
-{}
-
-/// The list of the free variables of a term has those that stand free in it, and no others.
-pub fn free_variables_are_listed()
-    ensures { (x : Var) (t : Term) → Contains (free_variables t) x ↔ IsFree x t }
-{}
-
-/// The bodies of macros have no let, and where lets are replaced no assertion has one.
-pub fn replaced_lets_are_gone()
-    ensures { (replaces : Bool) (source : List ℕ) (s : Script) → StandsForProblem source replaces s → HasNoLets replaces s }
-{}
-
-/// Whatever text a script comes from: named terms have their sorts, a macro's body has its target sort, and
-/// assertions are formulas that are not too high.
-pub fn scripts_are_well_sorted()
-    ensures { (source : List ℕ) (replaces : Bool) (s : Script) → StandsForProblem source replaces s → IsSound s }
-{}
-
-/// A text has one reading: it stands for one script, or it has one first fault, and never both. One of the two
-/// comes of each text that has the form of nested items.
-pub fn texts_have_one_reading()
-    ensures script { (source : List ℕ) (replaces : Bool) (s t : Script) → StandsForProblem source replaces s → StandsForProblem source replaces t → s ≡ t }
-    ensures fault { (source : List ℕ) (replaces : Bool) (r q : Refusal) → IsFirstFault source replaces r → IsFirstFault source replaces q → r ≡ q }
-    ensures not_both { (source : List ℕ) (replaces : Bool) (s : Script) (r : Refusal) → StandsForProblem source replaces s → IsFirstFault source replaces r → ⊥ }
-    ensures judged { (source : List ℕ) (replaces : Bool) → HasForm source → ((s : Script) × StandsForProblem source replaces s) ⊎ ((r : Refusal) × IsFirstFault source replaces r) }
-{
-    items_are_unique();
-    faults_are_unique();
-}
-
-/// In a text of nested items each token begins an item, unless it closes a list: so a lexer that gave it last
-/// stands in that item.
-pub fn items_begin_at_tokens()
-    ensures { (l : Lexer) (t : Token) → HasForm (source l) → IsFirstOfItem l t → (i : Item) × (rest : List Token) × GoesOnWith l t i rest }
-{}
-
-/// What a reader of terms stands for stays as the table gets numerals and variables, and as the pool grows.
-pub fn readers_stay()
-    ensures { (s z : Table) (v w : TermsView) (r : ReaderView) (sc : Script) (p : Place) → AddsNoSymbols s z → KeepsTerms v w → IsReaderOf s v r sc p → IsReaderOf z w r sc p }
-{}
-
-/// What a problem stands for stays as the table gets numerals and variables, and as the pool grows.
-pub fn problems_stay()
-    ensures { (s z : Table) (v w : TermsView) (p : ProblemView) (sc : Script) → AddsNoSymbols s z → KeepsTerms v w → IsProblemOf s v p sc → IsProblemOf z w p sc }
-{}
+pub use problem_text::laws::{
+    free_variables_are_listed, replaced_lets_are_gone, replacing_lets_keeps_values,
+    scripts_are_well_sorted, texts_have_one_reading,
+};
+pub use term_reader::view_laws::{problems_stay, readers_stay};
+pub use text_items::items_begin_at_tokens;

@@ -2,22 +2,22 @@
 ghost use Rattle.std.specs.Prelude.{◌≡◌, ℕ, not, ◌||◌, List, [], ◌∷◌, None, IsTrue, IfOk, IfErr};
 ghost use Rattle.sexpr.specs.Items.{Item, Items};
 ghost use Rattle.sexpr.specs.Source.{source};
-ghost use Rattle.smtlib_reader.specs.Words.{is_among, is_built_in};
-ghost use Rattle.smtlib_reader.specs.Forms.{pair_fault, pairs_fault};
-ghost use Rattle.smtlib_reader.specs.Nodes.{IsNode, AreNodes};
-ghost use Rattle.smtlib_reader.specs.Sorts.{parameter_from, parameters_from};
+ghost use Rattle.problem_text.specs.Words.{is_among, is_built_in};
+ghost use Rattle.text_items.specs.ItemShapes.{pair_fault, pairs_fault};
+ghost use Rattle.text_items.specs.Nodes.{IsNode, AreNodes};
+ghost use Rattle.problem_text.specs.Sorts.{parameter_from, parameters_from};
 ghost use Rattle.smtlib_reader.specs.Parameters.{AreNames, IsParameterRead, AreParametersRead};
 
-use crate::children::{name_at, node_at};
-use crate::faults::ReadFault;
-use crate::nodes::Node;
-use crate::sorts::refused;
 use crate::sorts_at::sort_at;
 use indexmap::IndexSet;
 use sexpr::{Cause, Lexer};
 use std::alloc::Global;
 use sym_table::{Symbols, is_built_in};
 use term_model::Sort;
+use term_names::faults::ReadFault;
+use text_items::nodes::{Node, node_at};
+use text_items::refusals::refused;
+use text_items::shapes::name_of;
 
 /// A parameter: the node of its name, and its sort.
 #[derive(Clone, Copy)]
@@ -84,7 +84,7 @@ fn parameter_at<'a>(
     requires { (i : Item) × (m : ℕ) × IsNode (source text.now) nodes.now k i m × (pair_fault i ≡ None) }
     ensures { (i : Item) (m : ℕ) (names : List (List ℕ)) → IsNode (source text.now) nodes.now k i m → pair_fault i ≡ None → AreNames earlier.old.keys names → IsParameterRead (source text.now) nodes.now names earlier.new.keys result (parameter_from symbols.now.sorts names i) }
 {
-    let name = name_at(text, nodes, k + 1);
+    let name = name_of(text, nodes, k + 1);
     if !add_name(name, earlier)? {
         return Err(ReadFault::Text(refused(Cause::Repeated, node_at(nodes, k + 1).token.start)));
     }

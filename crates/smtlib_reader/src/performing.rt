@@ -4,21 +4,21 @@ ghost use Rattle.sexpr.specs.Source.{source};
 ghost use Rattle.sym_table.specs.Table.{Keeps};
 ghost use Rattle.term_pool.specs.Views.{KeepsTerms};
 ghost use Rattle.smtlib_reader.specs.CommandShapes.{Says};
-ghost use Rattle.smtlib_reader.specs.Commands as shape;
-ghost use Rattle.smtlib_reader.specs.Problems.{performed};
-ghost use Rattle.smtlib_reader.specs.Scripts.{Script};
+ghost use Rattle.problem_text.specs.Commands as shape;
+ghost use Rattle.problem_text.specs.Problems.{performed};
+ghost use Rattle.problem_text.specs.Scripts.{Script};
 ghost use Rattle.smtlib_reader.specs.Sessions.{IsSession, Performs};
 
 use crate::asserting::assert_term;
 use crate::commands::Command;
 use crate::declaring::{declare_fun, declare_sort, set_logic};
 use crate::defining::define_fun;
-use crate::faults::ReadFault;
-use crate::nodes::Node;
 use crate::session::Session;
 use sexpr::Lexer;
 use sym_table::Symbols;
+use term_names::faults::ReadFault;
 use term_pool::Terms;
+use text_items::nodes::Node;
 
 /// Does what a command asks for. An exit asks for nothing here.
 pub(crate) fn perform(

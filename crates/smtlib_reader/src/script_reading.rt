@@ -6,18 +6,18 @@ ghost use Rattle.sexpr.specs.Source as at;
 ghost use Rattle.sym_table.specs.Table.{Keeps};
 ghost use Rattle.term_pool.specs.Views.{KeepsTerms};
 ghost use Rattle.smtlib_reader.specs.ProblemReading.{HasItems, IsItemFound, AreLeft, ReadsCommand, ReadsAll, most_after};
-ghost use Rattle.smtlib_reader.specs.Scripts.{Script, Outcome};
+ghost use Rattle.problem_text.specs.Scripts.{Script, Outcome};
 ghost use Rattle.smtlib_reader.specs.Sessions.{IsSession};
-ghost use Rattle.smtlib_reader.specs.declared.faults.ReadFault.TheVariants as fault;
+ghost use Rattle.term_names.specs.declared.faults.ReadFault.TheVariants as fault;
 
 use crate::commands::{Command, command_of};
-use crate::faults::ReadFault;
-use crate::nodes::{Node, read_item};
 use crate::performing::perform;
 use crate::session::Session;
 use sexpr::Lexer;
 use sym_table::Symbols;
+use term_names::faults::ReadFault;
 use term_pool::Terms;
+use text_items::nodes::{Node, read_item};
 
 /// Reads the next item of a text into the nodes, and answers whether there was one. Refuses want of memory alone.
 fn next_item(lexer: &mut Lexer<'_>, nodes: &mut Vec<Node>) -> Result<bool, ReadFault>

@@ -1,10 +1,10 @@
 //! A problem that is being read.
 
-use crate::name_numbers::NameNumbers;
 use crate::parameters::Parameter;
-use crate::reader::Reader;
 use pair_pool::Ref;
 use term_model::Sort;
+use term_names::name_numbers::NameNumbers;
+use term_reader::reader::Reader;
 
 /// What was read of a problem.
 #[derive(Drop)]

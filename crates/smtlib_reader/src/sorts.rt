@@ -1,18 +1,19 @@
 //! Sorts where they stand in a text (SMT-LIB 2.6, section 3.5).
-ghost use Rattle.std.specs.Prelude.{◌≡◌, ℕ, List, bytes_eq, position, option_copied, OnOk};
+ghost use Rattle.std.specs.Prelude.{◌≡◌, List, bytes_eq, position, option_copied, OnOk};
 ghost use Rattle.sexpr.specs.Form.{HasForm};
 ghost use Rattle.sexpr.specs.Items.{Item};
 ghost use Rattle.sexpr.specs.Source as at;
 ghost use Rattle.sexpr.specs.Tokens.{AreTokens};
 ghost use Rattle.sexpr.specs.declared.lexing.Token.{Token};
-ghost use Rattle.smtlib_reader.specs.Lexers.{IsFirstOfItem, GoesOnWith};
-ghost use Rattle.smtlib_reader.specs.Sorts as spec;
-ghost use Rattle.smtlib_reader.specs.Sorts.{sort_from};
+ghost use Rattle.text_items.specs.Lexers.{IsFirstOfItem, GoesOnWith};
+ghost use Rattle.problem_text.specs.Sorts as spec;
+ghost use Rattle.problem_text.specs.Sorts.{sort_from};
 
-use crate::words::is_among;
 use sexpr::{Cause, Lexer, Refusal, Token, TokenKind, symbol_name};
 use sym_table::Symbols;
 use term_model::Sort;
+use term_names::words::is_among;
+use text_items::refusals::refused;
 
 /// Reads the sort that begins with `first`, the token that the lexer gave last: `Bool`, `Int` or a declared sort.
 ///
@@ -45,12 +46,6 @@ pub(crate) fn sort_spelled(
         Some(name) => sort_named(name, place, symbols),
         None => Err(refused(Cause::BadCommand, place)),
     }
-}
-
-pub(crate) fn refused(cause: Cause, at: u64) -> Refusal
-    ensures { result ≡ record { cause = cause; at = at } }
-{
-    Refusal { cause, at }
 }
 
 /// The sort of a name that stands at this place.

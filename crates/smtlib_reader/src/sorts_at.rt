@@ -2,16 +2,17 @@
 ghost use Rattle.std.specs.Prelude.{◌≡◌, ℕ, OnOk, IfErr, Ok};
 ghost use Rattle.sexpr.specs.Items.{Item, Items};
 ghost use Rattle.sexpr.specs.Source as at;
-ghost use Rattle.smtlib_reader.specs.Faults.{IsFaultOf};
-ghost use Rattle.smtlib_reader.specs.Nodes.{IsNode, AreNodes};
-ghost use Rattle.smtlib_reader.specs.Sorts.{sort_from, sorts_from};
+ghost use Rattle.term_names.specs.Faults.{IsFaultOf};
+ghost use Rattle.text_items.specs.Nodes.{IsNode, AreNodes};
+ghost use Rattle.problem_text.specs.Sorts.{sort_from, sorts_from};
 
-use crate::faults::ReadFault;
-use crate::nodes::{Node, node_at};
-use crate::sorts::{refused, sort_spelled};
+use crate::sorts::sort_spelled;
 use sexpr::{Cause, Lexer, Refusal, TokenKind, symbol_name};
 use sym_table::Symbols;
 use term_model::Sort;
+use term_names::faults::ReadFault;
+use text_items::nodes::{Node, node_at};
+use text_items::refusals::refused;
 
 /// The sort that the item at node `k` stands for. No memory is taken.
 pub(crate) fn sort_at(

@@ -2,7 +2,7 @@
 use Rattle.std.proofs.Common.{◌-◌}
 use Rattle.sexpr.specs.Items.{Items}
 use Rattle.sexpr.specs.Source.{source}
-use Rattle.smtlib_reader.specs.Nodes.{AreNodes}
+use Rattle.text_items.specs.Nodes.{AreNodes}
 use Rattle.smtlib_reader.proofs.Pairs.{HasRest}
 use Rattle.smtlib_reader.proofs.command_shapes.pairs_fault.Given as goal
 

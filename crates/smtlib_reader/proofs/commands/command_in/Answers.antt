@@ -1,9 +1,9 @@
 -- The head of the item is its word, and the other items are judged by it.
 use Rattle.std.proofs.Common.{◌∙◌, length, Err, sym, ap, subst, rules}
 use Rattle.sexpr.specs.Source.{source}
-use Rattle.smtlib_reader.specs.Commands.{items_of}
+use Rattle.text_items.specs.ItemShapes.{items_of}
 use Rattle.smtlib_reader.specs.CommandShapes.{IsCommand}
-use Rattle.smtlib_reader.proofs.NodeItems.{children}
+use Rattle.text_items.proofs.NodeItems.{children}
 use Rattle.smtlib_reader.proofs.CommandWords.{lacks_word, with_word, without_word}
 use Rattle.smtlib_reader.proofs.commands.command_in.Goals as goal
 

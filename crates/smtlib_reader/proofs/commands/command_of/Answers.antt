@@ -1,7 +1,7 @@
 -- Each node of the item lies in the text.
 use Rattle.std.proofs.Common.{length}
 use Rattle.sexpr.specs.Source.{source}
-use Rattle.smtlib_reader.proofs.NodeItems.{spans, has_first}
+use Rattle.text_items.proofs.NodeItems.{spans, has_first}
 use Rattle.smtlib_reader.proofs.commands.command_of.Goals as goal
 
 pub command_in-requires-clause-spans : goal.command_in-requires-clause-spans

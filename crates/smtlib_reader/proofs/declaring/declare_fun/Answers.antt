@@ -2,9 +2,9 @@ use Rattle.std.proofs.Common.{ℕ, ap, sym, refl, ◌∙◌}
 use Rattle.std.proofs.lemmas.Result.{err_from_is_err_and}
 use Rattle.sexpr.specs.declared.causes.Cause.TheVariants.{Repeated}
 use Rattle.sexpr.specs.Source.{source}
-use Rattle.smtlib_reader.specs.Scripts.{is_taken}
+use Rattle.problem_text.specs.Scripts.{is_taken}
 use Rattle.smtlib_reader.proofs.FunctionDeclarations.{may_be_declared, has_no_number, function_repeated, arguments_refused, target_refused, function_added}
-use Rattle.smtlib_reader.proofs.GivenNames.{name_place}
+use Rattle.term_reader.proofs.GivenNames.{name_place}
 use Rattle.smtlib_reader.proofs.declaring.declare_fun.Goals as goal
 
 pub returns-then-is_taken-clause-performs : goal.returns-then-is_taken-clause-performs

@@ -2,10 +2,10 @@ use Rattle.std.proofs.Common.{◌||◌, ℕ, List, ap, sym, ◌∙◌}
 use Rattle.std.proofs.lemmas.Option.{slice_get_within, same_Some}
 use Rattle.sexpr.specs.declared.causes.Cause.TheVariants.{Repeated, LeftOut}
 use Rattle.sexpr.specs.Source.{source}
-use Rattle.smtlib_reader.specs.Words.{is_among, is_built_in}
-use Rattle.smtlib_reader.specs.declared.nodes.Node.{Node}
+use Rattle.problem_text.specs.Words.{is_among, is_built_in}
+use Rattle.text_items.specs.declared.nodes.Node.{Node}
 use Rattle.smtlib_reader.proofs.DeclaredSorts.{sort_repeated, sort_left_out, sort_added}
-use Rattle.smtlib_reader.proofs.GivenNames.{name_place}
+use Rattle.term_reader.proofs.GivenNames.{name_place}
 use Rattle.smtlib_reader.proofs.declaring.declare_sort.Goals as goal
 
 pub returns-then-is_sort_taken-clause-performs : goal.returns-then-is_sort_taken-clause-performs

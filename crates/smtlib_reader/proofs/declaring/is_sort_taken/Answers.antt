@@ -1,5 +1,5 @@
 use Rattle.std.proofs.Common.{◌||◌, Bool, ap, sym, ◌∙◌}
-use Rattle.smtlib_reader.specs.Words.{is_among}
+use Rattle.problem_text.specs.Words.{is_among}
 use Rattle.smtlib_reader.proofs.DeclaredSorts.{sort_is_among}
 use Rattle.smtlib_reader.proofs.declaring.is_sort_taken.Goals as goal
 

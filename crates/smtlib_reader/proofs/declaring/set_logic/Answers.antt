@@ -1,9 +1,9 @@
 use Rattle.std.proofs.Common.{ℕ, ap, sym, ◌∙◌}
 use Rattle.sexpr.specs.declared.causes.Cause.TheVariants.{Repeated, LeftOut}
 use Rattle.sexpr.specs.Source.{source}
-use Rattle.smtlib_reader.specs.Words.{is_among, logics}
+use Rattle.problem_text.specs.Words.{is_among, logics}
 use Rattle.smtlib_reader.proofs.DeclaredLogics.{logic_repeated, logic_left_out, logic_done}
-use Rattle.smtlib_reader.proofs.GivenNames.{name_place}
+use Rattle.term_reader.proofs.GivenNames.{name_place}
 use Rattle.smtlib_reader.proofs.declaring.set_logic.Goals as goal
 
 pub returns-then-session-clause-performs : goal.returns-then-session-clause-performs

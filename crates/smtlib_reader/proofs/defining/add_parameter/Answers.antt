@@ -1,6 +1,6 @@
 use Rattle.std.proofs.Common.{refl}
 use Rattle.smtlib_reader.proofs.DefinedParameters.{is_added}
-use Rattle.smtlib_reader.proofs.Staying.{adds_variable}
+use Rattle.term_reader.proofs.Staying.{adds_variable}
 use Rattle.smtlib_reader.proofs.defining.add_parameter.Goals as goal
 
 pub returns-clause-added : goal.returns-clause-added

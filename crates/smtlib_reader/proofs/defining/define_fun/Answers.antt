@@ -2,9 +2,9 @@ use Rattle.std.proofs.Common.{◌∙◌, true, ap, sym, ℕ}
 use Rattle.std.proofs.lemmas.Result.{err_from_is_err_and}
 use Rattle.sexpr.specs.declared.causes.Cause.TheVariants.{Repeated}
 use Rattle.sexpr.specs.Source.{source}
-use Rattle.smtlib_reader.specs.Scripts.{is_taken, with_name}
+use Rattle.problem_text.specs.Scripts.{is_taken, with_name}
 use Rattle.smtlib_reader.proofs.DefinedFunctions.{name_taken, signature_fails, is_defining, is_performed}
-use Rattle.smtlib_reader.proofs.GivenNames.{no_entry, name_place}
+use Rattle.term_reader.proofs.GivenNames.{no_entry, name_place}
 use Rattle.smtlib_reader.proofs.defining.define_fun.Goals as goal
 
 pub returns-then-is_taken-clause-performs : goal.returns-then-is_taken-clause-performs

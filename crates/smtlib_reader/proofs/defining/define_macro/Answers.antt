@@ -1,11 +1,11 @@
 use Rattle.std.proofs.Common.{◌∙◌, arith, ap}
 use Rattle.std.proofs.lemmas.Result.{err_from_is_err_and}
 use Rattle.sexpr.specs.Source.{source}
-use Rattle.smtlib_reader.specs.Entries.{EntriesView, lookup}
-use Rattle.smtlib_reader.specs.Known.{KnownView}
+use Rattle.term_names.specs.Entries.{EntriesView, lookup}
+use Rattle.term_names.specs.Known.{KnownView}
 use Rattle.smtlib_reader.proofs.DefinedCommands.{body_fails, no_memory, other_sort, reserved_yet, is_defined}
-use Rattle.smtlib_reader.proofs.NodeSteps.{item_within}
-use Rattle.smtlib_reader.proofs.Staying.{adds_then}
+use Rattle.text_items.proofs.NodeSteps.{item_within}
+use Rattle.term_reader.proofs.Staying.{adds_then}
 use Rattle.smtlib_reader.proofs.defining.define_macro.Goals as goal
 
 pub enter_parameters-requires-clause-room : goal.enter_parameters-requires-clause-room

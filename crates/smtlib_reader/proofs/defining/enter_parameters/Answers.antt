@@ -1,5 +1,5 @@
 use Rattle.std.proofs.Common.{map, ◌∙◌}
-use Rattle.smtlib_reader.specs.Names.{itself}
+use Rattle.problem_text.specs.Names.{itself}
 use Rattle.smtlib_reader.proofs.DefinedParameters.{is_entered}
 use Rattle.smtlib_reader.proofs.defining.enter_parameters.Goals as goal
 

@@ -1,7 +1,7 @@
 use Rattle.std.proofs.Common.{arith}
 use Rattle.sexpr.specs.Source.{source}
 use Rattle.smtlib_reader.proofs.DefinedParameters.{next_left, none_left_over, parameter_there, one_listed, all_listed}
-use Rattle.smtlib_reader.proofs.Staying.{adds_then}
+use Rattle.term_reader.proofs.Staying.{adds_then}
 use Rattle.smtlib_reader.proofs.defining.list_parameters.Goals as goal
 
 pub add_parameter-requires-clause-parameter : goal.add_parameter-requires-clause-parameter

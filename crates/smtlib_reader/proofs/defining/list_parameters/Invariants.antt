@@ -3,7 +3,7 @@ use Rattle.sexpr.specs.Source.{source}
 use Rattle.term_model.specs.Terms.{Var}
 use Rattle.term_pool.specs.Views.{TermsView}
 use Rattle.smtlib_reader.specs.Parameters.{AreParameters}
-use Rattle.smtlib_reader.specs.Standing.{AddsNoSymbols}
+use Rattle.term_names.specs.Standing.{AddsNoSymbols}
 use Rattle.smtlib_reader.proofs.DefinedParameters.{AreListedUpTo}
 use Rattle.smtlib_reader.proofs.defining.list_parameters.Given as goal
 

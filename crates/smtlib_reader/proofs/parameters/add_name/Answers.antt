@@ -1,6 +1,6 @@
 -- The set has the names of the parameters before, and the test for built-in words is the table's.
 use Rattle.std.proofs.Common.{◌∙◌, sym}
-use Rattle.smtlib_reader.specs.Words.{is_among}
+use Rattle.problem_text.specs.Words.{is_among}
 use Rattle.smtlib_reader.proofs.ParameterLists.{built_in, built_so, new_so}
 use Rattle.smtlib_reader.proofs.parameters.add_name.Goals as goal
 

@@ -2,8 +2,8 @@
 use Rattle.std.proofs.Common.{◌≡◌, ◌-◌, None}
 use Rattle.sexpr.specs.Items.{Items}
 use Rattle.sexpr.specs.Source.{source}
-use Rattle.smtlib_reader.specs.Forms.{pairs_fault}
-use Rattle.smtlib_reader.specs.Nodes.{AreNodes}
+use Rattle.text_items.specs.ItemShapes.{pairs_fault}
+use Rattle.text_items.specs.Nodes.{AreNodes}
 use Rattle.smtlib_reader.proofs.ParameterLists.{IsReadUpTo}
 use Rattle.smtlib_reader.proofs.parameters.read_all.Given as goal
 

@@ -1,7 +1,7 @@
 use Rattle.std.proofs.Common.{refl}
 use Rattle.std.proofs.lemmas.Result.{err_from_is_err_and}
 use Rattle.smtlib_reader.proofs.ScriptLoop.{begins, some_left, goes_on, fails, ends}
-use Rattle.smtlib_reader.proofs.Staying.{table_keeps_then}
+use Rattle.term_reader.proofs.Staying.{table_keeps_then}
 use Rattle.smtlib_reader.proofs.script_reading.read_commands.Goals as goal
 
 pub commands-init : goal.commands-init

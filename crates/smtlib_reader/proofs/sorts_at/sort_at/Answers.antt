@@ -1,7 +1,7 @@
 -- By the token of the item's first node.
 use Rattle.std.proofs.Common.{◌∙◌, ap, Err}
 use Rattle.sexpr.specs.Source.{source}
-use Rattle.smtlib_reader.specs.Sorts.{sort_spelled}
+use Rattle.problem_text.specs.Sorts.{sort_spelled}
 use Rattle.smtlib_reader.proofs.SortNodes.{item_inside, found, list_left_out, token_spelled}
 use Rattle.smtlib_reader.proofs.sorts_at.sort_at.Goals as goal
 

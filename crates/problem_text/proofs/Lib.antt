@@ -1,0 +1,11 @@
+pub mod Outcomes
+pub mod Replacing
+pub mod Meanings
+pub mod Readings
+pub mod Scripts
+pub mod Freedom
+pub mod LetFreeTerms
+pub mod LetFree
+pub mod OneReading
+pub mod Growing
+pub mod Agreement

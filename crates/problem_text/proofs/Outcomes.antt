@@ -1,0 +1,47 @@
+-- Cited by crates above. What holds of each part of a reading holds of the whole.
+use Rattle.std.proofs.Common.{List, [], ◌∷◌, ◌++◌, Bool, true, false, Option, Some, None, Result, Ok, Err, IfOk, IfSome, cond, find, option_map, option_and_then}
+use Rattle.std.specs.List.{AllByRecursion}
+use Rattle.std.specs.Option.{option_or}
+use Rattle.sexpr.specs.declared.causes.Refusal.{Refusal}
+use Rattle.problem_text.specs.Scripts.{Script, Outcome, goes_on, and_then}
+
+-- P of the script after a reading, and Q of what was read
+abbrev pub Ends : {A : Type 0} → (Script → Type 0) → (A → Type 0) → Outcome A → Type 0
+Ends P Q o = P o.script × IfOk o.result Q
+
+pub ends-goes_on : {A B : Type 0} (P : Script → Type 0) (Q : A → Type 0) (R : B → Type 0) (r : Result A Refusal) (s : Script) (next : A → Script → Outcome B) → P s → IfOk r Q → ((a : A) → Q a → Ends P R (next a s)) → Ends P R (goes_on r s next)
+ends-goes_on P Q R (Ok a) s next p q k = k a q
+ends-goes_on P Q R (Err refusal) s next p q k = (p, tt)
+
+pub ends-and_then : {A B : Type 0} (P : Script → Type 0) (Q : A → Type 0) (R : B → Type 0) (o : Outcome A) (next : A → Script → Outcome B) → Ends P Q o → ((a : A) (s : Script) → Q a → P s → Ends P R (next a s)) → Ends P R (and_then o next)
+ends-and_then P Q R o next h k = ends-goes_on P Q R o.result o.script next h.0 h.1 (λ a q. k a o.script q h.0)
+
+-- lists
+pub all_at_end : {X : Type 0} (P : X → Type 0) (xs : List X) (x : X) → AllByRecursion P xs → P x → AllByRecursion P (xs ++ x ∷ [])
+all_at_end P [] x h p = (p, tt)
+all_at_end P (y ∷ xs) x h p = (h.0, all_at_end P xs x h.1 p)
+
+pub all_joined : {X : Type 0} (P : X → Type 0) (xs ys : List X) → AllByRecursion P xs → AllByRecursion P ys → AllByRecursion P (xs ++ ys)
+all_joined P [] ys h k = k
+all_joined P (x ∷ xs) ys h k = (h.0, all_joined P xs ys h.1 k)
+
+-- what is found has what all have
+pub if_found : {X : Type 0} (P : X → Type 0) (test : X → Bool) (xs : List X) → AllByRecursion P xs → IfSome (find test xs) P
+if_found P test [] h = tt
+if_found P test (x ∷ xs) h = go (test x) (if_found P test xs h.1)
+  where
+    go : (b : Bool) → IfSome (find test xs) P → IfSome (cond b (Some x) (find test xs)) P
+    go true rest = h.0
+    go false rest = rest
+
+pub if_some-or : {X : Type 0} (P : X → Type 0) (a b : Option X) → IfSome a P → IfSome b P → IfSome (option_or a b) P
+if_some-or P None b h k = k
+if_some-or P (Some x) b h k = h
+
+pub if_some-map : {X Y : Type 0} (P : X → Type 0) (Q : Y → Type 0) (f : X → Y) (o : Option X) → IfSome o P → ((x : X) → P x → Q (f x)) → IfSome (option_map f o) Q
+if_some-map P Q f None h k = tt
+if_some-map P Q f (Some x) h k = k x h
+
+pub if_some-and_then : {X Y : Type 0} (P : X → Type 0) (Q : Y → Type 0) (f : X → Option Y) (o : Option X) → IfSome o P → ((x : X) → P x → IfSome (f x) Q) → IfSome (option_and_then f o) Q
+if_some-and_then P Q f None h k = tt
+if_some-and_then P Q f (Some x) h k = k x h

@@ -1,0 +1,14 @@
+pub mod NamedItems
+pub mod Words
+pub mod Forms
+pub mod Commands
+pub mod Heights
+pub mod Replacement
+pub mod TypedTerms
+pub mod Scripts
+pub mod Sorts
+pub mod Names
+pub mod Terms
+pub mod Problems
+pub mod Soundness
+pub mod Examples

@@ -1,0 +1,30 @@
+-- Public. What holds of every script that a text stands for.
+use Rattle.std.specs.Prelude.{◌≡◌, ◌≤◌, Bool, true, List}
+use Rattle.std.specs.List.{AllByRecursion}
+use Rattle.term_model.specs.declared.symbols.Sort.{Sort}
+use Rattle.term_model.specs.Sorts.{IsOf}
+use Rattle.problem_text.specs.Heights.{height, most_height}
+use Rattle.problem_text.specs.Replacement.{HasNoLet}
+use Rattle.problem_text.specs.TypedTerms.{Typed}
+use Rattle.problem_text.specs.Scripts.{Script}
+use Rattle.problem_text.specs.Names.{Bound}
+
+-- the term is well sorted, and not too high
+pub record IsRead (t : Typed) : Type 0 where
+  pub sorted : IsOf t.tree t.sort
+  pub low : height t.tree ≤ most_height
+
+-- each variable stands for a term of its sort
+abbrev pub AreSorted : List Bound → Type 0
+AreSorted scope = AllByRecursion (λ b. IsOf b.stands_for b.variable.sort) scope
+
+-- Named terms have their sorts, a macro's body has its target sort, and assertions are formulas.
+pub record IsSound (s : Script) : Type 0 where
+  pub named : AllByRecursion (λ n. IsOf n.meant.tree n.meant.sort) s.named
+  pub macros : AllByRecursion (λ m. IsOf m.body m.target) s.macros
+  pub assertions : AllByRecursion (λ t. IsRead (record { tree = t; sort = Sort.Bool })) s.assertions
+
+-- The bodies of macros have no let, and where lets are replaced no assertion has one.
+pub record HasNoLets (replaces_lets : Bool) (s : Script) : Type 0 where
+  pub macros : AllByRecursion (λ m. HasNoLet m.body) s.macros
+  pub assertions : replaces_lets ≡ true → AllByRecursion HasNoLet s.assertions

@@ -1,0 +1,12 @@
+//! What the text of a problem stands for (SMT-LIB 2.6): definitions, their laws, and examples. Nothing here acts.
+//!
+//! The definitions stand in `specs/`, over the nested items of `sexpr` and the trees of `term_model`. `Words` has the
+//! words of scripts, `Forms` and `Commands` say what items spell, `Names`, `Terms` and `Sorts` how terms and sorts are
+//! read, and `Problems` what a whole text stands for and which fault is its first. `Heights`, `Replacement` and
+//! `TypedTerms` are words about terms alone. `Soundness` says what holds of each script.
+//!
+//! `laws` says what follows from the definitions, and `examples` holds them against short texts.
+#![tactic(auto)]
+
+pub mod examples;
+pub mod laws;

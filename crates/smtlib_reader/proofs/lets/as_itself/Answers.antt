@@ -1,5 +1,0 @@
-use Rattle.smtlib_reader.proofs.LetBinding.{itself-value}
-use Rattle.smtlib_reader.proofs.lets.as_itself.Goals as goal
-
-pub returns : goal.returns
-returns c = λ s v x e same. itself-value s v c.args.leaf _ c.args.sort x (c.leaf.ensures.stands v.pass) e same

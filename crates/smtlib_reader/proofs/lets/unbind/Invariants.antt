@@ -1,8 +1,0 @@
-use Rattle.std.proofs.Common.{◌≡◌, ◌≤◌, ◌-◌, drop}
-use Rattle.smtlib_reader.proofs.lets.unbind.Given as goal
-
-abbrev pub invariant-variables : goal.invariant-variables
-invariant-variables l = (l.left ≤ l.count) × (l.scope ≡ drop (l.count - l.left) l.fn.scope)
-
-abbrev pub decreases-variables : goal.decreases-variables
-decreases-variables l = l.left

@@ -1,5 +1,0 @@
-use Rattle.smtlib_reader.proofs.Meant.{macro_head}
-use Rattle.smtlib_reader.proofs.looking_up.head_of.Goals as goal
-
-pub returns-in-Macro : goal.returns-in-Macro
-returns-in-Macro c = λ s v k p m found. macro_head s v k p m c.in-Macro.which (rw c.in-Macro.is at found)

@@ -1,6 +1,0 @@
--- A name of a length that no operator's symbol has names none.
-use Rattle.smtlib_reader.proofs.Operators.{none_named}
-use Rattle.smtlib_reader.proofs.words.operator_of.Goals as goal
-
-pub returns-in_default-26 : goal.returns-in_default-26
-returns-in_default-26 c = none_named c.args.name.now c.in_default.len_at_least c.in_default.len_below

@@ -1,7 +1,0 @@
--- The variables in scope, as contracts see them.
-use Rattle.std.specs.Prelude.{ℕ, List}
-use Rattle.smtlib_reader.specs.declared.values.Bound.{Bound}
-
-pub record Scoped : Type 0 where
-  pub name : List ℕ
-  pub bound : Bound

@@ -1,0 +1,12 @@
+pub mod Images
+pub mod SetLemmas
+pub mod LeafLemmas
+pub mod TermParts
+pub mod Needing
+pub mod SameTerms
+pub mod AssignedLists
+pub mod NeedLemmas
+pub mod KeyLemmas
+pub mod SaidReplacements
+pub mod Expansions
+pub mod PutIn

@@ -1,0 +1,101 @@
+-- Private. Replacing lets and putting terms in for variables, where what becomes of a term is placed at once.
+use Rattle.std.specs.Prelude.{◌≡◌, ℕ, List, [], ◌∷◌, map, Some, Vec, nat_eq, Contains}
+use Rattle.std.specs.HashMap.{HashMap, get}
+use Rattle.std.specs.Cmp.Lexicographic.{pointwise}
+use Rattle.std.specs.List.{AllByRecursion}
+use Rattle.std.specs.declared.alloc.Global.{Global}
+use Rattle.std.specs.declared.hash.BuildHasherDefault.{BuildHasherDefault}
+use Rattle.std.specs.declared.hash.FoldHasher.{FoldHasher}
+use Rattle.pair_pool.specs.Trees.{Tree}
+use Rattle.sym_table.specs.Table.{Table, IsLeaf}
+use Rattle.term_model.specs.Terms.{Var, Term}
+use Rattle.term_pool.specs.StandsFor.{variable_leaf, StandsFor}
+use Rattle.term_pool.specs.Trees.{IsPartOf}
+use Rattle.term_pool.specs.Views.{TermsView, RefersTo, ReferToAll}
+use Rattle.term_expansion.specs.Assigned.{term_of}
+use Rattle.term_expansion.specs.Free.{HasVariable}
+use Rattle.term_expansion.specs.Needs.{IsNeeded, value_of}
+use Rattle.problem_text.specs.Replacement.{Replacement, term_at, replaced}
+use Rattle.term_expansion.specs.declared.assignments.Assigned.{Assigned}
+
+-- only variables have something put in for them
+abbrev pub AreVariables : Table → List Assigned → Type 0
+AreVariables s assigned = AllByRecursion (λ a. (x : Var) × IsLeaf s a.variable (variable_leaf x)) assigned
+
+-- what is put in for the variables that the term needs is as the replacement says
+pub record Says (s : Table) (v : TermsView) (assigned : List Assigned) (q : Replacement) (t : Term) : Type 0 where
+  pub variables : AreVariables s assigned
+  pub puts : (k : ℕ) (x : Var) → IsLeaf s k (variable_leaf x) → IsNeeded x t → RefersTo s v (term_of k assigned) (term_at q x)
+
+-- what is put in for any variable is as the replacement says
+pub record SaysWhole (s : Table) (v : TermsView) (assigned : List Assigned) (q : Replacement) : Type 0 where
+  pub variables : AreVariables s assigned
+  pub puts : (k : ℕ) (x : Var) → IsLeaf s k (variable_leaf x) → RefersTo s v (term_of k assigned) (term_at q x)
+
+-- and so for what each of the terms needs
+abbrev pub SaysAll : Table → TermsView → List Assigned → Replacement → List Term → Type 0
+SaysAll s v assigned q ts = AllByRecursion (Says s v assigned q) ts
+
+-- the reference stands for a term, and for what that needs something is put in
+pub record IsSaid (s : Table) (v : TermsView) (assigned : List Assigned) (r : ℕ) : Type 0 where
+  pub means : Term
+  pub refers : RefersTo s v r means
+  pub puts : Replacement
+  pub says : Says s v assigned puts means
+
+pub record AreSaid (s : Table) (v : TermsView) (assigned : List Assigned) (rs : List ℕ) : Type 0 where
+  pub means : List Term
+  pub refer : ReferToAll s v rs means
+  pub puts : Replacement
+  pub says : SaysAll s v assigned puts means
+
+-- the terms with this put in
+abbrev pub replaced_each : Replacement → List Term → List Term
+replaced_each q ts = map (replaced q) ts
+
+-- a part of the tree stands for the term
+pub record HasPart (s : Table) (whole : Tree) (t : Term) : Type 0 where
+  pub tree : Tree
+  pub stands : StandsFor s tree t
+  pub part : IsPartOf tree whole
+
+abbrev pub HasParts : Table → Tree → List Term → Type 0
+HasParts s whole ts = AllByRecursion (HasPart s whole) ts
+
+-- a reference, and what is put in for the variables with these leaves
+abbrev pub pairs_of : List Assigned → List ℕ → List ℕ
+pairs_of assigned [] = []
+pairs_of assigned (k ∷ ks) = k ∷ term_of k assigned ∷ pairs_of assigned ks
+
+abbrev pub key_of : ℕ → List Assigned → List ℕ → List ℕ
+key_of r assigned leaves = r ∷ pairs_of assigned leaves
+
+-- what terms have become, by such lists
+abbrev pub Done : Type 0
+Done = HashMap (Vec ℕ Global) ℕ (BuildHasherDefault FoldHasher)
+
+pub record HasBecome (s : Table) (v : TermsView) (key : List ℕ) (i : ℕ) : Type 0 where
+  pub cell : ℕ
+  pub assigned : List Assigned
+  pub leaves : List ℕ
+  pub key_is : key ≡ key_of cell assigned leaves
+  pub means : Term
+  pub refers : RefersTo s v cell means
+  pub covered : (x : Var) → IsNeeded x means → HasVariable s leaves x
+  pub puts : Replacement
+  pub says : Says s v assigned puts means
+  pub becomes : RefersTo s v i (replaced puts means)
+
+pub record AreDone (s : Table) (v : TermsView) (done : Done) : Type 0 where
+  pub each : (key : Vec ℕ Global) (i : ℕ) → get (λ x y. pointwise nat_eq x.items y.items) done key ≡ Some i → HasBecome s v key.items i
+
+-- of the variables with these leaves those that are given values, and the values
+abbrev pub AreGiven : List ℕ → List ℕ → List ℕ → List ℕ → List ℕ → Type 0
+AreGiven leaves vars values [] [] = Unit {0}
+AreGiven leaves vars values [] (r ∷ rs) = ⊥
+AreGiven leaves vars values (k ∷ ks) [] = ⊥
+AreGiven leaves vars values (k ∷ ks) (r ∷ rs) = (Contains leaves k × (value_of k vars values ≡ Some r)) × AreGiven leaves vars values ks rs
+
+pub record IsGiven (leaves vars values ks rs : List ℕ) : Type 0 where
+  pub are : AreGiven leaves vars values ks rs
+  pub all : (k r : ℕ) → Contains leaves k → value_of k vars values ≡ Some r → Contains ks k

@@ -1,0 +1,6 @@
+pub mod Needs
+pub mod Values
+pub mod Expanding
+pub mod Images
+pub mod Free
+pub mod Assigned

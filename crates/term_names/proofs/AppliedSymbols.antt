@@ -1,0 +1,194 @@
+-- Symbols applied to values.
+use Rattle.std.proofs.Common.{◌≡◌, ℕ, ◌+◌, ◌<◌, inl, inr, List, [], ◌∷◌, length, length-drop, drop, map, Bool, true, false, ◌&&◌, Option, Some, None, option_map, Result, Ok, Err, All, refl, sym, ◌∙◌, ap, subst, arith, IsSomeAnd, slice_get}
+use Rattle.std.specs.List.{list_all}
+use Rattle.std.proofs.lemmas.List.Elements.{All-cons, All-nil}
+use Rattle.std.proofs.lemmas.Option.{slice_get_within}
+use Rattle.pair_pool.specs.Trees.{Tree}
+use Rattle.pair_pool.specs.Views.{IsKnown}
+use Rattle.sym_table.specs.Leaf as leaf
+use Rattle.sym_table.specs.Leaf.{Leaf}
+use Rattle.sym_table.specs.Table.{Table, IsLeaf, LeafMeets}
+use Rattle.term_model.specs.declared.symbols.Sort.{Sort}
+use Rattle.term_model.specs.Terms.{Term, list_of, terms_of, operation, call}
+use Rattle.sort_check.specs.Applications.{applied_sort}
+use Rattle.term_pool.specs.Building.{IsApplication, Builds, LacksRoom}
+use Rattle.term_pool.specs.StandsFor.{function_leaf, StandsFor, StandForAll}
+use Rattle.term_pool.specs.Trees.{app_tree}
+use Rattle.term_pool.specs.Views.{TermsView, RefersTo, ReferToAll, KnowsAll}
+use Rattle.term_names.specs.Heads.{IsSymbolOf}
+use Rattle.problem_text.specs.Heights.{height, highest}
+use Rattle.term_names.specs.Making.{Makes}
+use Rattle.problem_text.specs.Names.{Meaning, value, trees, sorts_of, applied}
+use Rattle.problem_text.specs.Replacement.{HasNoLet, HaveNoLet}
+use Rattle.problem_text.specs.TypedTerms.{Typed}
+use Rattle.term_names.specs.Stacks.{greatest_height}
+use Rattle.term_expansion.specs.Values.{AreValues}
+use Rattle.term_names.specs.declared.faults.ReadFault.{ReadFault}
+use Rattle.term_expansion.specs.declared.values.Value.{Value}
+use Rattle.term_names.proofs.MadeTerms.{made, full, unchanged}
+use Rattle.term_names.proofs.ValueLists.{references}
+
+both_true : (a b : Bool) → (a && b) ≡ true → (a ≡ true) × (b ≡ true)
+both_true true true e = (refl, refl)
+both_true true false e = absurd cc
+both_true false b e = absurd cc
+
+module _ (s : Table) (v : TermsView) where
+  pub values-sorts : (cs : List Value) (ts : List Typed) → AreValues s v cs ts → map (λ c. c.sort) cs ≡ sorts_of ts
+  values-sorts [] [] h = refl
+  values-sorts [] (t ∷ ts) h = absurd h
+  values-sorts (c ∷ cs) [] h = absurd h
+  values-sorts (c ∷ cs) (t ∷ ts) h = let e = h.0.sort in let f = values-sorts cs ts h.1 in cc
+
+  pub values-known : (cs : List Value) (ts : List Typed) → AreValues s v cs ts → All (IsKnown v.pass) (references cs)
+  values-known [] ts h = All-nil (IsKnown v.pass)
+  values-known (c ∷ cs) [] h = absurd h
+  values-known (c ∷ cs) (t ∷ ts) h =
+      All-cons (IsKnown v.pass) c.term (references cs) (record { tree = h.0.refers.tree; stands = h.0.refers.known }) (values-known cs ts h.1)
+
+  values-refer : (cs : List Value) (ts : List Typed) → AreValues s v cs ts → ReferToAll s v (references cs) (map (λ t. t.tree) ts)
+  values-refer [] [] h = tt
+  values-refer [] (t ∷ ts) h = absurd h
+  values-refer (c ∷ cs) [] h = absurd h
+  values-refer (c ∷ cs) (t ∷ ts) h = (h.0.refers, values-refer cs ts h.1)
+
+  -- trees of the values that the pass knows
+  record AreTreesOf (cs : List Value) (ts : List Typed) : Type 0 where
+    all : List Tree
+    known : KnowsAll v.pass (references cs) all
+    stand : StandForAll s all (map (λ t. t.tree) ts)
+
+  values-trees : (cs : List Value) (ts : List Typed) → AreValues s v cs ts → AreTreesOf cs ts
+  values-trees [] [] h = record { all = []; known = tt; stand = tt }
+  values-trees [] (t ∷ ts) h = absurd h
+  values-trees (c ∷ cs) [] h = absurd h
+  values-trees (c ∷ cs) (t ∷ ts) h =
+      let rest = values-trees cs ts h.1 in
+      record { all = h.0.refers.tree ∷ rest.all; known = (h.0.refers.known, rest.known); stand = (h.0.refers.stands, rest.stand) }
+
+  values-highest : (cs : List Value) (ts : List Typed) → AreValues s v cs ts → highest (trees ts) ≡ greatest_height cs
+  unfolding height
+  values-highest [] [] h = refl
+  values-highest [] (t ∷ ts) h = absurd h
+  values-highest (c ∷ cs) [] h = absurd h
+  values-highest (c ∷ cs) (t ∷ ts) h = let high = h.0.high in let rest = values-highest cs ts h.1 in omega arith
+
+  values-plain : (cs : List Value) (ts : List Typed) → AreValues s v cs ts → list_all (λ c. c.plain) cs ≡ true → HaveNoLet (trees ts)
+  values-plain cs [] h e = tt
+  values-plain [] (t ∷ ts) h e = absurd h
+  values-plain (c ∷ cs) (t ∷ ts) h e =
+      let parts = both_true c.plain (list_all (λ c. c.plain) cs) e in (h.0.plain parts.0, values-plain cs ts h.1 parts.1)
+
+list-terms : (ts : List Term) → list_of (terms_of ts) ≡ ts
+list-terms [] = refl
+list-terms (t ∷ ts) = ap (λ us. t ∷ us) (list-terms ts)
+
+-- what a clause says of a leaf
+at_leaf : (s : Table) (k : ℕ) (l : Leaf) (P : Leaf → Type 0) → IsLeaf s k l → LeafMeets s k P → P l
+at_leaf s k l P e h = let m : IsSomeAnd (slice_get s.leaves k) P = h in let n : IsSomeAnd (Some l) P = rw e at m in n
+
+-- the term is that of the symbol applied to the others
+pub record IsTermOf (s : Table) (k : ℕ) (ts : List Typed) (t : Term) : Type 0 where
+  pub application : IsApplication s k (map (λ u. u.tree) ts) t
+  pub high : height t ≡ 1 + highest (trees ts)
+  pub plain : HaveNoLet (trees ts) → HasNoLet t
+
+pub record IsAppliedTo (s : Table) (k : ℕ) (m : Meaning) (ts : List Typed) (t : Typed) : Type 0 where
+  pub expected : applied m ts ≡ Some t
+  pub is : IsTermOf s k ts t.tree
+
+symbol-applied : (s : Table) (k : ℕ) (m : Meaning) (ts : List Typed) (sort : Sort) → IsSymbolOf s k m → LeafMeets s k (λ l. Some sort ≡ applied_sort l (sorts_of ts)) → (t : Typed) × (t.sort ≡ sort) × IsAppliedTo s k m ts t
+unfolding applied height
+symbol-applied s k m ts sort (inl (f, here, e)) h =
+    let given = at_leaf s k (function_leaf f) (λ l. Some sort ≡ applied_sort l (sorts_of ts)) here h in
+    rw e (
+      record { tree = call f (trees ts); sort = sort },
+      refl,
+      record {
+        expected = ap (λ o. option_map (λ z. record { tree = call f (trees ts); sort = z }) o) (sym given);
+        is = record { application = (here, list-terms (map (λ u. u.tree) ts)); high = refl; plain = λ p. p };
+      },
+    )
+symbol-applied s k m ts sort (inr (op, here, e)) h =
+    let given = at_leaf s k (leaf.operator op) (λ l. Some sort ≡ applied_sort l (sorts_of ts)) here h in
+    rw e (
+      record { tree = operation op (trees ts); sort = sort },
+      refl,
+      record {
+        expected = ap (λ o. option_map (λ z. record { tree = operation op (trees ts); sort = z }) o) (sym given);
+        is = record { application = (here, list-terms (map (λ u. u.tree) ts)); high = refl; plain = λ p. p };
+      },
+    )
+
+pub symbol-below : (s : Table) (k : ℕ) (m : Meaning) → IsSymbolOf s k m → k < length s.leaves
+symbol-below s k m (inl (f, here, e)) = slice_get_within s.leaves k _ here
+symbol-below s k m (inr (op, here, e)) = slice_get_within s.leaves k _ here
+
+symbol-refused : (s : Table) (k : ℕ) (m : Meaning) (ts : List Typed) → IsSymbolOf s k m → LeafMeets s k (λ l. None ≡ applied_sort l (sorts_of ts)) → applied m ts ≡ None
+unfolding applied
+symbol-refused s k m ts (inl (f, here, e)) h =
+    let given = at_leaf s k (function_leaf f) (λ l. None ≡ applied_sort l (sorts_of ts)) here h in
+    rw e (ap (λ o. option_map (λ z. record { tree = call f (trees ts); sort = z }) o) (sym given))
+symbol-refused s k m ts (inr (op, here, e)) h =
+    let given = at_leaf s k (leaf.operator op) (λ l. None ≡ applied_sort l (sorts_of ts)) here h in
+    rw e (ap (λ o. option_map (λ z. record { tree = operation op (trees ts); sort = z }) o) (sym given))
+
+module _ (s : Table) (old : TermsView) (k : ℕ) (cs : List Value) (m : Meaning) (ts : List Typed) (symbol : IsSymbolOf s k m) (values : AreValues s old cs ts)
+    (ss : List Sort) (given : ss ≡ map (λ c. c.sort) cs) (o : Option Sort) (meets : LeafMeets s k (λ l. o ≡ applied_sort l ss)) where
+  meets-sorts : (w : Option Sort) → o ≡ w → LeafMeets s k (λ l. w ≡ applied_sort l (sorts_of ts))
+  meets-sorts w e =
+      subst (λ us. LeafMeets s k (λ l. w ≡ applied_sort l us)) (given ∙ values-sorts s old cs ts values)
+      (subst (λ z. LeafMeets s k (λ l. z ≡ applied_sort l ss)) e meets)
+
+  pub not-applied : o ≡ None → Makes s old old (applied m ts) (Ok None)
+  not-applied e = unchanged s old (applied m ts) (Ok None) (symbol-refused s k m ts symbol (meets-sorts None e))
+
+  module _ (new : TermsView) (sort : Sort) (some : o ≡ Some sort)
+      (law : (s : Table) (head : ℕ) (trees : List Tree) (ts : List Term) (t : Term) → StandForAll s trees ts → IsApplication s head ts t → StandsFor s (app_tree head trees) t) where
+    what : (t : Typed) × (t.sort ≡ sort) × IsAppliedTo s k m ts t
+    what = symbol-applied s k m ts sort symbol (meets-sorts (Some sort) some)
+
+    pub application-made : (r high : ℕ) (plain : Bool)
+        → ((s : Table) (us : List Term) (t : Term) → ReferToAll s old (references cs) us → IsApplication s k us t → RefersTo s new r t)
+        → ((us : List Tree) → KnowsAll old.pass (references cs) us → Builds old.pass new.pass r (app_tree k us))
+        → high ≡ 1 + greatest_height cs → plain ≡ list_all (λ c. c.plain) cs
+        → Makes s old new (applied m ts) (Ok (Some (record { term = r; sort = sort; height = high; plain = plain })))
+    application-made r high plain term built e f =
+        let (t, same, is) = what in
+        let known = values-trees s old cs ts values in
+        let highest_is = values-highest s old cs ts values in
+        let whole = is.is.high in
+        rw is.expected
+        (made s old new t (app_tree k known.all) (record { term = r; sort = sort; height = high; plain = plain })
+        (law s k known.all (map (λ u. u.tree) ts) t.tree known.stand is.is.application) (built known.all known.known).placed
+        (record {
+          refers = term s (map (λ u. u.tree) ts) t.tree (values-refer s old cs ts values) is.is.application;
+          sort = sym same;
+          high = omega arith;
+          plain = λ g. is.is.plain (values-plain s old cs ts values (sym f ∙ g));
+        }))
+
+    pub application-full : (result : Result (Option Value) ReadFault)
+        → ((us : List Tree) → KnowsAll old.pass (references cs) us → LacksRoom old.pass new.pass (app_tree k us))
+        → result ≡ Err ReadFault.PoolFull
+        → Makes s old new (applied m ts) result
+    application-full result lacks e =
+        let (t, same, is) = what in
+        let known = values-trees s old cs ts values in
+        let no_room = lacks known.all known.known in
+        rw is.expected
+        (full s old new t (app_tree k known.all) result (law s k known.all (map (λ u. u.tree) ts) t.tree known.stand is.is.application)
+        no_room.placed no_room.full e)
+
+-- A term takes no arguments.
+pub term-refused : (s : Table) (v : TermsView) (from : ℕ) (cs : List Value) (m : Meaning) (ts : List Typed) → from < length cs → AreValues s v (drop from cs) ts → (t : Typed) × (m ≡ value t) → Makes s v v (applied m ts) (Ok None)
+unfolding applied
+term-refused s v from cs m ts below h (t, e) = unchanged s v (applied m ts) (Ok None) (go (drop from cs) ts some h)
+  where
+    some : 0 < length (drop from cs)
+    some = let count = length-drop {A = Value} from cs in omega arith
+
+    go : (cs : List Value) (ts : List Typed) → 0 < length cs → AreValues s v cs ts → applied m ts ≡ None
+    go [] ts n h = absurd (omega arith)
+    go (c ∷ cs) [] n h = absurd h
+    go (c ∷ cs) (u ∷ ts) n h = ap (λ k. applied k (u ∷ ts)) e

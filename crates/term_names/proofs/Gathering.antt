@@ -1,0 +1,314 @@
+-- How the leaves of free variables are gathered from the parts of a term.
+use Rattle.std.proofs.Common.{◌≡◌, ℕ, ◌+◌, ◌-◌, ◌≤◌, ◌<◌, ◌⊎◌, ◌↔◌, inl, inr, max, List, [], ◌∷◌, length, Some, nat_eq, eqb, cond, refl, sym, ◌∙◌, ap, subst, Contains, All, drop, get_or, Vec, arith, zero, suc}
+use Rattle.std.specs.HashMap.{get}
+use Rattle.std.specs.declared.alloc.Global.{Global}
+use Rattle.std.proofs.lemmas.List.Elements.{All-nil, All-cons, Contains-append_right, Contains-append_cases}
+use Rattle.sym_table.specs.Table.{Table, IsLeaf, IsTable}
+use Rattle.term_model.specs.FreeVariables.{IsFree, IsFreeAmong, IsFreeBound, Binds, variables_of, bound_terms}
+use Rattle.term_model.specs.Terms.{Var, Term, numeral, variable, operation, call, let_in, Terms, no_terms, term, list_of, Bindings, no_bindings, binding}
+use Rattle.term_pool.specs.Building.{IsApplication, AreBindings}
+use Rattle.term_pool.specs.Reading.{arguments_of, IsLet, IsLetTerm}
+use Rattle.term_pool.specs.StandsFor.{variable_leaf}
+use Rattle.term_pool.specs.Views.{TermsView, RefersTo, ReferToAll}
+use Rattle.term_expansion.specs.Free.{HasVariable, IsLeafOfSome, AreFreeLeaves, AddsLeaves, AddsOne, AddsUnbound, IsAtMost, IsFreeInAny, AreLeavesOf, ArePartsOfLet, Covers, Bodies, AreBodies}
+use Rattle.problem_text.specs.Heights.{height, highest, highest_bound}
+use Rattle.term_names.specs.Known.{KnownView, named_of}
+use Rattle.problem_text.specs.Replacement.{free_variables}
+use Rattle.problem_text.specs.Scripts.{Script}
+use Rattle.term_names.specs.Standing.{IsMeant}
+use Rattle.term_names.specs.declared.entries.Named as held
+use Rattle.term_names.specs.declared.known.KnownEntry.{KnownEntry}
+use Rattle.term_names.specs.declared.known.Which.{Which}
+use Rattle.term_expansion.proofs.Images.{drop-at}
+use Rattle.problem_text.proofs.Freedom.{free_variables-are}
+use Rattle.term_expansion.proofs.SetLemmas.{none_in}
+use Rattle.term_expansion.proofs.LeafLemmas.{added-leaves, adds-both, adds-same, has_more, is_variable, one-adds, one-more, one_leaf, one_variable, same_some, swapped}
+
+-- what was gone through
+pub covers-kept : (s : Table) (v : TermsView) (seen a b : List ℕ) → ((k : ℕ) → Contains a k → Contains b k) → Covers s v seen a → Covers s v seen b
+covers-kept s v seen a b kept h = record { each = λ r c t refers x free. has_more s a b x kept (h.each r c t refers x free) }
+
+pub covers-more : (s : Table) (v : TermsView) (seen new a found : List ℕ) (r : ℕ) → ((t : Term) → RefersTo s v r t → AddsLeaves s a found (λ x. IsFree x t)) → AddsOne seen new r → Covers s v seen found → Covers s v new found
+covers-more s v seen new a found r adds one h = record { each = each }
+  where
+    here : (q : ℕ) → q ≡ r → (t : Term) → RefersTo s v q t → (x : Var) → IsFree x t → HasVariable s found x
+    here q e t refers x free = (adds t (subst (λ p. RefersTo s v p t) e refers)).all x free
+
+    each : (q : ℕ) → Contains new q → (t : Term) → RefersTo s v q t → (x : Var) → IsFree x t → HasVariable s found x
+    each q c t refers x free =
+        elim (one.only q c) [ inl old ↦ h.each q old t refers x free | inr same ↦ here q same t refers x free ]
+
+pub covers-adds : (s : Table) (v : TermsView) (seen found : List ℕ) (r : ℕ) → Covers s v seen found → Contains seen r → (t : Term) → RefersTo s v r t → AddsLeaves s found found (λ x. IsFree x t)
+covers-adds s v seen found r h c t refers = record { kept = λ k i. i; all = λ x free. h.each r c t refers x free; only = λ k i. inl i }
+
+pub variable-adds : (s : Table) (k : ℕ) (x : Var) (ts : List Term) (t : Term) (a b : List ℕ) → IsLeaf s k (variable_leaf x) → AddsOne a b k → IsApplication s k ts t → AddsLeaves s a b (λ y. IsFree y t)
+variable-adds s k x ts t a b g one h =
+    subst (λ (u : Term). AddsLeaves s a b (λ y. IsFree y u)) (sym (is_variable s k x ts t g h)) (one-adds s k x a b g one)
+
+among-any : (ts : Terms) (x : Var) → IsFreeAmong x ts → IsFreeInAny x (list_of ts)
+among-any no_terms x h = absurd h
+among-any (term t ts) x (inl h) = inl h
+among-any (term t ts) x (inr h) = inr (among-any ts x h)
+
+any-among : (ts : Terms) (x : Var) → IsFreeInAny x (list_of ts) → IsFreeAmong x ts
+any-among no_terms x h = absurd h
+any-among (term t ts) x (inl h) = inl h
+any-among (term t ts) x (inr h) = inr (any-among ts x h)
+
+pub application-adds : (s : Table) (k : ℕ) (ts : List Term) (t : Term) (a b : List ℕ) → ((x : Var) → IsLeaf s k (variable_leaf x) → ⊥) → IsApplication s k ts t → AddsLeaves s a b (λ x. IsFreeInAny x (arguments_of t)) → AddsLeaves s a b (λ x. IsFree x t)
+application-adds s k ts (numeral n) a b never h adds = adds-same s a b _ _ (λ x p. absurd p) (λ x p. absurd p) adds
+application-adds s k ts (variable x) a b never h adds = absurd (never x h.0)
+application-adds s k ts (operation op us) a b never h adds =
+    adds-same s a b _ _ (λ x p. any-among us x p) (λ x p. among-any us x p) adds
+application-adds s k ts (call f us) a b never h adds =
+    adds-same s a b _ _ (λ x p. any-among us x p) (λ x p. among-any us x p) adds
+application-adds s k ts (let_in bs u) a b never h adds = absurd h
+
+-- heights
+pub positive : (s : Table) (v : TermsView) (most r : ℕ) → IsAtMost s v most r → 1 ≤ most
+unfolding height
+positive s v most r h = let low = h.low in let one = at_least h.means in omega arith
+  where
+    at_least : (t : Term) → 1 ≤ height t
+    at_least (numeral n) = omega arith
+    at_least (variable x) = omega arith
+    at_least (operation op ts) = omega arith
+    at_least (call f ts) = omega arith
+    at_least (let_in bs u) = omega arith
+
+-- each of the references is that of a term of at most this height
+abbrev AreLow : Table → TermsView → ℕ → List ℕ → Type 0
+AreLow s v most rs = All (IsAtMost s v most) rs
+
+list_low : (s : Table) (v : TermsView) (most : ℕ) (rs : List ℕ) (ts : Terms) → highest ts ≤ most → ReferToAll s v rs (list_of ts) → AreLow s v most rs
+unfolding height
+list_low s v most [] no_terms low h = All-nil (IsAtMost s v most)
+list_low s v most [] (term t ts) low h = absurd h
+list_low s v most (r ∷ rs) no_terms low h = absurd h
+list_low s v most (r ∷ rs) (term t ts) low h =
+    All-cons (IsAtMost s v most) r rs (record { means = t; refers = h.0; low = omega arith }) (list_low s v most rs ts (omega arith) h.1)
+
+values_low : (s : Table) (v : TermsView) (most : ℕ) (ks rs : List ℕ) (bs : Bindings) → highest_bound bs ≤ most → AreBindings s v ks rs bs → AreLow s v most rs
+unfolding height
+values_low s v most [] [] bs low h = All-nil (IsAtMost s v most)
+values_low s v most [] (r ∷ rs) bs low h = absurd h
+values_low s v most (k ∷ ks) [] bs low h = absurd h
+values_low s v most (k ∷ ks) (r ∷ rs) no_bindings low h = absurd h
+values_low s v most (k ∷ ks) (r ∷ rs) (binding x t bs) low h =
+    All-cons (IsAtMost s v most) r rs (record { means = t; refers = h.1; low = omega arith }) (values_low s v most ks rs bs (omega arith) h.2)
+
+none_low : (s : Table) (v : TermsView) (most : ℕ) (rs : List ℕ) → ReferToAll s v rs [] → AreLow s v most rs
+none_low s v most [] h = All-nil (IsAtMost s v most)
+none_low s v most (r ∷ rs) h = absurd h
+
+pub arguments_low : (s : Table) (v : TermsView) (most r : ℕ) (rs : List ℕ) → IsAtMost s v most r → ((t : Term) → RefersTo s v r t → IsLet t → ⊥) → ((t : Term) → RefersTo s v r t → (IsLet t → ⊥) → ReferToAll s v rs (arguments_of t)) → AreLow s v (most - 1) rs
+unfolding height
+arguments_low s v most r rs h no_let are =
+    go h.means h.low (no_let h.means h.refers) (are h.means h.refers (no_let h.means h.refers))
+  where
+    go : (t : Term) → height t ≤ most → (IsLet t → ⊥) → ReferToAll s v rs (arguments_of t) → AreLow s v (most - 1) rs
+    go (numeral n) low never all = none_low s v (most - 1) rs all
+    go (variable x) low never all = none_low s v (most - 1) rs all
+    go (operation op ts) low never all = list_low s v (most - 1) rs ts (omega arith) all
+    go (call f ts) low never all = list_low s v (most - 1) rs ts (omega arith) all
+    go (let_in bs u) low never all = absurd (never tt)
+
+-- lets
+let_of : (t : Term) → IsLet t → (bs : Bindings) × (u : Term) × (t ≡ let_in bs u)
+let_of (numeral n) h = absurd h
+let_of (variable x) h = absurd h
+let_of (operation op ts) h = absurd h
+let_of (call f ts) h = absurd h
+let_of (let_in bs u) h = (bs, u, refl)
+
+pub let_there : (s : Table) (v : TermsView) (most r : ℕ) → IsAtMost s v most r → ((t : Term) → RefersTo s v r t → IsLet t) → IsLetTerm v r
+let_there s v most r h is =
+    let (bs, u, e) = let_of h.means (is h.means h.refers) in
+    record { symbols = s; bindings = bs; body = u; refers = subst (λ (t : Term). RefersTo s v r t) e h.refers }
+
+record IsLowLet (s : Table) (v : TermsView) (most r : ℕ) : Type 0 where
+  bindings : Bindings
+  body : Term
+  refers : RefersTo s v r (let_in bindings body)
+  low : 1 + max (highest_bound bindings) (height body) ≤ most
+
+low_let : (s : Table) (v : TermsView) (most r : ℕ) → IsAtMost s v most r → ((t : Term) → RefersTo s v r t → IsLet t) → IsLowLet s v most r
+unfolding height
+low_let s v most r h is = go h.means h.refers h.low (is h.means h.refers)
+  where
+    go : (t : Term) → RefersTo s v r t → height t ≤ most → IsLet t → IsLowLet s v most r
+    go (numeral n) refers low e = absurd e
+    go (variable x) refers low e = absurd e
+    go (operation op ts) refers low e = absurd e
+    go (call f ts) refers low e = absurd e
+    go (let_in bs u) refers low e = record { bindings = bs; body = u; refers = refers; low = low }
+
+pub let_values_low : (s : Table) (v : TermsView) (most r : ℕ) (ks rs : List ℕ) (body : ℕ) → IsAtMost s v most r → ((t : Term) → RefersTo s v r t → IsLet t) → ArePartsOfLet s v r ks rs body → AreLow s v (most - 1) rs
+let_values_low s v most r ks rs body h is parts =
+    let l = low_let s v most r h is in
+    let low = l.low in
+    values_low s v (most - 1) ks rs l.bindings (omega arith) (parts l.bindings l.body l.refers).0
+
+pub let_body_low : (s : Table) (v : TermsView) (most r : ℕ) (ks rs : List ℕ) (body : ℕ) → IsAtMost s v most r → ((t : Term) → RefersTo s v r t → IsLet t) → ArePartsOfLet s v r ks rs body → IsAtMost s v (most - 1) body
+let_body_low s v most r ks rs body h is parts =
+    let l = low_let s v most r h is in
+    let low = l.low in
+    record { means = l.body; refers = (parts l.bindings l.body l.refers).1; low = omega arith }
+
+values_are : (s : Table) (v : TermsView) (ks rs : List ℕ) (bs : Bindings) → AreBindings s v ks rs bs → ReferToAll s v rs (bound_terms bs)
+values_are s v [] [] no_bindings h = tt
+values_are s v [] [] (binding x t bs) h = absurd h
+values_are s v [] (r ∷ rs) bs h = absurd h
+values_are s v (k ∷ ks) [] bs h = absurd h
+values_are s v (k ∷ ks) (r ∷ rs) no_bindings h = absurd h
+values_are s v (k ∷ ks) (r ∷ rs) (binding x t bs) h = (h.1, values_are s v ks rs bs h.2)
+
+variables_are : (s : Table) (v : TermsView) (ks rs : List ℕ) (bs : Bindings) → AreBindings s v ks rs bs → AreLeavesOf s ks (variables_of bs)
+variables_are s v [] [] no_bindings h = tt
+variables_are s v [] [] (binding x t bs) h = absurd h
+variables_are s v [] (r ∷ rs) bs h = absurd h
+variables_are s v (k ∷ ks) [] bs h = absurd h
+variables_are s v (k ∷ ks) (r ∷ rs) no_bindings h = absurd h
+variables_are s v (k ∷ ks) (r ∷ rs) (binding x t bs) h = (h.0, variables_are s v ks rs bs h.2)
+
+bound-any : (bs : Bindings) (x : Var) → IsFreeBound x bs → IsFreeInAny x (bound_terms bs)
+bound-any no_bindings x h = absurd h
+bound-any (binding y t bs) x (inl h) = inl h
+bound-any (binding y t bs) x (inr h) = inr (bound-any bs x h)
+
+any-bound : (bs : Bindings) (x : Var) → IsFreeInAny x (bound_terms bs) → IsFreeBound x bs
+any-bound no_bindings x h = absurd h
+any-bound (binding y t bs) x (inl h) = inl h
+any-bound (binding y t bs) x (inr h) = inr (any-bound bs x h)
+
+pub let-adds : (s : Table) (v : TermsView) (r : ℕ) (ks rs : List ℕ) (body : ℕ) (a b c : List ℕ) → ArePartsOfLet s v r ks rs body → ((ts : List Term) → ReferToAll s v rs ts → AddsLeaves s a b (λ x. IsFreeInAny x ts)) → ((bs : Bindings) (u : Term) → AreLeavesOf s ks (variables_of bs) → RefersTo s v body u → AddsLeaves s b c (λ x. (¬ Binds bs x) × IsFree x u)) → (t : Term) → IsLet t → RefersTo s v r t → AddsLeaves s a c (λ x. IsFree x t)
+let-adds s v r ks rs body a b c parts first second (numeral n) is refers = absurd is
+let-adds s v r ks rs body a b c parts first second (variable x) is refers = absurd is
+let-adds s v r ks rs body a b c parts first second (operation op ts) is refers = absurd is
+let-adds s v r ks rs body a b c parts first second (call f ts) is refers = absurd is
+let-adds s v r ks rs body a b c parts first second (let_in bs u) is refers =
+    let p = parts bs u refers in
+    let one = first (bound_terms bs) (values_are s v ks rs bs p.0) in
+    let two = second bs u (variables_are s v ks rs bs p.0) p.1 in
+    adds-same s a c _ _ there back (adds-both s a b c _ _ one two)
+  where
+    there : (x : Var) → IsFreeInAny x (bound_terms bs) ⊎ ((¬ Binds bs x) × IsFree x u) → IsFreeBound x bs ⊎ ((¬ Binds bs x) × IsFree x u)
+    there x (inl h) = inl (any-bound bs x h)
+    there x (inr h) = inr h
+
+    back : (x : Var) → IsFreeBound x bs ⊎ ((¬ Binds bs x) × IsFree x u) → IsFreeInAny x (bound_terms bs) ⊎ ((¬ Binds bs x) × IsFree x u)
+    back x (inl h) = inl (bound-any bs x h)
+    back x (inr h) = inr h
+
+pub kept-adds : (s : Table) (leaves a b : List ℕ) (u : Term) → AddsLeaves s [] leaves (λ x. IsFree x u) → AddsUnbound leaves [] a b → AddsLeaves s a b (λ x. IsFree x u)
+kept-adds s leaves a b u free adds = added-leaves s leaves a b (λ x. IsFree x u) free adds
+
+-- the body of a let, but what is bound
+contains-here : (k : ℕ) (ks : List ℕ) → Contains (k ∷ ks) k
+contains-here k ks = (0, omega arith, refl)
+
+bound_leaf : (s : Table) (ks : List ℕ) (bs : Bindings) (x : Var) → AreLeavesOf s ks (variables_of bs) → Binds bs x → HasVariable s ks x
+bound_leaf s [] no_bindings x h is = absurd is
+bound_leaf s [] (binding y t bs) x h is = absurd h
+bound_leaf s (k ∷ ks) no_bindings x h is = absurd h
+bound_leaf s (k ∷ ks) (binding y t bs) x h (inl e) = (k, subst (λ (z : Var). IsLeaf s k (variable_leaf z)) e h.0, contains-here k ks)
+bound_leaf s (k ∷ ks) (binding y t bs) x h (inr later) =
+    let r = bound_leaf s ks bs x h.1 later in (r.0, r.1, Contains-append_right (k ∷ []) ks r.0 r.2)
+
+leaf_bound : (s : Table) (ks : List ℕ) (bs : Bindings) (x : Var) (k : ℕ) → AreLeavesOf s ks (variables_of bs) → IsLeaf s k (variable_leaf x) → Contains ks k → Binds bs x
+leaf_bound s [] bs x k h leaf c = absurd (none_in k c)
+leaf_bound s (j ∷ ks) no_bindings x k h leaf c = absurd h
+leaf_bound s (j ∷ ks) (binding y t bs) x k h leaf c =
+    elim (Contains-append_cases (j ∷ []) ks k c) [ inl first ↦ inl (one_variable s k y x (subst (λ i. IsLeaf s i (variable_leaf y)) (only first) h.0) leaf) | inr later ↦ inr (leaf_bound s ks bs x k h.1 leaf later) ]
+  where
+    only : Contains (j ∷ []) k → j ≡ k
+    only (zero, below, e) = e
+    only (suc n, below, e) = absurd (omega arith)
+
+pub unbound-adds : (s : Table) → IsTable s → (ks leaves a b : List ℕ) (bs : Bindings) (u : Term) → AreLeavesOf s ks (variables_of bs) → AddsLeaves s [] leaves (λ x. IsFree x u) → AddsUnbound leaves ks a b → AddsLeaves s a b (λ x. (¬ Binds bs x) × IsFree x u)
+unbound-adds s table ks leaves a b bs u are free adds = record { kept = adds.kept; all = all; only = only }
+  where
+    all : (x : Var) → (¬ Binds bs x) × IsFree x u → HasVariable s b x
+    all x h =
+        let r = free.all x h.1 in
+        (r.0, r.1, adds.all r.0 r.2 (λ c. h.0 (leaf_bound s ks bs x r.0 are r.1 c)))
+
+    apart : (k : ℕ) → ¬ Contains ks k → (x : Var) → IsLeaf s k (variable_leaf x) → ¬ Binds bs x
+    apart k never x leaf is =
+        let r = bound_leaf s ks bs x are is in
+        never (subst (λ i. Contains ks i) (one_leaf s table r.0 k x x r.1 leaf refl) r.2)
+
+    new : (k : ℕ) → Contains leaves k → ¬ Contains ks k → IsLeafOfSome s k (λ x. (¬ Binds bs x) × IsFree x u)
+    new k c never =
+        elim (free.only k c) [ inl none ↦ absurd (none_in k none) | inr is ↦ (is.0, is.1, (apart k never is.0 is.1, is.2)) ]
+
+    only : (k : ℕ) → Contains b k → Contains a k ⊎ IsLeafOfSome s k (λ x. (¬ Binds bs x) × IsFree x u)
+    only k c = elim (adds.only k c) [ inl old ↦ inl old | inr is ↦ inr (new k is.0 is.1) ]
+
+pub bodies-more : (s : Table) (v : TermsView) (old new : Bodies) (r : ℕ) (leaves : Vec ℕ Global) → ((q : ℕ) → get nat_eq new q ≡ cond (eqb r q) (Some leaves) (get nat_eq old q)) → ((t : Term) → RefersTo s v r t → AddsLeaves s [] leaves.items (λ x. IsFree x t)) → AreBodies s v old → AreBodies s v new
+bodies-more s v old new r leaves updates right h = record {
+  each = one-more (λ q ls. (t : Term) → RefersTo s v q t → AddsLeaves s [] ls.items (λ x. IsFree x t)) old new r leaves updates right h.each;
+}
+
+-- the answer
+pub leaves-free : (s : Table) (leaves : List ℕ) (t : Term) → AddsLeaves s [] leaves (λ x. IsFree x t) → AreFreeLeaves s leaves (free_variables t)
+leaves-free s leaves t h = record { each = each; all = λ x c. h.all x ((free_variables-are x t).0 c) }
+  where
+    each : (k : ℕ) → Contains leaves k → (x : Var) × IsLeaf s k (variable_leaf x) × Contains (free_variables t) x
+    each k c =
+        elim (h.only k c) [ inl none ↦ absurd (none_in k none) | inr is ↦ (is.0, is.1, (free_variables-are is.0 t).1 is.2) ]
+
+-- leaves of free variables are those of the variables that stand free
+pub free-leaves : (s : Table) (leaves : List ℕ) (t : Term) → AreFreeLeaves s leaves (free_variables t) → AddsLeaves s [] leaves (λ x. IsFree x t)
+free-leaves s leaves t h = record {
+  kept = λ k c. absurd (none_in k c);
+  all = λ x free. h.all x ((free_variables-are x t).1 free);
+  only = λ k c. let is = h.each k c in inr (is.0, is.1, (free_variables-are is.0 t).0 is.2);
+}
+
+-- what is kept for a name holds of its term, whatever the term is reached by
+pub named-adds : (s : Table) (v : TermsView) (k : KnownView) (sc : Script) (name : List ℕ) (w : Which) (n : held.Named) (r : ℕ) (t : Term) → named_of k w ≡ Some n → IsMeant s v k sc name (Some (KnownEntry.Named w)) → ((p q : ℕ) (a b : Term) → RefersTo s v p a → RefersTo s v q b → (p ≡ q) ↔ (a ≡ b)) → n.value.term ≡ r → RefersTo s v r t → AddsLeaves s [] n.free.items (λ x. IsFree x t)
+named-adds s v k sc name w n r t there h one same refers =
+    let held_is : n ≡ h.held = same_some (sym there ∙ h.there) in
+    let leaves : AreFreeLeaves s n.free.items (free_variables h.meant.meant.tree) = rw held_is h.is.free in
+    let place : h.held.value.term ≡ r = sym (ap (λ (m : held.Named). m.value.term) held_is) ∙ same in
+    let term : h.meant.meant.tree ≡ t = (one h.held.value.term r h.meant.meant.tree t h.is.value.refers refers).0 place in
+    subst (λ (u : Term). AddsLeaves s [] n.free.items (λ x. IsFree x u)) term (free-leaves s n.free.items h.meant.meant.tree leaves)
+
+-- how far a walk over a list has come, from its end
+pub record IsPassed (s : Table) (v now : TermsView) (list : List ℕ) (at : ℕ) (old seen found : List ℕ) (kept : Bodies) : Type 0 where
+  pub within : at ≤ length list
+  pub same : now ≡ v
+  pub bodies : AreBodies s v kept
+  pub covers : Covers s v seen found
+  pub adds : (ts : List Term) → ReferToAll s v (drop at list) ts → AddsLeaves s old found (λ x. IsFreeInAny x ts)
+
+-- one term more
+pub passed-more : (s : Table) (v now after : TermsView) (list : List ℕ) (at item : ℕ) (old seen found seen2 found2 : List ℕ) (kept kept2 : Bodies) → IsPassed s v now list at old seen found kept → 0 < at → item ≡ get_or list (at - 1) item → after ≡ now → ((t : Term) → RefersTo s now item t → AddsLeaves s found found2 (λ x. IsFree x t)) → Covers s now seen2 found2 → AreBodies s now kept2 → IsPassed s v after list (at - 1) old seen2 found2 kept2
+passed-more s v now after list at item old seen found seen2 found2 kept kept2 h above is same adds covers bodies = record {
+  within = let within = h.within in omega arith;
+  same = same ∙ h.same;
+  bodies = subst (λ z. AreBodies s z kept2) h.same bodies;
+  covers = subst (λ z. Covers s z seen2 found2) h.same covers;
+  adds = λ ts refer. more ts (subst (λ rs. ReferToAll s v rs ts) (drop-at list at item above h.within is) refer);
+}
+  where
+    more : (ts : List Term) → ReferToAll s v (item ∷ drop at list) ts → AddsLeaves s old found2 (λ x. IsFreeInAny x ts)
+    more [] refer = absurd refer
+    more (t ∷ ts) refer =
+        adds-same s old found2 _ _ (λ x p. swapped _ _ p) (λ x p. swapped _ _ p)
+        (adds-both s old found found2 (λ x. IsFreeInAny x ts) (λ x. IsFree x t) (h.adds ts refer.1) (adds t (subst (λ z. RefersTo s z item t) (sym h.same) refer.0)))
+
+-- the same terms, and the same list
+pub low_at : (s : Table) (v w : TermsView) (most : ℕ) (rs qs : List ℕ) → w ≡ v → qs ≡ rs → All (IsAtMost s v most) rs → All (IsAtMost s w most) qs
+low_at s v w most rs qs e f h =
+    subst (λ z. All (IsAtMost s z most) qs) (sym e) (subst (λ zs. All (IsAtMost s v most) zs) (sym f) h)
+
+-- a let whose body has these free leaves
+pub let-adds-unbound : (s : Table) (v : TermsView) (r : ℕ) (ks rs : List ℕ) (body : ℕ) (leaves a b c : List ℕ) → IsTable s → ArePartsOfLet s v r ks rs body → ((ts : List Term) → ReferToAll s v rs ts → AddsLeaves s a b (λ x. IsFreeInAny x ts)) → ((u : Term) → RefersTo s v body u → AddsLeaves s [] leaves (λ x. IsFree x u)) → AddsUnbound leaves ks b c → (t : Term) → IsLet t → RefersTo s v r t → AddsLeaves s a c (λ x. IsFree x t)
+let-adds-unbound s v r ks rs body leaves a b c table parts first kept adds =
+    let-adds s v r ks rs body a b c parts first (λ bs u are there. unbound-adds s table ks leaves b c bs u are (kept u there) adds)
+
+pub unbound_at : (leaves leaves2 bound bound2 a b : List ℕ) → leaves ≡ leaves2 → bound ≡ bound2 → AddsUnbound leaves bound a b → AddsUnbound leaves2 bound2 a b
+unbound_at leaves leaves2 bound bound2 a b e f h =
+    subst (λ zs. AddsUnbound leaves2 zs a b) f (subst (λ zs. AddsUnbound zs bound a b) e h)

@@ -1,0 +1,34 @@
+-- Public. The variables in scope, and those that a let binds, as the code holds them.
+use Rattle.std.specs.Prelude.{◌≡◌, ◌≤◌, ℕ, List, [], ◌∷◌}
+use Rattle.std.specs.List.{AllByRecursion}
+use Rattle.sym_table.specs.Table.{Table, IsLeaf}
+use Rattle.term_pool.specs.StandsFor.{variable_leaf}
+use Rattle.term_pool.specs.Views.{TermsView}
+use Rattle.problem_text.specs.Heights.{most_height}
+use Rattle.problem_text.specs.Names.{Bound}
+use Rattle.term_names.specs.Scope.{Scoped}
+use Rattle.term_expansion.specs.Values.{IsValue, PutsIn}
+use Rattle.term_expansion.specs.declared.values.Value.{Value}
+
+-- the variables in scope, the innermost first, by their names and leaves, and what they stand for
+abbrev pub IsScope : Table → TermsView → List Scoped → List Bound → Type 0
+IsScope s v [] [] = Unit {0}
+IsScope s v [] (b ∷ bs) = ⊥
+IsScope s v (e ∷ es) [] = ⊥
+IsScope s v (e ∷ es) (b ∷ bs) = (e.name ≡ b.variable.name) × PutsIn s v e.bound b.variable b.stands_for × IsScope s v es bs
+
+-- leaves and values in the same order: the variables of a let and what they are bound to
+abbrev pub AreBound : Table → TermsView → List ℕ → List Value → List Bound → Type 0
+AreBound s v [] [] [] = Unit {0}
+AreBound s v [] [] (b ∷ bs) = ⊥
+AreBound s v [] (c ∷ cs) bs = ⊥
+AreBound s v (k ∷ ks) [] bs = ⊥
+AreBound s v (k ∷ ks) (c ∷ cs) [] = ⊥
+AreBound s v (k ∷ ks) (c ∷ cs) (b ∷ bs) =
+    IsLeaf s k (variable_leaf b.variable)
+    × IsValue s v c (record { tree = b.stands_for; sort = b.variable.sort })
+    × AreBound s v ks cs bs
+
+-- none of the values is too high
+abbrev pub AreLow : List Value → Type 0
+AreLow values = AllByRecursion (λ c. c.height ≤ most_height) values

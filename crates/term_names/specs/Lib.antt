@@ -1,0 +1,14 @@
+pub mod Stacks
+pub mod Entries
+pub mod Known
+pub mod NameNumbers
+pub mod Scope
+pub mod Held
+pub mod Faults
+pub mod Standing
+pub mod InScope
+pub mod Making
+pub mod Heads
+pub mod LookingUp
+pub mod BoundLeaves
+pub mod Applying

@@ -1,0 +1,111 @@
+-- Public. When the tables of the code stand for a script. Names are tied by what they are looked up to be, not by lists.
+use Rattle.std.specs.Prelude.{◌≡◌, ◌≤◌, ℕ, List, [], ◌∷◌, map, find, bytes_eq, true, false, Option, Some, None, ◌⊎◌}
+use Rattle.sym_table.specs.Table.{Table, IsLeaf, IsFunctionName, Keeps}
+use Rattle.term_model.specs.Terms.{Var, Fun}
+use Rattle.term_pool.specs.StandsFor.{variable_leaf, function_leaf}
+use Rattle.term_pool.specs.Views.{TermsView}
+use Rattle.term_expansion.specs.Free.{AreFreeLeaves}
+use Rattle.problem_text.specs.Heights.{most_height}
+use Rattle.term_names.specs.Known.{KnownView, known_entry, macro_of, named_of}
+use Rattle.problem_text.specs.Replacement.{free_variables}
+use Rattle.problem_text.specs.Scripts.{Macro, Named, Script}
+use Rattle.term_expansion.specs.Values.{IsValue}
+use Rattle.problem_text.specs.Words.{is_among}
+use Rattle.term_names.specs.declared.entries.Macro as macro
+use Rattle.term_names.specs.declared.entries.Named as named
+use Rattle.term_names.specs.declared.known.KnownEntry.{KnownEntry}
+
+-- the named term, the macro and the declared function of a name
+abbrev pub named_in : Script → List ℕ → Option Named
+named_in sc name = find (λ n. bytes_eq n.name name) sc.named
+
+abbrev pub macro_in : Script → List ℕ → Option Macro
+macro_in sc name = find (λ m. bytes_eq m.name name) sc.macros
+
+abbrev pub function_in : Script → List ℕ → Option Fun
+function_in sc name = find (λ f. bytes_eq f.name name) sc.functions
+
+-- the leaves are those of the variables, in order
+abbrev pub AreLeavesOf : Table → List ℕ → List Var → Type 0
+AreLeavesOf s [] [] = Unit {0}
+AreLeavesOf s [] (x ∷ xs) = ⊥
+AreLeavesOf s (k ∷ ks) [] = ⊥
+AreLeavesOf s (k ∷ ks) (x ∷ xs) = IsLeaf s k (variable_leaf x) × AreLeavesOf s ks xs
+
+pub record IsMacroOf (s : Table) (v : TermsView) (m : macro.Macro) (d : Macro) : Type 0 where
+  pub parameters : AreLeavesOf s m.parameters.items d.parameters
+  pub sorts : m.sorts.items ≡ map (λ x. x.sort) d.parameters
+  pub target : m.target ≡ d.target
+  pub body : IsValue s v m.body (record { tree = d.body; sort = d.target })
+  pub plain : m.body.plain ≡ true
+
+pub record IsNamedOf (s : Table) (v : TermsView) (n : named.Named) (d : Named) : Type 0 where
+  pub value : IsValue s v n.value d.meant
+  pub low : n.value.height ≤ most_height
+  pub free : AreFreeLeaves s n.free.items (free_variables d.meant.tree)
+
+-- the function of a name, by its leaf
+pub record IsFunctionAt (s : Table) (sc : Script) (name : List ℕ) : Type 0 where
+  pub leaf : ℕ
+  pub meant : Fun
+  pub here : IsLeaf s leaf (function_leaf meant)
+  pub same_name : meant.name ≡ name
+  pub found : function_in sc name ≡ Some meant
+  pub taken : is_among sc.taken name ≡ true
+
+-- no function has the name, by the table and by the script
+pub record IsNoFunction (s : Table) (sc : Script) (name : List ℕ) : Type 0 where
+  pub table : IsFunctionName s name → ⊥
+  pub script : function_in sc name ≡ None
+
+-- the name is that of neither a macro nor a named term
+pub record HasNoEntry (sc : Script) (name : List ℕ) : Type 0 where
+  pub no_named : named_in sc name ≡ None
+  pub no_macro : macro_in sc name ≡ None
+
+pub record IsFreeName (s : Table) (sc : Script) (name : List ℕ) : Type 0 where
+  pub no_function : IsNoFunction s sc name
+  pub free : is_among sc.taken name ≡ false
+
+pub record IsReservedName (s : Table) (sc : Script) (name : List ℕ) : Type 0 where
+  pub no_entry : HasNoEntry sc name
+  pub no_function : IsNoFunction s sc name
+  pub taken : is_among sc.taken name ≡ true
+
+pub record IsMacroName (s : Table) (v : TermsView) (sc : Script) (name : List ℕ) (m : Option macro.Macro) : Type 0 where
+  pub held : macro.Macro
+  pub meant : Macro
+  pub there : m ≡ Some held
+  pub found : macro_in sc name ≡ Some meant
+  pub is : IsMacroOf s v held meant
+  pub no_named : named_in sc name ≡ None
+  pub no_function : IsNoFunction s sc name
+  pub taken : is_among sc.taken name ≡ true
+
+pub record IsNamedName (s : Table) (v : TermsView) (sc : Script) (name : List ℕ) (n : Option named.Named) : Type 0 where
+  pub held : named.Named
+  pub meant : Named
+  pub there : n ≡ Some held
+  pub found : named_in sc name ≡ Some meant
+  pub is : IsNamedOf s v held meant
+  pub no_macro : macro_in sc name ≡ None
+  pub no_function : IsNoFunction s sc name
+  pub taken : is_among sc.taken name ≡ true
+
+-- what a name is that of, by the entries and by the script
+abbrev pub IsMeant : Table → TermsView → KnownView → Script → List ℕ → Option KnownEntry → Type 0
+IsMeant s v k sc name None = HasNoEntry sc name × (IsFunctionAt s sc name ⊎ IsFreeName s sc name)
+IsMeant s v k sc name (Some KnownEntry.Reserved) = IsReservedName s sc name
+IsMeant s v k sc name (Some (KnownEntry.Macro w)) = IsMacroName s v sc name (macro_of k w)
+IsMeant s v k sc name (Some (KnownEntry.Named w)) = IsNamedName s v sc name (named_of k w)
+
+-- the table, the pool and the entries stand for what the script declares and names
+pub record IsScript (s : Table) (v : TermsView) (k : KnownView) (sc : Script) : Type 0 where
+  pub sorts : s.sorts ≡ sc.sorts
+  pub names : (name : List ℕ) → IsMeant s v k sc name (known_entry k name)
+
+-- Only numerals and variables are added to the table.
+pub record AddsNoSymbols (old new : Table) : Type 0 where
+  pub keeps : Keeps old new
+  pub sorts : new.sorts ≡ old.sorts
+  pub functions : (k : ℕ) (f : Fun) → IsLeaf new k (function_leaf f) → IsLeaf old k (function_leaf f)

@@ -1,0 +1,136 @@
+//! Symbols applied to terms that were read.
+ghost use Rattle.std.specs.Prelude.{◌≡◌, ◌≤◌, ◌<◌, List, length, drop, IfOk};
+ghost use Rattle.term_model.specs.Sorts.{sorts_eq};
+ghost use Rattle.term_pool.specs.Views.{KeepsTerms};
+ghost use Rattle.term_names.specs.Applying.{bounds_of};
+ghost use Rattle.term_names.specs.Heads.{IsHeadOf, IsSymbolOf};
+ghost use Rattle.term_names.specs.InScope.{AreLow};
+ghost use Rattle.term_names.specs.Making.{Makes};
+ghost use Rattle.problem_text.specs.Names.{Meaning, macro, applied};
+ghost use Rattle.problem_text.specs.Scripts as spec;
+ghost use Rattle.problem_text.specs.TypedTerms.{Typed};
+ghost use Rattle.term_names.specs.Standing.{IsMacroOf};
+ghost use Rattle.term_expansion.specs.Values.{AreValues};
+
+use crate::entries::Macro;
+use crate::faults::ReadFault;
+use crate::heads::Head;
+use crate::known::Known;
+use crate::stacks::Values;
+use sort_check::check_app;
+use std::alloc::Global;
+use sym_table::{Memory, Symbols};
+use term_expansion::substitution::put_in_plain;
+use term_expansion::values::{Bound, Value};
+use term_model::Sort;
+use term_pool::{Terms, trees_are_built_of_parts};
+
+/// What is applied to the terms from place `from` on, of which there is one or more: the term that this is, or None
+/// where their number or their sorts do not allow it.
+///
+/// A macro costs the distinct cells of its body; anything else one cell for each argument and one more.
+pub fn apply(
+    alloc: Global,
+    symbols: &Symbols,
+    terms: &mut Terms<'_>,
+    known: &Known<'_>,
+    head: Head,
+    values: &Values,
+    from: usize,
+) -> Result<Option<Value>, ReadFault>
+    requires some { from < length values.now }
+    requires low { AreLow values.now }
+    requires head { (m : Meaning) × (ts : List Typed) × IsHeadOf symbols.now terms.old known.now head m × AreValues symbols.now terms.old (drop from values.now) ts }
+    ensures makes { (m : Meaning) (ts : List Typed) → IsHeadOf symbols.now terms.old known.now head m → AreValues symbols.now terms.old (drop from values.now) ts → Makes symbols.now terms.old terms.new (applied m ts) result }
+    ensures keeps { KeepsTerms terms.old terms.new }
+{
+    match head {
+        Head::Symbol(leaf) => apply_symbol(symbols, terms, leaf, values, from),
+        Head::Macro(which) => {
+            apply_macro(alloc, symbols, terms, known.macro_at(which), values, from)
+        }
+        Head::Fixed => Ok(None),
+    }
+}
+
+/// The application of an operator or a declared function, by its leaf.
+fn apply_symbol(
+    symbols: &Symbols,
+    terms: &mut Terms<'_>,
+    leaf: u32,
+    values: &Values,
+    from: usize,
+) -> Result<Option<Value>, ReadFault>
+    requires some { from < length values.now }
+    requires low { AreLow values.now }
+    requires symbol { (m : Meaning) × (ts : List Typed) × IsSymbolOf symbols.now leaf m × AreValues symbols.now terms.old (drop from values.now) ts }
+    ensures makes { (m : Meaning) (ts : List Typed) → IsSymbolOf symbols.now leaf m → AreValues symbols.now terms.old (drop from values.now) ts → Makes symbols.now terms.old terms.new (applied m ts) result }
+    ensures keeps { KeepsTerms terms.old terms.new }
+{
+    let _leaves = symbols.count();
+    let Some(sort) = check_app(symbols, leaf, values.sorts_from(from)) else {
+        return Ok(None);
+    };
+    trees_are_built_of_parts();
+    let height = 1 + values.highest_from(from);
+    let plain = values.all_plain_from(from);
+    let term = terms.app(leaf, values.terms_from(from))?;
+    Ok(Some(Value {
+        term,
+        sort,
+        height,
+        plain,
+    }))
+}
+
+/// The body of a macro with the terms put in for its parameters.
+fn apply_macro(
+    alloc: Global,
+    symbols: &Symbols,
+    terms: &mut Terms<'_>,
+    defined: &Macro,
+    values: &Values,
+    from: usize,
+) -> Result<Option<Value>, ReadFault>
+    requires some { from < length values.now }
+    requires defined { (d : spec.Macro) × (ts : List Typed) × IsMacroOf symbols.now terms.old defined.now d × AreValues symbols.now terms.old (drop from values.now) ts }
+    ensures makes { (d : spec.Macro) (ts : List Typed) → IsMacroOf symbols.now terms.old defined.now d → AreValues symbols.now terms.old (drop from values.now) ts → Makes symbols.now terms.old terms.new (applied (macro d) ts) result }
+    ensures keeps { KeepsTerms terms.old terms.new }
+{
+    if !are_equal(&defined.sorts, values.sorts_from(from)) {
+        return Ok(None);
+    }
+    let arguments = arguments_for(alloc, &defined.parameters, values, from)?;
+    let term = put_in_plain(alloc, symbols, terms, &arguments, defined.body)?;
+    Ok(Some(term))
+}
+
+/// Whether these are the same sorts in the same order.
+fn are_equal(sorts: &[Sort], others: &[Sort]) -> bool
+    ensures { result ≡ sorts_eq sorts.now others.now }
+{
+    sorts == others
+}
+
+/// What is put in for each parameter, told by its leaf: the value at its place, from place `from` on.
+fn arguments_for(
+    alloc: Global,
+    parameters: &[u32],
+    values: &Values,
+    from: usize,
+) -> Result<Vec<Bound>, Memory>
+    requires within { from ≤ length values.now }
+    requires one_each { length parameters.now ≡ length (drop from values.now) }
+    ensures { IfOk result (λ bounds. bounds.items ≡ bounds_of parameters.now (drop from values.now)) }
+{
+    let _values = values.len();
+    let mut bounds = Vec::with_capacity(alloc, parameters.len())?;
+    'parameters: for (i, parameter) in parameters.iter().enumerate() {
+        let bound = Bound {
+            variable: *parameter,
+            value: values.get(from + i),
+        };
+        bounds.push(bound)?;
+    }
+    Ok(bounds)
+}

@@ -1,0 +1,289 @@
+//! The free variables of a term.
+//!
+//! A walk gathers them within the body of one let and meets each cell there once. A body of a let is gone through on
+//! its own, once, and its leaves are kept: what they are does not depend on the lets around it. A term that was named
+//! before is not gone through again. So the cost is the number of distinct bodies times what a body has of cells and of
+//! free variables, at most, and of nested names each walks the cells that are new.
+
+ghost use Rattle.std.specs.Prelude.{◌≡◌, ◌≤◌, ◌<◌, [], List, All, IfOk, IfSome, OnOk};
+ghost use Rattle.pair_pool.specs.Views.{IsUnchanged, IsKnown};
+ghost use Rattle.sym_table.specs.Table.{Table, IsTable};
+ghost use Rattle.term_model.specs.FreeVariables.{IsFree};
+ghost use Rattle.term_model.specs.Terms.{Term};
+ghost use Rattle.term_pool.specs.Reading.{arguments_of, IsLet, IsLetTerm};
+ghost use Rattle.term_pool.specs.Views.{RefersTo, ReferToAll, KeepsTerms};
+ghost use Rattle.term_expansion.specs.Free.{AreFreeLeaves, ArePartsOfLet, AddsLeaves, IsAtMost, IsFreeInAny, Covers, AreBodies};
+ghost use Rattle.term_expansion.specs.Images.{IsSomeValue};
+ghost use Rattle.problem_text.specs.Replacement.{free_variables};
+ghost use Rattle.problem_text.specs.TypedTerms.{Typed};
+ghost use Rattle.problem_text.specs.Scripts.{Script};
+ghost use Rattle.term_names.specs.Standing.{IsScript};
+ghost use Rattle.term_expansion.specs.Values.{IsValue};
+
+use crate::known::{Known, KnownEntry};
+use indexmap::IndexSet;
+use pair_pool::{Memory, Ref};
+use std::alloc::Global;
+use std::collections::HashMap;
+use sym_table::Symbols;
+use term_expansion::leaf_sets::{add, add_all, add_unbound, has};
+use term_expansion::term_parts::is_variable;
+use term_expansion::values::Value;
+use term_pool::Terms;
+
+/// The greatest height of a term.
+const MOST_HEIGHT: u32 = 2000;
+
+/// What a walk has gone through, and the leaves of the free variables there.
+#[derive(Drop)]
+struct Region {
+    seen: IndexSet<u32>,
+    found: IndexSet<u32>,
+}
+
+/// The arguments of an application.
+fn arguments(alloc: Global, terms: &mut Terms<'_>, r: Ref) -> Result<Vec<Ref>, Memory>
+    requires { IsKnown terms.old.pass r }
+    ensures arguments { IfOk result (λ list. (s : Table) (t : Term) → RefersTo s terms.old r t → (IsLet t → ⊥) → ReferToAll s terms.old list.items (arguments_of t)) }
+    ensures same { terms.new ≡ terms.old }
+{
+    let mut list = Vec::new(alloc);
+    terms.arguments(r, &mut list)?;
+    Ok(list)
+}
+
+/// A let in its parts: the leaves of the variables that it binds, what it gives them, and its body.
+#[derive(Drop)]
+struct LetParts {
+    variables: Vec<u32>,
+    values: Vec<Ref>,
+    body: Ref,
+}
+
+/// The parts of a let.
+fn let_parts(alloc: Global, terms: &mut Terms<'_>, r: Ref) -> Result<LetParts, Memory>
+    requires { IsLetTerm terms.old r }
+    ensures parts { IfOk result (λ p. (s : Table) → ArePartsOfLet s terms.old r p.variables.items p.values.items p.body) }
+    ensures same { terms.new ≡ terms.old }
+{
+    let mut variables = Vec::new(alloc);
+    let mut values = Vec::new(alloc);
+    terms.bindings(r, &mut variables, &mut values)?;
+    let body = terms.let_body(r);
+    Ok(LetParts {
+        variables,
+        values,
+        body,
+    })
+}
+
+/// The leaves of the free variables of a term, where it was named before.
+fn leaves_of_named<'b>(
+    symbols: &Symbols,
+    terms: &Terms<'_>,
+    known: &'b Known<'_>,
+    r: Ref,
+) -> Option<&'b [u32]>
+    requires { (sc : Script) × IsScript symbols.now terms.now known.now sc }
+    ensures { IfSome result (λ leaves. (t : Term) → RefersTo symbols.now terms.now r t → AddsLeaves symbols.now [] leaves.now (λ x. IsFree x t)) }
+{
+    let _leaves = symbols.count();
+    terms.equal_exactly_where_terms_are();
+    let name = known.name_given(r)?;
+    let KnownEntry::Named(which) = known.find(name)? else {
+        return None;
+    };
+    let named = known.named_at(which);
+    if named.value.term == r {
+        Some(&named.free)
+    } else {
+        None
+    }
+}
+
+/// Gathers the free variables of a term that is no higher than `most`.
+#[cycle(gather)]
+fn gather(
+    alloc: Global,
+    symbols: &Symbols,
+    terms: &mut Terms<'_>,
+    known: &Known<'_>,
+    bodies: &mut HashMap<u32, Vec<u32>>,
+    region: &mut Region,
+    r: Ref,
+    most: u32,
+) -> Result<(), Memory>
+    requires table { IsTable symbols.now }
+    requires low { IsAtMost symbols.now terms.old most r }
+    requires bodies { AreBodies symbols.now terms.old bodies.old }
+    requires covers { Covers symbols.now terms.old region.old.seen.keys region.old.found.keys }
+    requires script { (sc : Script) × IsScript symbols.now terms.old known.now sc }
+    ensures adds { OnOk result ((t : Term) → RefersTo symbols.now terms.old r t → AddsLeaves symbols.now region.old.found.keys region.new.found.keys (λ x. IsFree x t)) }
+    ensures covers { OnOk result (Covers symbols.now terms.old region.new.seen.keys region.new.found.keys) }
+    ensures bodies { OnOk result (AreBodies symbols.now terms.old bodies.new) }
+    ensures same { terms.new ≡ terms.old }
+{
+    if has(&region.seen, r.number()) {
+        return Ok(());
+    }
+    if let Some(leaves) = leaves_of_named(symbols, terms, known, r) {
+        add_all(leaves, &mut region.found)?;
+        return add(&mut region.seen, r.number());
+    }
+    let Some(head) = terms.head(r) else {
+        gather_let(alloc, symbols, terms, known, bodies, region, r, most)?;
+        return add(&mut region.seen, r.number());
+    };
+    if is_variable(symbols, head) {
+        return add(&mut region.found, head);
+    }
+    let list = arguments(alloc, terms, r)?;
+    gather_all(
+        alloc,
+        symbols,
+        terms,
+        known,
+        bodies,
+        region,
+        &list,
+        most - 1,
+    )?;
+    add(&mut region.seen, r.number())
+}
+
+/// The free variables of all these terms.
+#[cycle(gather)]
+fn gather_all(
+    alloc: Global,
+    symbols: &Symbols,
+    terms: &mut Terms<'_>,
+    known: &Known<'_>,
+    bodies: &mut HashMap<u32, Vec<u32>>,
+    region: &mut Region,
+    list: &[Ref],
+    most: u32,
+) -> Result<(), Memory>
+    requires table { IsTable symbols.now }
+    requires low { All (IsAtMost symbols.now terms.old most) list.now }
+    requires bodies { AreBodies symbols.now terms.old bodies.old }
+    requires covers { Covers symbols.now terms.old region.old.seen.keys region.old.found.keys }
+    requires script { (sc : Script) × IsScript symbols.now terms.old known.now sc }
+    ensures adds { OnOk result ((ts : List Term) → ReferToAll symbols.now terms.old list.now ts → AddsLeaves symbols.now region.old.found.keys region.new.found.keys (λ x. IsFreeInAny x ts)) }
+    ensures covers { OnOk result (Covers symbols.now terms.old region.new.seen.keys region.new.found.keys) }
+    ensures bodies { OnOk result (AreBodies symbols.now terms.old bodies.new) }
+    ensures same { terms.new ≡ terms.old }
+{
+    let mut at = list.len();
+    'terms: while at > 0 {
+        at -= 1;
+        gather(alloc, symbols, terms, known, bodies, region, list[at], most)?;
+    }
+    Ok(())
+}
+
+/// The free variables of a let: those of what it gives variables, and those of its body that it does not bind.
+#[cycle(gather)]
+fn gather_let(
+    alloc: Global,
+    symbols: &Symbols,
+    terms: &mut Terms<'_>,
+    known: &Known<'_>,
+    bodies: &mut HashMap<u32, Vec<u32>>,
+    region: &mut Region,
+    r: Ref,
+    most: u32,
+) -> Result<(), Memory>
+    requires table { IsTable symbols.now }
+    requires low { IsAtMost symbols.now terms.old most r }
+    requires is_let { (t : Term) → RefersTo symbols.now terms.old r t → IsLet t }
+    requires bodies { AreBodies symbols.now terms.old bodies.old }
+    requires covers { Covers symbols.now terms.old region.old.seen.keys region.old.found.keys }
+    requires script { (sc : Script) × IsScript symbols.now terms.old known.now sc }
+    ensures adds { OnOk result ((t : Term) → RefersTo symbols.now terms.old r t → AddsLeaves symbols.now region.old.found.keys region.new.found.keys (λ x. IsFree x t)) }
+    ensures covers { OnOk result (Covers symbols.now terms.old region.new.seen.keys region.new.found.keys) }
+    ensures bodies { OnOk result (AreBodies symbols.now terms.old bodies.new) }
+    ensures same { terms.new ≡ terms.old }
+{
+    if let Some(leaves) = bodies.get(&r.number()) {
+        return add_all(leaves, &mut region.found);
+    }
+    let parts = let_parts(alloc, terms, r)?;
+    let values = &parts.values;
+    gather_all(
+        alloc,
+        symbols,
+        terms,
+        known,
+        bodies,
+        region,
+        values,
+        most - 1,
+    )?;
+    if let Some(leaves) = bodies.get(&parts.body.number()) {
+        return add_unbound(alloc, leaves, &parts.variables, &mut region.found);
+    }
+    let leaves = leaves_of(alloc, symbols, terms, known, bodies, parts.body, most - 1)?;
+    add_unbound(alloc, &leaves, &parts.variables, &mut region.found)?;
+    let _ = bodies.insert(parts.body.number(), leaves)?;
+    Ok(())
+}
+
+/// The leaves of the free variables of a term, by a walk of its own.
+#[cycle(gather)]
+fn leaves_of(
+    alloc: Global,
+    symbols: &Symbols,
+    terms: &mut Terms<'_>,
+    known: &Known<'_>,
+    bodies: &mut HashMap<u32, Vec<u32>>,
+    r: Ref,
+    most: u32,
+) -> Result<Vec<u32>, Memory>
+    requires table { IsTable symbols.now }
+    requires low { IsAtMost symbols.now terms.old most r }
+    requires bodies { AreBodies symbols.now terms.old bodies.old }
+    requires script { (sc : Script) × IsScript symbols.now terms.old known.now sc }
+    ensures leaves { IfOk result (λ leaves. (t : Term) → RefersTo symbols.now terms.old r t → AddsLeaves symbols.now [] leaves.items (λ x. IsFree x t)) }
+    ensures bodies { OnOk result (AreBodies symbols.now terms.old bodies.new) }
+    ensures same { terms.new ≡ terms.old }
+{
+    let mut region = Region {
+        seen: IndexSet::new(alloc),
+        found: IndexSet::new(alloc),
+    };
+    gather(alloc, symbols, terms, known, bodies, &mut region, r, most)?;
+    let leaves = Vec::from_slice(alloc, region.found.as_slice())?;
+    Ok(leaves)
+}
+
+/// The leaves of the free variables of a term (SMT-LIB 2.6, section 3.6.1).
+///
+/// Goes through each distinct cell once for each distinct body of a let that it stands in, but for those of terms that
+/// were named before, whose leaves are kept, and takes memory for each that it meets there. Takes stack in proportion to
+/// the term's height. Refuses want of memory alone.
+pub fn free_leaves(
+    alloc: Global,
+    symbols: &Symbols,
+    terms: &mut Terms<'_>,
+    known: &Known<'_>,
+    what: Value,
+) -> Result<Vec<u32>, Memory>
+    requires what { IsSomeValue symbols.now terms.old what }
+    requires low { what.height ≤ 2000 }
+    requires script { (sc : Script) × IsScript symbols.now terms.old known.now sc }
+    ensures free { IfOk result (λ leaves. (t : Typed) → IsValue symbols.now terms.old what t → AreFreeLeaves symbols.now leaves.items (free_variables t.tree)) }
+    ensures keeps { KeepsTerms terms.old terms.new }
+    ensures unchanged { IsUnchanged terms.old.pass terms.new.pass }
+{
+    let _leaves = symbols.count();
+    let mut bodies = HashMap::new(alloc);
+    leaves_of(
+        alloc,
+        symbols,
+        terms,
+        known,
+        &mut bodies,
+        what.term,
+        MOST_HEIGHT,
+    )
+}

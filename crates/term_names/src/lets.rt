@@ -1,0 +1,137 @@
+//! The variables that a let binds, in scope and out of it (SMT-LIB 2.6, section 3.6.1).
+ghost use Rattle.std.specs.Prelude.{◌≡◌, ◌≤◌, ◌<◌, ◌^◌, ◌∷◌, ◌++◌, List, if◌then◌else◌, length, drop, Some, OnOk};
+ghost use Rattle.sym_table.specs.Table.{Table, IsLeaf};
+ghost use Rattle.term_model.specs.Terms.{Var, variable};
+ghost use Rattle.term_pool.specs.StandsFor.{variable_leaf};
+ghost use Rattle.term_pool.specs.Views.{TermsView, KeepsTerms};
+ghost use Rattle.problem_text.specs.Heights.{most_height};
+ghost use Rattle.term_names.specs.InScope.{IsScope, AreLow, AreBound};
+ghost use Rattle.term_names.specs.Making.{Makes};
+ghost use Rattle.problem_text.specs.Names.{Bound, Place, itself, inside, let_term};
+ghost use Rattle.term_names.specs.Scope.{Scoped};
+ghost use Rattle.problem_text.specs.TypedTerms.{Typed};
+ghost use Rattle.term_expansion.specs.Values.{IsValue};
+
+use crate::faults::ReadFault;
+use crate::scope::Scope;
+use crate::stacks::Values;
+use pair_pool::Ref;
+use sym_table::{Memory, Symbols};
+use term_expansion::values::{Bound as Binding, Value};
+use term_model::Sort;
+use term_pool::{Terms, trees_are_built_of_parts};
+
+/// Puts the variables of a let in scope, by their leaves, the first one innermost. Where lets are replaced each stands for
+/// the value at its place, from place `from` on, and otherwise for itself. Refuses want of memory alone.
+pub fn bind(
+    symbols: &Symbols,
+    scope: &mut Scope,
+    leaves: &[u32],
+    values: &Values,
+    from: usize,
+    replaces_lets: bool,
+) -> Result<(), Memory>
+    requires within { from ≤ length values.now }
+    requires bound { (v : TermsView) × (bs : List Bound) × AreBound symbols.now v leaves.now (drop from values.now) bs }
+    ensures bound { (v : TermsView) (bs : List Bound) (p : Place) → AreBound symbols.now v leaves.now (drop from values.now) bs → IsScope symbols.now v scope.old p.scope → p.replaces_lets ≡ replaces_lets → OnOk result (IsScope symbols.now v scope.new (inside bs p).scope) }
+    ensures inner { OnOk result ((inner : List Scoped) × (scope.new ≡ inner ++ scope.old) × (length inner ≡ length leaves.now)) }
+{
+    let _values = values.len();
+    let mut at = leaves.len();
+    'variables: while at > 0 {
+        at -= 1;
+        bind_one(
+            symbols,
+            scope,
+            leaves[at],
+            values.get(from + at),
+            replaces_lets,
+        )?;
+    }
+    Ok(())
+}
+
+/// Puts a variable in scope, by its leaf. Where lets are replaced it stands for the value, and otherwise for itself.
+/// Refuses want of memory alone.
+fn bind_one(
+    symbols: &Symbols,
+    scope: &mut Scope,
+    leaf: u32,
+    value: Value,
+    replaces_lets: bool,
+) -> Result<(), Memory>
+    requires variable { (x : Var) × IsLeaf symbols.now leaf (variable_leaf x) }
+    ensures bound { (v : TermsView) (b : Bound) (bs : List Bound) → IsLeaf symbols.now leaf (variable_leaf b.variable) → IsValue symbols.now v value (record { tree = b.stands_for; sort = b.variable.sort }) → IsScope symbols.now v scope.old bs → OnOk result (IsScope symbols.now v scope.new ((if replaces_lets then b else itself b.variable) ∷ bs)) }
+    ensures inner { OnOk result ((e : Scoped) × (scope.new ≡ e ∷ scope.old)) }
+{
+    let _leaves = symbols.count();
+    let value = if replaces_lets {
+        value
+    } else {
+        as_itself(leaf, value.sort)
+    };
+    let bound = Binding {
+        variable: leaf,
+        value,
+    };
+    scope.push(symbols.name(leaf), bound)
+}
+
+/// A variable of this sort as a term, by its leaf.
+pub fn as_itself(leaf: u32, sort: Sort) -> Value
+    requires { leaf < 2 ^ 30 }
+    ensures { (s : Table) (v : TermsView) (x : Var) → IsLeaf s leaf (variable_leaf x) → sort ≡ x.sort → IsValue s v result (record { tree = variable x; sort = x.sort }) }
+{
+    Value {
+        term: Ref::leaf(leaf),
+        sort,
+        height: 1,
+        plain: true,
+    }
+}
+
+/// Takes the innermost variables out of scope, this many.
+pub fn unbind(scope: &mut Scope, count: usize)
+    requires { count ≤ length scope.old }
+    ensures { scope.new ≡ drop count scope.old }
+{
+    let mut left = count;
+    'variables: while left > 0 {
+        scope.pop();
+        left -= 1;
+    }
+}
+
+/// The let with this body whose variables are these leaves, and whose values stand from place `from` on; where lets are
+/// replaced it is the body. There is one variable or more.
+pub fn close(
+    symbols: &Symbols,
+    terms: &mut Terms<'_>,
+    leaves: &[u32],
+    values: &Values,
+    from: usize,
+    body: Value,
+    replaces_lets: bool,
+) -> Result<Option<Value>, ReadFault>
+    requires some { 0 < length leaves.now }
+    requires within { from ≤ length values.now }
+    requires low { AreLow values.now }
+    requires body_low { body.height ≤ most_height }
+    requires bound { (bs : List Bound) × (t : Typed) × AreBound symbols.now terms.old leaves.now (drop from values.now) bs × IsValue symbols.now terms.old body t }
+    ensures makes { (p : Place) (bs : List Bound) (t : Typed) → AreBound symbols.now terms.old leaves.now (drop from values.now) bs → IsValue symbols.now terms.old body t → p.replaces_lets ≡ replaces_lets → Makes symbols.now terms.old terms.new (Some (let_term p bs t)) result }
+    ensures keeps { KeepsTerms terms.old terms.new }
+{
+    if replaces_lets {
+        return Ok(Some(body));
+    }
+    let _leaves = symbols.count();
+    trees_are_built_of_parts();
+    let height = 1 + values.highest_from(from).max(body.height);
+    let term = terms.let_term(leaves, values.terms_from(from), body.term)?;
+    Ok(Some(Value {
+        term,
+        sort: body.sort,
+        height,
+        plain: false,
+    }))
+}

@@ -1,0 +1,122 @@
+//! What a symbol means where it stands (SMT-LIB 2.6, sections 3.6.1 and 5.2.1).
+ghost use Rattle.std.specs.Prelude.{◌≡◌, List, Some};
+ghost use Rattle.std.specs.List.{list_all};
+ghost use Rattle.sym_table.specs.Table.{Table, IsLeaf};
+ghost use Rattle.term_model.specs.Terms.{Var};
+ghost use Rattle.term_pool.specs.StandsFor.{variable_leaf};
+ghost use Rattle.term_pool.specs.Views.{TermsView};
+ghost use Rattle.term_names.specs.Heads.{IsHeadOf};
+ghost use Rattle.term_expansion.specs.Free.{AreFreeLeaves};
+ghost use Rattle.term_names.specs.InScope.{IsScope};
+ghost use Rattle.term_names.specs.Known.{KnownView};
+ghost use Rattle.term_names.specs.LookingUp.{IsFound, IsEntryMeant, IsSymbolMeant, AgreeOnFunction, meaning_of_symbol};
+ghost use Rattle.problem_text.specs.Names.{Place, Meaning, is_bound, meaning_of};
+ghost use Rattle.problem_text.specs.Scripts.{Script};
+ghost use Rattle.term_names.specs.Standing.{IsScript};
+ghost use Rattle.term_names.specs.declared.heads.Head as head;
+
+use crate::heads::Head;
+use crate::known::{Known, KnownEntry, Which};
+use crate::scope::Scope;
+use crate::words::operator_of;
+use sym_table::Symbols;
+use term_expansion::values::Value;
+
+/// What a name is found to be.
+#[derive(Clone, Copy)]
+pub enum Found {
+    /// A variable in scope: what it stands for.
+    Term(Value),
+    /// A named term whose free variables are bound here.
+    Named(Which),
+    Macro(Which),
+    /// An operator or a declared function, by its leaf.
+    Symbol(u32),
+    /// Nothing, or a named term that has a free variable that is not bound here.
+    Unknown,
+}
+
+/// What a name means where these variables are in scope: the innermost variable of that name, then a named term or a
+/// macro, then a function, then an operator.
+///
+/// Costs one look-up in each table, and for a named term one for each of its free variables.
+pub fn find(symbols: &Symbols, known: &Known<'_>, scope: &Scope, name: &[u8]) -> Found
+    ensures { (v : TermsView) (sc : Script) (p : Place) → IsScript symbols.now v known.now sc → IsScope symbols.now v scope.now p.scope → IsFound symbols.now v known.now p result (meaning_of p sc name.now) }
+{
+    if let Some(bound) = scope.find(name) {
+        return Found::Term(bound.value);
+    }
+    if let Some(found) = entry_named(symbols, known, scope, name) {
+        return found;
+    }
+    match symbol_named(symbols, name) {
+        Some(leaf) => Found::Symbol(leaf),
+        None => Found::Unknown,
+    }
+}
+
+/// The macro of this name, or the named term, where its free variables are bound here.
+fn entry_named(symbols: &Symbols, known: &Known<'_>, scope: &Scope, name: &[u8]) -> Option<Found>
+    ensures { (v : TermsView) (sc : Script) (p : Place) → IsScript symbols.now v known.now sc → IsScope symbols.now v scope.now p.scope → IsEntryMeant symbols.now v known.now sc p name.now result }
+{
+    match known.find(name)? {
+        KnownEntry::Reserved => None,
+        KnownEntry::Macro(which) => Some(Found::Macro(which)),
+        KnownEntry::Named(which) => {
+            if are_bound(symbols, scope, &known.named_at(which).free) {
+                Some(Found::Named(which))
+            } else {
+                None
+            }
+        }
+    }
+}
+
+/// Whether all these variables are bound here, told by the leaves of a named term.
+fn are_bound(symbols: &Symbols, scope: &Scope, leaves: &[u32]) -> bool
+    ensures { (v : TermsView) (p : Place) (xs : List Var) → IsScope symbols.now v scope.now p.scope → AreFreeLeaves symbols.now leaves.now xs → result ≡ list_all (is_bound p.scope) xs }
+{
+    'leaves: for leaf in leaves {
+        if !is_bound_here(symbols, scope, *leaf) {
+            return false;
+        }
+    }
+    true
+}
+
+/// Whether the innermost variable of the leaf's name is this very variable. A leaf that is not there has none.
+fn is_bound_here(symbols: &Symbols, scope: &Scope, leaf: u32) -> bool
+    ensures { (v : TermsView) (p : Place) (x : Var) → IsScope symbols.now v scope.now p.scope → IsLeaf symbols.now leaf (variable_leaf x) → result ≡ is_bound p.scope x }
+{
+    if leaf >= symbols.count() {
+        return false;
+    }
+    match scope.find(symbols.name(leaf)) {
+        Some(bound) => bound.variable == leaf,
+        None => false,
+    }
+}
+
+/// The leaf of the function of this name, or else of the operator.
+fn symbol_named(symbols: &Symbols, name: &[u8]) -> Option<u32>
+    ensures { (sc : Script) → AgreeOnFunction symbols.now sc name.now → IsSymbolMeant symbols.now result (meaning_of_symbol sc name.now) }
+{
+    let _leaves = symbols.count();
+    if let Some(leaf) = symbols.find(name) {
+        return Some(leaf);
+    }
+    let op = operator_of(name)?;
+    Some(symbols.operator(op))
+}
+
+/// What is found, as the head of an application. A term takes no arguments.
+pub fn head_of(found: Found) -> Option<Head>
+    ensures { (s : Table) (v : TermsView) (k : KnownView) (p : Place) (m : Meaning) → IsFound s v k p found (Some m) → (h : head.Head) × (result ≡ Some h) × IsHeadOf s v k h m }
+{
+    match found {
+        Found::Term(_) | Found::Named(_) => Some(Head::Fixed),
+        Found::Macro(which) => Some(Head::Macro(which)),
+        Found::Symbol(leaf) => Some(Head::Symbol(leaf)),
+        Found::Unknown => None,
+    }
+}

@@ -1,0 +1,140 @@
+//! The stack of the values that were read and not yet used.
+ghost use Rattle.std.specs.Prelude.{◌≡◌, ◌<◌, ◌≤◌, [], ◌∷◌, ◌++◌, length, map, take, drop, slice_get, Some, OnOk, OnErr};
+ghost use Rattle.std.specs.List.{list_all};
+ghost use Rattle.term_names.specs.Stacks as spec;
+ghost use Rattle.term_names.specs.Stacks.{greatest_height};
+
+use pair_pool::Ref;
+use std::alloc::Global;
+use std::marker::Model;
+use sym_table::Memory;
+use term_expansion::values::Value;
+use term_model::Sort;
+
+/// A stack of values. Contracts see the list of them, the bottom one first. Their parts stand in lists of their own, so
+/// that the references and the sorts of the top ones can be handed on as slices.
+#[derive(Drop)]
+pub struct Values {
+    terms: Vec<Ref>,
+    sorts: Vec<Sort>,
+    heights: Vec<u32>,
+    plain: Vec<bool>,
+}
+
+impl Model for Values {
+    ghost use Rattle.std.specs.Prelude.{List};
+    ghost use Rattle.term_expansion.specs.declared.values.Value as value;
+
+    ghost Value = { List value.Value };
+
+    ghost use Rattle.term_names.specs.Stacks.{values_of, AreParts};
+
+    ghost view = { λ s. values_of s.terms.items s.sorts.items s.heights.items s.plain.items };
+
+    ghost invariant = { λ s. AreParts s.terms.items s.sorts.items s.heights.items s.plain.items
+        (values_of s.terms.items s.sorts.items s.heights.items s.plain.items) };
+}
+
+impl Values {
+    pub fn new(alloc: Global) -> Values
+        ensures { result ≡ [] }
+    {
+        Values {
+            terms: Vec::new(alloc),
+            sorts: Vec::new(alloc),
+            heights: Vec::new(alloc),
+            plain: Vec::new(alloc),
+        }
+    }
+
+    /// How many values there are.
+    pub fn len(&self) -> usize
+        ensures { result ≡ length self.now }
+    {
+        self.terms.len()
+    }
+
+    /// Puts a value on top. After a refusal the stack is as before.
+    pub fn push(&mut self, value: Value) -> Result<(), Memory>
+        ensures pushed { OnOk result (self.new ≡ self.old ++ value ∷ []) }
+        ensures refused { OnErr result (self.new ≡ self.old) }
+    {
+        self.terms.reserve(1)?;
+        self.sorts.reserve(1)?;
+        self.heights.reserve(1)?;
+        self.plain.reserve(1)?;
+        self.terms.push(value.term).unwrap();
+        self.sorts.push(value.sort).unwrap();
+        self.heights.push(value.height).unwrap();
+        self.plain.push(value.plain).unwrap();
+        Ok(())
+    }
+
+    /// Takes away all but the lowest `n` values.
+    pub fn truncate(&mut self, n: usize)
+        ensures { self.new ≡ take n self.old }
+    {
+        self.terms.truncate(n);
+        self.sorts.truncate(n);
+        self.heights.truncate(n);
+        self.plain.truncate(n);
+    }
+
+    /// The value at place `i`, from 0 at the bottom.
+    pub fn get(&self, i: usize) -> Value
+        requires { i < length self.now }
+        ensures { slice_get self.now i ≡ Some result }
+    {
+        Value {
+            term: self.terms[i],
+            sort: self.sorts[i],
+            height: self.heights[i],
+            plain: self.plain[i],
+        }
+    }
+
+    /// The terms of the values from place `n` on.
+    pub fn terms_from(&self, n: usize) -> &[Ref]
+        requires { n ≤ length self.now }
+        ensures { result.now ≡ map (λ v. v.term) (drop n self.now) }
+    {
+        &self.terms[n..]
+    }
+
+    /// The sorts of the values from place `n` on.
+    pub fn sorts_from(&self, n: usize) -> &[Sort]
+        requires { n ≤ length self.now }
+        ensures { result.now ≡ map (λ v. v.sort) (drop n self.now) }
+    {
+        &self.sorts[n..]
+    }
+
+    /// The greatest height of the values from place `n` on, or 0 where there are none.
+    pub fn highest_from(&self, n: usize) -> u32
+        requires { n ≤ length self.now }
+        ensures { result ≡ greatest_height (drop n self.now) }
+    {
+        greatest(&self.heights[n..])
+    }
+
+    /// Whether all values from place `n` on are plain.
+    pub fn all_plain_from(&self, n: usize) -> bool
+        requires { n ≤ length self.now }
+        ensures { result ≡ list_all (λ v. v.plain) (drop n self.now) }
+    {
+        all_true(&self.plain[n..])
+    }
+}
+
+/// The greatest of some numbers, or 0 where there are none.
+fn greatest(numbers: &[u32]) -> u32
+    ensures { result ≡ spec.greatest numbers.now }
+{
+    numbers.iter().copied().max().unwrap_or(0)
+}
+
+fn all_true(tests: &[bool]) -> bool
+    ensures { result ≡ list_all (λ b. b) tests.now }
+{
+    tests.iter().all(|test| *test)
+}

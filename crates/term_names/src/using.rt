@@ -1,0 +1,132 @@
+//! Symbols that stand alone.
+ghost use Rattle.std.specs.Prelude.{◌≡◌, List, true, [], Some, Ok, IfOk};
+ghost use Rattle.std.specs.List.{list_all};
+ghost use Rattle.sym_table.specs.Table.{Table, IsLeaf};
+ghost use Rattle.term_model.specs.Terms.{Var};
+ghost use Rattle.term_pool.specs.StandsFor.{variable_leaf};
+ghost use Rattle.term_pool.specs.Views.{TermsView, KeepsTerms};
+ghost use Rattle.term_names.specs.BoundLeaves.{IsBoundLeaf, AreBoundLeaves, PutsInBound};
+ghost use Rattle.term_names.specs.Heads.{IsSymbolOf, IsMacroMeant};
+ghost use Rattle.term_expansion.specs.Free.{AreFreeLeaves};
+ghost use Rattle.term_names.specs.InScope.{IsScope};
+ghost use Rattle.term_names.specs.LookingUp.{IsFound, IsNamedMeant};
+ghost use Rattle.term_names.specs.Making.{Makes, IsMade};
+ghost use Rattle.problem_text.specs.Names.{Place, Meaning, applied, is_bound, replacement};
+ghost use Rattle.problem_text.specs.Replacement.{term_at};
+ghost use Rattle.term_expansion.specs.Values.{PutsIn};
+
+use crate::entries::{Macro, Named};
+use crate::faults::ReadFault;
+use crate::known::Known;
+use crate::looking_up::Found;
+use crate::scope::Scope;
+use pair_pool::Ref;
+use sort_check::check_app;
+use std::alloc::Global;
+use sym_table::{Memory, Symbols};
+use term_expansion::putting_in::put_in;
+use term_expansion::values::{Bound, Value};
+use term_pool::Terms;
+
+/// The term that a symbol is where it stands alone, or None where it takes arguments. `found` is what it means where
+/// these variables are in scope.
+///
+/// Costs nothing but for a named term where lets are replaced, whose distinct cells are gone through where it has a let or
+/// a free variable.
+pub fn use_alone(
+    alloc: Global,
+    symbols: &Symbols,
+    terms: &mut Terms<'_>,
+    known: &Known<'_>,
+    scope: &Scope,
+    replaces_lets: bool,
+    found: Found,
+) -> Result<Option<Value>, ReadFault>
+    requires found { (p : Place) × (m : Meaning) × IsScope symbols.now terms.old scope.now p.scope × (p.replaces_lets ≡ replaces_lets) × IsFound symbols.now terms.old known.now p found (Some m) }
+    ensures makes { (p : Place) (m : Meaning) → IsScope symbols.now terms.old scope.now p.scope → p.replaces_lets ≡ replaces_lets → IsFound symbols.now terms.old known.now p found (Some m) → Makes symbols.now terms.old terms.new (applied m []) result }
+    ensures keeps { KeepsTerms terms.old terms.new }
+{
+    match found {
+        Found::Term(value) => Ok(Some(value)),
+        Found::Named(which) => {
+            let named = known.named_at(which);
+            use_named(alloc, symbols, terms, scope, replaces_lets, named)
+        }
+        Found::Macro(which) => Ok(macro_alone(known.macro_at(which))),
+        Found::Symbol(leaf) => Ok(symbol_alone(symbols, leaf)),
+        Found::Unknown => Ok(None),
+    }
+}
+
+/// The body of a macro that has no parameters.
+fn macro_alone(defined: &Macro) -> Option<Value>
+    ensures { (s : Table) (v : TermsView) (m : Meaning) → IsMacroMeant s v (Some defined.now) m → IsMade s v (applied m []) (Ok result) }
+{
+    if defined.parameters.is_empty() {
+        Some(defined.body)
+    } else {
+        None
+    }
+}
+
+/// The term that an operator or a declared function is by itself, where it takes no arguments.
+fn symbol_alone(symbols: &Symbols, leaf: u32) -> Option<Value>
+    requires { (m : Meaning) × IsSymbolOf symbols.now leaf m }
+    ensures { (v : TermsView) (m : Meaning) → IsSymbolOf symbols.now leaf m → IsMade symbols.now v (applied m []) (Ok result) }
+{
+    let _leaves = symbols.count();
+    let sort = check_app(symbols, leaf, &[])?;
+    Some(Value {
+        term: Ref::leaf(leaf),
+        sort,
+        height: 1,
+        plain: true,
+    })
+}
+
+/// What a named term stands for where these variables are in scope. Where lets are replaced, its free variables stand
+/// for what they are bound to.
+fn use_named(
+    alloc: Global,
+    symbols: &Symbols,
+    terms: &mut Terms<'_>,
+    scope: &Scope,
+    replaces_lets: bool,
+    named: &Named,
+) -> Result<Option<Value>, ReadFault>
+    requires named { (p : Place) × (m : Meaning) × IsScope symbols.now terms.old scope.now p.scope × (p.replaces_lets ≡ replaces_lets) × IsNamedMeant symbols.now terms.old p (Some named.now) m }
+    ensures makes { (p : Place) (m : Meaning) → IsScope symbols.now terms.old scope.now p.scope → p.replaces_lets ≡ replaces_lets → IsNamedMeant symbols.now terms.old p (Some named.now) m → Makes symbols.now terms.old terms.new (applied m []) result }
+    ensures keeps { KeepsTerms terms.old terms.new }
+{
+    if !replaces_lets {
+        return Ok(Some(named.value));
+    }
+    let bounds = bounds_of(alloc, symbols, scope, &named.free)?;
+    let value = put_in(alloc, symbols, terms, &bounds, named.value)?;
+    Ok(Some(value))
+}
+
+/// What the variables of these leaves stand for here.
+fn bounds_of(
+    alloc: Global,
+    symbols: &Symbols,
+    scope: &Scope,
+    leaves: &[u32],
+) -> Result<Vec<Bound>, Memory>
+    requires { AreBoundLeaves symbols.now scope.now leaves.now }
+    ensures { IfOk result (λ bounds. (v : TermsView) (p : Place) (xs : List Var) → IsScope symbols.now v scope.now p.scope → AreFreeLeaves symbols.now leaves.now xs → list_all (is_bound p.scope) xs ≡ true → PutsInBound symbols.now v bounds.items p.scope xs) }
+{
+    let mut bounds = Vec::new(alloc);
+    'leaves: for leaf in leaves {
+        bounds.push(bound_here(symbols, scope, *leaf))?;
+    }
+    Ok(bounds)
+}
+
+/// What the variable of this leaf stands for here.
+fn bound_here(symbols: &Symbols, scope: &Scope, leaf: u32) -> Bound
+    requires { IsBoundLeaf symbols.now scope.now leaf }
+    ensures { (v : TermsView) (p : Place) (x : Var) → IsScope symbols.now v scope.now p.scope → IsLeaf symbols.now leaf (variable_leaf x) → is_bound p.scope x ≡ true → PutsIn symbols.now v result x (term_at (replacement p.scope) x) }
+{
+    scope.find(symbols.name(leaf)).unwrap()
+}

@@ -1,0 +1,131 @@
+-- Numerals and symbols where they stand, and what is found of a name.
+use Rattle.std.proofs.Common.{◌≡◌, ℕ, ℤ, ◌<◌, ◌^◌, inl, inr, length, true, false, refl, sym, ap, ◌∙◌, subst, arith, List, [], Option, Some, None, Result, Ok, Err}
+use Rattle.std.proofs.lemmas.Option.{slice_get_within}
+use Rattle.pair_pool.specs.Trees.{leaf}
+use Rattle.pair_pool.specs.Views.{PassView, Knows}
+use Rattle.sexpr.specs.declared.causes.Cause.TheVariants.{UnknownName}
+use Rattle.sexpr.specs.declared.causes.Refusal.{Refusal}
+use Rattle.sym_table.specs.Leaf as Leaf
+use Rattle.sym_table.specs.Table.{Table, IsLeaf, FindsOrAdds}
+use Rattle.term_model.specs.declared.symbols.Sort.{Sort}
+use Rattle.term_model.specs.Terms.{Term}
+use Rattle.term_pool.specs.Views.{TermsView}
+use Rattle.term_reader.specs.Entering.{IsNumber, is_none_found, IsHeadFound, IsReadAlone, ReadsAlone}
+use Rattle.text_items.specs.ItemShapes.{Name}
+use Rattle.problem_text.specs.Forms.{symbol}
+use Rattle.term_names.specs.Heads.{IsHeadOf}
+use Rattle.problem_text.specs.Heights.{height}
+use Rattle.term_names.specs.Known.{KnownView}
+use Rattle.text_items.specs.NameNodes.{BeginsAt, IsNameNode}
+use Rattle.term_names.specs.LookingUp.{IsFound}
+use Rattle.term_names.specs.Making.{PlacesCellsOf, IsExpected, IsMade, Makes}
+use Rattle.problem_text.specs.Names.{Place, Meaning, meaning_of, applied}
+use Rattle.term_reader.specs.Reading.{IsReadTerm}
+use Rattle.problem_text.specs.TypedTerms.{Typed}
+use Rattle.problem_text.specs.Scripts.{Script, Outcome}
+use Rattle.term_reader.specs.Settling.{IsSettled}
+use Rattle.problem_text.specs.Terms.{settled, term_from}
+use Rattle.term_names.specs.declared.faults.ReadFault.{ReadFault}
+use Rattle.term_names.specs.declared.heads.Head.{Head}
+use Rattle.term_names.specs.declared.looking_up.Found.{Found}
+use Rattle.text_items.specs.declared.nodes.Node.{Node}
+use Rattle.term_expansion.specs.declared.values.Value.{Value}
+use Rattle.term_reader.proofs.StillRead.{settled_is_read}
+use Rattle.term_reader.proofs.Resuming.{known_symbol, unknown_symbol}
+use Rattle.term_reader.proofs.Staying.{places_none, places_more, lacks_more}
+
+-- a numeral
+pub number_is : (s : Table) (r k : ℕ) (m n : ℤ) → r ≡ k → m ≡ n → IsLeaf s k (Leaf.numeral m) → ((pass : PassView) → Knows pass r (leaf k)) → IsNumber s (record { term = r; sort = Sort.Int; height = 1; plain = true }) n
+unfolding height
+number_is s r k m n same e here known = record {
+  is =
+      λ v j f. record {
+        refers = record { tree = leaf k; known = known v.pass; stands = subst (λ i. IsLeaf s k (Leaf.numeral i)) (e ∙ f) here };
+        sort = refl;
+        high = refl;
+        plain = λ _. tt;
+      };
+  low = omega arith;
+}
+
+-- the leaf of a numeral is among those that a reference can be
+pub number_low : (old new : Table) (k : ℕ) (l : Leaf.Leaf) → FindsOrAdds old new k l → length old.leaves < 2 ^ 30 → k < 2 ^ 30
+number_low old new k l (inl (here, same)) room = omega (arith, slice_get_within old.leaves k l here)
+number_low old new k l (inr (lacks, last, more)) room = omega arith
+
+-- what is found has a meaning, unless nothing is
+pub found_means : (s : Table) (v : TermsView) (k : KnownView) (p : Place) (found : Found) (o : Option Meaning) → is_none_found found ≡ false → IsFound s v k p found o → (m : Meaning) × (o ≡ Some m)
+found_means s v k p (Found.Term c) o e (t, is, rest) = (_, is)
+found_means s v k p (Found.Named w) o e (m, is, rest) = (m, is)
+found_means s v k p (Found.Macro w) o e (m, is, rest) = (m, is)
+found_means s v k p (Found.Symbol n) o e (m, is, rest) = (m, is)
+found_means s v k p Found.Unknown o e h = absurd cc
+
+pub none_means : (s : Table) (v : TermsView) (k : KnownView) (p : Place) (found : Found) (o : Option Meaning) → is_none_found found ≡ true → IsFound s v k p found o → o ≡ None
+none_means s v k p (Found.Term c) o e h = absurd cc
+none_means s v k p (Found.Named w) o e h = absurd cc
+none_means s v k p (Found.Macro w) o e h = absurd cc
+none_means s v k p (Found.Symbol n) o e h = absurd cc
+none_means s v k p Found.Unknown o e h = h
+
+-- what is applied, where something is found
+pub head_found : (s : Table) (v : TermsView) (k : KnownView) (p : Place) (found : Found) (o : Option Meaning) (head : Option Head) → is_none_found found ≡ false → IsFound s v k p found o
+    → ((m : Meaning) → IsFound s v k p found (Some m) → (h : Head) × (head ≡ Some h) × IsHeadOf s v k h m) → IsHeadFound s v k head o
+head_found s v k p found o head known is applies =
+    let (m, e) = found_means s v k p found o known is in
+    let (h, same, of) = applies m (subst (IsFound s v k p found) e is) in
+    subst (λ a. IsHeadFound s v k a o) (sym same) (m, e, of)
+
+-- a term that is expected is read, whether it is settled or too high
+expected_read : (place : ℕ) (o : Option Typed) (sc : Script) (t : Term) → IsExpected o t → IsReadTerm (settled place o sc) t
+expected_read place o sc t (d, is, same) =
+    subst (λ (e : Option Typed). IsReadTerm (settled place e sc) t) (sym is)
+    (subst (λ (u : Term). IsReadTerm (settled place (Some d) sc) u) same (settled_is_read [] place d sc))
+
+settled_alone : (s : Table) (v : TermsView) (place : ℕ) (o : Option Typed) (sc : Script) (result : Result Value ReadFault) → IsSettled s v place o sc result → IsReadAlone s v (settled place o sc) sc result
+settled_alone s v place o sc (Ok c) (t, is, comes, value, low) = (t, comes, value, low)
+settled_alone s v place o sc (Err (ReadFault.Text r)) h = h
+settled_alone s v place o sc (Err ReadFault.PoolFull) h = absurd h
+settled_alone s v place o sc (Err ReadFault.Memory) h = absurd h
+
+made_fault : (s : Table) (v : TermsView) (place : ℕ) (o : Option Typed) (sc : Script) (f : ReadFault) → IsMade s v o (Err f) → IsReadAlone s v (settled place o sc) sc (Err f)
+made_fault s v place o sc (ReadFault.Text r) h = absurd h
+made_fault s v place o sc ReadFault.PoolFull h = lacks_more s v.pass (IsExpected o) (IsReadTerm (settled place o sc)) (expected_read place o sc) h
+made_fault s v place o sc ReadFault.Memory h = tt
+
+-- a symbol of this meaning stands alone
+module _ (s : Table) (old new : TermsView) (x : Name) (p : Place) (sc : Script) (m : Meaning) (known : meaning_of p sc x.name ≡ Some m) where
+  as_settled : (result : Result Value ReadFault) → IsReadAlone s new (settled x.place (applied m []) sc) sc result → PlacesCellsOf s old.pass new.pass (IsExpected (applied m [])) → ReadsAlone s old new (term_from (symbol x) p sc) sc result
+  as_settled result answer placed =
+      subst (λ (o : Outcome Typed). ReadsAlone s old new o sc result) (sym (known_symbol x m p sc known))
+      (record {
+        answer = answer;
+        placed = places_more s old.pass new.pass (IsExpected (applied m [])) (IsReadTerm (settled x.place (applied m []) sc)) (expected_read x.place (applied m []) sc) placed;
+      })
+
+  pub symbol_settles : (place : ℕ) (made : Option Value) (result : Result Value ReadFault) → place ≡ x.place → Makes s old new (applied m []) (Ok made)
+      → ((o : Option Typed) → IsMade s new o (Ok made) → IsSettled s new place o sc result) → ReadsAlone s old new (term_from (symbol x) p sc) sc result
+  symbol_settles place made result same makes settles =
+      as_settled result
+      (settled_alone s new x.place (applied m []) sc result (subst (λ (n : ℕ). IsSettled s new n (applied m []) sc result) same (settles (applied m []) makes.answer))) makes.placed
+
+  pub symbol_fails : (f : ReadFault) → Makes s old new (applied m []) (Err f) → ReadsAlone s old new (term_from (symbol x) p sc) sc (Err f)
+  symbol_fails f makes = as_settled (Err f) (made_fault s new x.place (applied m []) sc f makes.answer) makes.placed
+
+pub symbol_unknown : (s : Table) (v : TermsView) (x : Name) (p : Place) (sc : Script) (r : Refusal) (place : ℕ) → meaning_of p sc x.name ≡ None → r ≡ record { cause = UnknownName; at = place } → place ≡ x.place
+    → ReadsAlone s v v (term_from (symbol x) p sc) sc (Err (ReadFault.Text r))
+symbol_unknown s v x p sc r place none is same =
+    subst (λ (o : Outcome Typed). ReadsAlone s v v o sc (Err (ReadFault.Text r))) (sym (unknown_symbol x p sc none))
+    (record {
+      answer = sym (ap Err (is ∙ ap (λ n. record { cause = UnknownName; at = n }) same));
+      placed = places_none s v.pass v.pass _ refl;
+    })
+
+-- what is found by the name of a symbol
+pub found_named : (s : Table) (v : TermsView) (k : KnownView) (p : Place) (sc : Script) (x : Name) (found : Found) (name : List ℕ) → name ≡ x.name → IsFound s v k p found (meaning_of p sc name)
+    → IsFound s v k p found (meaning_of p sc x.name)
+found_named s v k p sc x found name same is = subst (λ (n : List ℕ). IsFound s v k p found (meaning_of p sc n)) same is
+
+-- a symbol begins at its place
+pub name_begins : (source : List ℕ) (nodes : List Node) (k : ℕ) (x : Name) → IsNameNode source nodes k x → BeginsAt nodes k x.place
+name_begins source nodes k x is = (is.node, is.here, is.same_place)

@@ -1,0 +1,388 @@
+-- How the reading of a term goes on from its top.
+use Rattle.std.proofs.Common.{◌≡◌, ◌≢◌, inl, inr, ℕ, ℤ, ◌+◌, ◌≤◌, ◌<◌, arith, refl, sym, ap, ◌∙◌, subst, List, [], ◌∷◌, length, take, drop, Option, Some, None, Result, Ok, Err, IfOk, IfErr}
+use Rattle.std.proofs.Math.Seq.{take-length, drop-length}
+use Rattle.pair_pool.specs.Views.{PassView}
+use Rattle.sexpr.specs.declared.causes.Cause.TheVariants.{UnknownName, Repeated}
+use Rattle.sexpr.specs.declared.causes.Refusal.{Refusal}
+use Rattle.sexpr.specs.Items.{Item}
+use Rattle.sym_table.specs.Table.{Table}
+use Rattle.term_model.specs.declared.symbols.Sort.{Sort}
+use Rattle.term_model.specs.Terms.{Term, numeral}
+use Rattle.term_pool.specs.Views.{TermsView, KeepsTerms}
+use Rattle.term_reader.specs.Entering.{HasTop, opened, IsNumber, IsHeadFound, ReadsAlone}
+use Rattle.text_items.specs.ItemShapes.{Name}
+use Rattle.problem_text.specs.Forms.{Form, number, symbol, application, let_form, form, Binds, bind, form_of}
+use Rattle.term_reader.specs.Frames.{Reading, AreFrames}
+use Rattle.problem_text.specs.Heights.{height, most_height}
+use Rattle.term_names.specs.Known.{KnownView, known_entry}
+use Rattle.text_items.specs.NameNodes.{BeginsAt, IsNameNode}
+use Rattle.term_reader.specs.Layers.{AreBinds, IsLayer}
+use Rattle.term_names.specs.Making.{PlacesCellsOf}
+use Rattle.problem_text.specs.Names.{Place, meaning_of}
+use Rattle.text_items.specs.Nodes.{IsNode}
+use Rattle.term_reader.specs.Reading.{Stands, IsAt, IsReadTerm, EndsWith, Goes}
+use Rattle.term_reader.specs.Resuming.{Waiting, arguments, bindings, naming, resumed}
+use Rattle.problem_text.specs.TypedTerms.{Typed}
+use Rattle.problem_text.specs.Scripts.{Script, with_term, with_let_name, Outcome, done}
+use Rattle.term_reader.specs.Shapes.{IsFirstRepeat}
+use Rattle.term_names.specs.Standing.{HasNoEntry, IsNoFunction, IsMeant, AddsNoSymbols}
+use Rattle.problem_text.specs.Terms.{term_from}
+use Rattle.term_names.specs.InScope.{AreBound}
+use Rattle.term_expansion.specs.Values.{IsValue, AreValues}
+use Rattle.term_names.specs.declared.faults.ReadFault.{ReadFault}
+use Rattle.term_reader.specs.declared.frames.Frame.{Frame}
+use Rattle.term_names.specs.declared.heads.Head.{Head}
+use Rattle.term_names.specs.declared.known.KnownEntry.{KnownEntry}
+use Rattle.term_reader.specs.declared.layers.Layer.{Layer}
+use Rattle.text_items.specs.declared.nodes.Node.{Node}
+use Rattle.term_reader.specs.declared.reader.Reader.{Reader}
+use Rattle.term_reader.specs.declared.reader.Turn.{Turn}
+use Rattle.term_expansion.specs.declared.values.Value.{Value}
+use Rattle.term_reader.proofs.AtomLemmas.{name_begins}
+use Rattle.term_reader.proofs.FormSteps.{form_layer, form_behind, form_inside, forms_after, binds_more}
+use Rattle.term_reader.proofs.StillRead.{by_resumed}
+use Rattle.term_reader.proofs.RepeatLemmas.{repeat_here, repeat_on}
+use Rattle.term_reader.proofs.Resuming.{refused_whole, first_argument, unknown_head, first_binding, first_binding_refused, annotation_begins}
+use Rattle.term_reader.proofs.Staying.{adds_none, keeps_none, frames_stay, stands_stays, places_none, places_more, lacks_more}
+
+-- A script with other terms and other names of lets is known as before.
+abbrev alike : Script → List Term → List (List ℕ) → Script
+alike sc terms names = record sc { terms = terms; let_names = names }
+
+module _ (s : Table) (v : TermsView) (sc : Script) (terms : List Term) (names : List (List ℕ)) where
+  no_entry_alike : (name : List ℕ) → HasNoEntry sc name → HasNoEntry (alike sc terms names) name
+  no_entry_alike name h = record { no_named = h.no_named; no_macro = h.no_macro }
+
+  no_function_alike : (name : List ℕ) → IsNoFunction s sc name → IsNoFunction s (alike sc terms names) name
+  no_function_alike name h = record { table = h.table; script = h.script }
+
+  meant_alike : (k : KnownView) (name : List ℕ) (o : Option KnownEntry) → IsMeant s v k sc name o → IsMeant s v k (alike sc terms names) name o
+  meant_alike k name None (none, inl h) =
+      (no_entry_alike name none, inl (record { leaf = h.leaf; meant = h.meant; here = h.here; same_name = h.same_name; found = h.found; taken = h.taken }))
+  meant_alike k name None (none, inr h) = (no_entry_alike name none, inr (record { no_function = no_function_alike name h.no_function; free = h.free }))
+  meant_alike k name (Some KnownEntry.Reserved) h =
+      record { no_entry = no_entry_alike name h.no_entry; no_function = no_function_alike name h.no_function; taken = h.taken }
+  meant_alike k name (Some (KnownEntry.Macro w)) h = record {
+    held = h.held;
+    meant = h.meant;
+    there = h.there;
+    found = h.found;
+    is = h.is;
+    no_named = h.no_named;
+    no_function = no_function_alike name h.no_function;
+    taken = h.taken;
+  }
+  meant_alike k name (Some (KnownEntry.Named w)) h = record {
+    held = h.held;
+    meant = h.meant;
+    there = h.there;
+    found = h.found;
+    is = h.is;
+    no_macro = h.no_macro;
+    no_function = no_function_alike name h.no_function;
+    taken = h.taken;
+  }
+
+  pub stands_alike : (r : Reader) (p : Place) → Stands s v r sc p → Stands s v r (alike sc terms names) p
+  stands_alike r p h = record {
+    script = record { sorts = h.script.sorts; names = λ name. meant_alike r.known name (known_entry r.known name) (h.script.names name) };
+    scope = h.scope;
+    replaces = h.replaces;
+    low = h.low;
+  }
+
+-- one form more that is open changes nothing of what the tables stand for
+stands_opened : (s : Table) (v : TermsView) (r : Reader) (f : Frame) (sc : Script) (p : Place) → Stands s v r sc p → Stands s v (opened r f) sc p
+stands_opened s v r f sc p h = record { script = h.script; scope = h.scope; replaces = h.replaces; low = h.low }
+
+-- a fault is that of the whole, and a term that is read is read by the end
+module _ (s : Table) (pass : PassView) (ws : List Waiting) (o whole : Outcome Typed) (comes : resumed ws o ≡ whole) where
+  read_by_end : (t : Term) → IsReadTerm o t → IsReadTerm whole t
+  read_by_end t h = subst (λ (q : Outcome Typed). IsReadTerm q t) comes (by_resumed t ws o h)
+
+  ends_whole : (f : ReadFault) → EndsWith s pass o.result (IsReadTerm o) f → EndsWith s pass whole.result (IsReadTerm whole) f
+  ends_whole (ReadFault.Text r) h =
+      ap (λ (q : Outcome Typed). q.result)
+      (sym comes ∙ ap (λ (e : Result Typed Refusal). resumed ws (record { result = e; script = o.script })) h ∙ refused_whole ws r o.script)
+  ends_whole ReadFault.PoolFull h = lacks_more s pass (IsReadTerm o) (IsReadTerm whole) read_by_end h
+  ends_whole ReadFault.Memory h = tt
+
+module _ (source : List ℕ) (nodes : List Node) (g : Reading) (s : Table) (v : TermsView) (r : Reader) (k : ℕ) where
+  abbrev Top : Layer → Type 0
+  Top layer = HasTop source nodes g s v r k layer
+
+  abbrev comes_of : IsAt source nodes g s v r k → Outcome Typed
+  comes_of a = term_from a.spelled a.place a.script
+
+  -- the top of the term's form, as it is told of each item
+  pub top_of : (layer : Layer) → ((i : Item) (m : ℕ) → IsNode source nodes k i m → IsLayer source nodes k layer (form_of i) m) → IsAt source nodes g s v r k → Top layer
+  top_of layer told a = record { at = a; top = form_layer source nodes k a.spelled a.behind layer told a.here }
+
+  -- what the node of a form's first byte is told to be
+  abbrev IsStart : ℕ → ℕ → Type 0
+  IsStart j place = (p : ℕ) → BeginsAt nodes j p → place ≡ p
+
+  pub memory_goes : (z : Table) (q : Reader) → Goes source nodes g z v v q (Err ReadFault.Memory)
+  memory_goes z q = record { step = tt; placed = places_none z v.pass v.pass (IsReadTerm g.whole) refl }
+
+  -- the term's own fault
+  fault_goes : (w : TermsView) (q : Reader) (f : ReadFault) (a : IsAt source nodes g s v r k) → EndsWith s w.pass (comes_of a).result (IsReadTerm (comes_of a)) f
+      → PlacesCellsOf s v.pass w.pass (IsReadTerm (comes_of a)) → Goes source nodes g s v w q (Err f)
+  fault_goes w q f a ends placed = record {
+    step = ends_whole s w.pass a.waiting (comes_of a) g.whole a.comes f ends;
+    placed = places_more s v.pass w.pass (IsReadTerm (comes_of a)) (IsReadTerm g.whole) (read_by_end s w.pass a.waiting (comes_of a) g.whole a.comes) placed;
+  }
+
+  refusal_goes : (q : Reader) (refusal : Refusal) (a : IsAt source nodes g s v r k) → (comes_of a).result ≡ Err refusal → Goes source nodes g s v v q (Err (ReadFault.Text refusal))
+  refusal_goes q refusal a e = fault_goes v q (ReadFault.Text refusal) a e (places_none s v.pass v.pass (IsReadTerm (comes_of a)) refl)
+
+  pub faulty_goes : (refusal : Refusal) → Top (Layer.Faulty refusal) → Goes source nodes g s v v r (Err (ReadFault.Text refusal))
+  unfolding term_from
+  faulty_goes refusal h = refusal_goes r refusal h.at (ap (λ (f : Form). (term_from f h.at.place h.at.script).result) h.top)
+
+  -- a term of one node is read
+  value_goes : (z : Table) (w : TermsView) (c : Value) (t : Typed) (a : IsAt source nodes g s v r k) → AddsNoSymbols s z → KeepsTerms v w → a.behind ≡ k + 1
+      → comes_of a ≡ done t (with_term t.tree a.script) → IsValue z w c t → c.height ≤ most_height → PlacesCellsOf z v.pass w.pass (IsReadTerm (comes_of a))
+      → Goes source nodes g z v w r (Ok (Turn.Use c (k + 1)))
+  value_goes z w c t a adds keeps alone e is low placed = record {
+    step = record {
+      script = with_term t.tree a.script;
+      place = a.place;
+      term = t;
+      waiting = a.waiting;
+      stands = stands_stays s z v w adds keeps r (with_term t.tree a.script) a.place (stands_alike s v a.script _ _ r a.place a.stands);
+      is = is;
+      low = low;
+      frames =
+          subst (λ (n : ℕ). AreFrames source nodes g z w r.known r.frames r.values r.leaves.items r.scope a.place n a.waiting) alone
+          (frames_stay s z v w adds.keeps keeps source nodes g r.known r.known (λ which. refl) r.frames r.values r.leaves.items r.scope a.place a.behind a.waiting a.frames);
+      comes = ap (resumed a.waiting) (sym e) ∙ a.comes;
+    };
+    placed = places_more z v.pass w.pass (IsReadTerm (comes_of a)) (IsReadTerm g.whole) (read_by_end z w.pass a.waiting (comes_of a) g.whole a.comes) placed;
+  }
+
+  number_comes : (place n : ℕ) (p : Place) (sc : Script) → term_from (number place n) p sc ≡ done (record { tree = numeral n; sort = Sort.Int }) (with_term (numeral n) sc)
+  unfolding term_from height
+  number_comes place n p sc = refl
+
+  pub number_goes : (z : Table) (c : Value) (n : ℤ) → Top (Layer.Number n) → AddsNoSymbols s z → IsNumber z c n → Goes source nodes g z v v r (Ok (Turn.Use c (k + 1)))
+  number_goes z c n h adds is =
+      let (place, m, e, begins, same, alone) = h.top in
+      value_goes z v c (record { tree = numeral m; sort = Sort.Int }) h.at adds (keeps_none v) alone
+      (ap (λ (f : Form). term_from f h.at.place h.at.script) e ∙ number_comes place m h.at.place h.at.script) (is.is v m same) is.low
+      (places_none z v.pass v.pass (IsReadTerm (comes_of h.at)) refl)
+
+  -- what a call says that reads a symbol alone
+  abbrev IsSymbolRead : TermsView → Result Value ReadFault → Type 0
+  IsSymbolRead w result = (sc : Script) (p : Place) (x : Name) → Stands s v r sc p → IsNameNode source nodes k x → ReadsAlone s v w (term_from (symbol x) p sc) sc result
+
+  symbol_read : (w : TermsView) (result : Result Value ReadFault) (h : Top Layer.Symbol) → IsSymbolRead w result → ReadsAlone s v w (comes_of h.at) h.at.script result
+  symbol_read w result h reads =
+      let (x, e, named, alone) = h.top in
+      subst (λ (f : Form). ReadsAlone s v w (term_from f h.at.place h.at.script) h.at.script result) (sym e) (reads h.at.script h.at.place x h.at.stands named)
+
+  pub symbol_goes : (w : TermsView) (c : Value) → Top Layer.Symbol → KeepsTerms v w → IsSymbolRead w (Ok c) → Goes source nodes g s v w r (Ok (Turn.Use c (k + 1)))
+  symbol_goes w c h keeps reads =
+      let (x, e, named, alone) = h.top in
+      let read = symbol_read w (Ok c) h reads in
+      let (t, comes, is, low) = read.answer in
+      value_goes s w c t h.at (adds_none s) keeps alone comes is low read.placed
+
+  pub symbol_fails_goes : (w : TermsView) (f : ReadFault) → Top Layer.Symbol → IsSymbolRead w (Err f) → Goes source nodes g s v w r (Err f)
+  symbol_fails_goes w f h reads = let read = symbol_read w (Err f) h reads in fault_goes w r f h.at read.answer read.placed
+
+  -- the frames with one more
+  all_values : (fs : List Frame) (ls : List ℕ) (p : Place) (m n : ℕ) (ws : List Waiting) → m ≡ n → AreFrames source nodes g s v r.known fs r.values ls r.scope p m ws
+      → AreFrames source nodes g s v r.known fs (take (length r.values) r.values) ls r.scope p n ws
+  all_values fs ls p m n ws e h =
+      subst (λ (values : List Value). AreFrames source nodes g s v r.known fs values ls r.scope p n ws) (sym (take-length r.values))
+      (subst (λ (j : ℕ). AreFrames source nodes g s v r.known fs r.values ls r.scope p j ws) e h)
+
+  -- an argument is read, or the first one
+  pub application_goes : (head first end place : ℕ) (applied : Head) → Top (Layer.Application head first end) → IsStart k place
+      → ((w : TermsView) (sc : Script) (p : Place) (x : Name) → Stands s w r sc p → IsNameNode source nodes head x → IsHeadFound s w r.known (Some applied) (meaning_of p sc x.name))
+      → Goes source nodes g s v v (opened r (Frame.Arguments place applied (length r.values) end)) (Ok (Turn.Read first))
+  application_goes head first end place applied h starts found =
+      let a = h.at in
+      let (at, x, f, fs, e, begins, named, are, same_end, later) = h.top in
+      let (m, known, applies) = found v a.script a.place x a.stands named in
+      let (behind, here, others) = forms_after source nodes first f fs end are in
+      record {
+        step = record {
+          script = a.script;
+          place = a.place;
+          spelled = f;
+          behind = behind;
+          waiting = arguments place m [] fs a.place ∷ a.waiting;
+          stands = stands_opened s v r _ a.script a.place a.stands;
+          here = here;
+          frames = (
+            m,
+            [],
+            fs,
+            a.waiting,
+            refl,
+            record {
+              applies = applies;
+              within = omega arith;
+              read_values = subst (λ (values : List Value). AreValues s v values []) (sym (drop-length r.values)) tt;
+              left_here = others;
+            },
+            all_values r.frames r.leaves.items a.place a.behind end a.waiting (sym same_end) a.frames,
+          );
+          comes =
+              sym (first_argument a.waiting place x m f fs a.place a.script known)
+              ∙ ap (λ (n : ℕ). resumed a.waiting (term_from (application n x (form f fs)) a.place a.script)) (starts at begins)
+              ∙ ap (λ (q : Form). resumed a.waiting (term_from q a.place a.script)) (sym e) ∙ a.comes;
+        };
+        placed = places_none s v.pass v.pass (IsReadTerm g.whole) refl;
+      }
+
+  pub application_unknown : (head first end place : ℕ) (refusal : Refusal) → Top (Layer.Application head first end) → IsStart head place → refusal ≡ record { cause = UnknownName; at = place }
+      → ((w : TermsView) (sc : Script) (p : Place) (x : Name) → Stands s w r sc p → IsNameNode source nodes head x → IsHeadFound s w r.known None (meaning_of p sc x.name))
+      → Goes source nodes g s v v r (Err (ReadFault.Text refusal))
+  application_unknown head first end place refusal h starts is found =
+      let a = h.at in
+      let (at, x, f, fs, e, begins, named, are, same_end, later) = h.top in
+      let none = found v a.script a.place x a.stands named in
+      let same : refusal ≡ record { cause = UnknownName; at = x.place } = is ∙ ap (λ (n : ℕ). record { cause = UnknownName; at = n }) (starts x.place (name_begins source nodes head x named)) in
+      refusal_goes r refusal a
+      (ap (λ (q : Form). (term_from q a.place a.script).result) e ∙ ap (λ (o : Outcome Typed). o.result) (unknown_head at x (form f fs) a.place a.script none) ∙ ap Err (sym same))
+
+  -- the term of a let's first binding is read, or its variable may not be bound
+  pub let_goes : (first body repeat place from leaf : ℕ) → Top (Layer.Let first body) → IsStart k place → from ≡ length r.values → leaf ≡ length r.leaves.items → repeat ≢ first
+      → ((bs : Binds) → AreBinds source nodes first bs body → IsFirstRepeat source nodes first [] bs repeat body)
+      → Goes source nodes g s v v (opened r (Frame.Bindings place from leaf (first + 1) repeat body)) (Ok (Turn.Read (first + 2)))
+  let_goes first body repeat place from leaf h starts from_is leaf_is differs repeats =
+      let a = h.at in
+      let (at, bs, f, e, begins, are, some, body_here, later) = h.top in
+      let b = binds_more source nodes first bs body are (λ same. absurd (omega arith)) in
+      let (free, further) = repeat_on source nodes first b.next [] b.name b.first b.others repeat body b.here (subst (λ (q : Binds). IsFirstRepeat source nodes first [] q repeat body) b.split (repeats bs are)) (λ same. differs (sym same)) in
+      record {
+        step = record {
+          script = with_let_name b.name.name a.script;
+          place = a.place;
+          spelled = b.first;
+          behind = b.next;
+          waiting = bindings place [] b.name [] b.others f a.place ∷ a.waiting;
+          stands = stands_opened s v r _ (with_let_name b.name.name a.script) a.place (stands_alike s v a.script _ _ r a.place a.stands);
+          here = b.here;
+          frames = (
+            [],
+            b.name,
+            [],
+            b.others,
+            f,
+            a.behind,
+            a.waiting,
+            refl,
+            record {
+              within = omega arith;
+              leaves_within = omega arith;
+              read_bound =
+                  subst (λ (values : List Value). AreBound s v (drop leaf r.leaves.items) values []) (sym (ap (λ (n : ℕ). drop n r.values) from_is ∙ drop-length r.values))
+                  (subst (λ (ks : List ℕ). AreBound s v ks [] []) (sym (ap (λ (n : ℕ). drop n r.leaves.items) leaf_is ∙ drop-length r.leaves.items)) tt);
+              variable = b.named;
+              left_here = b.there;
+              first_faulty = further;
+              body_here = body_here;
+            },
+            subst (λ (values : List Value). AreFrames source nodes g s v r.known r.frames values (take leaf r.leaves.items) r.scope a.place a.behind a.waiting)
+                (sym (ap (λ (n : ℕ). take n r.values) from_is ∙ take-length r.values))
+                (subst (λ (ks : List ℕ). AreFrames source nodes g s v r.known r.frames r.values ks r.scope a.place a.behind a.waiting)
+                (sym (ap (λ (n : ℕ). take n r.leaves.items) leaf_is ∙ take-length r.leaves.items)) a.frames),
+          );
+          comes =
+              sym (first_binding a.waiting place b.name b.first b.others f a.place a.script free)
+              ∙ ap (λ (n : ℕ). resumed a.waiting (term_from (let_form n (bind b.name b.first b.others) f) a.place a.script)) (starts at begins)
+              ∙ ap (λ (q : Binds). resumed a.waiting (term_from (let_form at q f) a.place a.script)) (sym b.split)
+              ∙ ap (λ (q : Form). resumed a.waiting (term_from q a.place a.script)) (sym e) ∙ a.comes;
+        };
+        placed = places_none s v.pass v.pass (IsReadTerm g.whole) refl;
+      }
+
+  pub let_repeated : (first body repeat place : ℕ) (refusal : Refusal) → Top (Layer.Let first body) → IsStart (first + 1) place → refusal ≡ record { cause = Repeated; at = place } → repeat ≡ first
+      → ((bs : Binds) → AreBinds source nodes first bs body → IsFirstRepeat source nodes first [] bs repeat body) → Goes source nodes g s v v r (Err (ReadFault.Text refusal))
+  let_repeated first body repeat place refusal h starts is here repeats =
+      let a = h.at in
+      let (at, bs, f, e, begins, are, some, body_here, later) = h.top in
+      let b = binds_more source nodes first bs body are (λ same. absurd (omega arith)) in
+      let bound : AreBinds source nodes first (bind b.name b.first b.others) body = (b.next, b.later, b.named, b.here, b.there) in
+      let taken = repeat_here source nodes first [] b.name b.first b.others body bound (subst (λ (n : ℕ). IsFirstRepeat source nodes first [] (bind b.name b.first b.others) n body) here (repeats (bind b.name b.first b.others) bound)) in
+      let same : refusal ≡ record { cause = Repeated; at = b.name.place } =
+      is ∙ ap (λ (n : ℕ). record { cause = Repeated; at = n }) (starts b.name.place (name_begins source nodes (first + 1) b.name b.named)) in
+      refusal_goes r refusal a
+      (ap (λ (q : Form). (term_from q a.place a.script).result) e
+      ∙ ap (λ (q : Binds). (term_from (let_form at q f) a.place a.script).result) b.split
+      ∙ ap (λ (o : Outcome Typed). o.result) (first_binding_refused [] at b.name b.first b.others f a.place a.script taken) ∙ ap Err (sym same))
+
+  -- the term of an annotation is read
+  pub annotation_goes : (t first end : ℕ) → Top (Layer.Annotated t first end) → Goes source nodes g s v v (opened r (Frame.Names end)) (Ok (Turn.Read t))
+  annotation_goes t first end h =
+      let a = h.at in
+      let (at, names, f, e, begins, here, attributes, same_end, later) = h.top in
+      record {
+        step = record {
+          script = a.script;
+          place = a.place;
+          spelled = f;
+          behind = first;
+          waiting = naming names ∷ a.waiting;
+          stands = stands_opened s v r _ a.script a.place a.stands;
+          here = here;
+          frames = (names, a.waiting, refl, attributes, subst (λ (n : ℕ). AreFrames source nodes g s v r.known r.frames r.values r.leaves.items r.scope a.place n a.waiting) (sym same_end) a.frames);
+          comes = sym (annotation_begins a.waiting at f names a.place a.script) ∙ ap (λ (q : Form). resumed a.waiting (term_from q a.place a.script)) (sym e) ∙ a.comes;
+        };
+        placed = places_none s v.pass v.pass (IsReadTerm g.whole) refl;
+      }
+
+  -- the node that is read next is further on, and within the text
+  pub record IsFurther (next : ℕ) : Type 0 where
+    pub later : k < next
+    pub within : next < length nodes
+
+  pub application_further : (head first end : ℕ) → Top (Layer.Application head first end) → IsFurther first
+  application_further head first end h =
+      let (at, x, f, fs, e, begins, named, are, same_end, later) = h.top in
+      let (behind, here, others) = forms_after source nodes first f fs end are in
+      record { later = later; within = omega (arith, form_behind source nodes first f behind here, form_inside source nodes first f behind here) }
+
+  pub let_further : (first body : ℕ) → Top (Layer.Let first body) → IsFurther first × IsFurther (first + 2)
+  let_further first body h =
+      let (at, bs, f, e, begins, are, some, body_here, later) = h.top in
+      let b = binds_more source nodes first bs body are (λ same. absurd (omega arith)) in
+      let behind = form_behind source nodes (first + 2) b.first b.next b.here in
+      let inside = form_inside source nodes (first + 2) b.first b.next b.here in
+      (record { later = later; within = omega arith }, record { later = omega arith; within = omega arith })
+
+  -- the variable of a let's first binding
+  pub variable_begins : (first body : ℕ) → Top (Layer.Let first body) → (place : ℕ) × BeginsAt nodes (first + 1) place
+  variable_begins first body h =
+      let (at, bs, f, e, begins, are, some, body_here, later) = h.top in
+      let b = binds_more source nodes first bs body are (λ same. absurd (omega arith)) in
+      (b.name.place, name_begins source nodes (first + 1) b.name b.named)
+
+  pub annotation_further : (t first end : ℕ) → Top (Layer.Annotated t first end) → IsFurther t
+  annotation_further t first end h =
+      let (at, names, f, e, begins, here, attributes, same_end, later) = h.top in
+      record { later = later; within = omega (arith, form_behind source nodes t f first here, form_inside source nodes t f first here) }
+
+  pub node_within : IsAt source nodes g s v r k → k < length nodes
+  node_within a = omega (arith, form_behind source nodes k a.spelled a.behind a.here, form_inside source nodes k a.spelled a.behind a.here)
+
+-- what comes of opening a form, at what it answers
+module _ (r new : Reader) (frame : Frame) (next : ℕ) (result : Result Turn ReadFault) (is : IfOk result (λ (t : Turn). (t ≡ Turn.Read next) × (new ≡ opened r frame))) where
+  pub at_opened : (P : Reader → Turn → Type 0) → P (opened r frame) (Turn.Read next) → IfOk result (λ (t : Turn). P new t)
+  at_opened P h = go result is
+    where
+      go : (a : Result Turn ReadFault) → IfOk a (λ (t : Turn). (t ≡ Turn.Read next) × (new ≡ opened r frame)) → IfOk a (λ (t : Turn). P new t)
+      go (Ok t) (e, same) = subst (λ (q : Reader). P q t) (sym same) (subst (P (opened r frame)) (sym e) h)
+      go (Err f) e = tt
+
+  pub opened_goes : (source : List ℕ) (nodes : List Node) (g : Reading) (s : Table) (v : TermsView) → IfErr result (λ (f : ReadFault). f ≡ ReadFault.Memory)
+      → Goes source nodes g s v v (opened r frame) (Ok (Turn.Read next)) → Goes source nodes g s v v new result
+  opened_goes source nodes g s v fault h = go result is fault
+    where
+      go : (a : Result Turn ReadFault) → IfOk a (λ (t : Turn). (t ≡ Turn.Read next) × (new ≡ opened r frame)) → IfErr a (λ (f : ReadFault). f ≡ ReadFault.Memory) → Goes source nodes g s v v new a
+      go (Ok t) (e, same) none = subst (λ (q : Reader). Goes source nodes g s v v q (Ok t)) (sym same) (subst (λ (u : Turn). Goes source nodes g s v v (opened r frame) (Ok u)) (sym e) h)
+      go (Err f) e same = subst (λ (u : ReadFault). Goes source nodes g s v v new (Err u)) (sym same) (memory_goes source nodes g s v r next s new)

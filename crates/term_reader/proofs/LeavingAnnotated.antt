@@ -1,0 +1,92 @@
+-- The term of an annotation was read.
+use Rattle.std.proofs.Common.{◌≡◌, ◌∙◌, arith, ap, sym, ℕ, List, Result, Ok, Err}
+use Rattle.pair_pool.specs.Views.{IsUnchanged}
+use Rattle.sexpr.specs.Items.{item}
+use Rattle.sym_table.specs.Table.{Table}
+use Rattle.term_pool.specs.Views.{TermsView, KeepsTerms}
+use Rattle.text_items.specs.ItemShapes.{Name}
+use Rattle.term_reader.specs.Frames.{Reading}
+use Rattle.term_names.specs.Known.{KnownView, macro_of}
+use Rattle.term_reader.specs.Layers.{AreAttributes}
+use Rattle.term_reader.specs.Leaving.{opened, Leaves}
+use Rattle.term_reader.specs.Naming.{AreGiven}
+use Rattle.term_reader.specs.Reading.{HasRead, EndsWith, IsReadTerm}
+use Rattle.term_reader.specs.Resuming.{Waiting, resumed}
+use Rattle.problem_text.specs.TypedTerms.{Typed}
+use Rattle.problem_text.specs.Scripts.{Script, done}
+use Rattle.term_names.specs.Standing.{IsScript}
+use Rattle.problem_text.specs.Terms.{with_names}
+use Rattle.term_expansion.specs.Values.{IsValue}
+use Rattle.term_names.specs.declared.faults.ReadFault.{ReadFault}
+use Rattle.term_reader.specs.declared.frames.Frame.{Frame}
+use Rattle.term_names.specs.declared.known.Which.{Which}
+use Rattle.text_items.specs.declared.nodes.Node.{Node}
+use Rattle.term_reader.specs.declared.reader.Reader.{Reader}
+use Rattle.term_reader.specs.declared.reader.Turn.{Turn}
+use Rattle.term_expansion.specs.declared.values.Value.{Value}
+use Rattle.term_reader.proofs.FormSteps.{attributes_ordered}
+use Rattle.text_items.proofs.NodeSteps.{nodes_inside}
+use Rattle.term_reader.proofs.Resuming.{annotated_read}
+use Rattle.term_reader.proofs.Settled.{fault_of_whole}
+use Rattle.term_reader.proofs.Staying.{table_keeps_none, value_stays, scope_stays, frames_stay, places_none}
+
+module _ (source : List ℕ) (nodes : List Node) (g : Reading) (s : Table) (v : TermsView) (r : Reader) (c : Value) (n end : ℕ) (h : HasRead source nodes g s v (opened r (Frame.Names end)) c n) where
+  -- what comes of the names, for what waits around the annotation
+  names_come : resumed h.frames.1 (with_names h.term h.frames.0 h.script) ≡ g.whole
+  names_come =
+      let (names, rest, is, here, outer) = h.frames in
+      sym (annotated_read rest names h.term h.script) ∙ ap (λ (ws : List Waiting). resumed ws (done h.term h.script)) (sym is) ∙ h.comes
+
+  abbrev pub Given : TermsView → KnownView → Result Unit ReadFault → Type 0
+  Given w known result =
+      (names : List Name) (t : Typed) (sc : Script) → AreAttributes source nodes n names end → IsValue s v c t → IsScript s v r.known sc → AreGiven s w known t (with_names t names sc) result
+
+  pub names_given : (w : TermsView) → KeepsTerms v w → IsUnchanged v.pass w.pass → (known : KnownView) → ((m : Which) → macro_of known m ≡ macro_of r.known m) → Given w known (Ok tt)
+      → Leaves source nodes g s v (opened r (Frame.Names end)) c n s w (record r { known = known }) (Ok (Turn.Use c end))
+  names_given w keeps same known macros given =
+      let (names, rest, is, here, outer) = h.frames in
+      let (sc, whole, script) = given names h.term h.script here h.is h.stands.script in
+      let later = attributes_ordered source nodes n names end here in
+      record {
+        goes = record {
+          step = record {
+            script = sc;
+            place = h.place;
+            term = h.term;
+            waiting = rest;
+            stands = record {
+              script = script;
+              scope = scope_stays s s v w (table_keeps_none s) keeps r.scope h.place.scope h.stands.scope;
+              replaces = h.stands.replaces;
+              low = h.stands.low;
+            };
+            is = value_stays s s v w (table_keeps_none s) keeps c h.term h.is;
+            low = h.low;
+            frames = frames_stay s s v w (table_keeps_none s) keeps source nodes g r.known known macros r.frames r.values r.leaves.items r.scope h.place end rest outer;
+            comes = ap (resumed rest) (sym whole) ∙ names_come;
+          };
+          placed = places_none s v.pass w.pass (IsReadTerm g.whole) same.placed;
+        };
+        spends = λ within. record {
+          inside = nodes_inside source nodes n (item here.first here.others) end here.there within;
+          few = omega (arith, later);
+          progress = omega (arith, later);
+        };
+      }
+
+  pub names_refused : (w : TermsView) → IsUnchanged v.pass w.pass → (known : KnownView) (fault : ReadFault) → Given w known (Err fault) → (q : Reader)
+      → Leaves source nodes g s v (opened r (Frame.Names end)) c n s w q (Err fault)
+  names_refused w same known fault given q =
+      let (names, rest, is, here, outer) = h.frames in
+      record {
+        goes = record {
+          step = ends fault (given names h.term h.script here h.is h.stands.script);
+          placed = places_none s v.pass w.pass (IsReadTerm g.whole) same.placed;
+        };
+        spends = λ _. tt;
+      }
+    where
+      ends : (f : ReadFault) → AreGiven s w known h.term (with_names h.term h.frames.0 h.script) (Err f) → EndsWith s w.pass g.whole.result (IsReadTerm g.whole) f
+      ends (ReadFault.Text x) is = fault_of_whole h.frames.1 (with_names h.term h.frames.0 h.script) x g.whole is names_come
+      ends ReadFault.PoolFull is = absurd is
+      ends ReadFault.Memory is = tt

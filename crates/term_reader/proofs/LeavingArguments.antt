@@ -1,0 +1,170 @@
+-- An argument of an application was read.
+use Rattle.std.proofs.Common.{◌≡◌, ◌≢◌, ◌∙◌, ◌≤◌, arith, ap, sym, subst, refl, ℕ, List, [], ◌∷◌, ◌++◌, length, take, drop, Option, Result, Ok, Err}
+use Rattle.std.proofs.lemmas.List.{take-append-le, length-append}
+use Rattle.sym_table.specs.Table.{Table}
+use Rattle.term_pool.specs.Views.{TermsView, KeepsTerms}
+use Rattle.problem_text.specs.Forms.{Forms, no_forms}
+use Rattle.term_names.specs.Heads.{IsHeadOf}
+use Rattle.term_reader.specs.Frames.{Reading, AreFrames}
+use Rattle.term_reader.specs.Leaving.{opened, Spends, Leaves}
+use Rattle.term_names.specs.InScope.{AreLow}
+use Rattle.term_names.specs.Making.{IsMade, Makes}
+use Rattle.problem_text.specs.Names.{Meaning, applied}
+use Rattle.term_reader.specs.Reading.{HasRead, IsAt, Goes}
+use Rattle.term_reader.specs.Resuming.{Waiting, arguments, resumed}
+use Rattle.problem_text.specs.TypedTerms.{Typed}
+use Rattle.problem_text.specs.Scripts.{Script, done}
+use Rattle.term_reader.specs.Settling.{IsSettled}
+use Rattle.term_expansion.specs.Values.{AreValues}
+use Rattle.term_names.specs.declared.faults.ReadFault.{ReadFault}
+use Rattle.term_reader.specs.declared.frames.Frame.{Frame}
+use Rattle.term_names.specs.declared.heads.Head.{Head}
+use Rattle.text_items.specs.declared.nodes.Node.{Node}
+use Rattle.term_reader.specs.declared.reader.Reader.{Reader}
+use Rattle.term_reader.specs.declared.reader.Turn.{Turn}
+use Rattle.term_expansion.specs.declared.values.Value.{Value}
+use Rattle.term_reader.proofs.FormSteps.{forms_done, forms_more, forms_ordered, forms_inside}
+use Rattle.term_reader.proofs.MoreRead.{low_below, values_pushed}
+use Rattle.problem_text.proofs.Outcomes.{all_at_end}
+use Rattle.term_reader.proofs.Resuming.{next_argument_read, last_argument_read}
+use Rattle.term_reader.proofs.Settled.{IsWhole, Closes, unmade_ends, unsettled_ends, settled_goes_on, nothing_made}
+use Rattle.term_reader.proofs.Staying.{table_keeps_none, adds_none, script_stays, scope_stays, frames_stay}
+
+abbrev pub pushed : Reader → Value → List Value
+pushed r c = r.values ++ c ∷ []
+
+module _ (source : List ℕ) (nodes : List Node) (g : Reading) (s : Table) (v : TermsView) (r : Reader) (c : Value) (n place : ℕ) (head : Head) (from end : ℕ) (h : HasRead source nodes g s v (opened r (Frame.Arguments place head from end)) c n) where
+  -- the frames around it stay, over what is left of the stack
+  take_pushed : take from (pushed r c) ≡ take from r.values
+  take_pushed = let (m, read, left, rest, is, here, outer) = h.frames in take-append-le from r.values (c ∷ []) here.within
+
+  low_pushed : AreLow (pushed r c)
+  low_pushed = all_at_end _ r.values c h.stands.low h.low
+
+  -- what is applied to the arguments
+  pub applied_here : (m : Meaning) × (ts : List Typed) × IsHeadOf s v r.known head m × AreValues s v (drop from (pushed r c)) ts
+  applied_here =
+      let (m, read, left, rest, is, here, outer) = h.frames in
+      (m, read ++ h.term ∷ [], here.applies, values_pushed s v from r.values read c h.term here.within here.read_values h.is)
+
+  pub arguments_bounds : n ≤ length nodes → (n ≤ end) × (end ≤ length nodes)
+  arguments_bounds inside =
+      let (m, read, left, rest, is, here, outer) = h.frames in
+      (forms_ordered source nodes n left end here.left_here, forms_inside source nodes n left end here.left_here inside)
+
+  -- it was the last one
+  arguments_whole : n ≡ end → (w : TermsView) (made : Result (Option Value) ReadFault)
+      → ((m : Meaning) (ts : List Typed) → IsHeadOf s v r.known head m → AreValues s v (drop from (pushed r c)) ts → Makes s v w (applied m ts) made)
+      → IsWhole g s v w place made
+  arguments_whole last w made makes =
+      let (m, read, left, rest, is, here, outer) = h.frames in
+      let none : left ≡ no_forms = forms_done source nodes n left end here.left_here last in
+      record {
+        script = h.script;
+        expected = applied m (read ++ h.term ∷ []);
+        waiting = rest;
+        comes = sym (last_argument_read rest place m read h.term h.place h.script)
+            ∙ ap (λ (fs : Forms). resumed (arguments place m read fs h.place ∷ rest) (done h.term h.script)) (sym none)
+            ∙ ap (λ (ws : List Waiting). resumed ws (done h.term h.script)) (sym is) ∙ h.comes;
+        makes = makes m (read ++ h.term ∷ []) here.applies (values_pushed s v from r.values read c h.term here.within here.read_values h.is);
+      }
+
+  arguments_close : n ≡ end → (w : TermsView) → KeepsTerms v w → (made : Result (Option Value) ReadFault)
+      → ((m : Meaning) (ts : List Typed) → IsHeadOf s v r.known head m → AreValues s v (drop from (pushed r c)) ts → Makes s v w (applied m ts) made)
+      → Closes source nodes g s v w (record r { values = take from (pushed r c) }) place end made
+  unfolding arguments_whole
+  arguments_close last w keeps made makes =
+      let (m, read, left, rest, is, here, outer) = h.frames in
+      record {
+        whole = arguments_whole last w made makes;
+        around = h.place;
+        stands = record {
+          script = script_stays s s v w (adds_none s) keeps r.known h.script h.stands.script;
+          scope = scope_stays s s v w (table_keeps_none s) keeps r.scope h.place.scope h.stands.scope;
+          replaces = h.stands.replaces;
+          low = low_below from (pushed r c) low_pushed;
+        };
+        frames = frames_stay s s v w (table_keeps_none s) keeps source nodes g r.known r.known (λ _. refl) r.frames (take from (pushed r c)) r.leaves.items r.scope h.place end rest
+            (subst (λ values. AreFrames source nodes g s v r.known r.frames values r.leaves.items r.scope h.place end rest) (sym take_pushed) outer);
+      }
+
+  -- the next one is read
+  pub arguments_go_on : n ≢ end → IsAt source nodes g s v (record r { values = pushed r c; frames = Frame.Arguments place head from end ∷ r.frames }) n
+  arguments_go_on more =
+      let (m, read, left, rest, is, here, outer) = h.frames in
+      let a = forms_more source nodes n left end here.left_here more in
+      record {
+        script = h.script;
+        place = h.place;
+        spelled = a.first;
+        behind = a.next;
+        waiting = arguments place m (read ++ h.term ∷ []) a.others h.place ∷ rest;
+        stands = record { script = h.stands.script; scope = h.stands.scope; replaces = h.stands.replaces; low = low_pushed };
+        here = a.here;
+        frames = (
+          m,
+          read ++ h.term ∷ [],
+          a.others,
+          rest,
+          refl,
+          record {
+            applies = here.applies;
+            within = pushed_within here.within;
+            read_values = values_pushed s v from r.values read c h.term here.within here.read_values h.is;
+            left_here = a.there;
+          },
+          subst (λ values. AreFrames source nodes g s v r.known r.frames values r.leaves.items r.scope h.place end rest) (sym take_pushed) outer,
+        );
+        comes = sym (next_argument_read rest place m read h.term a.first a.others h.place h.script)
+            ∙ ap (λ (fs : Forms). resumed (arguments place m read fs h.place ∷ rest) (done h.term h.script)) (sym a.split)
+            ∙ ap (λ (ws : List Waiting). resumed ws (done h.term h.script)) (sym is) ∙ h.comes;
+      }
+    where
+      pushed_within : from ≤ length r.values → from ≤ length (pushed r c)
+      pushed_within e = omega (arith, e, length-append r.values (c ∷ []))
+
+  -- what is left to be done
+  pub arguments_closed_spend : n ≡ end → (t : Value) (values : List Value) → n ≤ length nodes
+      → Spends nodes s (opened r (Frame.Arguments place head from end)) (Turn.Use c n) s (record r { values = values }) (Turn.Use t end)
+  arguments_closed_spend last t values inside =
+      let e = arguments_bounds inside in
+      record { inside = e.1; few = omega (arith, last); progress = omega (arith, last) }
+
+  pub arguments_go_on_spend : (values : List Value) → n ≤ length nodes
+      → Spends nodes s (opened r (Frame.Arguments place head from end)) (Turn.Use c n) s (record r { values = values; frames = Frame.Arguments place head from end ∷ r.frames }) (Turn.Read n)
+  arguments_go_on_spend values inside = record { inside = inside; few = omega arith; progress = omega arith }
+
+  -- What is done, by the stacks as the code has them.
+  pub arguments_fault : n ≡ end → (w : TermsView) → (values : List Value) → values ≡ pushed r c → (fault : ReadFault)
+      → ((m : Meaning) (ts : List Typed) → IsHeadOf s v r.known head m → AreValues s v (drop from values) ts → Makes s v w (applied m ts) (Err fault)) → (q : Reader)
+      → Leaves source nodes g s v (opened r (Frame.Arguments place head from end)) c n s w q (Err fault)
+  arguments_fault last w values are fault makes q = record {
+    goes = unmade_ends source nodes g s v w place fault q (arguments_whole last w (Err fault) (rw are at makes));
+    spends = λ _. tt;
+  }
+
+  pub arguments_refused : n ≡ end → (w : TermsView) → (values : List Value) → values ≡ pushed r c → (made : Option Value)
+      → ((m : Meaning) (ts : List Typed) → IsHeadOf s v r.known head m → AreValues s v (drop from values) ts → Makes s v w (applied m ts) (Ok made)) → (fault : ReadFault)
+      → ((s : Table) (v : TermsView) (o : Option Typed) (sc : Script) → IsMade s v o (Ok made) → IsSettled s v place o sc (Err fault)) → (q : Reader)
+      → Leaves source nodes g s v (opened r (Frame.Arguments place head from end)) c n s w q (Err fault)
+  arguments_refused last w values are made makes fault settles q = record {
+    goes = unsettled_ends source nodes g s v w place made fault q (arguments_whole last w (Ok made) (rw are at makes)) settles;
+    spends = λ _. tt;
+  }
+
+  pub arguments_settled : n ≡ end → (w : TermsView) → KeepsTerms v w → (values : List Value) → values ≡ pushed r c → (made : Option Value)
+      → ((m : Meaning) (ts : List Typed) → IsHeadOf s v r.known head m → AreValues s v (drop from values) ts → Makes s v w (applied m ts) (Ok made)) → (t : Value)
+      → ((s : Table) (v : TermsView) (o : Option Typed) (sc : Script) → IsMade s v o (Ok made) → IsSettled s v place o sc (Ok t)) → (kept : List Value) → kept ≡ take from values
+      → Leaves source nodes g s v (opened r (Frame.Arguments place head from end)) c n s w (record r { values = kept }) (Ok (Turn.Use t end))
+  arguments_settled last w keeps values are made makes t settles kept take_is = record {
+    goes = subst (λ (vs : List Value). Goes source nodes g s v w (record r { values = vs }) (Ok (Turn.Use t end))) (sym (take_is ∙ ap (take from) are))
+        (settled_goes_on source nodes g s v w place _ end made t (arguments_close last w keeps (Ok made) (rw are at makes)) settles);
+    spends = arguments_closed_spend last t kept;
+  }
+
+  pub arguments_next : n ≢ end → (values : List Value) → values ≡ pushed r c → (frames : List Frame) → frames ≡ Frame.Arguments place head from end ∷ r.frames
+      → Leaves source nodes g s v (opened r (Frame.Arguments place head from end)) c n s v (record r { values = values; frames = frames }) (Ok (Turn.Read n))
+  arguments_next more values are frames is = record {
+    goes = nothing_made source nodes g s v _ (Ok (Turn.Read n)) (rw (are, is) (arguments_go_on more));
+    spends = λ inside. rw is (arguments_go_on_spend values inside);
+  }

@@ -1,0 +1,99 @@
+-- A form whose terms are all read: the term that is made of it is settled, or the reading ends.
+use Rattle.std.proofs.Common.{◌≡◌, ◌∙◌, refl, ap, sym, subst, ℕ, List, ◌++◌, ◌∷◌, [], Option, Result, Ok, Err}
+use Rattle.sexpr.specs.declared.causes.Refusal.{Refusal}
+use Rattle.sym_table.specs.Table.{Table}
+use Rattle.term_model.specs.Terms.{Term}
+use Rattle.term_pool.specs.Views.{TermsView}
+use Rattle.term_reader.specs.Frames.{Reading, AreFrames}
+use Rattle.term_names.specs.Making.{IsExpected, IsMade, Makes, PlacesCellsOf}
+use Rattle.problem_text.specs.Names.{Place}
+use Rattle.term_reader.specs.Reading.{Stands, HasRead, EndsWith, IsReadTerm, GoesOn, Goes}
+use Rattle.term_reader.specs.Resuming.{Waiting, resumed}
+use Rattle.problem_text.specs.TypedTerms.{Typed}
+use Rattle.problem_text.specs.Scripts.{Script, Outcome, with_term}
+use Rattle.term_reader.specs.Settling.{IsSettled}
+use Rattle.problem_text.specs.Terms.{settled}
+use Rattle.term_names.specs.declared.faults.ReadFault.{ReadFault}
+use Rattle.text_items.specs.declared.nodes.Node.{Node}
+use Rattle.term_reader.specs.declared.reader.Reader.{Reader}
+use Rattle.term_reader.specs.declared.reader.Turn.{Turn}
+use Rattle.term_expansion.specs.declared.values.Value.{Value}
+use Rattle.term_reader.proofs.StillRead.{settled_is_read}
+use Rattle.term_reader.proofs.MoreRead.{same_script}
+use Rattle.term_reader.proofs.Resuming.{refused_whole}
+use Rattle.term_reader.proofs.Staying.{places_more, places_none, lacks_more}
+
+-- What is made of the innermost form, which begins at this place, is `expected`, for what waits around it.
+pub record IsWhole (g : Reading) (s : Table) (v w : TermsView) (place : ℕ) (made : Result (Option Value) ReadFault) : Type 0 where
+  pub script : Script
+  pub expected : Option Typed
+  pub waiting : List Waiting
+  pub comes : resumed waiting (settled place expected script) ≡ g.whole
+  pub makes : Makes s v w expected made
+
+-- and the reader is at what waits
+pub record Closes (source : List ℕ) (nodes : List Node) (g : Reading) (s : Table) (v w : TermsView) (r : Reader) (place n : ℕ) (made : Result (Option Value) ReadFault) : Type 0 where
+  pub whole : IsWhole g s v w place made
+  pub around : Place
+  pub stands : Stands s w r whole.script around
+  pub frames : AreFrames source nodes g s w r.known r.frames r.values r.leaves.items r.scope around n whole.waiting
+
+-- a fault of what is read now is the fault of the whole
+pub fault_of_whole : (ws : List Waiting) (o : Outcome Typed) (r : Refusal) (whole : Outcome Typed) → o.result ≡ Err r → resumed ws o ≡ whole → whole.result ≡ Err r
+fault_of_whole ws o r whole fails comes =
+    ap (λ (x : Outcome Typed). x.result) (sym comes ∙ ap (λ x. resumed ws (record { result = x; script = o.script })) fails ∙ refused_whole ws r o.script)
+
+-- memory ran out, or nothing was placed
+pub nothing_made : (source : List ℕ) (nodes : List Node) (g : Reading) (s : Table) (v : TermsView) (r : Reader) (result : Result Turn ReadFault) → GoesOn source nodes g s v r result → Goes source nodes g s v v r result
+nothing_made source nodes g s v r result step = record { step = step; placed = places_none s v.pass v.pass (IsReadTerm g.whole) refl }
+
+module _ (source : List ℕ) (nodes : List Node) (g : Reading) (s : Table) (v w : TermsView) (place : ℕ) where
+  expected_read : (made : Result (Option Value) ReadFault) (h : IsWhole g s v w place made) (t : Term) → IsExpected h.expected t → IsReadTerm g.whole t
+  expected_read made h t (d, is, same) =
+      subst (IsReadTerm g.whole) same
+      (subst (λ (o : Outcome Typed). IsReadTerm o d.tree) (ap (λ o. resumed h.waiting (settled place o h.script)) (sym is) ∙ h.comes) (settled_is_read h.waiting place d h.script))
+
+  whole_places : (made : Result (Option Value) ReadFault) (h : IsWhole g s v w place made) → PlacesCellsOf s v.pass w.pass (IsReadTerm g.whole)
+  whole_places made h = places_more s v.pass w.pass (IsExpected h.expected) (IsReadTerm g.whole) (expected_read made h) h.makes.placed
+
+  -- it is not made
+  pub unmade_ends : (fault : ReadFault) (q : Reader) → IsWhole g s v w place (Err fault) → Goes source nodes g s v w q (Err fault)
+  unmade_ends fault q h = record { step = ends fault h.makes.answer (expected_read (Err fault) h); placed = whole_places (Err fault) h }
+    where
+      ends : (f : ReadFault) → IsMade s w h.expected (Err f) → ((t : Term) → IsExpected h.expected t → IsReadTerm g.whole t) → EndsWith s w.pass g.whole.result (IsReadTerm g.whole) f
+      ends (ReadFault.Text x) made more = absurd made
+      ends ReadFault.PoolFull made more = lacks_more s w.pass (IsExpected h.expected) (IsReadTerm g.whole) more made
+      ends ReadFault.Memory made more = tt
+
+  -- it is not settled
+  pub unsettled_ends : (made : Option Value) (fault : ReadFault) (q : Reader) → IsWhole g s v w place (Ok made)
+      → ((s : Table) (v : TermsView) (o : Option Typed) (sc : Script) → IsMade s v o (Ok made) → IsSettled s v place o sc (Err fault)) → Goes source nodes g s v w q (Err fault)
+  unsettled_ends made fault q h settles = record { step = ends fault (settles s w h.expected h.script h.makes.answer); placed = whole_places (Ok made) h }
+    where
+      ends : (f : ReadFault) → IsSettled s w place h.expected h.script (Err f) → EndsWith s w.pass g.whole.result (IsReadTerm g.whole) f
+      ends (ReadFault.Text x) is = fault_of_whole h.waiting (settled place h.expected h.script) x g.whole is h.comes
+      ends ReadFault.PoolFull is = absurd is
+      ends ReadFault.Memory is = absurd is
+
+  -- it is the next term that was read
+  pub settled_goes_on : (r : Reader) (n : ℕ) (made : Option Value) (c : Value) → Closes source nodes g s v w r place n (Ok made)
+      → ((s : Table) (v : TermsView) (o : Option Typed) (sc : Script) → IsMade s v o (Ok made) → IsSettled s v place o sc (Ok c)) → Goes source nodes g s v w r (Ok (Turn.Use c n))
+  settled_goes_on r n made c h settles = record { step = read (settles s w h.whole.expected h.whole.script h.whole.makes.answer); placed = whole_places (Ok made) h.whole }
+    where
+      read : IsSettled s w place h.whole.expected h.whole.script (Ok c) → HasRead source nodes g s w r c n
+      read (t, is, settles_to, value, low) = record {
+        script = with_term t.tree h.whole.script;
+        place = h.around;
+        term = t;
+        waiting = h.whole.waiting;
+        stands = record {
+          script = same_script s w r.known (h.whole.script.terms ++ t.tree ∷ []) h.whole.script.let_names h.whole.script h.stands.script;
+          scope = h.stands.scope;
+          replaces = h.stands.replaces;
+          low = h.stands.low;
+        };
+        is = value;
+        low = low;
+        frames = h.frames;
+        comes = ap (resumed h.whole.waiting) (sym settles_to) ∙ h.whole.comes;
+      }

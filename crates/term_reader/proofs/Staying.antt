@@ -1,0 +1,448 @@
+-- Cited by crates above. What the code holds stays what it is, as the table of symbols grows and as the pass comes to know more; and the cells
+-- that were placed stay cells of what was wanted.
+use Rattle.std.proofs.Common.{◌≡◌, ◌≢◌, ◌⊎◌, inl, inr, ℕ, ℤ, pos, ◌+◌, ◌≤◌, zero, suc, refl, ◌∙◌, ap, arith, List, [], ◌∷◌, ◌++◌, length, take, drop, slice_get, Option, Some, None}
+use Rattle.std.proofs.lemmas.List.{length-append}
+use Rattle.pair_pool.specs.Trees.{Tree, leaf, cell}
+use Rattle.pair_pool.specs.Views.{PassView, IsPlaced, IsFullFor}
+use Rattle.sym_table.specs.Leaf.{Leaf, nil, let_head, operator, function}
+use Rattle.sym_table.specs.Table.{Table, IsLeaf, IsFunctionNamed, FindsOrAdds, Keeps}
+use Rattle.term_model.specs.Terms.{Var, Fun, Term, Terms, Bindings, numeral, variable, operation, call, let_in, no_terms, term, no_bindings, binding}
+use Rattle.term_pool.specs.Building.{IsCellIn, IsFullIn, PlacesOnlyIn}
+use Rattle.term_pool.specs.StandsFor.{variable_leaf, function_leaf, IsLeafOf, StandsFor, StandsForApplication, StandsForList, StandsForBindings}
+use Rattle.term_pool.specs.Views.{TermsView, RefersTo, KeepsPass, KeepsTerms}
+use Rattle.text_items.specs.ItemShapes.{Name}
+use Rattle.problem_text.specs.Forms.{Form, Forms, Binds}
+use Rattle.term_names.specs.Heads.{IsSymbolOf, IsMacroMeant, IsHeadOf}
+use Rattle.term_reader.specs.Frames.{HasArguments, HasBindings, HasBody, Reading, AreFrames}
+use Rattle.term_expansion.specs.Free.{AreFreeLeaves}
+use Rattle.term_expansion.specs.Images.{PlacesTerm, LacksRoomFor}
+use Rattle.term_names.specs.InScope.{IsScope, AreBound}
+use Rattle.term_names.specs.Known.{KnownView, known_entry, macro_of}
+use Rattle.term_names.specs.Making.{IsCellOf, PlacesCellsOf, LacksCellOf}
+use Rattle.problem_text.specs.Names.{Bound, Place, Meaning}
+use Rattle.term_reader.specs.Reading.{Stands}
+use Rattle.problem_text.specs.Replacement.{Replacement}
+use Rattle.term_reader.specs.Resuming.{Waiting}
+use Rattle.term_names.specs.Scope.{Scoped}
+use Rattle.problem_text.specs.TypedTerms.{Typed}
+use Rattle.problem_text.specs.Scripts.{Macro, Named, Script}
+use Rattle.term_names.specs.Standing.{AreLeavesOf, IsMacroOf, IsNamedOf, IsFunctionAt, IsNoFunction, IsFreeName, IsMeant, IsScript, AddsNoSymbols}
+use Rattle.term_expansion.specs.Values.{IsValue, AreValues, PutsIn, IsReplacement}
+use Rattle.term_names.specs.declared.entries.Macro as held_macro
+use Rattle.term_names.specs.declared.entries.Named as held_named
+use Rattle.term_reader.specs.declared.frames.Frame.{Frame}
+use Rattle.term_names.specs.declared.heads.Head.{Head}
+use Rattle.term_names.specs.declared.known.KnownEntry.{KnownEntry}
+use Rattle.term_names.specs.declared.known.Which.{Which}
+use Rattle.text_items.specs.declared.nodes.Node.{Node}
+use Rattle.term_reader.specs.declared.reader.Reader.{Reader}
+use Rattle.term_expansion.specs.declared.values.Bound as bound
+use Rattle.term_expansion.specs.declared.values.Value.{Value}
+
+-- tables
+pub table_keeps_none : (s : Table) → Keeps s s
+table_keeps_none s = record { leaves = λ k l h. h; sorts = λ n name h. h }
+
+pub table_keeps_then : (s t z : Table) → Keeps s t → Keeps t z → Keeps s z
+table_keeps_then s t z h g = record {
+  leaves = λ k l e. g.leaves k l (h.leaves k l e);
+  sorts = λ n name e. g.sorts n name (h.sorts n name e);
+}
+
+pub adds_none : (s : Table) → AddsNoSymbols s s
+adds_none s = record { keeps = table_keeps_none s; sorts = refl; functions = λ k f h. h }
+
+pub adds_then : (s t z : Table) → AddsNoSymbols s t → AddsNoSymbols t z → AddsNoSymbols s z
+adds_then s t z h g = record {
+  keeps = table_keeps_then s t z h.keeps g.keeps;
+  sorts = g.sorts ∙ h.sorts;
+  functions = λ k f e. h.functions k f (g.functions k f e);
+}
+
+-- an item of a list with one more is an old one or that one
+old_or_last : (ls : List Leaf) (m : Leaf) (k : ℕ) (l : Leaf) → slice_get (ls ++ m ∷ []) k ≡ Some l → (slice_get ls k ≡ Some l) ⊎ (m ≡ l)
+old_or_last [] m zero l e = inr (cc)
+old_or_last [] m (suc k) l e = absurd (cc)
+old_or_last (x ∷ ls) m zero l e = inl e
+old_or_last (x ∷ ls) m (suc k) l e = old_or_last ls m k l e
+
+-- a leaf that is no function, found or added
+pub adds_leaf : (old new : Table) (k : ℕ) (l : Leaf) → FindsOrAdds old new k l → Keeps old new → ((f : Fun) → l ≢ function_leaf f) → AddsNoSymbols old new
+adds_leaf old new k l (inl h) keeps never = rw h.1 (adds_none old)
+adds_leaf old new k l (inr h) keeps never = record { keeps = keeps; sorts = ap (λ (t : Table). t.sorts) h.2; functions = λ j f e. go j f (old_or_last old.leaves l j (function_leaf f) (rw (ap (λ (t : Table). t.leaves) h.2) at e)) }
+  where
+    go : (j : ℕ) (f : Fun) → IsLeaf old j (function_leaf f) ⊎ (l ≡ function_leaf f) → IsLeaf old j (function_leaf f)
+    go j f (inl e) = e
+    go j f (inr e) = absurd (never f e)
+
+pub adds_numeral : (old new : Table) (k : ℕ) (n : ℤ) → FindsOrAdds old new k (Leaf.numeral n) → Keeps old new → AddsNoSymbols old new
+adds_numeral old new k n found keeps = adds_leaf old new k (Leaf.numeral n) found keeps (λ f e. cc)
+
+pub adds_variable : (old new : Table) (k : ℕ) (x : Var) → FindsOrAdds old new k (variable_leaf x) → Keeps old new → AddsNoSymbols old new
+adds_variable old new k x found keeps = adds_leaf old new k (variable_leaf x) found keeps (λ f e. cc)
+
+pub leaf_more : (old new : Table) (k : ℕ) (l : Leaf) → FindsOrAdds old new k l → length new.leaves ≤ length old.leaves + 1
+leaf_more old new k l (inl h) = rw h.1 (omega arith)
+leaf_more old new k l (inr h) =
+    let e : length new.leaves ≡ length (old.leaves ++ l ∷ []) = ap (λ (t : Table). length t.leaves) h.2 in
+    let f = length-append old.leaves (l ∷ []) in
+    omega arith
+
+-- passes
+pub pass_keeps_none : (p : PassView) → KeepsPass p p
+pass_keeps_none p = record { places = refl; shares = refl; grows = λ r t h. h; sees = λ r a b h. h }
+
+pub pass_keeps_then : (p q r : PassView) → KeepsPass p q → KeepsPass q r → KeepsPass p r
+pass_keeps_then p q r h g = record {
+  places = g.places ∙ h.places;
+  shares = g.shares ∙ h.shares;
+  grows = λ n t e. g.grows n t (h.grows n t e);
+  sees = λ n a b e. g.sees n a b (h.sees n a b e);
+}
+
+pub keeps_none : (v : TermsView) → KeepsTerms v v
+keeps_none v = record { pool = refl; pass = pass_keeps_none v.pass }
+
+pub keeps_then : (v w x : TermsView) → KeepsTerms v w → KeepsTerms w x → KeepsTerms v x
+keeps_then v w x h g = record { pool = g.pool ∙ h.pool; pass = pass_keeps_then v.pass w.pass x.pass h.pass g.pass }
+
+-- what a tree stands for
+module _ (s z : Table) (keeps : Keeps s z) where
+  leaf_of_stays : (l : Leaf) (a : Tree) → IsLeafOf s a l → IsLeafOf z a l
+  leaf_of_stays l (leaf k) h = keeps.leaves k l h
+  leaf_of_stays l (cell a b) h = absurd h
+
+  mutual
+    pub tree_stays : (t : Term) (a : Tree) → StandsFor s a t → StandsFor z a t
+    tree_stays (numeral n) a h = leaf_of_stays (Leaf.numeral (pos n)) a h
+    tree_stays (variable x) a h = leaf_of_stays (variable_leaf x) a h
+    tree_stays (operation op ts) a h = application_stays (operator op) ts a h
+    tree_stays (call f ts) a h = application_stays (function_leaf f) ts a h
+    tree_stays (let_in bs u) (leaf k) h = absurd h
+    tree_stays (let_in bs u) (cell a (leaf k)) h = absurd h.1
+    tree_stays (let_in bs u) (cell a (cell b c)) h = (h.0, (bindings_stay bs b h.1.0, tree_stays u c h.1.1))
+
+    application_stays : (l : Leaf) (ts : Terms) (a : Tree) → StandsForApplication s a l ts → StandsForApplication z a l ts
+    application_stays l no_terms a h = leaf_of_stays l a h
+    application_stays l (term t ts) (leaf k) h = absurd h
+    application_stays l (term t ts) (cell a (leaf k)) h = absurd h.1
+    application_stays l (term t ts) (cell a (cell b c)) h = (leaf_of_stays l a h.0, (tree_stays t b h.1.0, list_stays ts c h.1.1))
+
+    list_stays : (ts : Terms) (a : Tree) → StandsForList s a ts → StandsForList z a ts
+    list_stays no_terms a h = h
+    list_stays (term t ts) (leaf k) h = absurd h
+    list_stays (term t ts) (cell a b) h = (tree_stays t a h.0, list_stays ts b h.1)
+
+    bindings_stay : (bs : Bindings) (a : Tree) → StandsForBindings s a bs → StandsForBindings z a bs
+    bindings_stay no_bindings a h = h
+    bindings_stay (binding x t bs) (leaf k) h = absurd h
+    bindings_stay (binding x t bs) (cell (leaf k) b) h = absurd h.0
+    bindings_stay (binding x t bs) (cell (cell a c) b) h = ((leaf_of_stays (variable_leaf x) a h.0.0, tree_stays t c h.0.1), bindings_stay bs b h.1)
+
+  pub leaves_stay : (ks : List ℕ) (xs : List Var) → AreLeavesOf s ks xs → AreLeavesOf z ks xs
+  leaves_stay [] [] h = h
+  leaves_stay [] (x ∷ xs) h = absurd h
+  leaves_stay (k ∷ ks) [] h = absurd h
+  leaves_stay (k ∷ ks) (x ∷ xs) h = (keeps.leaves k (variable_leaf x) h.0, leaves_stay ks xs h.1)
+
+  pub free_leaves_stay : (ks : List ℕ) (xs : List Var) → AreFreeLeaves s ks xs → AreFreeLeaves z ks xs
+  free_leaves_stay ks xs h = record {
+    each = λ k c. let (x, is, there) = h.each k c in (x, keeps.leaves k (variable_leaf x) is, there);
+    all = λ x c. let (k, is, there) = h.all x c in (k, keeps.leaves k (variable_leaf x) is, there);
+  }
+
+  pub symbol_stays : (k : ℕ) (m : Meaning) → IsSymbolOf s k m → IsSymbolOf z k m
+  symbol_stays k m (inl h) = inl (h.0, keeps.leaves k (function_leaf h.0) h.1, h.2)
+  symbol_stays k m (inr h) = inr (h.0, keeps.leaves k (operator h.0) h.1, h.2)
+
+-- values, and what is made of them
+module _ (s z : Table) (v w : TermsView) (keeps : Keeps s z) (terms : KeepsTerms v w) where
+  pub refers_stays : (r : ℕ) (t : Term) → RefersTo s v r t → RefersTo z w r t
+  refers_stays r t h = record {
+    tree = h.tree;
+    known = terms.pass.grows r h.tree h.known;
+    stands = tree_stays s z keeps t h.tree h.stands;
+  }
+
+  pub value_stays : (c : Value) (t : Typed) → IsValue s v c t → IsValue z w c t
+  value_stays c t h = record { refers = refers_stays c.term t.tree h.refers; sort = h.sort; high = h.high; plain = h.plain }
+
+  pub values_stay : (cs : List Value) (ts : List Typed) → AreValues s v cs ts → AreValues z w cs ts
+  values_stay [] [] h = h
+  values_stay [] (t ∷ ts) h = absurd h
+  values_stay (c ∷ cs) [] h = absurd h
+  values_stay (c ∷ cs) (t ∷ ts) h = (value_stays c t h.0, values_stay cs ts h.1)
+
+  pub puts_in_stays : (b : bound.Bound) (x : Var) (t : Term) → PutsIn s v b x t → PutsIn z w b x t
+  puts_in_stays b x t h = record { leaf = keeps.leaves b.variable (variable_leaf x) h.leaf; value = value_stays b.value _ h.value }
+
+  pub replacement_stays : (bs : List bound.Bound) (q : Replacement) → IsReplacement s v bs q → IsReplacement z w bs q
+  replacement_stays [] [] h = h
+  replacement_stays [] (x ∷ q) h = absurd h
+  replacement_stays (b ∷ bs) [] h = absurd h
+  replacement_stays (b ∷ bs) (x ∷ q) h = (puts_in_stays b x.0 x.1 h.0, replacement_stays bs q h.1)
+
+  pub scope_stays : (es : List Scoped) (bs : List Bound) → IsScope s v es bs → IsScope z w es bs
+  scope_stays [] [] h = h
+  scope_stays [] (b ∷ bs) h = absurd h
+  scope_stays (e ∷ es) [] h = absurd h
+  scope_stays (e ∷ es) (b ∷ bs) h = (h.0, puts_in_stays e.bound b.variable b.stands_for h.1, scope_stays es bs h.2)
+
+  pub bound_stays : (ks : List ℕ) (cs : List Value) (bs : List Bound) → AreBound s v ks cs bs → AreBound z w ks cs bs
+  bound_stays [] [] [] h = h
+  bound_stays [] [] (b ∷ bs) h = absurd h
+  bound_stays [] (c ∷ cs) bs h = absurd h
+  bound_stays (k ∷ ks) [] bs h = absurd h
+  bound_stays (k ∷ ks) (c ∷ cs) [] h = absurd h
+  bound_stays (k ∷ ks) (c ∷ cs) (b ∷ bs) h =
+      (keeps.leaves k (variable_leaf b.variable) h.0, value_stays c _ h.1, bound_stays ks cs bs h.2)
+
+  pub macro_stays : (m : held_macro.Macro) (d : Macro) → IsMacroOf s v m d → IsMacroOf z w m d
+  macro_stays m d h = record {
+    parameters = leaves_stay s z keeps m.parameters.items d.parameters h.parameters;
+    sorts = h.sorts;
+    target = h.target;
+    body = value_stays m.body _ h.body;
+    plain = h.plain;
+  }
+
+  pub named_stays : (n : held_named.Named) (d : Named) → IsNamedOf s v n d → IsNamedOf z w n d
+  named_stays n d h = record {
+    value = value_stays n.value d.meant h.value;
+    low = h.low;
+    free = free_leaves_stay s z keeps n.free.items _ h.free;
+  }
+
+  pub macro_meant_stays : (o : Option held_macro.Macro) (m : Meaning) → IsMacroMeant s v o m → IsMacroMeant z w o m
+  macro_meant_stays o m h = (h.0, h.1, h.2, macro_stays h.0 h.1 h.3, h.4)
+
+  pub head_stays : (k l : KnownView) → ((w : Which) → macro_of l w ≡ macro_of k w) → (head : Head) (m : Meaning) → IsHeadOf s v k head m → IsHeadOf z w l head m
+  head_stays k l same (Head.Symbol n) m h = symbol_stays s z keeps n m h
+  head_stays k l same (Head.Macro n) m h = rw (same n) (macro_meant_stays (macro_of k n) m h)
+  head_stays k l same Head.Fixed m h = h
+
+  -- open forms
+  arguments_stay : (source : List ℕ) (nodes : List Node) (k l : KnownView) → ((w : Which) → macro_of l w ≡ macro_of k w) → (head : Head) (from end n : ℕ) (values : List Value) (m : Meaning) (read : List Typed) (left : Forms)
+      → HasArguments source nodes s v k head from end n values m read left → HasArguments source nodes z w l head from end n values m read left
+  arguments_stay source nodes k l same head from end n values m read left h = record {
+    applies = head_stays k l same head m h.applies;
+    within = h.within;
+    read_values = values_stay (drop from values) read h.read_values;
+    left_here = h.left_here;
+  }
+
+  bindings_stay_open : (source : List ℕ) (nodes : List Node) (from first name repeat body n : ℕ) (values : List Value) (leaves : List ℕ) (read : List Bound) (x : Name) (earlier : List (List ℕ)) (left : Binds) (f : Form) (m : ℕ)
+      → HasBindings source nodes s v from first name repeat body n values leaves read x earlier left f m → HasBindings source nodes z w from first name repeat body n values leaves read x earlier left f m
+  bindings_stay_open source nodes from first name repeat body n values leaves read x earlier left f m h = record {
+    within = h.within;
+    leaves_within = h.leaves_within;
+    read_bound = bound_stays (drop first leaves) (drop from values) read h.read_bound;
+    variable = h.variable;
+    left_here = h.left_here;
+    first_faulty = h.first_faulty;
+    body_here = h.body_here;
+  }
+
+  body_stays : (from first : ℕ) (values : List Value) (leaves : List ℕ) (scope : List Scoped) (p : Place) (bs : List Bound) (around : List Scoped) (outer : Place)
+      → HasBody s v from first values leaves scope p bs around outer → HasBody z w from first values leaves scope p bs around outer
+  body_stays from first values leaves scope p bs around outer h = record {
+    within = h.within;
+    leaves_within = h.leaves_within;
+    bound_here = bound_stays (drop first leaves) (drop from values) bs h.bound_here;
+    same_place = h.same_place;
+    inner = h.inner;
+    split = h.split;
+    one_each = h.one_each;
+    around_here = scope_stays around outer.scope h.around_here;
+  }
+
+  pub frames_stay : (source : List ℕ) (nodes : List Node) (g : Reading) (k l : KnownView) → ((w : Which) → macro_of l w ≡ macro_of k w)
+      → (fs : List Frame) (values : List Value) (leaves : List ℕ) (scope : List Scoped) (p : Place) (n : ℕ) (ws : List Waiting)
+      → AreFrames source nodes g s v k fs values leaves scope p n ws → AreFrames source nodes g z w l fs values leaves scope p n ws
+  frames_stay source nodes g k l same [] values leaves scope p n ws h = h
+  frames_stay source nodes g k l same (Frame.Arguments place head from end ∷ fs) values leaves scope p n ws (m, read, left, rest, is, here, outer) = (
+    m,
+    read,
+    left,
+    rest,
+    is,
+    arguments_stay source nodes k l same head from end n values m read left here,
+    frames_stay source nodes g k l same fs (take from values) leaves scope p end rest outer,
+  )
+  frames_stay source nodes g k l same (Frame.Bindings place from first name repeat body ∷ fs) values leaves scope p n ws (read, x, earlier, left, f, m, rest, is, here, outer) = (
+    read,
+    x,
+    earlier,
+    left,
+    f,
+    m,
+    rest,
+    is,
+    bindings_stay_open source nodes from first name repeat body n values leaves read x earlier left f m here,
+    frames_stay source nodes g k l same fs (take from values) (take first leaves) scope p m rest outer,
+  )
+  frames_stay source nodes g k l same (Frame.Body place from first ∷ fs) values leaves scope p n ws (bs, around, outside, rest, is, here, outer) = (
+    bs,
+    around,
+    outside,
+    rest,
+    is,
+    body_stays from first values leaves scope p bs around outside here,
+    frames_stay source nodes g k l same fs (take from values) (take first leaves) around outside n rest outer,
+  )
+  frames_stay source nodes g k l same (Frame.Names end ∷ fs) values leaves scope p n ws (names, rest, is, here, outer) =
+      (names, rest, is, here, frames_stay source nodes g k l same fs values leaves scope p end rest outer)
+
+-- what a script stands for
+module _ (s z : Table) (v w : TermsView) (adds : AddsNoSymbols s z) (terms : KeepsTerms v w) where
+  no_function_stays : (sc : Script) (name : List ℕ) → IsNoFunction s sc name → IsNoFunction z sc name
+  no_function_stays sc name h = record { table = λ f. h.table (f.0, named f.0 (slice_get z.leaves f.0) refl f.1); script = h.script }
+    where
+      named : (k : ℕ) (o : Option Leaf) → slice_get z.leaves k ≡ o → IsFunctionNamed z k name → IsFunctionNamed s k name
+      named k None e f = absurd (rw e at f)
+      named k (Some (function a ss t)) e f =
+          let there : IsLeaf s k (function a ss t) = adds.functions k (record { name = a; arguments = ss; target = t }) e in
+          rw there (rw e at f)
+      named k (Some nil) e f = absurd (let g = rw e at f in let b = g.0 in cc)
+      named k (Some let_head) e f = absurd (let g = rw e at f in let b = g.0 in cc)
+      named k (Some (operator op)) e f = absurd (let g = rw e at f in let b = g.0 in cc)
+      named k (Some (Leaf.variable a t)) e f = absurd (let g = rw e at f in let b = g.0 in cc)
+      named k (Some (Leaf.numeral n)) e f = absurd (let g = rw e at f in let b = g.0 in cc)
+
+  function_at_stays : (sc : Script) (name : List ℕ) → IsFunctionAt s sc name → IsFunctionAt z sc name
+  function_at_stays sc name h = record {
+    leaf = h.leaf;
+    meant = h.meant;
+    here = adds.keeps.leaves h.leaf (function_leaf h.meant) h.here;
+    same_name = h.same_name;
+    found = h.found;
+    taken = h.taken;
+  }
+
+  free_name_stays : (sc : Script) (name : List ℕ) → IsFreeName s sc name → IsFreeName z sc name
+  free_name_stays sc name h = record { no_function = no_function_stays sc name h.no_function; free = h.free }
+
+  pub meant_stays : (k : KnownView) (sc : Script) (name : List ℕ) (o : Option KnownEntry) → IsMeant s v k sc name o → IsMeant z w k sc name o
+  meant_stays k sc name None (none, inl h) = (none, inl (function_at_stays sc name h))
+  meant_stays k sc name None (none, inr h) = (none, inr (free_name_stays sc name h))
+  meant_stays k sc name (Some KnownEntry.Reserved) h = record {
+    no_entry = h.no_entry;
+    no_function = no_function_stays sc name h.no_function;
+    taken = h.taken;
+  }
+  meant_stays k sc name (Some (KnownEntry.Macro n)) h = record {
+    held = h.held;
+    meant = h.meant;
+    there = h.there;
+    found = h.found;
+    is = macro_stays s z v w adds.keeps terms h.held h.meant h.is;
+    no_named = h.no_named;
+    no_function = no_function_stays sc name h.no_function;
+    taken = h.taken;
+  }
+  meant_stays k sc name (Some (KnownEntry.Named n)) h = record {
+    held = h.held;
+    meant = h.meant;
+    there = h.there;
+    found = h.found;
+    is = named_stays s z v w adds.keeps terms h.held h.meant h.is;
+    no_macro = h.no_macro;
+    no_function = no_function_stays sc name h.no_function;
+    taken = h.taken;
+  }
+
+  pub script_stays : (k : KnownView) (sc : Script) → IsScript s v k sc → IsScript z w k sc
+  script_stays k sc h = record { sorts = adds.sorts ∙ h.sorts; names = λ name. meant_stays k sc name (known_entry k name) (h.names name) }
+
+  pub stands_stays : (r : Reader) (sc : Script) (p : Place) → Stands s v r sc p → Stands z w r sc p
+  stands_stays r sc p h = record {
+    script = script_stays r.known sc h.script;
+    scope = scope_stays s z v w adds.keeps terms r.scope p.scope h.scope;
+    replaces = h.replaces;
+    low = h.low;
+  }
+
+-- Placed cells.
+-- nothing is placed
+pub places_none : (s : Table) (old new : PassView) (P : Term → Type 0) → new.placed ≡ old.placed → PlacesCellsOf s old new P
+places_none s old new P e r a b h = inl (rw e at h)
+
+-- a cell stays a cell
+pub cell_in_stays : (p q : PassView) → KeepsPass p q → (a b : ℕ) (t : Tree) → IsCellIn p a b t → IsCellIn q a b t
+cell_in_stays p q keeps a b t h = record {
+  first = h.first;
+  second = h.second;
+  first_known = keeps.grows a h.first h.first_known;
+  second_known = keeps.grows b h.second h.second_known;
+  part = h.part;
+}
+
+pub cell_stays : (s z : Table) (p q : PassView) (P : Term → Type 0) → Keeps s z → KeepsPass p q → (a b : ℕ) → IsCellOf s p P a b → IsCellOf z q P a b
+cell_stays s z p q P table keeps a b h = record {
+  whole = h.whole;
+  wanted = h.wanted;
+  tree = h.tree;
+  stands = tree_stays s z table h.whole h.tree h.stands;
+  cell = cell_in_stays p q keeps a b h.tree h.cell;
+}
+
+pub cell_more : (s : Table) (p : PassView) (P Q : Term → Type 0) → ((t : Term) → P t → Q t) → (a b : ℕ) → IsCellOf s p P a b → IsCellOf s p Q a b
+cell_more s p P Q more a b h = record { whole = h.whole; wanted = more h.whole h.wanted; tree = h.tree; stands = h.stands; cell = h.cell }
+
+-- one call and then another
+pub places_then : (s z : Table) (a b c : PassView) (P : Term → Type 0) → Keeps s z → KeepsPass b c → PlacesCellsOf s a b P → PlacesCellsOf z b c P → PlacesCellsOf z a c P
+places_then s z a b c P table keeps h k r m n e = go (k r m n e)
+  where
+    earlier : IsPlaced a r m n ⊎ IsCellOf s b P m n → IsPlaced a r m n ⊎ IsCellOf z c P m n
+    earlier (inl x) = inl x
+    earlier (inr y) = inr (cell_stays s z b c P table keeps m n y)
+
+    go : IsPlaced b r m n ⊎ IsCellOf z c P m n → IsPlaced a r m n ⊎ IsCellOf z c P m n
+    go (inl x) = earlier (h r m n x)
+    go (inr y) = inr y
+
+pub places_more : (s : Table) (a b : PassView) (P Q : Term → Type 0) → ((t : Term) → P t → Q t) → PlacesCellsOf s a b P → PlacesCellsOf s a b Q
+places_more s a b P Q more h r m n e = go (h r m n e)
+  where
+    go : IsPlaced a r m n ⊎ IsCellOf s b P m n → IsPlaced a r m n ⊎ IsCellOf s b Q m n
+    go (inl x) = inl x
+    go (inr y) = inr (cell_more s b P Q more m n y)
+
+-- what lacks room lacks it later too
+pub full_stays : (p q : PassView) → KeepsPass p q → (a b : ℕ) → IsFullFor p a b → IsFullFor q a b
+full_stays p q keeps a b h place below =
+    let (c, d, seen, other) = h place (rw keeps.places at below) in (c, d, keeps.sees _ c d seen, other)
+
+pub lacks_stays : (s z : Table) (p q : PassView) (P : Term → Type 0) → Keeps s z → KeepsPass p q → LacksCellOf s p P → LacksCellOf z q P
+lacks_stays s z p q P table keeps h = record {
+  whole = h.whole;
+  wanted = h.wanted;
+  tree = h.tree;
+  stands = tree_stays s z table h.whole h.tree h.stands;
+  full = record {
+    first = h.full.first;
+    second = h.full.second;
+    wanted = cell_in_stays p q keeps h.full.first h.full.second h.tree h.full.wanted;
+    full = full_stays p q keeps h.full.first h.full.second h.full.full;
+  };
+}
+
+pub lacks_more : (s : Table) (p : PassView) (P Q : Term → Type 0) → ((t : Term) → P t → Q t) → LacksCellOf s p P → LacksCellOf s p Q
+lacks_more s p P Q more h = record { whole = h.whole; wanted = more h.whole h.wanted; tree = h.tree; stands = h.stands; full = h.full }
+
+-- one tree, and the term that it stands for
+pub places_tree : (s : Table) (a b : PassView) (P : Term → Type 0) (t : Term) (tree : Tree) → P t → StandsFor s tree t → PlacesOnlyIn a b tree → PlacesCellsOf s a b P
+places_tree s a b P t tree wanted stands h r m n e = go (h r m n e)
+  where
+    go : IsPlaced a r m n ⊎ IsCellIn b m n tree → IsPlaced a r m n ⊎ IsCellOf s b P m n
+    go (inl x) = inl x
+    go (inr y) = inr (record { whole = t; wanted = wanted; tree = tree; stands = stands; cell = y })
+
+pub lacks_tree : (s : Table) (p : PassView) (P : Term → Type 0) (t : Term) (tree : Tree) → P t → StandsFor s tree t → IsFullIn p tree → LacksCellOf s p P
+lacks_tree s p P t tree wanted stands full = record { whole = t; wanted = wanted; tree = tree; stands = stands; full = full }
+
+pub places_term : (s : Table) (a b : PassView) (P : Term → Type 0) (t : Term) → P t → PlacesTerm s a b t → PlacesCellsOf s a b P
+places_term s a b P t wanted h = places_tree s a b P t h.tree wanted h.stands h.placed
+
+pub lacks_term : (s : Table) (p : PassView) (P : Term → Type 0) (t : Term) → P t → LacksRoomFor s p t → LacksCellOf s p P
+lacks_term s p P t wanted h = lacks_tree s p P t h.tree wanted h.stands h.full

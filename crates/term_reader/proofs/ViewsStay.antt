@@ -1,0 +1,46 @@
+-- What a problem and a reader of terms stand for stays as the table gets numerals and variables, and as the pool grows.
+use Rattle.std.proofs.Common.{ℕ, List, [], ◌∷◌}
+use Rattle.sym_table.specs.Table.{Table}
+use Rattle.term_model.specs.Terms.{Term}
+use Rattle.term_pool.specs.Views.{TermsView, KeepsTerms, ReferToAll}
+use Rattle.term_names.specs.Entries.{no_entries}
+use Rattle.problem_text.specs.Names.{Place}
+use Rattle.term_reader.specs.ProblemViews.{ProblemView, ReaderView, IsProblemOf, IsReaderOf}
+use Rattle.term_reader.specs.Reading.{IsIdle}
+use Rattle.problem_text.specs.Scripts.{Script}
+use Rattle.term_names.specs.Standing.{AddsNoSymbols}
+use Rattle.term_reader.specs.declared.reader.Reader.{Reader}
+use Rattle.term_reader.proofs.Staying.{leaves_stay, refers_stays, scope_stays, script_stays}
+
+module _ (s z : Table) (v w : TermsView) (adds : AddsNoSymbols s z) (terms : KeepsTerms v w) where
+  refer_stays : (rs : List ℕ) (ts : List Term) → ReferToAll s v rs ts → ReferToAll z w rs ts
+  refer_stays [] [] h = h
+  refer_stays [] (t ∷ ts) h = absurd h
+  refer_stays (r ∷ rs) [] h = absurd h
+  refer_stays (r ∷ rs) (t ∷ ts) h = (refers_stays s z v w adds.keeps terms r t h.0, refer_stays rs ts h.1)
+
+  idle_stays : (r : Reader) (sc : Script) (p : Place) → IsIdle s v r sc p → IsIdle z w r sc p
+  idle_stays r sc p h = record {
+    script = script_stays s z v w adds terms r.known sc h.script;
+    scope = scope_stays s z v w adds.keeps terms r.scope p.scope h.scope;
+    replaces = h.replaces;
+    no_values = h.no_values;
+    no_leaves = h.no_leaves;
+    no_frames = h.no_frames;
+  }
+
+  pub reader_stays : (r : ReaderView) (sc : Script) (p : Place) → IsReaderOf s v r sc p → IsReaderOf z w r sc p
+  reader_stays r sc p h = record {
+    variables = h.variables;
+    around = h.around;
+    scope = h.scope;
+    pushed = leaves_stay s z adds.keeps r.pushed h.variables h.pushed;
+    idle = idle_stays r.reader sc _ h.idle;
+  }
+
+  pub problem_stays : (p : ProblemView) (sc : Script) → IsProblemOf s v p sc → IsProblemOf z w p sc
+  problem_stays p sc h = record {
+    script = script_stays s z v w adds terms (record { base = p.entries; own = no_entries }) sc h.script;
+    functions = h.functions;
+    assertions = refer_stays p.assertions sc.assertions h.assertions;
+  }

@@ -1,0 +1,16 @@
+use Rattle.std.proofs.Common.{◌≡◌, ◌-◌}
+use Rattle.sexpr.specs.Source.{source}
+use Rattle.term_names.specs.Known.{macro_of}
+use Rattle.term_names.specs.declared.known.Which.{Which}
+use Rattle.term_reader.proofs.NamesLeft.{AreLeft}
+use Rattle.term_reader.proofs.naming.give_each.Given as goal
+
+abbrev pub invariant-names : goal.invariant-names
+invariant-names l = record {
+  left : AreLeft l.symbols (source l.text) l.nodes l.value l.free l.first l.k l.end l.fn.known l.known;
+  macros : (w : Which) → macro_of l.known w ≡ macro_of l.fn.known w;
+  base : l.known.base ≡ l.fn.known.base;
+}
+
+abbrev pub decreases-names : goal.decreases-names
+decreases-names l = l.end - l.k

@@ -1,0 +1,38 @@
+use Rattle.std.proofs.Common.{ap, sym, ◌∙◌, subst, List, ℕ}
+use Rattle.sexpr.specs.declared.causes.Cause.TheVariants.{Repeated}
+use Rattle.sexpr.specs.Source.{source}
+use Rattle.term_expansion.specs.Free.{AreFreeLeaves}
+use Rattle.problem_text.specs.Replacement.{free_variables}
+use Rattle.problem_text.specs.Scripts.{is_taken}
+use Rattle.term_reader.proofs.GivenNames.{no_entry, name_place, name_refused, name_given}
+use Rattle.term_reader.proofs.naming.give_name.Goals as goal
+
+pub returns-then-is_taken-clause-given : goal.returns-then-is_taken-clause-given
+returns-then-is_taken-clause-given c =
+    λ v x t sc named free is.
+    let place = name_place (source c.args.text.now) c.args.nodes.now c.args.at x c.node_at-place.result named c.node_at-place.ensures in
+    name_refused t x sc c.refused.result (sym (c.is_taken.ensures v sc is ∙ ap (is_taken sc) (c.name_of-name.ensures x named)) ∙ c.if-is_taken.true)
+    (c.refused.ensures ∙ ap (λ (p : ℕ). record { cause = Repeated; at = p }) place)
+
+pub give_name-requires : goal.give_name-requires
+give_name-requires c =
+    let (v, sc, is) = c.requires.script in
+    no_entry c.args.symbols.now v c.args.known.now sc c.name_of-name.result.now is (sym (c.is_taken.ensures v sc is) ∙ c.if-is_taken.false)
+
+pub returns-clause-given : goal.returns-clause-given
+returns-clause-given c =
+    λ v x t sc named free is.
+    let same = c.name_of-name.ensures x named in
+    name_given c.args.symbols.now v c.args.known.now c.give_name.new.self sc c.name_of-name.result.now x t (record { value = c.args.value.now; free = c.in_ok-owned.owned }) same
+    (record {
+      entry = c.in_ok-give_name.ensures.entry;
+      named = c.in_ok-give_name.ensures.named;
+      macros = c.in_ok-give_name.ensures.macros;
+      base = c.in_ok-give_name.ensures.base;
+    })
+    is (sym (c.is_taken.ensures v sc is ∙ ap (is_taken sc) same) ∙ c.if-is_taken.false)
+    (record {
+      value = free.value;
+      low = free.low;
+      free = subst (λ (leaves : List ℕ). AreFreeLeaves c.args.symbols.now leaves (free_variables t.tree)) (sym c.in_ok-owned.ensures.items) free.free;
+    })

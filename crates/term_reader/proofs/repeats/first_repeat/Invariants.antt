@@ -1,0 +1,15 @@
+use Rattle.std.proofs.Common.{◌-◌}
+use Rattle.sexpr.specs.Source.{source}
+use Rattle.problem_text.specs.Forms.{Binds}
+use Rattle.term_reader.specs.Layers.{AreBinds}
+use Rattle.term_reader.proofs.RepeatLemmas.{AreLeft}
+use Rattle.term_reader.proofs.repeats.first_repeat.Given as goal
+
+abbrev pub invariant-pairs : goal.invariant-pairs
+invariant-pairs l = record {
+  there : (bs : Binds) × AreBinds (source l.text) l.nodes l.k bs l.body;
+  left : AreLeft (source l.text) l.nodes l.first l.k l.body l.earlier.keys;
+}
+
+abbrev pub decreases-pairs : goal.decreases-pairs
+decreases-pairs l = l.body - l.k

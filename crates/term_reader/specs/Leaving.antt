@@ -1,0 +1,33 @@
+-- Private. What is done with a term that was read, by the form that waits for it.
+use Rattle.std.specs.Prelude.{◌≤◌, ◌<◌, ℕ, List, ◌∷◌, length, Result, IfOk}
+use Rattle.sym_table.specs.Table.{Table}
+use Rattle.term_pool.specs.Views.{TermsView}
+use Rattle.term_reader.specs.Frames.{Reading}
+use Rattle.term_reader.specs.Reading.{Goes, node_of, bound_of, effort}
+use Rattle.term_names.specs.declared.faults.ReadFault.{ReadFault}
+use Rattle.term_reader.specs.declared.frames.Frame.{Frame}
+use Rattle.term_reader.specs.declared.leaving_lets.OpenBindings.{OpenBindings}
+use Rattle.text_items.specs.declared.nodes.Node.{Node}
+use Rattle.term_reader.specs.declared.reader.Reader.{Reader}
+use Rattle.term_reader.specs.declared.reader.Turn.{Turn}
+use Rattle.term_expansion.specs.declared.values.Value.{Value}
+
+-- the reader with this form as the innermost open one
+abbrev pub opened : Reader → Frame → Reader
+opened r frame = record r { frames = frame ∷ r.frames }
+
+-- the form of a let whose bindings are being read
+abbrev pub bindings_frame : OpenBindings → Frame
+bindings_frame b = Frame.Bindings b.place b.from b.leaves b.name b.repeat b.body
+
+-- The next turn is at one of the nodes or behind them, needs no more leaves, and has less left to be done.
+pub record Spends (nodes : List Node) (s : Table) (r : Reader) (turn : Turn) (t : Table) (q : Reader) (next : Turn) : Type 0 where
+  pub inside : node_of next ≤ length nodes
+  pub few : bound_of t nodes q (node_of next) ≤ bound_of s nodes r (node_of turn)
+  pub progress : effort nodes q next < effort nodes r turn
+
+-- The term c was read, and the next item begins at node n. From the table s, the terms v and the reader r it goes on
+-- with t, w and q.
+pub record Leaves (source : List ℕ) (nodes : List Node) (g : Reading) (s : Table) (v : TermsView) (r : Reader) (c : Value) (n : ℕ) (t : Table) (w : TermsView) (q : Reader) (result : Result Turn ReadFault) : Type 0 where
+  pub goes : Goes source nodes g t v w q result
+  pub spends : n ≤ length nodes → IfOk result (λ (next : Turn). Spends nodes s r (Turn.Use c n) t q next)

@@ -1,0 +1,10 @@
+pub mod Layers
+pub mod Shapes
+pub mod Resuming
+pub mod Frames
+pub mod Reading
+pub mod Settling
+pub mod Naming
+pub mod Entering
+pub mod ProblemViews
+pub mod Leaving

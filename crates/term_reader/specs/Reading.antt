@@ -1,0 +1,113 @@
+-- Public. A term that is being read: where the reader is, and what comes of it.
+use Rattle.std.specs.Prelude.{◌≡◌, ◌≤◌, ◌+◌, ◌*◌, ◌-◌, ℕ, List, [], length, Contains, Result, Ok, Err}
+use Rattle.pair_pool.specs.Views.{PassView}
+use Rattle.sexpr.specs.declared.causes.Refusal.{Refusal}
+use Rattle.sym_table.specs.Table.{Table}
+use Rattle.term_model.specs.Terms.{Term}
+use Rattle.term_pool.specs.Views.{TermsView}
+use Rattle.problem_text.specs.Forms.{Form}
+use Rattle.term_reader.specs.Frames.{Reading, AreFrames, credit}
+use Rattle.problem_text.specs.Heights.{most_height}
+use Rattle.term_names.specs.InScope.{IsScope, AreLow}
+use Rattle.term_reader.specs.Layers.{IsForm}
+use Rattle.term_names.specs.Making.{PlacesCellsOf, LacksCellOf}
+use Rattle.problem_text.specs.Names.{Place}
+use Rattle.term_reader.specs.Resuming.{Waiting, resumed}
+use Rattle.problem_text.specs.TypedTerms.{Typed}
+use Rattle.problem_text.specs.Scripts.{Script, Outcome, done}
+use Rattle.term_names.specs.Standing.{IsScript}
+use Rattle.problem_text.specs.Terms.{term_from}
+use Rattle.term_expansion.specs.Values.{IsValue}
+use Rattle.term_names.specs.declared.faults.ReadFault.{ReadFault}
+use Rattle.text_items.specs.declared.nodes.Node.{Node}
+use Rattle.term_reader.specs.declared.reader.Reader.{Reader}
+use Rattle.term_reader.specs.declared.reader.Turn.{Turn}
+use Rattle.term_expansion.specs.declared.values.Value.{Value}
+
+-- the reader's own tables stand for the script and the place
+pub record Stands (s : Table) (v : TermsView) (r : Reader) (sc : Script) (p : Place) : Type 0 where
+  pub script : IsScript s v r.known sc
+  pub scope : IsScope s v r.scope p.scope
+  pub replaces : p.replaces_lets ≡ r.replaces_lets
+  pub low : AreLow r.values
+
+-- The term that is read now is that of node k: what comes of it for all that wait is what comes of the whole term.
+pub record IsAt (source : List ℕ) (nodes : List Node) (g : Reading) (s : Table) (v : TermsView) (r : Reader) (k : ℕ) : Type 0 where
+  pub script : Script
+  pub place : Place
+  pub spelled : Form
+  pub behind : ℕ
+  pub waiting : List Waiting
+  pub stands : Stands s v r script place
+  pub here : IsForm source nodes k spelled behind
+  pub frames : AreFrames source nodes g s v r.known r.frames r.values r.leaves.items r.scope place behind waiting
+  pub comes : resumed waiting (term_from spelled place script) ≡ g.whole
+
+-- A term was read, and the next item begins at node n.
+pub record HasRead (source : List ℕ) (nodes : List Node) (g : Reading) (s : Table) (v : TermsView) (r : Reader) (c : Value) (n : ℕ) : Type 0 where
+  pub script : Script
+  pub place : Place
+  pub term : Typed
+  pub waiting : List Waiting
+  pub stands : Stands s v r script place
+  pub is : IsValue s v c term
+  pub low : c.height ≤ most_height
+  pub frames : AreFrames source nodes g s v r.known r.frames r.values r.leaves.items r.scope place n waiting
+  pub comes : resumed waiting (done term script) ≡ g.whole
+
+abbrev pub IsTurn : List ℕ → List Node → Reading → Table → TermsView → Reader → Turn → Type 0
+IsTurn source nodes g s v r (Turn.Read k) = IsAt source nodes g s v r k
+IsTurn source nodes g s v r (Turn.Use c n) = HasRead source nodes g s v r c n
+
+-- a term that was read by the end
+abbrev pub IsReadTerm : Outcome Typed → Term → Type 0
+IsReadTerm whole t = Contains whole.script.terms t
+
+-- The reading ends with this fault: one of the text, or for want of room for a cell of a term that is read.
+abbrev pub EndsWith : {A : Type 0} → Table → PassView → Result A Refusal → (Term → Type 0) → ReadFault → Type 0
+EndsWith s pass outcome IsWanted (ReadFault.Text r) = outcome ≡ Err r
+EndsWith s pass outcome IsWanted ReadFault.PoolFull = LacksCellOf s pass IsWanted
+EndsWith s pass outcome IsWanted ReadFault.Memory = Unit {0}
+
+-- It goes on with this turn, or ends with the fault of the whole term.
+abbrev pub GoesOn : List ℕ → List Node → Reading → Table → TermsView → Reader → Result Turn ReadFault → Type 0
+GoesOn source nodes g s v r (Ok turn) = IsTurn source nodes g s v r turn
+GoesOn source nodes g s v r (Err fault) = EndsWith s v.pass g.whole.result (IsReadTerm g.whole) fault
+
+pub record Goes (source : List ℕ) (nodes : List Node) (g : Reading) (s : Table) (old new : TermsView) (r : Reader) (result : Result Turn ReadFault) : Type 0 where
+  pub step : GoesOn source nodes g s new r result
+  pub placed : PlacesCellsOf s old.pass new.pass (IsReadTerm g.whole)
+
+-- the node that a turn is at
+abbrev pub node_of : Turn → ℕ
+node_of (Turn.Read k) = k
+node_of (Turn.Use c n) = n
+
+-- At most so many leaves will be in the table when the term is read: each leaf that is added has a node of its own, and an
+-- open let the nodes of its brackets besides.
+abbrev pub bound_of : Table → List Node → Reader → ℕ → ℕ
+bound_of s nodes r k = length s.leaves + (length nodes - k) + credit r.frames
+
+-- what is left to be done, by a count that each turn lowers
+abbrev pub effort : List Node → Reader → Turn → ℕ
+effort nodes r (Turn.Read k) = 3 * (length nodes - k) + 2 * length r.frames
+effort nodes r (Turn.Use c n) = 3 * (length nodes - n) + 2 * length r.frames + 1
+
+-- The reader holds nothing of a term, and what it holds stands for the script and the place.
+pub record IsIdle (s : Table) (v : TermsView) (r : Reader) (sc : Script) (p : Place) : Type 0 where
+  pub script : IsScript s v r.known sc
+  pub scope : IsScope s v r.scope p.scope
+  pub replaces : p.replaces_lets ≡ r.replaces_lets
+  pub no_values : r.values ≡ []
+  pub no_leaves : r.leaves.items ≡ []
+  pub no_frames : r.frames ≡ []
+
+-- What a term came to: its value, and the reader ready for the next one; or a fault.
+abbrev pub IsOutcome : Table → TermsView → Reader → Place → Outcome Typed → Result Value ReadFault → Type 0
+IsOutcome s v r p whole (Ok c) =
+    (t : Typed) × (sc : Script) × (whole ≡ done t sc) × IsValue s v c t × (c.height ≤ most_height) × IsIdle s v r sc p
+IsOutcome s v r p whole (Err fault) = EndsWith s v.pass whole.result (IsReadTerm whole) fault
+
+pub record Reads (s : Table) (old new : TermsView) (r : Reader) (p : Place) (whole : Outcome Typed) (result : Result Value ReadFault) : Type 0 where
+  pub outcome : IsOutcome s new r p whole result
+  pub placed : PlacesCellsOf s old.pass new.pass (IsReadTerm whole)

@@ -1,0 +1,122 @@
+//! Numerals and symbols where they stand in a term.
+ghost use Rattle.std.specs.Prelude.{◌≡◌, ℕ, ◌≤◌, ◌<◌, ◌^◌, ◌+◌, pos, ◌≤ℤ◌, length, IfOk, IfErr, OnErr};
+ghost use Rattle.sexpr.specs.Source.{source};
+ghost use Rattle.term_pool.specs.Views.{TermsView, KeepsTerms};
+ghost use Rattle.term_reader.specs.Entering.{IsNumber, is_none_found, IsHeadFound, ReadsAlone};
+ghost use Rattle.text_items.specs.ItemShapes.{Name};
+ghost use Rattle.problem_text.specs.Forms.{symbol};
+ghost use Rattle.text_items.specs.NameNodes.{BeginsAt, IsNameNode};
+ghost use Rattle.problem_text.specs.Names.{Place, meaning_of};
+ghost use Rattle.term_reader.specs.Reading.{Stands};
+ghost use Rattle.problem_text.specs.Scripts.{Script};
+ghost use Rattle.term_names.specs.Standing.{AddsNoSymbols};
+ghost use Rattle.problem_text.specs.Terms.{term_from};
+ghost use Rattle.term_names.specs.declared.faults.ReadFault.TheVariants as fault;
+
+use crate::reader::Reader;
+use crate::settling::settle;
+use pair_pool::Ref;
+use sexpr::{Cause, Lexer};
+use sym_table::Symbols;
+use term_expansion::values::Value;
+use term_model::Sort;
+use term_names::faults::ReadFault;
+use term_names::heads::Head;
+use term_names::looking_up::{Found, find, head_of};
+use term_names::using::use_alone;
+use term_pool::Terms;
+use text_items::nodes::Node;
+use text_items::refusals::refused;
+use text_items::shapes::name_of;
+
+/// The value of a numeral, whose leaf is added where it is not there. Refused for want of memory alone.
+pub(crate) fn number_value(symbols: &mut Symbols, n: i128) -> Result<Value, ReadFault>
+    requires not_negative { pos 0 ≤ℤ n }
+    requires room { length symbols.old.leaves < 2 ^ 30 }
+    ensures value { IfOk result (λ c. IsNumber symbols.new c n) }
+    ensures fault { IfErr result (λ f. f ≡ fault.Memory) }
+    ensures symbols { AddsNoSymbols symbols.old symbols.new }
+    ensures few { length symbols.new.leaves ≤ length symbols.old.leaves + 1 }
+    ensures refused { OnErr result (symbols.new ≡ symbols.old) }
+{
+    let leaf = symbols.numeral(n)?;
+    Ok(Value {
+        term: Ref::leaf(leaf),
+        sort: Sort::Int,
+        height: 1,
+        plain: true,
+    })
+}
+
+/// The term that the symbol at node `k` is, which stands alone.
+pub(crate) fn symbol_value(
+    text: &Lexer<'_>,
+    nodes: &[Node],
+    symbols: &Symbols,
+    terms: &mut Terms<'_>,
+    reader: &Reader<'_>,
+    k: usize,
+) -> Result<Value, ReadFault>
+    requires { (sc : Script) × (p : Place) × (x : Name) × Stands symbols.now terms.old reader.now sc p × IsNameNode (source text.now) nodes.now k x }
+    ensures reads { (sc : Script) (p : Place) (x : Name) → Stands symbols.now terms.old reader.now sc p → IsNameNode (source text.now) nodes.now k x → ReadsAlone symbols.now terms.old terms.new (term_from (symbol x) p sc) sc result }
+    ensures keeps { KeepsTerms terms.old terms.new }
+{
+    let place = start_at(nodes, k);
+    let found = find(
+        symbols,
+        &reader.known,
+        &reader.scope,
+        name_of(text, nodes, k),
+    );
+    if is_unknown(&found) {
+        return Err(ReadFault::Text(refused(Cause::UnknownName, place)));
+    }
+    let made = use_alone(
+        reader.alloc,
+        symbols,
+        terms,
+        &reader.known,
+        &reader.scope,
+        reader.replaces_lets,
+        found,
+    )?;
+    settle(place, made)
+}
+
+/// What is applied where the symbol at node `k` is the head of an application, and None where its name is unknown.
+pub(crate) fn head_at(
+    text: &Lexer<'_>,
+    nodes: &[Node],
+    symbols: &Symbols,
+    reader: &Reader<'_>,
+    k: usize,
+) -> Option<Head>
+    requires { (x : Name) × IsNameNode (source text.now) nodes.now k x }
+    ensures { (v : TermsView) (sc : Script) (p : Place) (x : Name) → Stands symbols.now v reader.now sc p → IsNameNode (source text.now) nodes.now k x → IsHeadFound symbols.now v reader.now.known result (meaning_of p sc x.name) }
+{
+    let found = find(
+        symbols,
+        &reader.known,
+        &reader.scope,
+        name_of(text, nodes, k),
+    );
+    if is_unknown(&found) {
+        return None;
+    }
+    head_of(found)
+}
+
+/// Whether nothing was found.
+fn is_unknown(found: &Found) -> bool
+    ensures { result ≡ is_none_found found.now }
+{
+    matches!(*found, Found::Unknown)
+}
+
+/// The place of the first byte of a node.
+pub(crate) fn start_at(nodes: &[Node], k: usize) -> u64
+    requires { (place : ℕ) × BeginsAt nodes.now k place }
+    ensures { (place : ℕ) → BeginsAt nodes.now k place → result ≡ place }
+{
+    nodes[k].token.start
+}

@@ -1,0 +1,136 @@
+//! Reading a term from its top.
+ghost use Rattle.std.specs.Prelude.{◌≡◌, ◌≤◌, ◌<◌, ◌^◌, ◌+◌, ◌-◌, length, IfOk, IfErr, OnErr};
+ghost use Rattle.sexpr.specs.Source.{source};
+ghost use Rattle.sym_table.specs.Table.{Table};
+ghost use Rattle.term_pool.specs.Views.{TermsView, KeepsTerms};
+ghost use Rattle.term_reader.specs.Entering.{HasTop, opened};
+ghost use Rattle.term_reader.specs.Frames.{Reading};
+ghost use Rattle.term_reader.specs.Reading.{IsAt, Goes, node_of, bound_of, effort};
+ghost use Rattle.term_names.specs.Standing.{AddsNoSymbols};
+ghost use Rattle.term_names.specs.declared.faults.ReadFault.TheVariants as fault;
+ghost use Rattle.term_reader.specs.declared.layers.Layer.TheVariants as top;
+ghost use Rattle.term_reader.specs.declared.reader.Turn.TheVariants as turn;
+
+use crate::atoms::{head_at, number_value, start_at, symbol_value};
+use crate::frames::Frame;
+use crate::layers::{Layer, layer_at};
+use crate::reader::{Reader, Turn};
+use crate::repeats::first_repeat;
+use sexpr::{Cause, Lexer};
+use sym_table::Symbols;
+use term_names::faults::ReadFault;
+use term_pool::Terms;
+use text_items::nodes::Node;
+use text_items::refusals::refused;
+
+/// Reads the term at node `k`.
+pub(crate) fn enter(
+    text: &Lexer<'_>,
+    nodes: &[Node],
+    symbols: &mut Symbols,
+    terms: &mut Terms<'_>,
+    reader: &mut Reader<'_>,
+    k: usize,
+) -> Result<Turn, ReadFault>
+    requires at { (g : Reading) × IsAt (source text.now) nodes.now g symbols.old terms.old reader.old k }
+    requires room { bound_of symbols.old nodes.now reader.old k ≤ 2 ^ 30 }
+    ensures goes { (g : Reading) → IsAt (source text.now) nodes.now g symbols.old terms.old reader.old k → Goes (source text.now) nodes.now g symbols.new terms.old terms.new reader.new result }
+    ensures symbols { AddsNoSymbols symbols.old symbols.new }
+    ensures inside { IfOk result (λ t. node_of t ≤ length nodes.now) }
+    ensures few { IfOk result (λ t. bound_of symbols.new nodes.now reader.new (node_of t) ≤ bound_of symbols.old nodes.now reader.old k) }
+    ensures few_at_all { OnErr result (length symbols.new.leaves ≤ bound_of symbols.old nodes.now reader.old k) }
+    ensures progress { IfOk result (λ t. effort nodes.now reader.new t < effort nodes.now reader.old (turn.Read k)) }
+    ensures replaces { reader.new.replaces_lets ≡ reader.old.replaces_lets }
+    ensures base { reader.new.known.base ≡ reader.old.known.base }
+    ensures keeps { KeepsTerms terms.old terms.new }
+{
+    match layer_at(text, nodes, k) {
+        Layer::Faulty(refusal) => Err(ReadFault::Text(refusal)),
+        Layer::Number(n) => Ok(Turn::Use(number_value(symbols, n)?, k + 1)),
+        Layer::Symbol => {
+            let value = symbol_value(text, nodes, symbols, terms, reader, k)?;
+            Ok(Turn::Use(value, k + 1))
+        }
+        Layer::Application { head, first, end } => {
+            enter_application(text, nodes, symbols, reader, k, head, first, end)
+        }
+        Layer::Let { first, body } => enter_let(text, nodes, reader, k, first, body),
+        Layer::Annotated { term, end, .. } => open_form(reader, Frame::Names { end }, term),
+    }
+}
+
+/// Reads the first argument of the application at node `k`, whose head is at node `head` and whose arguments stand from
+/// `first` to before `end`. An unknown head is the first fault, whatever the arguments are.
+fn enter_application(
+    text: &Lexer<'_>,
+    nodes: &[Node],
+    symbols: &Symbols,
+    reader: &mut Reader<'_>,
+    k: usize,
+    head: usize,
+    first: usize,
+    end: usize,
+) -> Result<Turn, ReadFault>
+    requires { (v : TermsView) × (g : Reading) × HasTop (source text.now) nodes.now g symbols.now v reader.old k (top.Application head first end) }
+    ensures goes { (v : TermsView) (g : Reading) → HasTop (source text.now) nodes.now g symbols.now v reader.old k (top.Application head first end) → Goes (source text.now) nodes.now g symbols.now v v reader.new result }
+    ensures inside { IfOk result (λ t. node_of t ≤ length nodes.now) }
+    ensures few { IfOk result (λ t. bound_of symbols.now nodes.now reader.new (node_of t) ≤ bound_of symbols.now nodes.now reader.old k) }
+    ensures progress { IfOk result (λ t. effort nodes.now reader.new t < effort nodes.now reader.old (turn.Read k)) }
+    ensures replaces { reader.new.replaces_lets ≡ reader.old.replaces_lets }
+    ensures base { reader.new.known.base ≡ reader.old.known.base }
+{
+    let Some(applied) = head_at(text, nodes, symbols, reader, head) else {
+        return Err(ReadFault::Text(refused(Cause::UnknownName, start_at(nodes, head))));
+    };
+    let frame = Frame::Arguments {
+        place: start_at(nodes, k),
+        head: applied,
+        from: reader.values.len(),
+        end,
+    };
+    open_form(reader, frame, first)
+}
+
+/// Reads the term of the first binding of the let at node `k`, whose pairs stand from `first` to before `body`, where the
+/// variable of that binding may be bound.
+fn enter_let(
+    text: &Lexer<'_>,
+    nodes: &[Node],
+    reader: &mut Reader<'_>,
+    k: usize,
+    first: usize,
+    body: usize,
+) -> Result<Turn, ReadFault>
+    requires { (s : Table) × (v : TermsView) × (g : Reading) × HasTop (source text.now) nodes.now g s v reader.old k (top.Let first body) }
+    ensures goes { (s : Table) (v : TermsView) (g : Reading) → HasTop (source text.now) nodes.now g s v reader.old k (top.Let first body) → Goes (source text.now) nodes.now g s v v reader.new result }
+    ensures inside { IfOk result (λ t. node_of t ≤ length nodes.now) }
+    ensures few { (s : Table) → IfOk result (λ t. bound_of s nodes.now reader.new (node_of t) ≤ bound_of s nodes.now reader.old k) }
+    ensures progress { IfOk result (λ t. effort nodes.now reader.new t < effort nodes.now reader.old (turn.Read k)) }
+    ensures replaces { reader.new.replaces_lets ≡ reader.old.replaces_lets }
+    ensures base { reader.new.known.base ≡ reader.old.known.base }
+{
+    let repeat = first_repeat(reader.alloc, text, nodes, first, body)?;
+    if repeat == first {
+        return Err(ReadFault::Text(refused(Cause::Repeated, start_at(nodes, first + 1))));
+    }
+    let frame = Frame::Bindings {
+        place: start_at(nodes, k),
+        from: reader.values.len(),
+        leaves: reader.leaves.len(),
+        name: first + 1,
+        repeat,
+        body,
+    };
+    open_form(reader, frame, first + 2)
+}
+
+/// Opens a form, and then reads the term at node `next`. Refused for want of memory alone.
+fn open_form(reader: &mut Reader<'_>, frame: Frame, next: usize) -> Result<Turn, ReadFault>
+    ensures opened { IfOk result (λ t. (t ≡ turn.Read next) × (reader.new ≡ opened reader.old frame)) }
+    ensures fault { IfErr result (λ f. f ≡ fault.Memory) }
+    ensures replaces { reader.new.replaces_lets ≡ reader.old.replaces_lets }
+    ensures base { reader.new.known.base ≡ reader.old.known.base }
+{
+    reader.frames.push(frame)?;
+    Ok(Turn::Read(next))
+}

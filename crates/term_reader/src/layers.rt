@@ -1,0 +1,238 @@
+//! What a node in a term's place spells, as far as its top goes.
+ghost use Rattle.std.specs.Prelude.{◌≡◌, ◌<◌, ℕ, List, length, true, false, Some, None};
+ghost use Rattle.sexpr.specs.Items.{Item, item, place_of, symbol_name};
+ghost use Rattle.sexpr.specs.Source.{source};
+ghost use Rattle.sexpr.specs.Words.{is_symbol, is_numeral};
+ghost use Rattle.problem_text.specs.Forms as spec;
+ghost use Rattle.text_items.specs.ItemShapes as shape;
+ghost use Rattle.problem_text.specs.Forms.{form_of, forms_of, binds_of};
+ghost use Rattle.term_reader.specs.Layers.{IsLayer};
+ghost use Rattle.text_items.specs.Nodes.{IsNode};
+ghost use Rattle.term_reader.specs.Shapes.{IsSymbolLayer, IsTokenLayer, is_numeral_kind, cause_of_kind, IsApplied, IsHeadFault};
+ghost use Rattle.text_items.specs.Spelling.{is_list_item};
+ghost use Rattle.text_items.specs.Stepping.{IsItemAt};
+
+use crate::attributes::annotation_fault;
+use crate::let_shapes::let_fault;
+use sexpr::{Cause, Lexer, Refusal, TokenKind, WordKind, word_kind};
+use term_names::words::is_among;
+use text_items::nodes::Node;
+use text_items::numerals::numeral;
+use text_items::shapes::{is_list, name_at, node_at, second};
+
+/// The top of a form. Nodes are told by their places in the list of nodes.
+#[derive(Clone, Copy)]
+pub(crate) enum Layer {
+    /// No term has this spelling or shape.
+    Faulty(Refusal),
+    /// A numeral that is at most 2^127 - 1.
+    Number(i128),
+    /// The node is a symbol.
+    Symbol,
+    /// The node is a list. Its head is a symbol at `head`, and one or more arguments stand from `first` to before `end`.
+    Application {
+        head: usize,
+        first: usize,
+        end: usize,
+    },
+    /// The node is a let. The pairs of its bindings stand from `first` to before `body`, where its body stands.
+    Let {
+        first: usize,
+        body: usize,
+    },
+    /// The node is an annotated term. Its term stands at `term`, and one or more attributes from `first` to before `end`.
+    Annotated {
+        term: usize,
+        first: usize,
+        end: usize,
+    },
+}
+
+/// The top of the form that the item at a node spells (SMT-LIB 2.6, section 3.6).
+///
+/// A list costs as much as its items are, and a let also what the items of its bindings are, but nothing below them. No
+/// memory is taken.
+pub(crate) fn layer_at(text: &Lexer<'_>, nodes: &[Node], k: usize) -> Layer
+    requires { IsItemAt (source text.now) nodes.now k }
+    ensures { (i : Item) (m : ℕ) → IsNode (source text.now) nodes.now k i m → IsLayer (source text.now) nodes.now k result (form_of i) m }
+{
+    if is_list(nodes, k) {
+        return list_layer(text, nodes, k);
+    }
+    match name_at(text, nodes, k) {
+        Some(name) => symbol_layer(name, node_at(nodes, k).token.start),
+        None => token_layer(text, nodes, k),
+    }
+}
+
+/// The top of a symbol that stands at `place`.
+fn symbol_layer(name: &[u8], place: u64) -> Layer
+    ensures { IsSymbolLayer place name.now result (spec.symbol_form (record { place = place; name = name.now })) }
+{
+    if is_among(&LEFT_OUT, name) {
+        faulty(Cause::LeftOut, place)
+    } else {
+        Layer::Symbol
+    }
+}
+
+/// The top of a token that is neither a symbol nor a bracket.
+fn token_layer(text: &Lexer<'_>, nodes: &[Node], k: usize) -> Layer
+    requires { (i : Item) × (m : ℕ) × IsNode (source text.now) nodes.now k i m × (is_list_item i ≡ false) × (symbol_name i ≡ None) }
+    ensures { (i : Item) (m : ℕ) → IsNode (source text.now) nodes.now k i m → is_list_item i ≡ false → symbol_name i ≡ None → IsTokenLayer (place_of i) result (form_of i) }
+{
+    let token = node_at(nodes, k).token;
+    match token.kind {
+        TokenKind::Word => word_layer(text.text(&token), token.start),
+        _ => faulty(Cause::LeftOut, token.start),
+    }
+}
+
+/// The top of a word that is no symbol and stands at `place`.
+fn word_layer(word: &[u8], place: u64) -> Layer
+    requires some { 0 < length word.now }
+    requires other { is_symbol word.now ≡ false }
+    ensures { IsTokenLayer place result (spec.word_form place word.now) }
+{
+    let kind = word_kind(word);
+    if is_number(kind) {
+        number_layer(word, place)
+    } else {
+        faulty(cause_of(kind), place)
+    }
+}
+
+/// Whether a word of this kind is a numeral.
+fn is_number(kind: Option<WordKind>) -> bool
+    ensures { result ≡ is_numeral_kind kind }
+{
+    matches!(kind, Some(WordKind::Numeral))
+}
+
+/// Why a word of this kind, which is neither a numeral nor a symbol, is no term.
+fn cause_of(kind: Option<WordKind>) -> Cause
+    ensures { result ≡ cause_of_kind kind }
+{
+    match kind {
+        Some(WordKind::BitLiteral | WordKind::Decimal) => Cause::LeftOut,
+        _ => Cause::BadCommand,
+    }
+}
+
+/// The top of a numeral that stands at `place`.
+fn number_layer(digits: &[u8], place: u64) -> Layer
+    requires { is_numeral digits.now ≡ true }
+    ensures { IsTokenLayer place result (spec.number_form place digits.now) }
+{
+    match numeral(digits) {
+        Some(value) => Layer::Number(value),
+        None => faulty(Cause::WideNumber, place),
+    }
+}
+
+/// The top of a list.
+fn list_layer(text: &Lexer<'_>, nodes: &[Node], k: usize) -> Layer
+    requires { (i : Item) × (m : ℕ) × IsNode (source text.now) nodes.now k i m × (is_list_item i ≡ true) }
+    ensures { (i : Item) (m : ℕ) → IsNode (source text.now) nodes.now k i m → is_list_item i ≡ true → IsLayer (source text.now) nodes.now k result (form_of i) m }
+{
+    let list = node_at(nodes, k);
+    let Some(first) = second(nodes, k + 1, list.next) else {
+        return faulty(Cause::BadCommand, list.token.start);
+    };
+    let Some(name) = name_at(text, nodes, k + 1) else {
+        return head_fault(nodes, k + 1);
+    };
+    symbol_list_layer(text, nodes, k, first, name)
+}
+
+/// The fault of a head that is no symbol.
+fn head_fault(nodes: &[Node], head: usize) -> Layer
+    requires { (text : List ℕ) × IsItemAt text nodes.now head }
+    ensures { (text : List ℕ) (i : Item) (m : ℕ) → IsNode text nodes.now head i m → IsHeadFault result i }
+{
+    let place = node_at(nodes, head).token.start;
+    if is_list(nodes, head) {
+        faulty(Cause::LeftOut, place)
+    } else {
+        faulty(Cause::BadCommand, place)
+    }
+}
+
+/// The top of a list whose head is the symbol of this name, with arguments from `first` on.
+fn symbol_list_layer(text: &Lexer<'_>, nodes: &[Node], k: usize, first: usize, name: &[u8]) -> Layer
+    requires { (m : ℕ) × (a : IsApplied (source text.now) nodes.now k first m) × (symbol_name a.head ≡ Some name.now) }
+    ensures { (m : ℕ) (a : IsApplied (source text.now) nodes.now k first m) → symbol_name a.head ≡ Some name.now → IsLayer (source text.now) nodes.now k result (spec.symbol_list_form a.place (shape.name_at a.head) (item a.arg a.rest) (form_of a.arg) (forms_of a.rest) (binds_of a.arg)) m }
+{
+    if name == b"let".as_slice() {
+        let_layer(text, nodes, k, first)
+    } else if name == b"!".as_slice() {
+        annotation_layer(text, nodes, k, first)
+    } else if is_among(&LEFT_OUT, name) {
+        faulty(Cause::LeftOut, node_at(nodes, k + 1).token.start)
+    } else {
+        let end = node_at(nodes, k).next;
+        Layer::Application {
+            head: k + 1,
+            first,
+            end,
+        }
+    }
+}
+
+/// The top of a let, whose list of bindings is to stand at `first`.
+fn let_layer(text: &Lexer<'_>, nodes: &[Node], k: usize, first: usize) -> Layer
+    requires { (m : ℕ) × IsApplied (source text.now) nodes.now k first m }
+    ensures { (m : ℕ) (a : IsApplied (source text.now) nodes.now k first m) → IsLayer (source text.now) nodes.now k result (spec.unless_faulty (spec.let_fault a.place (item a.arg a.rest)) (spec.let_form a.place (binds_of a.arg) (spec.first_form (forms_of a.rest)))) m }
+{
+    let list = node_at(nodes, k);
+    if let Some(at) = let_fault(text, nodes, list.token.start, first, list.next) {
+        return faulty(Cause::BadCommand, at);
+    }
+    let body = node_at(nodes, first).next;
+    Layer::Let {
+        first: first + 1,
+        body,
+    }
+}
+
+/// The top of an annotated term, which is to stand at `first`.
+fn annotation_layer(text: &Lexer<'_>, nodes: &[Node], k: usize, first: usize) -> Layer
+    requires { (m : ℕ) × IsApplied (source text.now) nodes.now k first m }
+    ensures { (m : ℕ) (a : IsApplied (source text.now) nodes.now k first m) → IsLayer (source text.now) nodes.now k result (spec.unless_faulty (spec.annotation_fault a.place (item a.arg a.rest)) (spec.annotated a.place (form_of a.arg) (spec.names_given (item a.arg a.rest)))) m }
+{
+    let list = node_at(nodes, k);
+    if let Some(at) = annotation_fault(text, nodes, list.token.start, first, list.next) {
+        return faulty(Cause::BadCommand, at);
+    }
+    let attributes = node_at(nodes, first).next;
+    Layer::Annotated {
+        term: first,
+        first: attributes,
+        end: list.next,
+    }
+}
+
+fn faulty(cause: Cause, at: u64) -> Layer
+    ensures { result ≡ Layer.Faulty (record { cause = cause; at = at }) }
+{
+    Layer::Faulty(Refusal { cause, at })
+}
+
+/// Binders other than let, matching, indexed and qualified names, and the rest of Ints and Reals_Ints.
+static LEFT_OUT: [&[u8]; 15] = [
+    b"forall",
+    b"exists",
+    b"choice",
+    b"lambda",
+    b"match",
+    b"_",
+    b"as",
+    b"div",
+    b"mod",
+    b"abs",
+    b"/",
+    b"to_real",
+    b"to_int",
+    b"is_int",
+    b"divisible",
+];

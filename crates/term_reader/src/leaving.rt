@@ -1,0 +1,163 @@
+//! What is done with a term that was read.
+ghost use Rattle.std.specs.Prelude.{◌≡◌, ◌≤◌, ◌<◌, ◌^◌, ◌-◌, ℕ, List, length, IfOk, OnErr};
+ghost use Rattle.sexpr.specs.Source.{source};
+ghost use Rattle.term_pool.specs.Views.{KeepsTerms};
+ghost use Rattle.term_reader.specs.Frames.{Reading};
+ghost use Rattle.term_reader.specs.Leaving.{opened, Leaves};
+ghost use Rattle.term_reader.specs.Reading.{HasRead, Goes, node_of, bound_of, effort};
+ghost use Rattle.term_names.specs.Standing.{AddsNoSymbols};
+ghost use Rattle.term_reader.specs.declared.frames.Frame.TheVariants as frame;
+ghost use Rattle.text_items.specs.declared.nodes.Node as node;
+ghost use Rattle.term_reader.specs.declared.reader.Turn.TheVariants as turn;
+
+use crate::frames::Frame;
+use crate::leaving_lets::{OpenBindings, leave_binding, leave_body};
+use crate::naming::give_names;
+use crate::reader::{Reader, Turn};
+use crate::settling::settle;
+use sexpr::Lexer;
+use sym_table::Symbols;
+use term_expansion::values::Value;
+use term_names::applying::apply;
+use term_names::faults::ReadFault;
+use term_names::heads::Head;
+use term_pool::Terms;
+use text_items::nodes::Node;
+
+/// Goes on with the innermost open form, whose next term is `value`; behind that stands node `n`.
+pub(crate) fn leave(
+    text: &Lexer<'_>,
+    nodes: &[Node],
+    symbols: &mut Symbols,
+    terms: &mut Terms<'_>,
+    reader: &mut Reader<'_>,
+    value: Value,
+    n: usize,
+) -> Result<Turn, ReadFault>
+    requires read { (g : Reading) × HasRead (source text.now) nodes.now g symbols.old terms.old reader.old value n }
+    requires open { 0 < length reader.old.frames }
+    requires inside { n ≤ length nodes.now }
+    requires room { bound_of symbols.old nodes.now reader.old n ≤ 2 ^ 30 }
+    ensures goes { (g : Reading) → HasRead (source text.now) nodes.now g symbols.old terms.old reader.old value n → Goes (source text.now) nodes.now g symbols.new terms.old terms.new reader.new result }
+    ensures symbols { AddsNoSymbols symbols.old symbols.new }
+    ensures inside { IfOk result (λ t. node_of t ≤ length nodes.now) }
+    ensures few { IfOk result (λ t. bound_of symbols.new nodes.now reader.new (node_of t) ≤ bound_of symbols.old nodes.now reader.old n) }
+    ensures few_at_all { OnErr result (length symbols.new.leaves ≤ bound_of symbols.old nodes.now reader.old n) }
+    ensures progress { IfOk result (λ t. effort nodes.now reader.new t < effort nodes.now reader.old (turn.Use value n)) }
+    ensures replaces { reader.new.replaces_lets ≡ reader.old.replaces_lets }
+    ensures base { reader.new.known.base ≡ reader.old.known.base }
+    ensures keeps { KeepsTerms terms.old terms.new }
+{
+    let Some(frame) = reader.frames.pop() else {
+        unreachable!()
+    };
+    match frame {
+        Frame::Arguments {
+            place,
+            head,
+            from,
+            end,
+        } => leave_argument(symbols, terms, reader, value, n, place, head, from, end),
+        Frame::Bindings {
+            place,
+            from,
+            leaves,
+            name,
+            repeat,
+            body,
+        } => {
+            let open = OpenBindings {
+                place,
+                from,
+                leaves,
+                name,
+                repeat,
+                body,
+            };
+            leave_binding(text, nodes, symbols, reader, value, n, open)
+        }
+        Frame::Body {
+            place,
+            from,
+            leaves,
+        } => leave_body(symbols, terms, reader, value, n, place, from, leaves),
+        Frame::Names { end } => {
+            leave_annotated(text, nodes, symbols, terms, reader, value, n, end)
+        }
+    }
+}
+
+/// An argument of an application was read: the next one is read, or, where none is left, what is applied to them.
+fn leave_argument(
+    symbols: &Symbols,
+    terms: &mut Terms<'_>,
+    reader: &mut Reader<'_>,
+    value: Value,
+    n: usize,
+    place: u64,
+    head: Head,
+    from: usize,
+    end: usize,
+) -> Result<Turn, ReadFault>
+    requires read { (source : List ℕ) × (nodes : List node.Node) × (g : Reading) × HasRead source nodes g symbols.now terms.old (opened reader.old (frame.Arguments place head from end)) value n }
+    ensures leaves { (source : List ℕ) (nodes : List node.Node) (g : Reading) → HasRead source nodes g symbols.now terms.old (opened reader.old (frame.Arguments place head from end)) value n → Leaves source nodes g symbols.now terms.old (opened reader.old (frame.Arguments place head from end)) value n symbols.now terms.new reader.new result }
+    ensures replaces { reader.new.replaces_lets ≡ reader.old.replaces_lets }
+    ensures base { reader.new.known.base ≡ reader.old.known.base }
+    ensures keeps { KeepsTerms terms.old terms.new }
+{
+    reader.values.push(value)?;
+    if n == end {
+        let made = apply(
+            reader.alloc,
+            symbols,
+            terms,
+            &reader.known,
+            head,
+            &reader.values,
+            from,
+        )?;
+        reader.values.truncate(from);
+        let term = settle(place, made)?;
+        return Ok(Turn::Use(term, end));
+    }
+    reader.frames.push(Frame::Arguments {
+        place,
+        head,
+        from,
+        end,
+    })?;
+    Ok(Turn::Read(n))
+}
+
+/// The term of an annotation was read, and gets its names.
+fn leave_annotated(
+    text: &Lexer<'_>,
+    nodes: &[Node],
+    symbols: &Symbols,
+    terms: &mut Terms<'_>,
+    reader: &mut Reader<'_>,
+    value: Value,
+    n: usize,
+    end: usize,
+) -> Result<Turn, ReadFault>
+    requires read { (g : Reading) × HasRead (source text.now) nodes.now g symbols.now terms.old (opened reader.old (frame.Names end)) value n }
+    ensures leaves { (g : Reading) → HasRead (source text.now) nodes.now g symbols.now terms.old (opened reader.old (frame.Names end)) value n → Leaves (source text.now) nodes.now g symbols.now terms.old (opened reader.old (frame.Names end)) value n symbols.now terms.new reader.new result }
+    ensures replaces { reader.new.replaces_lets ≡ reader.old.replaces_lets }
+    ensures base { reader.new.known.base ≡ reader.old.known.base }
+    ensures keeps { KeepsTerms terms.old terms.new }
+{
+    // The value is needed again once its names are given, so it is lent and copied.
+    let term = &value;
+    give_names(
+        reader.alloc,
+        text,
+        nodes,
+        symbols,
+        terms,
+        &mut reader.known,
+        *term,
+        n,
+        end,
+    )?;
+    Ok(Turn::Use(value, end))
+}

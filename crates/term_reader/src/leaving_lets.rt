@@ -1,0 +1,155 @@
+//! What is done with a term that was read in a let (SMT-LIB 2.6, section 3.6.1).
+ghost use Rattle.std.specs.Prelude.{◌≡◌, ◌≤◌, ◌<◌, ◌^◌, ◌+◌, ◌++◌, [], ◌∷◌, ℕ, List, length, OnOk, IfErr};
+ghost use Rattle.sexpr.specs.Source.{source};
+ghost use Rattle.sym_table.specs.Leaf as leaf;
+ghost use Rattle.sym_table.specs.Table.{IsLeaf};
+ghost use Rattle.term_pool.specs.Views.{TermsView, KeepsTerms};
+ghost use Rattle.text_items.specs.ItemShapes.{Name};
+ghost use Rattle.term_reader.specs.Frames.{Reading};
+ghost use Rattle.text_items.specs.NameNodes.{IsNameNode};
+ghost use Rattle.term_reader.specs.Leaving.{opened, bindings_frame, Leaves};
+ghost use Rattle.term_reader.specs.Reading.{HasRead, bound_of};
+ghost use Rattle.term_names.specs.Standing.{AddsNoSymbols};
+ghost use Rattle.term_names.specs.declared.faults.ReadFault.TheVariants as ReadFault;
+ghost use Rattle.term_reader.specs.declared.frames.Frame.TheVariants as frame;
+ghost use Rattle.text_items.specs.declared.nodes.Node as node;
+
+use crate::frames::Frame;
+use crate::reader::{Reader, Turn};
+use crate::settling::settle;
+use sexpr::{Cause, Lexer};
+use sym_table::Symbols;
+use term_expansion::values::Value;
+use term_model::Sort;
+use term_names::faults::ReadFault;
+use term_names::lets::{bind, close, unbind};
+use term_pool::Terms;
+use text_items::nodes::{Node, node_at};
+use text_items::refusals::refused;
+use text_items::shapes::name_of;
+
+/// The bindings of a let that are being read: the fields of `Frame::Bindings`.
+#[derive(Clone, Copy)]
+pub(crate) struct OpenBindings {
+    pub(crate) place: u64,
+    pub(crate) from: usize,
+    pub(crate) leaves: usize,
+    pub(crate) name: usize,
+    pub(crate) repeat: usize,
+    pub(crate) body: usize,
+}
+
+/// The term of a binding was read: the term of the next one is read, where its variable may be bound, or, where none is
+/// left, the body.
+pub(crate) fn leave_binding(
+    text: &Lexer<'_>,
+    nodes: &[Node],
+    symbols: &mut Symbols,
+    reader: &mut Reader<'_>,
+    value: Value,
+    n: usize,
+    pairs: OpenBindings,
+) -> Result<Turn, ReadFault>
+    requires read { (v : TermsView) × (g : Reading) × HasRead (source text.now) nodes.now g symbols.old v (opened reader.old (bindings_frame pairs)) value n }
+    requires inside { n ≤ length nodes.now }
+    requires room { bound_of symbols.old nodes.now (opened reader.old (bindings_frame pairs)) n ≤ 2 ^ 30 }
+    ensures leaves { (v : TermsView) (g : Reading) → HasRead (source text.now) nodes.now g symbols.old v (opened reader.old (bindings_frame pairs)) value n → Leaves (source text.now) nodes.now g symbols.old v (opened reader.old (bindings_frame pairs)) value n symbols.new v reader.new result }
+    ensures symbols { AddsNoSymbols symbols.old symbols.new }
+    ensures one_more { length symbols.new.leaves ≤ length symbols.old.leaves + 1 }
+    ensures replaces { reader.new.replaces_lets ≡ reader.old.replaces_lets }
+    ensures base { reader.new.known.base ≡ reader.old.known.base }
+{
+    let OpenBindings {
+        place,
+        from,
+        leaves,
+        name,
+        repeat,
+        body,
+    } = pairs;
+    add_variable(text, nodes, symbols, &mut reader.leaves, name, value.sort)?;
+    reader.values.push(value)?;
+    if n == body {
+        bind(
+            symbols,
+            &mut reader.scope,
+            &reader.leaves[leaves..],
+            &reader.values,
+            from,
+            reader.replaces_lets,
+        )?;
+        reader.frames.push(Frame::Body {
+            place,
+            from,
+            leaves,
+        })?;
+        return Ok(Turn::Read(body));
+    }
+    if n == repeat {
+        let at = node_at(nodes, n + 1).token.start;
+        return Err(ReadFault::Text(refused(Cause::Repeated, at)));
+    }
+    reader.frames.push(Frame::Bindings {
+        place,
+        from,
+        leaves,
+        name: n + 1,
+        repeat,
+        body,
+    })?;
+    Ok(Turn::Read(n + 2))
+}
+
+/// Puts the leaf of a variable behind the others. Its name stands at node `name`. Refuses want of memory alone.
+fn add_variable(
+    text: &Lexer<'_>,
+    nodes: &[Node],
+    symbols: &mut Symbols,
+    leaves: &mut Vec<u32>,
+    name: usize,
+    sort: Sort,
+) -> Result<(), ReadFault>
+    requires name { (x : Name) × IsNameNode (source text.now) nodes.now name x }
+    requires room { length symbols.old.leaves < 2 ^ 30 }
+    ensures added { (x : Name) → IsNameNode (source text.now) nodes.now name x → OnOk result ((k : ℕ) × IsLeaf symbols.new k (leaf.variable x.name sort) × (leaves.new.items ≡ leaves.old.items ++ k ∷ [])) }
+    ensures symbols { AddsNoSymbols symbols.old symbols.new }
+    ensures one_more { length symbols.new.leaves ≤ length symbols.old.leaves + 1 }
+    ensures memory { IfErr result (λ fault. fault ≡ ReadFault.Memory) }
+{
+    let leaf = symbols.variable(name_of(text, nodes, name), sort)?;
+    leaves.push(leaf)?;
+    Ok(())
+}
+
+/// The body of a let was read. Its variables are the leaves from place `first` on, and their values those from `from` on.
+pub(crate) fn leave_body(
+    symbols: &Symbols,
+    terms: &mut Terms<'_>,
+    reader: &mut Reader<'_>,
+    value: Value,
+    n: usize,
+    place: u64,
+    from: usize,
+    first: usize,
+) -> Result<Turn, ReadFault>
+    requires read { (source : List ℕ) × (nodes : List node.Node) × (g : Reading) × HasRead source nodes g symbols.now terms.old (opened reader.old (frame.Body place from first)) value n }
+    ensures leaves { (source : List ℕ) (nodes : List node.Node) (g : Reading) → HasRead source nodes g symbols.now terms.old (opened reader.old (frame.Body place from first)) value n → Leaves source nodes g symbols.now terms.old (opened reader.old (frame.Body place from first)) value n symbols.now terms.new reader.new result }
+    ensures replaces { reader.new.replaces_lets ≡ reader.old.replaces_lets }
+    ensures base { reader.new.known.base ≡ reader.old.known.base }
+    ensures keeps { KeepsTerms terms.old terms.new }
+{
+    let made = close(
+        symbols,
+        terms,
+        &reader.leaves[first..],
+        &reader.values,
+        from,
+        value,
+        reader.replaces_lets,
+    )?;
+    unbind(&mut reader.scope, reader.leaves.len() - first);
+    reader.values.truncate(from);
+    reader.leaves.truncate(first);
+    let term = settle(place, made)?;
+    Ok(Turn::Use(term, n))
+}

@@ -1,0 +1,121 @@
+//! Names that attributes give to terms (SMT-LIB 2.6, section 3.6.6).
+ghost use Rattle.std.specs.Prelude.{◌≡◌, ◌≤◌, List, [], ◌∷◌};
+ghost use Rattle.sexpr.specs.Source.{source};
+ghost use Rattle.pair_pool.specs.Views.{IsUnchanged};
+ghost use Rattle.term_pool.specs.Views.{TermsView, KeepsTerms};
+ghost use Rattle.text_items.specs.ItemShapes.{Name};
+ghost use Rattle.problem_text.specs.Heights.{most_height};
+ghost use Rattle.term_names.specs.Known.{macro_of};
+ghost use Rattle.text_items.specs.NameNodes.{IsNameNode};
+ghost use Rattle.term_reader.specs.Layers.{AreAttributes};
+ghost use Rattle.term_reader.specs.Naming.{AreGiven, IsFreeIn};
+ghost use Rattle.problem_text.specs.TypedTerms.{Typed};
+ghost use Rattle.problem_text.specs.Scripts.{Script};
+ghost use Rattle.term_names.specs.Standing.{IsScript};
+ghost use Rattle.problem_text.specs.Terms.{with_names};
+ghost use Rattle.term_expansion.specs.Values.{IsValue};
+ghost use Rattle.term_names.specs.declared.known.Which.{Which};
+
+use crate::attributes::next_name;
+use crate::taken::is_taken;
+use sexpr::{Cause, Lexer};
+use std::alloc::Global;
+use sym_table::Symbols;
+use term_expansion::values::Value;
+use term_names::faults::ReadFault;
+use term_names::free::free_leaves;
+use term_names::known::Known;
+use term_pool::Terms;
+use text_items::nodes::{Node, node_at};
+use text_items::refusals::refused;
+use text_items::shapes::name_of;
+
+/// Gives a term the names of the attributes that stand from node `first` to before node `end`. Each may be used from there
+/// on, and none may be a built-in word or the name of a function, a macro or a named term.
+///
+/// Goes through the distinct cells of the term once where there is a name. Refuses at the first name that is taken, and
+/// want of memory.
+pub(crate) fn give_names(
+    alloc: Global,
+    text: &Lexer<'_>,
+    nodes: &[Node],
+    symbols: &Symbols,
+    terms: &mut Terms<'_>,
+    known: &mut Known<'_>,
+    value: Value,
+    first: usize,
+    end: usize,
+) -> Result<(), ReadFault>
+    requires attributes { (names : List Name) × AreAttributes (source text.now) nodes.now first names end }
+    requires term { (t : Typed) × IsValue symbols.now terms.old value t }
+    requires low { value.height ≤ most_height }
+    requires script { (sc : Script) × IsScript symbols.now terms.old known.old sc }
+    ensures given { (names : List Name) (t : Typed) (sc : Script) → AreAttributes (source text.now) nodes.now first names end → IsValue symbols.now terms.old value t → IsScript symbols.now terms.old known.old sc → AreGiven symbols.now terms.new known.new t (with_names t names sc) result }
+    ensures macros { (w : Which) → macro_of known.new w ≡ macro_of known.old w }
+    ensures base { known.new.base ≡ known.old.base }
+    ensures keeps { KeepsTerms terms.old terms.new }
+    ensures unchanged { IsUnchanged terms.old.pass terms.new.pass }
+{
+    if next_name(text, nodes, first, end).is_none() {
+        return Ok(());
+    }
+    let free = free_leaves(alloc, symbols, terms, known, value)?;
+    give_each(
+        alloc, text, nodes, symbols, known, &value, &free, first, end,
+    )
+}
+
+/// Gives a term, whose free variables have these leaves, the names of attributes.
+fn give_each(
+    alloc: Global,
+    text: &Lexer<'_>,
+    nodes: &[Node],
+    symbols: &Symbols,
+    known: &mut Known<'_>,
+    value: &Value,
+    free: &[u32],
+    first: usize,
+    end: usize,
+) -> Result<(), ReadFault>
+    requires attributes { (names : List Name) × AreAttributes (source text.now) nodes.now first names end }
+    requires script { (v : TermsView) × (t : Typed) × (sc : Script) × IsFreeIn symbols.now v value.now free.now t × IsScript symbols.now v known.old sc }
+    ensures given { (v : TermsView) (names : List Name) (t : Typed) (sc : Script) → AreAttributes (source text.now) nodes.now first names end → IsFreeIn symbols.now v value.now free.now t → IsScript symbols.now v known.old sc → AreGiven symbols.now v known.new t (with_names t names sc) result }
+    ensures macros { (w : Which) → macro_of known.new w ≡ macro_of known.old w }
+    ensures base { known.new.base ≡ known.old.base }
+{
+    let mut k = first;
+    'names: loop {
+        let Some(at) = next_name(text, nodes, k, end) else {
+            return Ok(());
+        };
+        give_name(alloc, text, nodes, symbols, known, value, free, at)?;
+        k = at;
+    }
+}
+
+/// Gives a term, whose free variables have these leaves, the name at node `at`.
+fn give_name(
+    alloc: Global,
+    text: &Lexer<'_>,
+    nodes: &[Node],
+    symbols: &Symbols,
+    known: &mut Known<'_>,
+    value: &Value,
+    free: &[u32],
+    at: usize,
+) -> Result<(), ReadFault>
+    requires name { (x : Name) × IsNameNode (source text.now) nodes.now at x }
+    requires script { (v : TermsView) × (sc : Script) × IsScript symbols.now v known.old sc }
+    ensures given { (v : TermsView) (x : Name) (t : Typed) (sc : Script) → IsNameNode (source text.now) nodes.now at x → IsFreeIn symbols.now v value.now free.now t → IsScript symbols.now v known.old sc → AreGiven symbols.now v known.new t (with_names t (x ∷ []) sc) result }
+    ensures macros { (w : Which) → macro_of known.new w ≡ macro_of known.old w }
+    ensures base { known.new.base ≡ known.old.base }
+{
+    let name = name_of(text, nodes, at);
+    if is_taken(symbols, known, name) {
+        let place = node_at(nodes, at).token.start;
+        return Err(ReadFault::Text(refused(Cause::Repeated, place)));
+    }
+    let owned = Vec::from_slice(alloc, free)?;
+    known.give_name(name, *value, owned)?;
+    Ok(())
+}

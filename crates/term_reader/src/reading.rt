@@ -1,0 +1,57 @@
+//! Reading a term, whatever stands in it.
+ghost use Rattle.std.specs.Prelude.{◌≡◌, ◌≤◌, ◌^◌, ◌+◌, ◌-◌, ℕ, length};
+ghost use Rattle.sexpr.specs.Items.{Item};
+ghost use Rattle.sexpr.specs.Source.{source};
+ghost use Rattle.term_pool.specs.Views.{KeepsTerms};
+ghost use Rattle.problem_text.specs.Names.{Place};
+ghost use Rattle.text_items.specs.Nodes.{IsNode};
+ghost use Rattle.term_reader.specs.Reading.{IsIdle, Reads};
+ghost use Rattle.problem_text.specs.Scripts.{Script};
+ghost use Rattle.term_names.specs.Standing.{AddsNoSymbols};
+ghost use Rattle.problem_text.specs.Terms.{read_term};
+
+use crate::entering::enter;
+use crate::leaving::leave;
+use crate::reader::{Reader, Turn};
+use sexpr::Lexer;
+use sym_table::Symbols;
+use term_expansion::values::Value;
+use term_names::faults::ReadFault;
+use term_pool::Terms;
+use text_items::nodes::Node;
+
+/// Reads the term at node `k` (SMT-LIB 2.6, section 3.6): its value, or its first fault.
+///
+/// Costs as much as its nodes are, and for each use of a macro the distinct cells of its body. Takes no stack, however deep
+/// the term is.
+pub fn read(
+    text: &Lexer<'_>,
+    nodes: &[Node],
+    symbols: &mut Symbols,
+    terms: &mut Terms<'_>,
+    reader: &mut Reader<'_>,
+    k: usize,
+) -> Result<Value, ReadFault>
+    requires item { (i : Item) × (m : ℕ) × IsNode (source text.now) nodes.now k i m }
+    requires idle { (sc : Script) × (p : Place) × IsIdle symbols.old terms.old reader.old sc p }
+    requires room { length symbols.old.leaves + (length nodes.now - k) ≤ 2 ^ 30 }
+    ensures reads { (i : Item) (m : ℕ) (sc : Script) (p : Place) → IsNode (source text.now) nodes.now k i m → IsIdle symbols.old terms.old reader.old sc p → Reads symbols.new terms.old terms.new reader.new p (read_term i p sc) result }
+    ensures symbols { AddsNoSymbols symbols.old symbols.new }
+    ensures few { length symbols.new.leaves ≤ length symbols.old.leaves + (length nodes.now - k) }
+    ensures replaces { reader.new.replaces_lets ≡ reader.old.replaces_lets }
+    ensures base { reader.new.known.base ≡ reader.old.known.base }
+    ensures keeps { KeepsTerms terms.old terms.new }
+{
+    let mut turn = Turn::Read(k);
+    'turns: loop {
+        turn = match turn {
+            Turn::Read(k) => enter(text, nodes, symbols, terms, reader, k)?,
+            Turn::Use(value, n) => {
+                if reader.frames.len() == 0 {
+                    return Ok(value);
+                }
+                leave(text, nodes, symbols, terms, reader, value, n)?
+            }
+        };
+    }
+}

@@ -1,0 +1,29 @@
+//! Whether a term that was made may stand where it does.
+ghost use Rattle.std.specs.Prelude.{Option, Ok};
+ghost use Rattle.sym_table.specs.Table.{Table};
+ghost use Rattle.term_pool.specs.Views.{TermsView};
+ghost use Rattle.term_names.specs.Making.{IsMade};
+ghost use Rattle.problem_text.specs.TypedTerms.{Typed};
+ghost use Rattle.problem_text.specs.Scripts.{Script};
+ghost use Rattle.term_reader.specs.Settling.{IsSettled};
+
+use sexpr::Cause;
+use term_expansion::values::Value;
+use term_names::faults::ReadFault;
+use text_items::refusals::refused;
+
+/// The greatest height of a term.
+const MOST_HEIGHT: u32 = 2000;
+
+/// The term that begins at `place`, where its sorts allow one and it is not too high.
+pub(crate) fn settle(place: u64, made: Option<Value>) -> Result<Value, ReadFault>
+    ensures { (s : Table) (v : TermsView) (o : Option Typed) (sc : Script) → IsMade s v o (Ok made) → IsSettled s v place o sc result }
+{
+    match made {
+        None => Err(ReadFault::Text(refused(Cause::SortMismatch, place))),
+        Some(value) if value.height > MOST_HEIGHT => {
+            Err(ReadFault::Text(refused(Cause::TooHigh, place)))
+        }
+        Some(value) => Ok(value),
+    }
+}

@@ -1,0 +1,197 @@
+//! Reading single terms behind a problem.
+ghost use Rattle.std.specs.Prelude.{◌≡◌, ◌≤◌, ◌^◌, ◌+◌, ◌-◌, ◌∷◌, ◌++◌, [], List, map, reverse, length, OnOk, OnErr};
+ghost use Rattle.sexpr.specs.Form.{HasForm};
+ghost use Rattle.sexpr.specs.Items.{Item};
+ghost use Rattle.sexpr.specs.Source as at;
+ghost use Rattle.sexpr.specs.Tokens.{AreTokens};
+ghost use Rattle.sexpr.specs.declared.lexing.Token.{Token};
+ghost use Rattle.sym_table.specs.Table.{Table, IsLeaf};
+ghost use Rattle.term_model.specs.Terms.{Var};
+ghost use Rattle.term_pool.specs.StandsFor.{variable_leaf};
+ghost use Rattle.term_pool.specs.Views.{TermsView, KeepsTerms};
+ghost use Rattle.term_names.specs.InScope.{IsScope};
+ghost use Rattle.text_items.specs.Lexers.{IsFirstOfItem, GoesOnWith};
+ghost use Rattle.problem_text.specs.Names.{Bound, Place, itself};
+ghost use Rattle.term_reader.specs.ProblemViews.{IsProblemOf, IsReaderOf, ReadsTerm};
+ghost use Rattle.term_reader.specs.Reading.{IsIdle, Reads};
+ghost use Rattle.problem_text.specs.Scripts.{Script};
+ghost use Rattle.term_names.specs.Standing.{AddsNoSymbols, AreLeavesOf};
+ghost use Rattle.problem_text.specs.Terms.{read_term};
+
+use crate::flags::Flags;
+use crate::frame_stacks::Frames;
+use crate::problem::Problem;
+use crate::reader::Reader;
+use crate::reading::read;
+use pair_pool::Ref;
+use sexpr::{Lexer, Token};
+use std::alloc::Global;
+use std::marker::Model;
+use sym_table::{Kind, Memory, Symbols};
+use term_expansion::values::{Bound as Binding, Value};
+use term_names::faults::ReadFault;
+use term_names::known::Known;
+use term_names::lets::as_itself;
+use term_names::scope::Scope;
+use term_names::stacks::Values;
+use term_pool::Terms;
+use text_items::item_laws::items_begin_at_tokens;
+use text_items::nodes::{Node, read_item};
+
+/// A reader of terms behind a problem. It knows the problem's macros and named terms, the variables that were pushed, and
+/// the named terms of what it read.
+#[derive(Drop)]
+pub struct TermReader<'a> {
+    reader: Reader<'a>,
+    /// Variables that were pushed since a term was read: their names are looked up when the next one is.
+    pushed: Vec<u32>,
+    nodes: Vec<Node>,
+}
+
+impl<'a> Model for TermReader<'a> {
+    ghost use Rattle.std.specs.Prelude.{reverse};
+    ghost use Rattle.term_reader.specs.ProblemViews.{ReaderView};
+
+    ghost Value = { ReaderView };
+
+    ghost view = { λ r. record { reader = r.reader; pushed = reverse r.pushed.items } };
+}
+
+impl<'a> TermReader<'a> {
+    /// A reader that knows what the problem names, with no variable in scope.
+    pub fn new(alloc: Global, problem: &'a Problem, flags: Flags) -> TermReader<'a>
+        ensures { (s : Table) (v : TermsView) (sc : Script) → IsProblemOf s v problem.now sc → IsReaderOf s v result sc (record { scope = []; replaces_lets = flags.expand_lets }) }
+    {
+        TermReader {
+            reader: Reader {
+                alloc,
+                replaces_lets: flags.expand_lets,
+                known: Known::new(alloc, Some(&problem.entries)),
+                scope: Scope::new(alloc),
+                values: Values::new(alloc),
+                leaves: Vec::new(alloc),
+                frames: Frames::new(alloc),
+            },
+            pushed: Vec::new(alloc),
+            nodes: Vec::new(alloc),
+        }
+    }
+
+    /// Puts a variable in scope, told by its leaf, inside all others. After a refusal the reader is as before.
+    pub fn push(&mut self, var: u32) -> Result<(), Memory>
+        ensures pushed { OnOk result (self.new ≡ record self.old { pushed = var ∷ self.old.pushed }) }
+        ensures refused { OnErr result (self.new ≡ self.old) }
+        ensures reader { OnOk result ((s : Table) (v : TermsView) (sc : Script) (p : Place) (x : Var) → IsLeaf s var (variable_leaf x) → IsReaderOf s v self.old sc p → IsReaderOf s v self.new sc (record p { scope = itself x ∷ p.scope })) }
+    {
+        self.pushed.push(var)?;
+        Ok(())
+    }
+
+    /// Takes the innermost variable out of scope.
+    pub fn pop(&mut self)
+        requires { (s : Table) × (v : TermsView) × (sc : Script) × (p : Place) × (x : Bound) × (outer : List Bound) × IsReaderOf s v self.old sc p × (p.scope ≡ x ∷ outer) }
+        ensures reader { (s : Table) (v : TermsView) (sc : Script) (p : Place) (x : Bound) (outer : List Bound) → IsReaderOf s v self.old sc p → p.scope ≡ x ∷ outer → IsReaderOf s v self.new sc (record p { scope = outer }) }
+    {
+        if self.pushed.pop().is_none() {
+            self.reader.scope.pop();
+        }
+    }
+
+    /// Reads the term that begins with `first`, the token that the lexer gave last (SMT-LIB 2.6, section 3.6), and leaves
+    /// the lexer behind it.
+    ///
+    /// The text has to be one of nested items, and `first` no closing bracket. Refused at the first fault of the term; and
+    /// besides for want of memory, and where the pool had no room for a cell of a term that was read. After a refusal the
+    /// reader is given up, and nothing more may be asked of it. Costs as much as the term has tokens, and for each use of a
+    /// macro the distinct cells of its body. Takes no stack, however deep the term is.
+    pub fn term(
+        &mut self,
+        lexer: &mut Lexer<'_>,
+        first: Token,
+        symbols: &mut Symbols,
+        terms: &mut Terms<'_>,
+    ) -> Result<Ref, ReadFault>
+        requires formed { HasForm (at.source lexer.old) }
+        requires first { IsFirstOfItem lexer.old first }
+        requires reader { (sc : Script) × (p : Place) × IsReaderOf symbols.old terms.old self.old sc p }
+        requires room { length symbols.old.leaves + (length (at.source lexer.old) - first.start) ≤ 2 ^ 30 }
+        ensures read { (i : Item) (rest : List Token) (sc : Script) (p : Place) → GoesOnWith lexer.old first i rest → IsReaderOf symbols.old terms.old self.old sc p → ReadsTerm symbols.new terms.old terms.new self.new p (read_term i p sc) result }
+        ensures behind { (i : Item) (rest : List Token) → GoesOnWith lexer.old first i rest → OnOk result (AreTokens (at.source lexer.new) (at.position lexer.new) rest) }
+        ensures source { at.source lexer.new ≡ at.source lexer.old }
+        // Each leaf that is added has a byte of the item.
+        ensures few { length symbols.new.leaves ≤ length symbols.old.leaves + (at.position lexer.new - first.start) }
+        ensures inside { at.position lexer.new ≤ length (at.source lexer.new) }
+        ensures symbols { AddsNoSymbols symbols.old symbols.new }
+        ensures keeps { KeepsTerms terms.old terms.new }
+    {
+        enter_each(symbols, &mut self.reader.scope, &self.pushed)?;
+        self.pushed.clear();
+        let value = read_first(
+            lexer,
+            first,
+            &mut self.nodes,
+            symbols,
+            terms,
+            &mut self.reader,
+        )?;
+        Ok(value.term)
+    }
+}
+
+/// Puts a variable in scope, by its leaf, where it stands for itself. Refuses want of memory alone.
+fn enter_variable(symbols: &Symbols, scope: &mut Scope, leaf: u32) -> Result<(), Memory>
+    requires { (x : Var) × IsLeaf symbols.now leaf (variable_leaf x) }
+    ensures { (v : TermsView) (x : Var) (bs : List Bound) → IsLeaf symbols.now leaf (variable_leaf x) → IsScope symbols.now v scope.old bs → OnOk result (IsScope symbols.now v scope.new (itself x ∷ bs)) }
+{
+    // A table has few leaves, so the leaf is a reference too.
+    let _leaves = symbols.count();
+    let Kind::Var(sort) = symbols.kind(leaf) else {
+        unreachable!()
+    };
+    let bound = Binding {
+        variable: leaf,
+        value: as_itself(leaf, sort),
+    };
+    scope.push(symbols.name(leaf), bound)
+}
+
+/// Puts variables in scope, by their leaves, the first one outermost, where they stand for themselves. Refuses want of
+/// memory alone.
+fn enter_each(symbols: &Symbols, scope: &mut Scope, leaves: &[u32]) -> Result<(), Memory>
+    requires { (xs : List Var) × AreLeavesOf symbols.now (reverse leaves.now) xs }
+    ensures { (v : TermsView) (xs : List Var) (bs : List Bound) → AreLeavesOf symbols.now (reverse leaves.now) xs → IsScope symbols.now v scope.old bs → OnOk result (IsScope symbols.now v scope.new (map itself xs ++ bs)) }
+{
+    let mut at = 0;
+    'variables: while at < leaves.len() {
+        enter_variable(symbols, scope, leaves[at])?;
+        at += 1;
+    }
+    Ok(())
+}
+
+/// Reads the term that begins with `first`, the token that the lexer gave last, in place of what `nodes` held.
+fn read_first(
+    lexer: &mut Lexer<'_>,
+    first: Token,
+    nodes: &mut Vec<Node>,
+    symbols: &mut Symbols,
+    terms: &mut Terms<'_>,
+    reader: &mut Reader<'_>,
+) -> Result<Value, ReadFault>
+    requires formed { HasForm (at.source lexer.old) }
+    requires first { IsFirstOfItem lexer.old first }
+    requires idle { (sc : Script) × (p : Place) × IsIdle symbols.old terms.old reader.old sc p }
+    requires room { length symbols.old.leaves + (length (at.source lexer.old) - first.start) ≤ 2 ^ 30 }
+    ensures reads { (i : Item) (rest : List Token) (sc : Script) (p : Place) → GoesOnWith lexer.old first i rest → IsIdle symbols.old terms.old reader.old sc p → Reads symbols.new terms.old terms.new reader.new p (read_term i p sc) result }
+    ensures behind { (i : Item) (rest : List Token) → GoesOnWith lexer.old first i rest → OnOk result (AreTokens (at.source lexer.new) (at.position lexer.new) rest) }
+    ensures source { at.source lexer.new ≡ at.source lexer.old }
+    ensures few { length symbols.new.leaves ≤ length symbols.old.leaves + (at.position lexer.new - first.start) }
+    ensures inside { at.position lexer.new ≤ length (at.source lexer.new) }
+    ensures symbols { AddsNoSymbols symbols.old symbols.new }
+    ensures keeps { KeepsTerms terms.old terms.new }
+{
+    // An item begins at the token.
+    items_begin_at_tokens();
+    read_item(lexer, first, nodes)?;
+    read(lexer, nodes, symbols, terms, reader, 0)
+}

@@ -1,0 +1,9 @@
+pub mod FirstTokens
+pub mod TokensOfItems
+pub mod NodeRanges
+pub mod OpenLists
+pub mod ItemsRead
+pub mod NodeSteps
+pub mod ShapeLemmas
+pub mod NumeralValues
+pub mod NodeItems

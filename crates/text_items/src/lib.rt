@@ -1,0 +1,23 @@
+//! The items of a text as a flat list of nodes, and the shapes of items.
+//!
+//! A text's words, strings and lists (`sexpr`) are read into a list of nodes, one for each token that is no closing
+//! bracket. A list stands before what is in it, and each node says where the item after its own begins; so an item is a
+//! range of nodes, the items of a list are walked without what is in them, and no depth of a text takes stack.
+//!
+//! - `nodes`: reading an item into nodes. `children`: taking the items of a list one by one. `shapes`: what an item is,
+//!   and the first fault of lists of pairs. `numerals`: the values of numerals. `refusals`: a cause with its place.
+//! - `item_laws`: where a token stands, an item begins.
+//!
+//! What a contract sees: `specs/Nodes` (`IsNode` and `AreNodes`, which nodes are those of an item and of items),
+//! `Stepping` (items one after another), `NameNodes` (nodes of names), `Children`, and `Lexers` (where a lexer stands
+//! among the items of a text). `Spelling` and `ItemShapes` are definitions that other definitions are built on.
+#![tactic(auto)]
+
+pub mod children;
+pub mod item_laws;
+pub mod nodes;
+pub mod numerals;
+pub mod refusals;
+pub mod shapes;
+
+pub use item_laws::items_begin_at_tokens;
