@@ -12,7 +12,8 @@ use Rattle.term_pool.specs.Nots as Nots
 use Rattle.term_pool.specs.Nots.{IsStripped}
 use Rattle.term_pool.specs.StandsFor.{StandsFor, function_leaf}
 use Rattle.term_pool.specs.Views.{TermsView, RefersTo, ReferToAll, KeepsTerms}
-use Rattle.smtlib_reader.specs.Heights.{height, most_height}
+use Rattle.rule_model.specs.Heights.{height}
+use Rattle.problem_text.specs.Limits.{most_height}
 use Rattle.carcara_cli.specs.declared.literal.Literal.{Literal}
 use Rattle.carcara_cli.specs.Names.{Word, name_at, AreApart}
 use Rattle.carcara_cli.specs.Problem.{IsConstantLeaf, AddsLiteral, AreLiteralsBelow}

@@ -3,7 +3,7 @@ use Rattle.std.proofs.Common.{◌≡◌, inl, inr, ◌++◌, Bool, true, false, 
 use Rattle.term_model.specs.FreeVariables.{Binds, IsFree, IsFreeAmong, IsFreeBound}
 use Rattle.term_model.specs.Terms.{Var, var_eq, Term, numeral, variable, operation, call, let_in, Terms, no_terms, term, Bindings, no_bindings, binding}
 use Rattle.term_model.proofs.Tests.{var_eq_decides}
-use Rattle.problem_text.specs.Replacement.{Replacement, term_at, replaced, replaced_all, replaced_bindings}
+use Rattle.rule_model.specs.Replacement.{Replacement, term_at, replaced, replaced_all, replaced_bindings}
 
 -- what is put in for a variable that a let binds does not depend on what stands behind the let
 behind_let : (bs : Bindings) (p r q : Replacement) (x : Var) → ((¬ Binds bs x) → term_at r x ≡ term_at q x) → term_at (replaced_bindings p bs ++ r) x ≡ term_at (replaced_bindings p bs ++ q) x

@@ -3,7 +3,7 @@ use Rattle.std.proofs.Common.{◌≡◌, zero, suc, List, [], ◌∷◌, ◌++�
 use Rattle.term_model.specs.Terms.{Var, var_eq, Term, numeral, variable, operation, call, let_in, Terms, no_terms, term, Bindings, no_bindings, binding}
 use Rattle.term_model.specs.FreeVariables.{Binds, IsFree, IsFreeAmong, IsFreeBound}
 use Rattle.term_model.proofs.Tests.{var_eq_decides}
-use Rattle.problem_text.specs.Replacement.{binds, free_variables, free_among, free_bound}
+use Rattle.rule_model.specs.Replacement.{binds, free_variables, free_among, free_bound}
 
 -- the variable is in the list
 abbrev pub IsIn : Var → List Var → Type 0

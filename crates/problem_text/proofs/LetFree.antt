@@ -12,7 +12,7 @@ use Rattle.problem_text.specs.Words.{is_among, is_built_in, logics}
 use Rattle.text_items.specs.ItemShapes.{Name}
 use Rattle.problem_text.specs.Forms.{form_of}
 use Rattle.problem_text.specs.Commands.{Command, set_logic, without_effect, declare_sort, declare_fun, define_fun, assert_term, check_sat, exit, command_of}
-use Rattle.problem_text.specs.Replacement.{HasNoLet}
+use Rattle.rule_model.specs.Replacement.{HasNoLet}
 use Rattle.problem_text.specs.Scripts.{Script, empty_script, is_taken, with_name, Outcome, done, refuse, given, and_then}
 use Rattle.problem_text.specs.Sorts.{sort_from, sorts_from, parameters_from}
 use Rattle.problem_text.specs.Names.{Place, itself}

@@ -10,8 +10,9 @@ use Rattle.term_model.specs.Sorts.{sorts_eq, application_sort, call_sort}
 use Rattle.problem_text.specs.Words.{is_among, is_built_in, operator_named}
 use Rattle.text_items.specs.ItemShapes.{Name}
 use Rattle.problem_text.specs.Forms.{Form, faulty, number, symbol, application, let_form, annotated, Forms, no_forms, form, Binds, no_binds, bind}
-use Rattle.problem_text.specs.Heights.{height, most_height}
-use Rattle.problem_text.specs.Replacement.{replaced, free_variables, HasNoLet, HaveNoLet}
+use Rattle.rule_model.specs.Heights.{height}
+use Rattle.problem_text.specs.Limits.{most_height}
+use Rattle.rule_model.specs.Replacement.{replaced, free_variables, HasNoLet, HaveNoLet}
 use Rattle.problem_text.specs.TypedTerms.{Typed}
 use Rattle.problem_text.specs.Scripts.{Named, Script, is_taken, with_named, with_term, with_let_name, Outcome, done, refuse, and_then}
 use Rattle.problem_text.specs.Names.{Bound, Place, itself, innermost, is_bound, replacement, Meaning, value, macro, function, operator, meaning_of_bound, meaning_of_named, meaning_of, trees, sorts_of, expansion, applied, bindings_of, inside, let_term}

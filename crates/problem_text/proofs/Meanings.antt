@@ -7,7 +7,7 @@ use Rattle.term_model.specs.Terms.{Var, Fun, operation, call, let_in}
 use Rattle.term_model.specs.Sorts.{IsOf, AreOf, AreBound, sorts_eq, application_sort, call_sort}
 use Rattle.term_model.proofs.Tests.{sorts_eq_decides}
 use Rattle.problem_text.specs.Words.{operator_named}
-use Rattle.problem_text.specs.Replacement.{replaced, free_variables}
+use Rattle.rule_model.specs.Replacement.{replaced, free_variables}
 use Rattle.problem_text.specs.TypedTerms.{Typed}
 use Rattle.problem_text.specs.Scripts.{Script}
 use Rattle.problem_text.specs.Names.{Bound, Place, itself, innermost, is_bound, replacement, Meaning, value, macro, function, operator, meaning_of_bound, meaning_of_named, meaning_of, trees, sorts_of, expansion, applied, bindings_of, inside, let_term}

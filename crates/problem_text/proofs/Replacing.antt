@@ -8,7 +8,7 @@ use Rattle.term_model.specs.Operators.{meaning}
 use Rattle.term_model.specs.Interpretations.{Interpretation, first_row}
 use Rattle.term_model.specs.Meaning.{Valuation, value_at, value, values, bound}
 use Rattle.term_model.proofs.Tests.{var_eq_decides}
-use Rattle.problem_text.specs.Replacement.{Replacement, term_at, replaced, replaced_all, replaced_bindings, HasNoLet, HaveNoLet, values_put}
+use Rattle.rule_model.specs.Replacement.{Replacement, term_at, replaced, replaced_all, replaced_bindings, HasNoLet, HaveNoLet, values_put}
 use Rattle.problem_text.proofs.Outcomes.{all_joined}
 
 -- each term that is put in has its variable's sort

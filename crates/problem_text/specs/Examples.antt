@@ -13,8 +13,8 @@ use Rattle.sexpr.specs.Items.{Item, word, quoted, string, list, Items, no_items,
 use Rattle.term_model.specs.Terms.{Term}
 use Rattle.problem_text.specs.Forms.{form_of}
 use Rattle.problem_text.specs.Commands.{command_of}
-use Rattle.problem_text.specs.Heights.{height}
-use Rattle.problem_text.specs.Replacement.{replaced, free_variables}
+use Rattle.rule_model.specs.Heights.{height}
+use Rattle.rule_model.specs.Replacement.{replaced, free_variables}
 use Rattle.problem_text.specs.Scripts.{Script}
 use Rattle.problem_text.specs.Sorts.{sort_from}
 use Rattle.problem_text.specs.Names.{meaning_of, applied}

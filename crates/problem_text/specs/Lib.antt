@@ -2,8 +2,7 @@ pub mod NamedItems
 pub mod Words
 pub mod Forms
 pub mod Commands
-pub mod Heights
-pub mod Replacement
+pub mod Limits
 pub mod TypedTerms
 pub mod Scripts
 pub mod Sorts

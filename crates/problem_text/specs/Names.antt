@@ -7,7 +7,7 @@ use Rattle.term_model.specs.declared.symbols.Op.{Op}
 use Rattle.term_model.specs.Terms.{Var, sort_eq, Fun, Term, variable, operation, call, let_in, Terms, Bindings, no_bindings, binding, terms_of}
 use Rattle.term_model.specs.Sorts.{sorts_eq, application_sort, call_sort}
 use Rattle.problem_text.specs.Words.{operator_named}
-use Rattle.problem_text.specs.Replacement.{Replacement, replaced, free_variables}
+use Rattle.rule_model.specs.Replacement.{Replacement, replaced, free_variables}
 use Rattle.problem_text.specs.TypedTerms.{Typed}
 use Rattle.problem_text.specs.Scripts.{Macro, Script}
 

@@ -3,8 +3,9 @@ use Rattle.std.specs.Prelude.{◌≡◌, ◌≤◌, Bool, true, List}
 use Rattle.std.specs.List.{AllByRecursion}
 use Rattle.term_model.specs.declared.symbols.Sort.{Sort}
 use Rattle.term_model.specs.Sorts.{IsOf}
-use Rattle.problem_text.specs.Heights.{height, most_height}
-use Rattle.problem_text.specs.Replacement.{HasNoLet}
+use Rattle.rule_model.specs.Heights.{height}
+use Rattle.problem_text.specs.Limits.{most_height}
+use Rattle.rule_model.specs.Replacement.{HasNoLet}
 use Rattle.problem_text.specs.TypedTerms.{Typed}
 use Rattle.problem_text.specs.Scripts.{Script}
 use Rattle.problem_text.specs.Names.{Bound}

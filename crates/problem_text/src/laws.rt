@@ -7,7 +7,7 @@ ghost use Rattle.term_model.specs.FreeVariables.{IsFree};
 ghost use Rattle.term_model.specs.Interpretations.{Interpretation};
 ghost use Rattle.term_model.specs.Meaning.{Valuation, value};
 ghost use Rattle.term_model.specs.Terms.{Var, Term, Bindings, let_in};
-ghost use Rattle.problem_text.specs.Replacement.{Replacement, replaced, values_put, HasNoLet, free_variables};
+ghost use Rattle.rule_model.specs.Replacement.{Replacement, replaced, values_put, HasNoLet, free_variables};
 ghost use Rattle.problem_text.specs.Scripts.{Script};
 ghost use Rattle.problem_text.specs.Problems.{StandsForProblem, IsFirstFault};
 ghost use Rattle.problem_text.specs.Soundness.{IsSound, HasNoLets};

@@ -8,7 +8,7 @@ use Rattle.smtlib_reader.specs.Defining.{within, body_read, IsReady, ReadsBody}
 use Rattle.problem_text.specs.Forms.{form_of}
 use Rattle.term_names.specs.Known.{KnownView, known_entry}
 use Rattle.term_reader.specs.Reading.{IsIdle, Reads}
-use Rattle.problem_text.specs.Replacement.{HasNoLet}
+use Rattle.rule_model.specs.Replacement.{HasNoLet}
 use Rattle.term_names.specs.Scope.{Scoped}
 use Rattle.problem_text.specs.TypedTerms.{Typed}
 use Rattle.problem_text.specs.Scripts.{Macro, Script, Outcome, done}

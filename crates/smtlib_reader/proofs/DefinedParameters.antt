@@ -9,7 +9,7 @@ use Rattle.term_model.specs.Terms.{Var}
 use Rattle.term_pool.specs.StandsFor.{variable_leaf}
 use Rattle.term_pool.specs.Views.{TermsView}
 use Rattle.smtlib_reader.specs.Defining.{IsAdded, AreListed, IsReady}
-use Rattle.problem_text.specs.Heights.{height}
+use Rattle.rule_model.specs.Heights.{height}
 use Rattle.term_names.specs.InScope.{IsScope, AreBound}
 use Rattle.problem_text.specs.Names.{Bound, Place, itself, inside}
 use Rattle.smtlib_reader.specs.Parameters.{IsParameter, AreParameters}

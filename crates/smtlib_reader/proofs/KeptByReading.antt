@@ -10,7 +10,8 @@ use Rattle.term_model.specs.Terms.{Term, numeral}
 use Rattle.problem_text.specs.Words.{is_among, is_built_in}
 use Rattle.text_items.specs.ItemShapes.{Name}
 use Rattle.problem_text.specs.Forms.{Form, faulty, number, symbol, application, let_form, annotated, Forms, no_forms, form, Binds, no_binds, bind}
-use Rattle.problem_text.specs.Heights.{height, most_height}
+use Rattle.rule_model.specs.Heights.{height}
+use Rattle.problem_text.specs.Limits.{most_height}
 use Rattle.problem_text.specs.TypedTerms.{Typed}
 use Rattle.problem_text.specs.Scripts.{Named, Script, is_taken, with_named, with_term, with_let_name, Outcome, done, refuse, and_then}
 use Rattle.problem_text.specs.Names.{Place, Meaning, meaning_of, applied, inside, let_term}

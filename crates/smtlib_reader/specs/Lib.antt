@@ -4,10 +4,9 @@ pub mod Sessions
 pub mod Defining
 pub mod ProblemReading
 pub use Rattle.text_items.specs.Lexers
-pub use Rattle.problem_text.specs.Heights
+pub use Rattle.problem_text.specs.Limits
 pub use Rattle.problem_text.specs.Names
 pub use Rattle.problem_text.specs.Problems
-pub use Rattle.problem_text.specs.Replacement
 pub use Rattle.problem_text.specs.Scripts
 pub use Rattle.problem_text.specs.Sorts
 pub use Rattle.problem_text.specs.Soundness

@@ -22,7 +22,7 @@ use Rattle.term_expansion.specs.Assigned.{term_of, assigned_all}
 use Rattle.term_expansion.specs.Expanding.{AreVariables, Says, SaysAll, IsSaid, AreSaid, replaced_each, HasPart, HasParts, key_of, Done, HasBecome, AreDone, IsGiven}
 use Rattle.term_expansion.specs.Free.{AddsLeaves}
 use Rattle.term_expansion.specs.Needs.{IsNeeded, Values, AreValuesOf, HasNeeds}
-use Rattle.problem_text.specs.Replacement.{Replacement, term_at, replaced, replaced_bindings}
+use Rattle.rule_model.specs.Replacement.{Replacement, term_at, replaced, replaced_bindings}
 use Rattle.term_expansion.specs.declared.assignments.Assigned.{Assigned}
 use Rattle.term_expansion.proofs.Images.{same_some}
 use Rattle.term_expansion.proofs.NeedLemmas as need

@@ -14,9 +14,9 @@ use Rattle.term_pool.specs.Putting.{Piece, itself, joined, put, Images, IsImage,
 use Rattle.term_pool.specs.StandsFor.{variable_leaf, function_leaf, StandsFor, StandsForApplication, StandsForList, StandsForBindings}
 use Rattle.term_pool.specs.Trees.{depth}
 use Rattle.term_pool.specs.Views.{TermsView}
-use Rattle.problem_text.specs.Heights.{height, highest, highest_bound}
+use Rattle.rule_model.specs.Heights.{height, highest, highest_bound}
 use Rattle.term_expansion.specs.Images.{IsPieceOf, PutsFor, ArePutFor, IsSomeReplacement, IsSomeValue, PlacesTerm, LacksRoomFor}
-use Rattle.problem_text.specs.Replacement.{Replacement, term_at, replaced, replaced_all, HasNoLet, HaveNoLet}
+use Rattle.rule_model.specs.Replacement.{Replacement, term_at, replaced, replaced_all, HasNoLet, HaveNoLet}
 use Rattle.problem_text.specs.TypedTerms.{Typed}
 use Rattle.term_expansion.specs.Values.{IsValue, PutsIn, IsReplacement}
 use Rattle.term_expansion.specs.declared.values.Bound.{Bound}

@@ -18,7 +18,7 @@ use Rattle.term_expansion.specs.Assigned.{term_of, assigned_all}
 use Rattle.term_expansion.specs.Expanding.{AreVariables, Says, SaysAll, HasPart, HasParts, pairs_of, key_of, Done, AreDone, AreGiven, IsGiven}
 use Rattle.term_expansion.specs.Free.{AddsLeaves}
 use Rattle.term_expansion.specs.Needs.{IsNeeded, IsNeededAmong, IsNeededFor, value_of, Needs, AreNeeds}
-use Rattle.problem_text.specs.Replacement.{Replacement, term_at, replaced, replaced_all, replaced_bindings}
+use Rattle.rule_model.specs.Replacement.{Replacement, term_at, replaced, replaced_all, replaced_bindings}
 use Rattle.term_expansion.specs.declared.assignments.Assigned.{Assigned}
 use Rattle.term_expansion.proofs.Images.{leaf_variable, same_some}
 

@@ -8,9 +8,9 @@ use Rattle.term_model.specs.Terms.{Var, var_eq, Term, numeral, variable, operati
 use Rattle.term_pool.specs.StandsFor.{function_leaf, StandsFor, StandsForApplication, StandsForList, StandsForBindings}
 use Rattle.term_pool.specs.Views.{TermsView, RefersTo}
 use Rattle.term_expansion.specs.Expanding.{Says, SaysWhole, IsSaid, HasPart}
-use Rattle.problem_text.specs.Heights.{height}
+use Rattle.rule_model.specs.Heights.{height}
 use Rattle.term_expansion.specs.Images.{PlacesTerm, LacksRoomFor}
-use Rattle.problem_text.specs.Replacement.{Replacement, term_at, replaced, replaced_all, replaced_bindings}
+use Rattle.rule_model.specs.Replacement.{Replacement, term_at, replaced, replaced_all, replaced_bindings}
 use Rattle.problem_text.specs.TypedTerms.{Typed}
 use Rattle.term_expansion.specs.Values.{IsValue, IsReplacement}
 use Rattle.term_expansion.specs.declared.assignments.Assigned.{Assigned}

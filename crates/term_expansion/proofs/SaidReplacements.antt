@@ -11,7 +11,7 @@ use Rattle.term_pool.specs.StandsFor.{variable_leaf}
 use Rattle.term_pool.specs.Views.{TermsView, RefersTo}
 use Rattle.term_expansion.specs.Assigned.{term_of}
 use Rattle.term_expansion.specs.Expanding.{SaysWhole}
-use Rattle.problem_text.specs.Replacement.{Replacement, term_at}
+use Rattle.rule_model.specs.Replacement.{Replacement, term_at}
 use Rattle.term_expansion.specs.Values.{IsReplacement}
 use Rattle.term_expansion.specs.declared.assignments.Assigned.{Assigned}
 use Rattle.term_expansion.specs.declared.values.Bound.{Bound}

@@ -6,7 +6,7 @@ use Rattle.sym_table.specs.Table.{Table}
 use Rattle.term_pool.specs.Building.{AreBindings}
 use Rattle.term_pool.specs.Heights.{height_of, highest_of, highest_value}
 use Rattle.term_pool.specs.Views.{TermsView, KeepsTerms}
-use Rattle.problem_text.specs.Heights.{height, highest, highest_bound}
+use Rattle.rule_model.specs.Heights.{height, highest, highest_bound}
 
 pub same_terms : (old new : TermsView) → KeepsTerms old new → IsUnchanged old.pass new.pass → new ≡ old
 same_terms old new h k = λ i. record {

@@ -8,7 +8,7 @@ use Rattle.term_pool.specs.Building.{IsApplication}
 use Rattle.term_pool.specs.Reading.{arguments_of, IsLet, IsLetTerm}
 use Rattle.term_pool.specs.Views.{TermsView, RefersTo, ReferToAll, IsTerm}
 use Rattle.term_expansion.specs.Needs.{AreTerms}
-use Rattle.problem_text.specs.Replacement.{Replacement, replaced, replaced_all}
+use Rattle.rule_model.specs.Replacement.{Replacement, replaced, replaced_all}
 
 -- the same terms
 pub term_moved : (s : Table) (v w : TermsView) (r : ℕ) → w ≡ v → IsTerm s v r → IsTerm s w r

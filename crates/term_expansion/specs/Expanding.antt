@@ -15,7 +15,7 @@ use Rattle.term_pool.specs.Views.{TermsView, RefersTo, ReferToAll}
 use Rattle.term_expansion.specs.Assigned.{term_of}
 use Rattle.term_expansion.specs.Free.{HasVariable}
 use Rattle.term_expansion.specs.Needs.{IsNeeded, value_of}
-use Rattle.problem_text.specs.Replacement.{Replacement, term_at, replaced}
+use Rattle.rule_model.specs.Replacement.{Replacement, term_at, replaced}
 use Rattle.term_expansion.specs.declared.assignments.Assigned.{Assigned}
 
 -- only variables have something put in for them

@@ -10,7 +10,7 @@ use Rattle.term_model.specs.Terms.{Var, Term, Bindings, let_in}
 use Rattle.term_pool.specs.Building.{AreBindings}
 use Rattle.term_pool.specs.StandsFor.{variable_leaf}
 use Rattle.term_pool.specs.Views.{TermsView, RefersTo}
-use Rattle.problem_text.specs.Heights.{height}
+use Rattle.rule_model.specs.Heights.{height}
 
 -- These are the leaves of the variables: each leaf is that of one of them, and each of them has its leaf there.
 pub record AreFreeLeaves (s : Table) (leaves : List ℕ) (xs : List Var) : Type 0 where

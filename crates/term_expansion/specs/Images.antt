@@ -9,8 +9,8 @@ use Rattle.term_pool.specs.Building.{PlacesOnlyIn, IsFullIn}
 use Rattle.term_pool.specs.Putting.{Piece, itself, Images, AreImages}
 use Rattle.term_pool.specs.StandsFor.{variable_leaf, StandsFor}
 use Rattle.term_pool.specs.Views.{TermsView}
-use Rattle.problem_text.specs.Heights.{height}
-use Rattle.problem_text.specs.Replacement.{Replacement, term_at, HasNoLet}
+use Rattle.rule_model.specs.Heights.{height}
+use Rattle.rule_model.specs.Replacement.{Replacement, term_at, HasNoLet}
 use Rattle.problem_text.specs.TypedTerms.{Typed}
 use Rattle.term_expansion.specs.Values.{IsValue, IsReplacement}
 use Rattle.term_expansion.specs.declared.values.Bound.{Bound}

@@ -6,8 +6,8 @@ use Rattle.term_pool.specs.StandsFor.{variable_leaf}
 use Rattle.term_pool.specs.Views.{TermsView, RefersTo}
 use Rattle.term_expansion.specs.declared.values.Value.{Value}
 use Rattle.term_expansion.specs.declared.values.Bound.{Bound}
-use Rattle.problem_text.specs.Heights.{height}
-use Rattle.problem_text.specs.Replacement.{Replacement, HasNoLet}
+use Rattle.rule_model.specs.Heights.{height}
+use Rattle.rule_model.specs.Replacement.{Replacement, HasNoLet}
 use Rattle.problem_text.specs.TypedTerms.{Typed}
 
 -- The value stands for the term, of this sort.

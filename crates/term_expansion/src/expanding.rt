@@ -12,7 +12,7 @@ ghost use Rattle.term_pool.specs.Views.{RefersTo, ReferToAll, KeepsTerms};
 ghost use Rattle.term_pool.specs.declared.stop.TermStop.TheVariants as TermStop;
 ghost use Rattle.term_expansion.specs.Expanding.{Says, SaysAll, IsSaid, AreSaid, replaced_each, HasPart, HasParts, key_of, AreDone, IsGiven};
 ghost use Rattle.term_expansion.specs.Needs.{AreValuesOf, AreNeeds};
-ghost use Rattle.problem_text.specs.Replacement.{Replacement, replaced};
+ghost use Rattle.rule_model.specs.Replacement.{Replacement, replaced};
 
 use crate::assignments::{Assignments, assign, number_at, take_back, term_at};
 use crate::needs::{needs_of, values_by_leaves};

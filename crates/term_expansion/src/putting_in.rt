@@ -6,7 +6,7 @@ ghost use Rattle.sym_table.specs.Table.{Table, IsTable};
 ghost use Rattle.term_pool.specs.Views.{TermsView, KeepsTerms};
 ghost use Rattle.term_expansion.specs.Expanding.{SaysWhole};
 ghost use Rattle.term_expansion.specs.Images.{IsSomeReplacement, IsSomeValue, PlacesTerm, LacksRoomFor};
-ghost use Rattle.problem_text.specs.Replacement.{Replacement, replaced};
+ghost use Rattle.rule_model.specs.Replacement.{Replacement, replaced};
 ghost use Rattle.problem_text.specs.TypedTerms.{Typed};
 ghost use Rattle.term_expansion.specs.Values.{IsValue, IsReplacement};
 

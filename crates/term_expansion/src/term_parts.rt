@@ -8,7 +8,7 @@ ghost use Rattle.term_pool.specs.Reading as read;
 ghost use Rattle.term_pool.specs.Reading.{IsLet, IsLetTerm};
 ghost use Rattle.term_pool.specs.StandsFor.{variable_leaf};
 ghost use Rattle.term_pool.specs.Views.{RefersTo, ReferToAll};
-ghost use Rattle.problem_text.specs.Heights as heights;
+ghost use Rattle.rule_model.specs.Heights as heights;
 
 use pair_pool::{Memory, Ref};
 use std::alloc::Global;

@@ -10,10 +10,10 @@ use Rattle.term_model.specs.Terms.{Var, Term, operation, call, no_terms}
 use Rattle.term_pool.specs.StandsFor.{StandsFor}
 use Rattle.term_pool.specs.Views.{TermsView}
 use Rattle.term_names.specs.Heads.{IsSymbolOf, IsMacroMeant}
-use Rattle.problem_text.specs.Heights.{height}
+use Rattle.rule_model.specs.Heights.{height}
 use Rattle.term_names.specs.Making.{IsMade}
 use Rattle.problem_text.specs.Names.{Meaning, macro, applied}
-use Rattle.problem_text.specs.Replacement.{HasNoLet}
+use Rattle.rule_model.specs.Replacement.{HasNoLet}
 use Rattle.problem_text.specs.Scripts.{Macro}
 use Rattle.term_names.specs.Standing.{IsMacroOf, AreLeavesOf}
 use Rattle.term_names.specs.declared.entries.Macro as held

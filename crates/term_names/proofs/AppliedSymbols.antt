@@ -16,10 +16,10 @@ use Rattle.term_pool.specs.StandsFor.{function_leaf, StandsFor, StandForAll}
 use Rattle.term_pool.specs.Trees.{app_tree}
 use Rattle.term_pool.specs.Views.{TermsView, RefersTo, ReferToAll, KnowsAll}
 use Rattle.term_names.specs.Heads.{IsSymbolOf}
-use Rattle.problem_text.specs.Heights.{height, highest}
+use Rattle.rule_model.specs.Heights.{height, highest}
 use Rattle.term_names.specs.Making.{Makes}
 use Rattle.problem_text.specs.Names.{Meaning, value, trees, sorts_of, applied}
-use Rattle.problem_text.specs.Replacement.{HasNoLet, HaveNoLet}
+use Rattle.rule_model.specs.Replacement.{HasNoLet, HaveNoLet}
 use Rattle.problem_text.specs.TypedTerms.{Typed}
 use Rattle.term_names.specs.Stacks.{greatest_height}
 use Rattle.term_expansion.specs.Values.{AreValues}

@@ -14,7 +14,7 @@ use Rattle.term_names.specs.BoundLeaves.{IsBoundLeaf, AreBoundLeaves, PutsInBoun
 use Rattle.term_expansion.specs.Free.{AreFreeLeaves}
 use Rattle.term_names.specs.InScope.{IsScope}
 use Rattle.problem_text.specs.Names.{Bound, innermost, is_bound, replacement}
-use Rattle.problem_text.specs.Replacement.{Replacement, term_at}
+use Rattle.rule_model.specs.Replacement.{Replacement, term_at}
 use Rattle.term_names.specs.Scope.{Scoped}
 use Rattle.term_expansion.specs.Values.{PutsIn, IsReplacement}
 use Rattle.term_expansion.specs.declared.values.Bound as held

@@ -11,9 +11,9 @@ use Rattle.term_pool.specs.Reading.{arguments_of, IsLet, IsLetTerm}
 use Rattle.term_pool.specs.StandsFor.{variable_leaf}
 use Rattle.term_pool.specs.Views.{TermsView, RefersTo, ReferToAll}
 use Rattle.term_expansion.specs.Free.{HasVariable, IsLeafOfSome, AreFreeLeaves, AddsLeaves, AddsOne, AddsUnbound, IsAtMost, IsFreeInAny, AreLeavesOf, ArePartsOfLet, Covers, Bodies, AreBodies}
-use Rattle.problem_text.specs.Heights.{height, highest, highest_bound}
+use Rattle.rule_model.specs.Heights.{height, highest, highest_bound}
 use Rattle.term_names.specs.Known.{KnownView, named_of}
-use Rattle.problem_text.specs.Replacement.{free_variables}
+use Rattle.rule_model.specs.Replacement.{free_variables}
 use Rattle.problem_text.specs.Scripts.{Script}
 use Rattle.term_names.specs.Standing.{IsMeant}
 use Rattle.term_names.specs.declared.entries.Named as held

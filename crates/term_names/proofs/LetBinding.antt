@@ -8,7 +8,7 @@ use Rattle.term_model.specs.declared.symbols.Sort.{Sort}
 use Rattle.term_model.specs.Terms.{Var, variable}
 use Rattle.term_pool.specs.StandsFor.{variable_leaf}
 use Rattle.term_pool.specs.Views.{TermsView}
-use Rattle.problem_text.specs.Heights.{height}
+use Rattle.rule_model.specs.Heights.{height}
 use Rattle.term_names.specs.InScope.{IsScope, AreBound}
 use Rattle.problem_text.specs.Names.{Bound, itself}
 use Rattle.term_names.specs.Scope.{Scoped}

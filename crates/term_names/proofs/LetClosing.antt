@@ -10,7 +10,7 @@ use Rattle.term_pool.specs.Building.{AreBindings, Builds, LacksRoom}
 use Rattle.term_pool.specs.StandsFor.{StandsFor, StandForValues}
 use Rattle.term_pool.specs.Trees.{let_term_tree}
 use Rattle.term_pool.specs.Views.{TermsView, RefersTo, KnowsAll}
-use Rattle.problem_text.specs.Heights.{height, highest_bound}
+use Rattle.rule_model.specs.Heights.{height, highest_bound}
 use Rattle.term_names.specs.InScope.{AreBound}
 use Rattle.term_names.specs.Making.{Makes}
 use Rattle.problem_text.specs.Names.{Bound, Place, bindings_of, let_term}

@@ -12,7 +12,7 @@ use Rattle.term_names.specs.Applying.{bounds_of}
 use Rattle.term_expansion.specs.Images.{PlacesTerm, LacksRoomFor}
 use Rattle.term_names.specs.Making.{Makes}
 use Rattle.problem_text.specs.Names.{macro, sorts_of, expansion, applied}
-use Rattle.problem_text.specs.Replacement.{Replacement, replaced}
+use Rattle.rule_model.specs.Replacement.{Replacement, replaced}
 use Rattle.problem_text.specs.TypedTerms.{Typed}
 use Rattle.problem_text.specs.Scripts.{Macro}
 use Rattle.term_names.specs.Standing.{AreLeavesOf, IsMacroOf}

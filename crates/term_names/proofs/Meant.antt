@@ -13,7 +13,7 @@ use Rattle.term_names.specs.InScope.{IsScope}
 use Rattle.term_names.specs.Known.{KnownView, macro_of, named_of}
 use Rattle.term_names.specs.LookingUp.{used, IsFound, IsEntryMeant, IsSymbolMeant, meaning_of_entry, meaning_of_symbol}
 use Rattle.problem_text.specs.Names.{Place, Bound, Meaning, value, macro, innermost, is_bound, meaning_of_bound, meaning_of_named, meaning_of}
-use Rattle.problem_text.specs.Replacement.{free_variables}
+use Rattle.rule_model.specs.Replacement.{free_variables}
 use Rattle.term_names.specs.Scope.{Scoped}
 use Rattle.problem_text.specs.Scripts.{Script, Named}
 use Rattle.term_names.specs.Standing.{IsMeant, IsNamedOf, named_in, macro_in}

@@ -13,7 +13,7 @@ use Rattle.term_expansion.specs.Images.{IsSomeReplacement, PlacesTerm, LacksRoom
 use Rattle.term_names.specs.LookingUp.{used, IsNamedMeant}
 use Rattle.term_names.specs.Making.{IsMade, Makes, PlacesCellsOf, IsExpected}
 use Rattle.problem_text.specs.Names.{Place, Meaning, value, is_bound, replacement, applied}
-use Rattle.problem_text.specs.Replacement.{Replacement, replaced, free_variables}
+use Rattle.rule_model.specs.Replacement.{Replacement, replaced, free_variables}
 use Rattle.problem_text.specs.TypedTerms.{Typed}
 use Rattle.term_expansion.specs.Values.{IsValue, IsReplacement}
 use Rattle.term_names.specs.declared.entries.Named as held

@@ -1,6 +1,6 @@
 -- Lists of values: their references, and how high they are.
 use Rattle.std.proofs.Common.{ℕ, zero, suc, ◌≤◌, List, [], ◌∷◌, drop, map, arith}
-use Rattle.problem_text.specs.Heights.{most_height}
+use Rattle.problem_text.specs.Limits.{most_height}
 use Rattle.term_names.specs.InScope.{AreLow}
 use Rattle.term_names.specs.Stacks.{greatest_height}
 use Rattle.term_expansion.specs.declared.values.Value.{Value}

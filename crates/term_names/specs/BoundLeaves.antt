@@ -8,7 +8,7 @@ use Rattle.term_pool.specs.Views.{TermsView}
 use Rattle.term_expansion.specs.Free.{AreFreeLeaves}
 use Rattle.term_names.specs.InScope.{IsScope}
 use Rattle.problem_text.specs.Names.{Bound, is_bound, replacement}
-use Rattle.problem_text.specs.Replacement.{Replacement, term_at}
+use Rattle.rule_model.specs.Replacement.{Replacement, term_at}
 use Rattle.term_names.specs.Scope.{Scoped}
 use Rattle.term_expansion.specs.Values.{IsReplacement}
 use Rattle.term_expansion.specs.declared.values.Bound as held

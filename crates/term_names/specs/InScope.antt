@@ -4,7 +4,7 @@ use Rattle.std.specs.List.{AllByRecursion}
 use Rattle.sym_table.specs.Table.{Table, IsLeaf}
 use Rattle.term_pool.specs.StandsFor.{variable_leaf}
 use Rattle.term_pool.specs.Views.{TermsView}
-use Rattle.problem_text.specs.Heights.{most_height}
+use Rattle.problem_text.specs.Limits.{most_height}
 use Rattle.problem_text.specs.Names.{Bound}
 use Rattle.term_names.specs.Scope.{Scoped}
 use Rattle.term_expansion.specs.Values.{IsValue, PutsIn}

@@ -7,7 +7,7 @@ use Rattle.term_pool.specs.Views.{TermsView}
 use Rattle.term_names.specs.Heads.{IsSymbolOf, IsMacroMeant}
 use Rattle.term_names.specs.Known.{KnownView, macro_of, named_of}
 use Rattle.problem_text.specs.Names.{Place, Meaning, value, macro, function, operator, is_bound, replacement, meaning_of_named}
-use Rattle.problem_text.specs.Replacement.{replaced, free_variables}
+use Rattle.rule_model.specs.Replacement.{replaced, free_variables}
 use Rattle.problem_text.specs.TypedTerms.{Typed}
 use Rattle.problem_text.specs.Scripts.{Named, Script}
 use Rattle.term_names.specs.Standing.{IsNamedOf, IsFunctionAt, IsNoFunction, named_in, macro_in, function_in}

@@ -5,9 +5,9 @@ use Rattle.term_model.specs.Terms.{Var, Fun}
 use Rattle.term_pool.specs.StandsFor.{variable_leaf, function_leaf}
 use Rattle.term_pool.specs.Views.{TermsView}
 use Rattle.term_expansion.specs.Free.{AreFreeLeaves}
-use Rattle.problem_text.specs.Heights.{most_height}
+use Rattle.problem_text.specs.Limits.{most_height}
 use Rattle.term_names.specs.Known.{KnownView, known_entry, macro_of, named_of}
-use Rattle.problem_text.specs.Replacement.{free_variables}
+use Rattle.rule_model.specs.Replacement.{free_variables}
 use Rattle.problem_text.specs.Scripts.{Macro, Named, Script}
 use Rattle.term_expansion.specs.Values.{IsValue}
 use Rattle.problem_text.specs.Words.{is_among}

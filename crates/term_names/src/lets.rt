@@ -4,7 +4,7 @@ ghost use Rattle.sym_table.specs.Table.{Table, IsLeaf};
 ghost use Rattle.term_model.specs.Terms.{Var, variable};
 ghost use Rattle.term_pool.specs.StandsFor.{variable_leaf};
 ghost use Rattle.term_pool.specs.Views.{TermsView, KeepsTerms};
-ghost use Rattle.problem_text.specs.Heights.{most_height};
+ghost use Rattle.problem_text.specs.Limits.{most_height};
 ghost use Rattle.term_names.specs.InScope.{IsScope, AreLow, AreBound};
 ghost use Rattle.term_names.specs.Making.{Makes};
 ghost use Rattle.problem_text.specs.Names.{Bound, Place, itself, inside, let_term};

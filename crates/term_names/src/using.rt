@@ -12,7 +12,7 @@ ghost use Rattle.term_names.specs.InScope.{IsScope};
 ghost use Rattle.term_names.specs.LookingUp.{IsFound, IsNamedMeant};
 ghost use Rattle.term_names.specs.Making.{Makes, IsMade};
 ghost use Rattle.problem_text.specs.Names.{Place, Meaning, applied, is_bound, replacement};
-ghost use Rattle.problem_text.specs.Replacement.{term_at};
+ghost use Rattle.rule_model.specs.Replacement.{term_at};
 ghost use Rattle.term_expansion.specs.Values.{PutsIn};
 
 use crate::entries::{Macro, Named};

@@ -14,7 +14,7 @@ use Rattle.term_reader.specs.Entering.{IsNumber, is_none_found, IsHeadFound, IsR
 use Rattle.text_items.specs.ItemShapes.{Name}
 use Rattle.problem_text.specs.Forms.{symbol}
 use Rattle.term_names.specs.Heads.{IsHeadOf}
-use Rattle.problem_text.specs.Heights.{height}
+use Rattle.rule_model.specs.Heights.{height}
 use Rattle.term_names.specs.Known.{KnownView}
 use Rattle.text_items.specs.NameNodes.{BeginsAt, IsNameNode}
 use Rattle.term_names.specs.LookingUp.{IsFound}

@@ -13,7 +13,8 @@ use Rattle.term_reader.specs.Entering.{HasTop, opened, IsNumber, IsHeadFound, Re
 use Rattle.text_items.specs.ItemShapes.{Name}
 use Rattle.problem_text.specs.Forms.{Form, number, symbol, application, let_form, form, Binds, bind, form_of}
 use Rattle.term_reader.specs.Frames.{Reading, AreFrames}
-use Rattle.problem_text.specs.Heights.{height, most_height}
+use Rattle.rule_model.specs.Heights.{height}
+use Rattle.problem_text.specs.Limits.{most_height}
 use Rattle.term_names.specs.Known.{KnownView, known_entry}
 use Rattle.text_items.specs.NameNodes.{BeginsAt, IsNameNode}
 use Rattle.term_reader.specs.Layers.{AreBinds, IsLayer}

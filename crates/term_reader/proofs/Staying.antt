@@ -21,7 +21,7 @@ use Rattle.term_names.specs.Known.{KnownView, known_entry, macro_of}
 use Rattle.term_names.specs.Making.{IsCellOf, PlacesCellsOf, LacksCellOf}
 use Rattle.problem_text.specs.Names.{Bound, Place, Meaning}
 use Rattle.term_reader.specs.Reading.{Stands}
-use Rattle.problem_text.specs.Replacement.{Replacement}
+use Rattle.rule_model.specs.Replacement.{Replacement}
 use Rattle.term_reader.specs.Resuming.{Waiting}
 use Rattle.term_names.specs.Scope.{Scoped}
 use Rattle.problem_text.specs.TypedTerms.{Typed}

@@ -4,7 +4,8 @@ use Rattle.std.specs.Prelude.{nat_le}
 use Rattle.std.proofs.lemmas.List.Elements.{Contains-append_right}
 use Rattle.sexpr.specs.declared.causes.Cause.TheVariants.{TooHigh}
 use Rattle.term_model.specs.Terms.{Term}
-use Rattle.problem_text.specs.Heights.{height, most_height}
+use Rattle.rule_model.specs.Heights.{height}
+use Rattle.problem_text.specs.Limits.{most_height}
 use Rattle.problem_text.specs.TypedTerms.{Typed}
 use Rattle.problem_text.specs.Scripts.{Script, with_term, Outcome, done, refuse, and_then}
 use Rattle.problem_text.specs.Names.{applied, inside, let_term}

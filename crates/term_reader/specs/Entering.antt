@@ -6,7 +6,7 @@ use Rattle.term_model.specs.Terms.{numeral}
 use Rattle.term_pool.specs.Views.{TermsView}
 use Rattle.term_names.specs.Heads.{IsHeadOf}
 use Rattle.term_reader.specs.Frames.{Reading}
-use Rattle.problem_text.specs.Heights.{most_height}
+use Rattle.problem_text.specs.Limits.{most_height}
 use Rattle.term_names.specs.Known.{KnownView}
 use Rattle.term_reader.specs.Layers.{IsLayer}
 use Rattle.term_names.specs.Making.{PlacesCellsOf}

@@ -7,7 +7,7 @@ use Rattle.term_model.specs.Terms.{Term}
 use Rattle.term_pool.specs.Views.{TermsView}
 use Rattle.problem_text.specs.Forms.{Form}
 use Rattle.term_reader.specs.Frames.{Reading, AreFrames, credit}
-use Rattle.problem_text.specs.Heights.{most_height}
+use Rattle.problem_text.specs.Limits.{most_height}
 use Rattle.term_names.specs.InScope.{IsScope, AreLow}
 use Rattle.term_reader.specs.Layers.{IsForm}
 use Rattle.term_names.specs.Making.{PlacesCellsOf, LacksCellOf}

@@ -2,7 +2,7 @@
 use Rattle.std.specs.Prelude.{◌≡◌, ◌≤◌, ℕ, Option, Some, Result, Ok, Err}
 use Rattle.sym_table.specs.Table.{Table}
 use Rattle.term_pool.specs.Views.{TermsView}
-use Rattle.problem_text.specs.Heights.{most_height}
+use Rattle.problem_text.specs.Limits.{most_height}
 use Rattle.problem_text.specs.TypedTerms.{Typed}
 use Rattle.problem_text.specs.Scripts.{Script, done, with_term}
 use Rattle.problem_text.specs.Terms.{settled}

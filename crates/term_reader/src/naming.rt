@@ -4,7 +4,7 @@ ghost use Rattle.sexpr.specs.Source.{source};
 ghost use Rattle.pair_pool.specs.Views.{IsUnchanged};
 ghost use Rattle.term_pool.specs.Views.{TermsView, KeepsTerms};
 ghost use Rattle.text_items.specs.ItemShapes.{Name};
-ghost use Rattle.problem_text.specs.Heights.{most_height};
+ghost use Rattle.problem_text.specs.Limits.{most_height};
 ghost use Rattle.term_names.specs.Known.{macro_of};
 ghost use Rattle.text_items.specs.NameNodes.{IsNameNode};
 ghost use Rattle.term_reader.specs.Layers.{AreAttributes};

@@ -5,7 +5,7 @@ use Rattle.term_pool.specs.Building.{PlacesOnlyIn}
 use Rattle.term_pool.specs.Views.{ReferToAll, KeepsTerms}
 use Rattle.term_expansion.specs.Expanding.{SaysAll, HasParts, replaced_each, AreDone}
 use Rattle.term_expansion.specs.Needs.{AreNeeds}
-use Rattle.problem_text.specs.Replacement.{Replacement}
+use Rattle.rule_model.specs.Replacement.{Replacement}
 use Rattle.term_expansion.proofs.expanding.+expanding.Given as goal
 
 abbrev pub decreases-expand : goal.decreases-expand

@@ -2,7 +2,7 @@ use Rattle.std.proofs.Common.{◌≤◌, ◌^◌, drop, length}
 use Rattle.sym_table.specs.Table.{Table, IsTable}
 use Rattle.term_pool.specs.Views.{TermsView}
 use Rattle.term_expansion.specs.Expanding.{SaysWhole}
-use Rattle.problem_text.specs.Replacement.{Replacement}
+use Rattle.rule_model.specs.Replacement.{Replacement}
 use Rattle.term_expansion.specs.Values.{IsReplacement}
 use Rattle.term_expansion.proofs.putting_in.begin.Given as goal
 

@@ -1,7 +1,7 @@
 -- What the term becomes is placed at once.
 use Rattle.std.proofs.Common.{refl, arith}
 use Rattle.std.proofs.lemmas.Result.{err_from_is_err_and}
-use Rattle.problem_text.specs.Replacement.{replaced}
+use Rattle.rule_model.specs.Replacement.{replaced}
 use Rattle.term_expansion.proofs.PutIn.{nothing_placed, says_of, said_of, put_places, put_lacks, put_value}
 use Rattle.term_expansion.proofs.putting_in.put_in_expanded.Goals as goal
 

@@ -2,7 +2,7 @@ use Rattle.std.proofs.Common.{ap, sym, ◌∙◌, subst, List, ℕ}
 use Rattle.sexpr.specs.declared.causes.Cause.TheVariants.{Repeated}
 use Rattle.sexpr.specs.Source.{source}
 use Rattle.term_expansion.specs.Free.{AreFreeLeaves}
-use Rattle.problem_text.specs.Replacement.{free_variables}
+use Rattle.rule_model.specs.Replacement.{free_variables}
 use Rattle.problem_text.specs.Scripts.{is_taken}
 use Rattle.term_reader.proofs.GivenNames.{no_entry, name_place, name_refused, name_given}
 use Rattle.term_reader.proofs.naming.give_name.Goals as goal

@@ -1,7 +1,7 @@
 use Rattle.std.proofs.Common.{ap, sym, subst, List, ℕ}
 use Rattle.text_items.specs.ItemShapes.{Name}
 use Rattle.term_expansion.specs.Free.{AreFreeLeaves}
-use Rattle.problem_text.specs.Replacement.{free_variables}
+use Rattle.rule_model.specs.Replacement.{free_variables}
 use Rattle.problem_text.specs.Terms.{with_names}
 use Rattle.term_reader.proofs.NamesLeft.{where_none}
 use Rattle.term_reader.proofs.Staying.{table_keeps_none, adds_none, value_stays, script_stays}
