@@ -1,5 +1,5 @@
 -- Heights of trees, and the walk that notes them.
-use Rattle.std.proofs.Common.{◌≡◌, ◌≢◌, ℕ, ◌<◌, ◌≤◌, ◌+◌, ◌-◌, ◌^◌, ◌⊎◌, inl, inr, refl, sym, ◌∙◌, ap, arith, List, [], ◌∷◌, ◌++◌, take, length, get_or, Some, None, Option, MatchOption, Bool, true, false, nat_eq, if◌then◌else◌}
+use Rattle.std.proofs.Common.{◌≡◌, ◌≢◌, ℕ, zero, suc, slice_get, ◌<◌, ◌≤◌, ◌+◌, ◌-◌, ◌^◌, ◌⊎◌, inl, inr, refl, sym, ◌∙◌, ap, arith, List, [], ◌∷◌, ◌++◌, take, length, get_or, Some, None, Option, MatchOption, Bool, true, false, nat_eq, if◌then◌else◌}
 use Rattle.std.specs.List.{AllByRecursion}
 use Rattle.std.proofs.lemmas.Bool.Decides.{nat_tests}
 use Rattle.std.proofs.lemmas.Bool.{cases_lt}
@@ -8,9 +8,10 @@ use Rattle.pair_pool.specs.Trees.{Tree, leaf, cell}
 use Rattle.pair_pool.specs.Views.{PassView, Knows, IsOneToOne, HasPartsOfTrees, HasListsInOrder}
 use Rattle.sym_table.specs.Leaf.{Leaf, operator, let_head}
 use Rattle.sym_table.specs.Table.{Table, IsLeaf, IsTable}
-use Rattle.term_model.specs.Terms.{Term, Terms, Bindings, numeral, variable, operation, call, let_in, no_terms, term, no_bindings, binding}
+use Rattle.term_model.specs.Terms.{Var, Term, Terms, Bindings, numeral, variable, operation, call, let_in, no_terms, term, list_of, no_bindings, binding}
 use Rattle.term_pool.specs.declared.heights.Heights.{Heights}
 use Rattle.term_pool.specs.StandsFor.{StandsFor, StandsForList, StandsForBindings, function_leaf}
+use Rattle.term_pool.specs.Reading.{arguments_of, list_of_bindings, bindings_of}
 use Rattle.term_pool.specs.Trees.{depth}
 use Rattle.term_pool.specs.Views.{IsKnownCell, TermsView, RefersTo}
 use Rattle.term_pool.specs.declared.heights.Memo.{Memo}
@@ -359,3 +360,30 @@ height_is s v r h heights t table refers =
     let same = heights refers.tree refers.known in
     let height = term_height s (table.begins 1 let_head refl) t refers.tree refers.stands in
     ap (λ (x : Heights). x.term) same ∙ height
+
+-- parts are less high
+item_high : (ts : Terms) (i : ℕ) (a : Term) → slice_get (list_of ts) i ≡ Some a → height_of a ≤ highest_of ts
+item_high no_terms i a e = absurd (cc)
+item_high (term t ts) zero a e = let same : t ≡ a = cc in rw (← same) (omega arith)
+item_high (term t ts) (suc i) a e = let rest = item_high ts i a e in omega arith
+
+pub argument_less : (t a : Term) (i : ℕ) → slice_get (arguments_of t) i ≡ Some a → height_of a < height_of t
+argument_less (numeral n) a i e = absurd (cc)
+argument_less (variable x) a i e = absurd (cc)
+argument_less (operation op ts) a i e = let h = item_high ts i a e in omega arith
+argument_less (call f ts) a i e = let h = item_high ts i a e in omega arith
+argument_less (let_in bs u) a i e = absurd (cc)
+
+value_high : (bs : Bindings) (i : ℕ) (x : Var) (u : Term) → slice_get (list_of_bindings bs) i ≡ Some (x, u) → height_of u ≤ highest_value bs
+value_high no_bindings i x u e = absurd (cc)
+value_high (binding y t bs) zero x u e =
+    let pair : ◌≡◌ {A = Var × Term} (y, t) (x, u) = cc in
+    let same : t ≡ u = ap (λ (p : Var × Term). p.1) pair in rw (← same) (omega arith)
+value_high (binding y t bs) (suc i) x u e = let rest = value_high bs i x u e in omega arith
+
+pub value_less : (t u : Term) (x : Var) (i : ℕ) → slice_get (bindings_of t) i ≡ Some (x, u) → height_of u < height_of t
+value_less (numeral n) u x i e = absurd (cc)
+value_less (variable y) u x i e = absurd (cc)
+value_less (operation op ts) u x i e = absurd (cc)
+value_less (call f ts) u x i e = absurd (cc)
+value_less (let_in bs t) u x i e = let h = value_high bs i x u e in omega arith

@@ -1,88 +1,15 @@
 -- A tree stands for one term: it can be decoded.
-use Rattle.std.proofs.Common.{◌≡◌, ℕ, refl, ap, pos, negsuc, ℤ, Option, Some, None, slice_get}
+use Rattle.std.proofs.Common.{◌≡◌, ℕ, refl, ap, ◌∙◌, pos, Option, Some}
 use Rattle.pair_pool.specs.Trees.{Tree, leaf, cell}
+use Rattle.pair_pool.specs.Views.{IsOneToOne, HasPartsOfTrees}
+use Rattle.pair_pool.specs.Decoding.{HasTreesWithin}
 use Rattle.sym_table.specs.Leaf.{Leaf, operator, function, let_head, nil}
 use Rattle.sym_table.specs.Table.{Table, IsLeaf, IsTable}
 use Rattle.term_model.specs.Terms.{Term, Terms, Bindings, numeral, variable, operation, call, let_in, no_terms, term, no_bindings, binding}
+use Rattle.term_pool.specs.Decoding.{leaf_term, applied, cell_term, leaf_at, decode, decode_list, decode_bindings, HasTermsAt}
 use Rattle.term_pool.specs.StandsFor.{variable_leaf, function_leaf, IsLeafOf, StandsFor, StandsForList, StandsForBindings}
-
-abbrev numeral_of : ℤ → Option Term
-numeral_of (pos n) = Some (numeral n)
-numeral_of (negsuc n) = None
-
--- the term of a leaf
-abbrev leaf_term : Option Leaf → Option Term
-leaf_term None = None
-leaf_term (Some nil) = None
-leaf_term (Some let_head) = None
-leaf_term (Some (operator op)) = Some (operation op no_terms)
-leaf_term (Some (function n ss t)) = Some (call (record { name = n; arguments = ss; target = t }) no_terms)
-leaf_term (Some (Leaf.variable n s)) = Some (variable (record { name = n; sort = s }))
-leaf_term (Some (Leaf.numeral z)) = numeral_of z
-
-abbrev applied : (Terms → Term) → Option Terms → Option Term
-applied f None = None
-applied f (Some ts) = Some (f ts)
-
--- the term of a cell, by its first part, and what its second part is as a list and as the rest of a let
-abbrev cell_term : Option Leaf → Option Terms → Option Term → Option Term
-cell_term None ts u = None
-cell_term (Some nil) ts u = None
-cell_term (Some let_head) ts u = u
-cell_term (Some (operator op)) ts u = applied (operation op) ts
-cell_term (Some (function n ss t)) ts u = applied (call (record { name = n; arguments = ss; target = t })) ts
-cell_term (Some (Leaf.variable n s)) ts u = None
-cell_term (Some (Leaf.numeral z)) ts u = None
-
-abbrev both_terms : Option Term → Option Terms → Option Terms
-both_terms None ts = None
-both_terms (Some t) None = None
-both_terms (Some t) (Some ts) = Some (term t ts)
-
-abbrev let_term : Option Bindings → Option Term → Option Term
-let_term None t = None
-let_term (Some bs) None = None
-let_term (Some bs) (Some t) = Some (let_in bs t)
-
-abbrev both_bindings : Option Leaf → Option Term → Option Bindings → Option Bindings
-both_bindings None t bs = None
-both_bindings (Some nil) t bs = None
-both_bindings (Some let_head) t bs = None
-both_bindings (Some (operator op)) t bs = None
-both_bindings (Some (function n ss u)) t bs = None
-both_bindings (Some (Leaf.numeral z)) t bs = None
-both_bindings (Some (Leaf.variable n s)) None bs = None
-both_bindings (Some (Leaf.variable n s)) (Some t) None = None
-both_bindings (Some (Leaf.variable n s)) (Some t) (Some bs) = Some (binding (record { name = n; sort = s }) t bs)
-
-abbrev leaf_at : Table → Tree → Option Leaf
-leaf_at s (leaf k) = slice_get s.leaves k
-leaf_at s (cell a b) = None
-
-abbrev mutual
-  decode : Table → Tree → Option Term
-  decode s (leaf k) = leaf_term (slice_get s.leaves k)
-  decode s (cell a b) = cell_term (leaf_at s a) (decode_list s b) (decode_let s b)
-
-  decode_list : Table → Tree → Option Terms
-  decode_list s (leaf k) = Some no_terms
-  decode_list s (cell a b) = both_terms (decode s a) (decode_list s b)
-
-  decode_let : Table → Tree → Option Term
-  decode_let s (leaf k) = None
-  decode_let s (cell a b) = let_term (decode_bindings s a) (decode s b)
-
-  decode_bindings : Table → Tree → Option Bindings
-  decode_bindings s (leaf k) = Some no_bindings
-  decode_bindings s (cell a b) = both_bindings (first_leaf s a) (second_term s a) (decode_bindings s b)
-
-  first_leaf : Table → Tree → Option Leaf
-  first_leaf s (leaf k) = None
-  first_leaf s (cell a b) = leaf_at s a
-
-  second_term : Table → Tree → Option Term
-  second_term s (leaf k) = None
-  second_term s (cell a b) = decode s b
+use Rattle.term_pool.specs.Views.{TermsView}
+use Rattle.term_pool.proofs.Depth.{depth-bound}
 
 leaf_at-is : (s : Table) (a : Tree) (l : Leaf) → IsLeafOf s a l → leaf_at s a ≡ Some l
 leaf_at-is s (leaf k) l p = p
@@ -143,3 +70,9 @@ pub one_term : (s : Table) → IsTable s → (a : Tree) (t u : Term) → StandsF
 one_term s h a t u p q =
     let head = h.begins 1 let_head refl in
     let first = decode-is s head t a p in let second = decode-is s head u a q in cc
+
+-- the term at a reference is the one that it stands for
+pub terms_at : (v : TermsView) → IsOneToOne v.pass → HasPartsOfTrees v.pass → HasTreesWithin v.pass → HasTermsAt v
+terms_at v one parts trees s r t table h =
+    let tree = trees _ r h.tree h.known (depth-bound v.pass one parts r h.tree h.known) in
+    ap (decode s) tree ∙ decode-is s (table.begins 1 let_head refl) t h.tree h.stands

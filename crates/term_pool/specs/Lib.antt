@@ -12,3 +12,4 @@ pub mod Meetings
 pub mod Memos
 pub mod Flips
 pub mod Pairs
+pub mod Decoding

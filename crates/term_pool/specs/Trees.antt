@@ -1,5 +1,6 @@
 -- The trees of lists, applications and lets, and the parts and sizes of trees.
 use Rattle.std.specs.Prelude.{◌≡◌, ℕ, zero, suc, ◌⊎◌, List, [], ◌∷◌, max}
+pub use Rattle.pair_pool.specs.Trees.{depth}
 use Rattle.pair_pool.specs.Trees.{Tree, leaf, cell}
 use Rattle.term_pool.specs.StandsFor.{nil_tree, let_tree}
 
@@ -47,11 +48,6 @@ abbrev pub list_item : Tree → ℕ → Tree
 list_item (leaf k) i = leaf k
 list_item (cell a b) zero = a
 list_item (cell a b) (suc i) = list_item b i
-
--- how many cells there are on the longest way down
-abbrev pub depth : Tree → ℕ
-depth (leaf k) = 0
-depth (cell a b) = suc (max (depth a) (depth b))
 
 -- each item of the tree as a list is the cell of a leaf and a tree
 abbrev pub ArePairs : Tree → Type 0

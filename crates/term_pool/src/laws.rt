@@ -1,13 +1,15 @@
 //! Laws of trees and terms.
 
-ghost use Rattle.std.specs.Prelude.{◌≡◌, ℕ, List};
+ghost use Rattle.std.specs.Prelude.{◌≡◌, ℕ, ◌<◌, List, slice_get, Some};
 ghost use Rattle.pair_pool.specs.Trees.{Tree};
 ghost use Rattle.sym_table.specs.Table.{Table, IsTable, Keeps};
 ghost use Rattle.term_model.specs.Interpretations.{Interpretation};
 ghost use Rattle.term_model.specs.Meaning.{Valuation, value};
-ghost use Rattle.term_model.specs.Terms.{Term, Bindings, let_in};
+ghost use Rattle.term_model.specs.Terms.{Var, Term, Bindings, let_in};
 ghost use Rattle.term_pool.specs.Building.{IsApplication};
 ghost use Rattle.term_pool.specs.Flips.{EqualUpToFlips};
+ghost use Rattle.term_pool.specs.Heights.{height_of};
+ghost use Rattle.term_pool.specs.Reading.{arguments_of, bindings_of};
 ghost use Rattle.term_pool.specs.StandsFor.{StandsFor, StandForAll, StandForValues};
 ghost use Rattle.term_pool.specs.Trees.{app_tree, let_term_tree};
 ghost use Rattle.term_pool.specs.Views.{TermsView, RefersTo, KeepsTerms};
@@ -39,4 +41,12 @@ pub fn flips_keep_values()
     ensures turned { (t u : Term) → EqualUpToFlips t u → EqualUpToFlips u t }
     ensures value { (I : Interpretation) (r : Valuation) (t u : Term) → EqualUpToFlips t u → value I r t ≡ value I r u }
     ensures let_alone { (bs : Bindings) (t u : Term) → EqualUpToFlips (let_in bs t) u → u ≡ let_in bs t }
+{}
+
+/// A law: an argument of an application is less high than it, and so are a let's values and its body. The call does
+/// nothing; its contract is the law.
+pub fn parts_are_less_high()
+    ensures argument { (t a : Term) (i : ℕ) → slice_get (arguments_of t) i ≡ Some a → height_of a < height_of t }
+    ensures value { (t u : Term) (x : Var) (i : ℕ) → slice_get (bindings_of t) i ≡ Some (x, u) → height_of u < height_of t }
+    ensures body { (bs : Bindings) (u : Term) → height_of u < height_of (let_in bs u) }
 {}

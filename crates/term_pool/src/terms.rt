@@ -1,9 +1,10 @@
 //! A pool with one pass on it.
 
 ghost use Rattle.std.specs.Prelude.{◌≡◌, ◌↔◌, ℕ};
-ghost use Rattle.pair_pool.specs.Views.{IsOf, IsOneToOne};
+ghost use Rattle.pair_pool.specs.Views.{IsOf, IsOneToOne, HasPartsOfTrees, HasListsInOrder};
 ghost use Rattle.sym_table.specs.Table.{Table, IsTable};
 ghost use Rattle.term_model.specs.Terms.{Term};
+ghost use Rattle.term_pool.specs.Decoding.{HasTermsAt};
 ghost use Rattle.term_pool.specs.Views.{RefersTo};
 
 mod building;
@@ -66,5 +67,19 @@ impl<'a> Terms<'a> {
         ensures { IsOneToOne self.now.pass }
     {
         self.pass.one_to_one();
+    }
+
+    /// A law: the term at a reference is a function of what contracts see, by which a loop that goes from term to term
+    /// can be measured; and how trees and cells that are known stand to each other. The call does nothing; its contract
+    /// is the law.
+    pub fn terms_at(&self)
+        ensures terms { HasTermsAt self.now }
+        ensures parts { HasPartsOfTrees self.now.pass }
+        ensures lists { HasListsInOrder self.now.pass }
+    {
+        self.pass.one_to_one();
+        self.pass.parts_of_trees();
+        self.pass.lists_in_order();
+        self.pass.trees_within();
     }
 }
