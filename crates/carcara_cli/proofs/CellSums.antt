@@ -137,11 +137,11 @@ module _ (one_tree : (s : Table) (a b : Tree) (t : Term) → IsTable s → Stand
   same_tree : (t u : Tree) (is : IsOfText t) (is' : IsOfText u) → spot t is ≡ spot u is' → t ≡ u
   same_tree t u is is' e =
       let both = one_spot terms (there t is).0 (there u is').0 (place t is) (place u is') is.whole is'.whole
-          (there t is).1 (there t is).2 (there u is').1 (there u is').2 (within t is) (within u is') e in
+      (there t is).1 (there t is).2 (there u is').1 (there u is').2 (within t is) (within u is') e in
       let stands : StandsFor more.table is.tree is'.whole = rw both.0 at is.stands in
       let tree : is'.tree ≡ is.tree = one_tree more.table is'.tree is.tree is'.whole more.is_table is'.stands stands in
       let moved : (part : IsPartOf u is.tree) × (place_in u is.tree part ≡ place u is') =
-          subst (λ x. (part : IsPartOf u x) × (place_in u x part ≡ place u is')) tree (is'.part, refl) in
+      subst (λ x. (part : IsPartOf u x) × (place_in u x part ≡ place u is')) tree (is'.part, refl) in
       one_part t u is.tree is.part moved.0 is.is_cell is'.is_cell (both.1 ∙ sym moved.1)
 
   -- the spot of the cell with a number, and 0 where there is none
@@ -171,5 +171,5 @@ module _ (one_tree : (s : Table) (a b : Tree) (t : Term) → IsTable s → Stand
   pub more_in_sum : n < cells_in_all terms
   more_in_sum =
       pigeonhole (suc n) (cells_in_all terms) (λ i. spot_at i (cases_lt i (suc n)))
-          (λ i inside. spot_inside i (cases_lt i (suc n)) inside)
-          (λ i j inside inside' same. spot_apart i j (cases_lt i (suc n)) (cases_lt j (suc n)) inside inside' same)
+      (λ i inside. spot_inside i (cases_lt i (suc n)) inside)
+      (λ i j inside inside' same. spot_apart i j (cases_lt i (suc n)) (cases_lt j (suc n)) inside inside' same)

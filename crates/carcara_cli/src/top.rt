@@ -25,7 +25,11 @@ struct Files {
 }
 
 /// Reads the problem's file whole, and then the proof's.
-fn read_both<F: Folder>(alloc: Global, folder: &mut F, asked: &Request<'_>) -> Result<Files, ReadStop>
+fn read_both<F: Folder>(
+    alloc: Global,
+    folder: &mut F,
+    asked: &Request<'_>,
+) -> Result<Files, ReadStop>
     requires problem { F.may_ask folder.old asked.now.problem.now }
     requires proof { F.may_ask folder.old asked.now.proof.now }
     ensures problem { IfOk result (λ files. AreTold (F.content folder.old asked.now.problem.now) files.problem.items) }
@@ -63,7 +67,13 @@ fn answer_to<F: Folder>(alloc: Global, words: &[String], folder: &mut F) -> Resu
         Ok(files) => files,
         Err(stop) => return unread(stop),
     };
-    let judgement = judge(alloc, &files.problem, asked.replaces_lets, &files.proof, MOST_BITS)?;
+    let judgement = judge(
+        alloc,
+        &files.problem,
+        asked.replaces_lets,
+        &files.proof,
+        MOST_BITS,
+    )?;
     Ok(Answer::Judged(judgement))
 }
 

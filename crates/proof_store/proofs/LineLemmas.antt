@@ -73,15 +73,15 @@ at_index d proof i n b h e f =
     let c = both d i n b e f in
     let l = line_at d proof i c.0 h c.1 in
     record {
-  nesting = l.0.scope.nesting;
-  command = l.0.command;
-  entry = slice_get-map entry_of (lines_in outermost proof) i ∙ ap (option_map entry_of) l.1;
-  number = ap (λ k. k.inner) l.2 ∙ c.2;
-  closes = ap (λ k. k.closes) l.2 ∙ c.3;
-  step = ap (option_map (λ (s : Stored). (kept s).step)) c.1 ∙ ap Some (sym (ap (λ k. k.step) l.2));
-  anchored = line_among (λ line. AreAnchored d.scopes line.scope.nesting) (lines_in outermost proof) i l.0 h.lines l.1;
-  closing_well = line_among IsLine (lines_in outermost proof) i l.0 (lines_close outermost proof) l.1;
-}
+      nesting = l.0.scope.nesting;
+      command = l.0.command;
+      entry = slice_get-map entry_of (lines_in outermost proof) i ∙ ap (option_map entry_of) l.1;
+      number = ap (λ k. k.inner) l.2 ∙ c.2;
+      closes = ap (λ k. k.closes) l.2 ∙ c.3;
+      step = ap (option_map (λ (s : Stored). (kept s).step)) c.1 ∙ ap Some (sym (ap (λ k. k.step) l.2));
+      anchored = line_among (λ line. AreAnchored d.scopes line.scope.nesting) (lines_in outermost proof) i l.0 h.lines l.1;
+      closing_well = line_among IsLine (lines_in outermost proof) i l.0 (lines_close outermost proof) l.1;
+    }
 
 module _ (d : Draft) (proof : Items ℕ ℕ) (i n : ℕ) (b : Bool) (h : IsDraft d (at outermost proof)) (e : option_map (λ s. s.inner) (slice_get d.commands i) ≡ Some n) (f : option_map (λ s. s.closes) (slice_get d.commands i) ≡ Some b) where
   pub read_not_closing : b ≡ false → None ≡ closes_at proof i
@@ -113,6 +113,7 @@ module _ (d : Draft) (proof : Items ℕ ℕ) (i n : ℕ) (b : Bool) (h : IsDraft
     where
       some_same : {a b : Option ℕ} → Some a ≡ Some b → a ≡ b
       some_same e = cc
+
       go : (nesting : Nesting ℕ ℕ) (c : Command ℕ) → closes_own c ≡ true → IsClosing nesting c → AreAnchored d.scopes nesting → option_map (λ s. s.entry.parent) (slice_get d.scopes (scope_number nesting)) ≡ Some p → unwrap_or p 0 ≡ own_scope nesting c
       go nesting (assume id t) s w k at = absurd (cc)
       go nesting (step t) s w k at = absurd (cc)
@@ -128,6 +129,7 @@ module _ (d : Draft) (proof : Items ℕ ℕ) (i n : ℕ) (b : Bool) (h : IsDraft
     where
       some_same : {a b : Step ℕ} → Some a ≡ Some b → a ≡ b
       some_same e = cc
+
       go : (c : Command ℕ) (s : Step ℕ) → Some s ≡ Some (kept_step c) → closes_own c ≡ false → s.id ≡ id_of c
       go (assume id t) s own k = ap (λ t. t.id) (some_same own)
       go (step t) s own k = ap (λ t. t.id) (some_same own)
@@ -138,6 +140,7 @@ module _ (d : Draft) (proof : Items ℕ ℕ) (i n : ℕ) (b : Bool) (h : IsDraft
     where
       some_same : {a b : List ℕ} → Some a ≡ Some b → a ≡ b
       some_same e = cc
+
       go : (nesting : Nesting ℕ ℕ) (c : Command ℕ) → closes_own c ≡ true → IsClosing nesting c → AreAnchored d.scopes nesting → option_map (λ s. s.id) (slice_get d.scopes (scope_number nesting)) ≡ Some x → x ≡ id_of c
       go nesting (assume id t) s w k at = absurd (cc)
       go nesting (step t) s w k at = absurd (cc)

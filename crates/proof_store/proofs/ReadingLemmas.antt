@@ -106,6 +106,7 @@ module _ (d : Draft) (proof : Items ℕ ℕ) (i : ℕ) (h : IsDraft d (at outerm
       joined : (x : Option (Bor (List Ratio))) → option_map (map fraction_of) (option_map (λ (qs : Bor (List Ratio)). qs.now) x) ≡ fractions x
       joined None = refl
       joined (Some qs) = refl
+
       same : (c : Command ℕ) → ratios_of c ≡ (kept_step c).ratios
       same (assume id t) = refl
       same (step s) = refl

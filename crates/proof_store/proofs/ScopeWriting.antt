@@ -40,22 +40,23 @@ close_at d (inside around before anchor) items c is h same may few =
     let nest = same_nesting around before anchor s e in
     let event = step_same c [] d.here d.pending true closes.rule in
     rw same (record {
-  proof = proof_more d scope kept_step (scope_number around) (scope_number around) h refl
-      ∙ (ap (λ p. apply p (event_of kept_step)) is
-      ∙ ap (λ (t : Step ℕ). close_scope (inside around before anchor) items (record t { id = anchor.id })) event
-      ∙ ap (λ id. close_scope (inside around before anchor) items (record s { id = id })) (sym e));
-  draft = draft_more d scope (close_scope (inside around before anchor) items s) kept_step (scope_number around) (scope_number around)
-      (record { scope = scope; command = closing s }) h refl refl
-      (rw event (ap (λ n. record { step = record s { id = [] }; inner = n; closes = true }) h.here))
-      (lines_close around before anchor items s e)
-      (scopes_close around before anchor items s e)
-      h.open_scopes.0 h.placed.0
-      (h.placed.1,
-       subst (λ id. MayOpen around before (record { id = id; bindings = anchor.bindings })) (sym e) h.placed.2,
-       subst (λ n. AreWellFormed n items) (sym nest) h.formed,
-       subst (λ n. MayClose around before n items s) (sym nest) closes)
-      refl few;
-})
+      proof = proof_more d scope kept_step (scope_number around) (scope_number around) h refl
+          ∙ (ap (λ p. apply p (event_of kept_step)) is
+          ∙ ap (λ (t : Step ℕ). close_scope (inside around before anchor) items (record t { id = anchor.id })) event
+          ∙ ap (λ id. close_scope (inside around before anchor) items (record s { id = id })) (sym e));
+      draft = draft_more d scope (close_scope (inside around before anchor) items s) kept_step (scope_number around) (scope_number around)
+          (record { scope = scope; command = closing s }) h refl refl
+          (rw event (ap (λ n. record { step = record s { id = [] }; inner = n; closes = true }) h.here))
+          (lines_close around before anchor items s e)
+          (scopes_close around before anchor items s e)
+          h.open_scopes.0 h.placed.0 (
+            h.placed.1,
+            subst (λ id. MayOpen around before (record { id = id; bindings = anchor.bindings })) (sym e) h.placed.2,
+            subst (λ n. AreWellFormed n items) (sym nest) h.formed,
+            subst (λ n. MayClose around before n items s) (sym nest) closes,
+          )
+          refl few;
+    })
 
 pub close_writes : (d : Draft) (c : NewCommand) → IsDraft d (proof_of d) → is_open_id (proof_of d).nesting c.id.now ≡ true → MayTake (proof_of d) (step_of_new c) → suc (next_index (proof_of d)) < 2 ^ 32 - 1 → Writes (record (with_command d (stored_in c [] d.here d.pending true) (owner_of (proof_of d).nesting)) { here = owner_of (proof_of d).nesting }) (take_step (proof_of d) (step_of_new c))
 close_writes d c h same may few =
@@ -120,20 +121,20 @@ open_writes d id bindings h may few =
     let keeps = push_keeps d.scopes stored in
     let here = slice_get_last d.scopes stored in
     record {
-  proof = rw (anchors_push d.scopes stored some, events_open (anchors_of d.scopes) anchor d.commands pending) (written_more (events_from (anchors_of d.scopes) d.commands) (opened anchor));
-  draft = record {
-    commands = h.commands ∙ ap (map Rattle.proof_store.specs.Drafts.kept_of) (sym (lines_open scope anchor));
-    scopes = map-append (λ s. s.entry) d.scopes (stored ∷ []) ∙ rw (h.scopes, h.here) refl;
-    lines = subst (Rattle.std.specs.List.AllByRecursion (λ l. AreAnchored (d.scopes ++ stored ∷ []) l.scope.nesting)) (sym (lines_open scope anchor)) (lines_stay d.scopes _ (lines_to scope) keeps h.lines);
-    open_scopes = (anchored_stays d.scopes _ scope.nesting keeps h.open_scopes, record { id = rw (number, here) refl; parent = rw (number, here) (ap (λ n. Some (Some n)) h.here) });
-    here = sym number;
-    fresh = let n = h.fresh in let one = length-append d.scopes (stored ∷ []) in omega arith;
-    placed = (h.placed, h.formed, may);
-    formed = tt;
-    few_commands = h.few_commands;
-    few_scopes = let one = length-append d.scopes (stored ∷ []) in omega arith;
-  };
-}
+      proof = rw (anchors_push d.scopes stored some, events_open (anchors_of d.scopes) anchor d.commands pending) (written_more (events_from (anchors_of d.scopes) d.commands) (opened anchor));
+      draft = record {
+        commands = h.commands ∙ ap (map Rattle.proof_store.specs.Drafts.kept_of) (sym (lines_open scope anchor));
+        scopes = map-append (λ s. s.entry) d.scopes (stored ∷ []) ∙ rw (h.scopes, h.here) refl;
+        lines = subst (Rattle.std.specs.List.AllByRecursion (λ l. AreAnchored (d.scopes ++ stored ∷ []) l.scope.nesting)) (sym (lines_open scope anchor)) (lines_stay d.scopes _ (lines_to scope) keeps h.lines);
+        open_scopes = (anchored_stays d.scopes _ scope.nesting keeps h.open_scopes, record { id = rw (number, here) refl; parent = rw (number, here) (ap (λ n. Some (Some n)) h.here) });
+        here = sym number;
+        fresh = let n = h.fresh in let one = length-append d.scopes (stored ∷ []) in omega arith;
+        placed = (h.placed, h.formed, may);
+        formed = tt;
+        few_commands = h.few_commands;
+        few_scopes = let one = length-append d.scopes (stored ∷ []) in omega arith;
+      };
+    }
 
 pub scope_index : (d : Draft) → IsDraft d (proof_of d) → length d.scopes ≡ next_scope (proof_of d)
 scope_index d h = scope_count d (proof_of d) h

@@ -97,13 +97,15 @@ kept_name_in old new row keeps has = go (is_unknown row.rule) refl
 -- what is kept of a row stays, where its lists do
 stored_stays : (n : ℕ) (columns next : Columns) (names more : List (List ℕ)) (k : ℕ) (row : Row) → AgreesTo n columns next → KeepsNames names more → HasName names row → k < n → stored_at next more k row ≡ stored_at columns names k row
 stored_stays n columns next names more k row a keeps has h =
-    rw (kept_name_in names more row keeps has,
-        get_agreed n columns.ids next.ids [] k a.ids h,
-        get_agreed n columns.clauses next.clauses [] k a.clauses h,
-        get_agreed n columns.premises next.premises [] k a.premises h,
-        get_agreed n columns.discharged next.discharged [] k a.discharged h,
-        get_agreed n columns.pivots next.pivots [] k a.pivots h,
-        get_agreed n columns.ratios next.ratios [] k a.ratios h) refl
+    rw (
+      kept_name_in names more row keeps has,
+      get_agreed n columns.ids next.ids [] k a.ids h,
+      get_agreed n columns.clauses next.clauses [] k a.clauses h,
+      get_agreed n columns.premises next.premises [] k a.premises h,
+      get_agreed n columns.discharged next.discharged [] k a.discharged h,
+      get_agreed n columns.pivots next.pivots [] k a.pivots h,
+      get_agreed n columns.ratios next.ratios [] k a.ratios h,
+    ) refl
 
 stored_same : (n : ℕ) (columns next : Columns) (names more : List (List ℕ)) (k : ℕ) (rows : List Row) → AgreesTo n columns next → KeepsNames names more → AllByRecursion (HasName names) rows → k + length rows ≤ n → stored_from next more k rows ≡ stored_from columns names k rows
 stored_same n columns next names more k [] a keeps has h = refl
@@ -120,14 +122,16 @@ row_of c name = record { rule = c.rule; has_ratios = is_some c.ratios; closes = 
 
 stored_new : (columns : Columns) (names : List (List ℕ)) (n name : ℕ) (c : NewCommand) → HasAt n columns c → name_in names c.rule name ≡ named c.rule c.rule_name.now → stored_at columns names n (row_of c name) ≡ stored c
 stored_new columns names n name c has is =
-    rw (is,
-        get_from_slice_get columns.ids n c.id.now [] has.ids,
-        get_from_slice_get columns.clauses n c.clause.now [] has.clauses,
-        get_from_slice_get columns.premises n c.premises.now [] has.premises,
-        get_from_slice_get columns.discharged n c.discharged.now [] has.discharged,
-        get_from_slice_get columns.pivots n c.pivots.now [] has.pivots,
-        get_from_slice_get columns.ratios n (unwrap_or (option_map (λ (qs : Bor (List Ratio)). qs.now) c.ratios) []) [] has.ratios,
-        ratios c.ratios) refl
+    rw (
+      is,
+      get_from_slice_get columns.ids n c.id.now [] has.ids,
+      get_from_slice_get columns.clauses n c.clause.now [] has.clauses,
+      get_from_slice_get columns.premises n c.premises.now [] has.premises,
+      get_from_slice_get columns.discharged n c.discharged.now [] has.discharged,
+      get_from_slice_get columns.pivots n c.pivots.now [] has.pivots,
+      get_from_slice_get columns.ratios n (unwrap_or (option_map (λ (qs : Bor (List Ratio)). qs.now) c.ratios) []) [] has.ratios,
+      ratios c.ratios,
+    ) refl
   where
     ratios : (qs : Option (Bor (List Ratio))) → (if is_some qs then Some (unwrap_or (option_map (λ (q : Bor (List Ratio)). q.now) qs) []) else None) ≡ option_map (λ (q : Bor (List Ratio)). q.now) qs
     ratios None = refl
@@ -160,11 +164,11 @@ named_push names more (row ∷ rows) c name keeps within h = ((λ e. kept_within
 pub in_step_push : (columns next : Columns) (names more : List (List ℕ)) (rows : List Row) (c : NewCommand) (name : ℕ) → AreInStep rows columns names → length rows < 2 ^ 32 - 1 → HasAt (length rows) next c → KeepsNames names more → (is_unknown c.rule ≡ true → name < length more) → length more ≤ length names + 1 → AreInStep (rows ++ row_of c name ∷ []) next more
 in_step_push columns next names more rows c name h few has keeps within count =
     let one = length-append rows (row_of c name ∷ []) in record {
-  long = long_push next rows (row_of c name) c has;
-  named = named_push names more rows c name keeps within h.named;
-  few_names = let names = h.few_names in omega arith;
-  few = omega arith;
-}
+      long = long_push next rows (row_of c name) c has;
+      named = named_push names more rows c name keeps within h.named;
+      few_names = let names = h.few_names in omega arith;
+      few = omega arith;
+    }
 
 pub in_step_refused : (columns next : Columns) (names : List (List ℕ)) (rows : List Row) → AreInStep rows columns names → IsLong (length rows) next → AreInStep rows next names
 in_step_refused columns next names rows h long = record { long = long; named = h.named; few_names = h.few_names; few = h.few }

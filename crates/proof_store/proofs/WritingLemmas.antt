@@ -48,14 +48,14 @@ assume_writes d id t h new few =
     let scope = proof_of d in
     let count = command_count d scope h in
     record {
-  proof = proof_more d scope (stored_assume id t d.here d.pending) d.here d.here h refl;
-  draft = draft_more d scope (add_assume scope id t) (stored_assume id t d.here d.pending) d.here d.here
-      (record { scope = scope; command = assume id t }) h refl refl
-      (ap (λ n. record { step = assume_step id t; inner = n; closes = false }) h.here)
-      (lines_assume scope id t)
-      (subst (λ k. scopes_to (add_assume scope id t) ≡ entry_last k (next_index scope) (scopes_to scope)) (sym h.here) (scopes_assume scope id t))
-      h.open_scopes h.placed (h.formed, new) h.here (omega arith);
-}
+      proof = proof_more d scope (stored_assume id t d.here d.pending) d.here d.here h refl;
+      draft = draft_more d scope (add_assume scope id t) (stored_assume id t d.here d.pending) d.here d.here
+          (record { scope = scope; command = assume id t }) h refl refl
+          (ap (λ n. record { step = assume_step id t; inner = n; closes = false }) h.here)
+          (lines_assume scope id t)
+          (subst (λ k. scopes_to (add_assume scope id t) ≡ entry_last k (next_index scope) (scopes_to scope)) (sym h.here) (scopes_assume scope id t))
+          h.open_scopes h.placed (h.formed, new) h.here (omega arith);
+    }
 
 -- the name that is kept is the step's
 name_same : (s : Step ℕ) → HasRule s → named s.rule s.rule_name ≡ s.rule_name
@@ -107,11 +107,11 @@ stand_writes d c h shut may few =
     let kept_step = stored_in c c.id.now d.here d.pending false in
     let count = command_count d scope h in
     rw (taken_stands scope s shut) (record {
-  proof = proof_more d scope kept_step d.here d.here h refl ∙ ap (apply scope) (stand_event c d.here d.pending stands.rule);
-  draft = draft_more d scope (add_step scope s) kept_step d.here d.here
-      (record { scope = scope; command = step s }) h refl refl
-      (rw (step_same c c.id.now d.here d.pending false stands.rule) (ap (λ n. record { step = s; inner = n; closes = false }) h.here))
-      (lines_step scope s)
-      (subst (λ k. scopes_to (add_step scope s) ≡ entry_last k (next_index scope) (scopes_to scope)) (sym h.here) (scopes_step scope s))
-      h.open_scopes h.placed (h.formed, stands) h.here (omega arith);
-})
+      proof = proof_more d scope kept_step d.here d.here h refl ∙ ap (apply scope) (stand_event c d.here d.pending stands.rule);
+      draft = draft_more d scope (add_step scope s) kept_step d.here d.here
+          (record { scope = scope; command = step s }) h refl refl
+          (rw (step_same c c.id.now d.here d.pending false stands.rule) (ap (λ n. record { step = s; inner = n; closes = false }) h.here))
+          (lines_step scope s)
+          (subst (λ k. scopes_to (add_step scope s) ≡ entry_last k (next_index scope) (scopes_to scope)) (sym h.here) (scopes_step scope s))
+          h.open_scopes h.placed (h.formed, stands) h.here (omega arith);
+    })

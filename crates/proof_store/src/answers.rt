@@ -37,6 +37,7 @@ pub enum RuleStop {
 impl From<Memory> for RuleStop {
     ghost use Rattle.std.specs.Prelude.{◌≡◌};
     ghost use Rattle.proof_store.specs.declared.answers.RuleStop.TheVariants as RuleStop;
+
     ghost from_gives = { λ _ stop. stop ≡ RuleStop.Memory };
 
     fn from(_refused: Memory) -> RuleStop {
@@ -47,6 +48,7 @@ impl From<Memory> for RuleStop {
 impl From<PoolFull> for RuleStop {
     ghost use Rattle.std.specs.Prelude.{◌≡◌};
     ghost use Rattle.proof_store.specs.declared.answers.RuleStop.TheVariants as RuleStop;
+
     ghost from_gives = { λ _ stop. stop ≡ RuleStop.PoolFull };
 
     fn from(_refused: PoolFull) -> RuleStop {

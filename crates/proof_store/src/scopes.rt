@@ -98,7 +98,12 @@ impl Scopes {
 
     /// Adds the scope of an anchor, inside another.
     #[tactic(auto, using(crate::proofs::ScopeLemmas::inner_count, crate::proofs::ScopeLemmas::inner_push, crate::proofs::ScopeLemmas::inner_refused, crate::proofs::ScopeLemmas::have_lists_push, crate::proofs::ScopeLemmas::have_lists_refused))]
-    pub(crate) fn push(&mut self, parent: u32, id: &[u8], bindings: &[(u32, Ref)]) -> Result<(), Memory>
+    pub(crate) fn push(
+        &mut self,
+        parent: u32,
+        id: &[u8],
+        bindings: &[(u32, Ref)],
+    ) -> Result<(), Memory>
         requires { length self.old < 2 ^ 32 - 1 }
         ensures pushed { OnOk result (self.new ≡ self.old ++ scope_with parent id.now bindings.now None ∷ []) }
         ensures refused { OnErr result (self.new ≡ self.old) }

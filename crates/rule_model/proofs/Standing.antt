@@ -107,7 +107,7 @@ direct_seen {V} {T} nesting (with_subproof items bindings proof s) =
     let outer = lines_count (at nesting items) in
     let within = lines_in_count deep proof in
     let count : length lines ≡ first_index nesting + (commands_in items + commands_in proof) =
-        ap length (sym (append_assoc (lines_around nesting) (lines_in nesting items) (lines_in deep proof))) ∙ (length-append (lines_around nesting ++ lines_in nesting items) (lines_in deep proof) ∙ omega arith) in
+    ap length (sym (append_assoc (lines_around nesting) (lines_in nesting items) (lines_in deep proof))) ∙ (length-append (lines_around nesting ++ lines_in nesting items) (lines_in deep proof) ∙ omega arith) in
     all_append _ (direct nesting items) _ (seen_more _ _ _ _ (direct nesting items) whole (direct_seen nesting items))
     (subst (λ ls. AllByRecursion (λ s. IsSeen (open_scopes nesting) ls s.index) (sight (first_index nesting + (commands_in items + commands_in proof)) s.id ∷ [])) (sym join) (seen_last nesting lines l _ s.id refl count))
 

@@ -47,10 +47,13 @@ module _ {V T : Type 0} where
     where
       deep : Nesting V T
       deep = inner nesting items bindings s
+
       count : length (scopes_in nesting items) ≡ subproofs_in items
       count = scopes_in_count nesting items
+
       Goal : ℕ → Type 0
       Goal number = Closes ((lines_in nesting items ++ lines_in (inner nesting items bindings s) proof) ++ record { scope = at (inner nesting items bindings s) proof; command = closing s } ∷ []) number e
+
       own : (j : ℕ) → k - length (scopes_in nesting items) ≡ j → length (scopes_in nesting items) ≤ k → ((k : ℕ) (e : ScopeEntry V T) → slice_get (scopes_in (inner nesting items bindings s) proof) k ≡ Some e → Closes (lines_in (inner nesting items bindings s) proof) (suc (scope_number (inner nesting items bindings s) + k)) e) → slice_get (scope_entry (inner nesting items bindings s) proof ∷ scopes_in (inner nesting items bindings s) proof) j ≡ Some e → Goal (suc (scope_number nesting + k))
       own zero j l within f =
           let number : suc (scope_number nesting + subproofs_in items) ≡ suc (scope_number nesting + k) = let c = scopes_in_count nesting items in omega arith in
@@ -59,6 +62,7 @@ module _ {V T : Type 0} where
       own (suc i) j l within f =
           let number : suc (scope_number (inner nesting items bindings s) + i) ≡ suc (scope_number nesting + k) = let c = scopes_in_count nesting items in omega arith in
           subst Goal number (closes_left (lines_in nesting items ++ lines_in (inner nesting items bindings s) proof) _ _ e (closes_right (lines_in nesting items) _ _ e (within i e f)))
+
       go : (slice_get (scopes_in nesting items) k ≡ Some e → Closes (lines_in nesting items) (suc (scope_number nesting + k)) e) → ((k : ℕ) (e : ScopeEntry V T) → slice_get (scopes_in (inner nesting items bindings s) proof) k ≡ Some e → Closes (lines_in (inner nesting items bindings s) proof) (suc (scope_number (inner nesting items bindings s) + k)) e) → ((k < length (scopes_in nesting items)) × (slice_get (scopes_in nesting items) k ≡ Some e)) ⊎ ((length (scopes_in nesting items) ≤ k) × (slice_get (scope_entry (inner nesting items bindings s) proof ∷ scopes_in (inner nesting items bindings s) proof) (k - length (scopes_in nesting items)) ≡ Some e)) → Goal (suc (scope_number nesting + k))
       go outer within (inl p) = closes_left (lines_in nesting items ++ lines_in (inner nesting items bindings s) proof) _ _ e (closes_left (lines_in nesting items) _ _ e (outer p.1))
       go outer within (inr p) = own (k - length (scopes_in nesting items)) refl p.0 within p.1

@@ -348,7 +348,7 @@ other_heads p one parts equal r a b q c d h k apart (inr e) = go (nat_eq a c) re
         let same = eqb-true a c f in
         let is_let : is_let_head h.head ≡ true = sym (head_is_let p one parts a h.head h.first) ∙ eq-eqb a 1 e in
         let heads : same_tree h.head k.head ≡ true =
-            ap (λ (x : Tree). same_tree h.head x) (sym (heads_same p one r a b q c d h k same)) ∙ tree_refl h.head in
+        ap (λ (x : Tree). same_tree h.head x) (sym (heads_same p one r a b q c d h k same)) ∙ tree_refl h.head in
         terms_are p one equal r a b q c d h k false
         (rw (heads, is_let, lists_apart p one r a b q c d h k apart same) refl)
 
@@ -360,9 +360,9 @@ pub record HaveHead (p : PassView) (a c : ℕ) : Type 0 where
 with_head : (p : PassView) → IsOneToOne p → HasPartsOfTrees p → (equal r a b q c d : ℕ) (h : IsSplit p r a b) (k : IsSplit p q c d) → HaveHead p a c → (x : Bool) → x ≡ (same_lists equal h.list k.list || (same_tree h.head (leaf equal) && crossed equal h.list k.list)) → IsAnswer p equal (as_terms r q) x
 with_head p one parts equal r a b q c d h k head x is =
     let no_let : is_let_head h.head ≡ false =
-        sym (head_is_let p one parts a h.head h.first) ∙ eqb-other a 1 head.no_let in
+    sym (head_is_let p one parts a h.head h.first) ∙ eqb-other a 1 head.no_let in
     let heads : same_tree h.head k.head ≡ true =
-        ap (λ (y : Tree). same_tree h.head y) (sym (heads_same p one r a b q c d h k head.same)) ∙ tree_refl h.head in
+    ap (λ (y : Tree). same_tree h.head y) (sym (heads_same p one r a b q c d h k head.same)) ∙ tree_refl h.head in
     terms_are p one equal r a b q c d h k x (rw (heads, no_let) is)
   where
     eqb-other : (m n : ℕ) → m ≢ n → nat_eq m n ≡ false

@@ -150,11 +150,7 @@ fn judge_crossed(
     let Some(others) = two_items(pool, pass, other) else {
         return Visit::Done(false);
     };
-    both(
-        memo,
-        terms(items.0, others.1),
-        terms(items.1, others.0),
-    )
+    both(memo, terms(items.0, others.1), terms(items.1, others.0))
 }
 
 /// Judges two different cells as terms: by their heads, and by their arguments, of equalities also crosswise.
@@ -207,13 +203,7 @@ fn note(memo: &mut HashMap<Pair, bool>, pair: Pair, same: bool) -> Result<(), Me
 }
 
 /// Judges a pair of different cells.
-fn judge(
-    pool: &Pool,
-    pass: &mut Pass,
-    equal: u32,
-    memo: &HashMap<Pair, bool>,
-    pair: &Pair,
-) -> Visit
+fn judge(pool: &Pool, pass: &mut Pass, equal: u32, memo: &HashMap<Pair, bool>, pair: &Pair) -> Visit
     requires of_pool { IsOf pool.now pass.old }
     requires equal { equal < 2 ^ 30 }
     requires cells { AreCells pass.old pair.now }

@@ -95,7 +95,13 @@ fn flips(rt: HostRuntime) -> Result<(), Fail> {
     let equal = symbols.operator(Op::Equal);
     assert!(rt; equal < 1 << 30);
     let (one, other) = towers(&mut terms, equal, 1000)?;
-    assert_eq!(rt; terms.same_up_to_flips(rt.alloc(), &symbols, one, other)?, true);
-    assert_eq!(rt; terms.same_up_to_flips(rt.alloc(), &symbols, one, Ref::leaf(3))?, false);
+    assert_eq!(rt;
+        terms.same_up_to_flips(rt.alloc(), &symbols, one, other)?,
+        true
+    );
+    assert_eq!(rt;
+        terms.same_up_to_flips(rt.alloc(), &symbols, one, Ref::leaf(3))?,
+        false
+    );
     Ok(())
 }

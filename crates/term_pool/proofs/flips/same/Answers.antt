@@ -45,6 +45,6 @@ pub returns-in-None-clause-answer : goal.returns-in-None-clause-answer
 returns-in-None-clause-answer c =
     let visit = rw (c.pairs.invariant.0, c.in-Done.is) at c.in_ok-part.ensures.visit in
     let root =
-        walk_end _ _ c.pairs.memo _ _ _
-        (none_left _ _ _ c.in-None.ensures.cases.0 c.in-None.ensures.rest c.in-None.ensures.items) c.pairs.invariant.1 in
+    walk_end _ _ c.pairs.memo _ _ _
+    (none_left _ _ _ c.in-None.ensures.cases.0 c.in-None.ensures.rest c.in-None.ensures.items) c.pairs.invariant.1 in
     rw root at visit.1

@@ -22,8 +22,8 @@ returns-clause-items c =
     let above : 2 ^ 30 ≤ c.args.list = grind arith in
     let behind : 2 ^ 30 ≤ c.parts-first.result.1 = grind arith in
     let one =
-        split_of _ _ _ _ (reference_cell _ _ c.parts_of_trees.ensures above c.requires.known) c.parts-first.ensures.first
-        c.parts-first.ensures.second in
+    split_of _ _ _ _ (reference_cell _ _ c.parts_of_trees.ensures above c.requires.known) c.parts-first.ensures.first
+    c.parts-first.ensures.second in
     items_of_two _ c.one_to_one.ensures c.parts_of_trees.ensures _ _ _ _ _ one
     (split_of _ _ _ _ (reference_cell _ _ c.parts_of_trees.ensures behind (rest_known _ _ _ _ one))
     (rw c.parts-first.ensures.same at c.parts-second.ensures.first)
