@@ -68,14 +68,14 @@ leaving_cell p parts k list rest old now hidden h high = go h.left h.left_known
 
 -- a binding that the list begins with
 pub record IsBinding (p : PassView) (rest binding next : ℕ) (left : Tree) : Type 0 where
-  var : ℕ
-  value : Tree
-  others : Tree
-  is : left ≡ cell (cell (leaf var) value) others
-  binding_known : Knows p binding (cell (leaf var) value)
-  next_known : Knows p next others
-  value_shape : HasShape value
-  others_shape : HasListShape others
+  pub var : ℕ
+  pub value : Tree
+  pub others : Tree
+  pub is : left ≡ cell (cell (leaf var) value) others
+  pub binding_known : Knows p binding (cell (leaf var) value)
+  pub next_known : Knows p next others
+  pub value_shape : HasShape value
+  pub others_shape : HasListShape others
 
 pub leaving_binding : (p : PassView) → HasPartsOfTrees p → (rest binding next : ℕ) (left : Tree) → Knows p rest left → HasListShape left → 2 ^ 30 ≤ rest → ((s t : Tree) → Knows p rest (cell s t) → Knows p binding s) → ((s t : Tree) → Knows p rest (cell s t) → Knows p next t) → IsBinding p rest binding next left
 leaving_binding p parts rest binding next (leaf j) known shape high first second = let e = parts.leaf_number rest j known in absurd (omega (arith, e.0, e.1))

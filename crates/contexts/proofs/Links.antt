@@ -37,7 +37,7 @@ one_leaf s table j k x y g h e =
     table.apart j k (variable_leaf x) (variable_leaf y) g h (ap (λ (z : Var). Leaf.kind_of 0 (variable_leaf z)) e) (ap (λ (z : Var). Leaf.name_of (variable_leaf z)) e)
 
 module _ (s : Table) (table : IsTable s) where
-  not_let : (k : ℕ) (l : Leaf) → IsLeaf s k l → ¬ (l ≡ let_head) → (k == 1) ≡ false
+  pub not_let : (k : ℕ) (l : Leaf) → IsLeaf s k l → ¬ (l ≡ let_head) → (k == 1) ≡ false
   not_let k l here other = go (k == 1) refl
     where
       go : (b : Bool) → (k == 1) ≡ b → (k == 1) ≡ false
@@ -92,7 +92,7 @@ module _ (s : Table) (table : IsTable s) where
     list_shape (term t ts) (cell a b) h =
         both_shaped a b (term_no_head t a h.0) (term_shape t a h.0) (list_shape ts b h.1)
 
-    bindings_shape : (bs : Bindings) (tree : Tree) → StandsForBindings s tree bs → HasListShape tree
+    pub bindings_shape : (bs : Bindings) (tree : Tree) → StandsForBindings s tree bs → HasListShape tree
     bindings_shape no_bindings (leaf k) h = tt
     bindings_shape no_bindings (cell a b) h = absurd (impossible h)
       where

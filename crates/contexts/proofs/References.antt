@@ -1,8 +1,10 @@
 -- References of leaves and of cells, and lists of references.
-use Rattle.std.proofs.Common.{◌≡◌, ℕ, ◌<◌, ◌≤◌, ◌^◌, Bool, true, false, refl, subst, arith}
+use Rattle.std.proofs.Common.{◌≡◌, ℕ, ◌<◌, ◌≤◌, ◌^◌, Bool, true, false, refl, sym, ◌∙◌, subst, arith, ◌==◌}
 use Rattle.pair_pool.specs.Trees.{Tree, leaf, cell}
 use Rattle.pair_pool.specs.Views.{PassView, Knows, IsKnown, IsOneToOne, HasPartsOfTrees}
+use Rattle.term_pool.specs.Heights.{is_let_head}
 use Rattle.term_pool.specs.Views.{IsKnownCell}
+use Rattle.std.proofs.lemmas.Bool.{eqb-true}
 use Rattle.contexts.specs.Shapes.{Either, HasLetShape, IsShaped, IsLetRest}
 
 -- tests in types
@@ -43,3 +45,16 @@ rest_cell p r h = go h.tree h.known h.shape
 
 pub known_shaped : (p : PassView) (r : ℕ) → IsShaped p r → IsKnown p r
 known_shaped p r h = record { tree = h.tree; stands = h.known }
+
+-- the head of a let has number 1, and no other first part of a cell has
+pub head_other : (p : PassView) → HasPartsOfTrees p → (a : ℕ) (s : Tree) → Knows p a s → ¬ (a ≡ 1) → is_let_head s ≡ false
+head_other p parts a (leaf j) known differs = go (j == 1) refl
+  where
+    go : (t : Bool) → (j == 1) ≡ t → (j == 1) ≡ false
+    go false e = e
+    go true e = absurd (differs ((parts.leaf_number a j known).0 ∙ eqb-true j 1 e))
+head_other p parts a (cell c d) known differs = refl
+
+pub head_of_let : (p : PassView) → IsOneToOne p → HasPartsOfTrees p → (a : ℕ) (s : Tree) → Knows p a s → a ≡ 1 → is_let_head s ≡ true
+head_of_let p one parts a (leaf j) known same = let e : j ≡ 1 = sym (parts.leaf_number a j known).0 ∙ same in rw e
+head_of_let p one parts a (cell c d) known same = let high = one.high a c d known in absurd (omega arith)

@@ -10,7 +10,7 @@ use Rattle.term_pool.specs.Views.{IsKnownCell}
 use Rattle.contexts.specs.Shapes.{HasShape, HasLetShape, IsShaped, IsLetRest, IsBindingList}
 use Rattle.contexts.specs.FreeLeaves.{IsFreeLeaf, IsFreeInLet, BindsLeaf}
 use Rattle.contexts.specs.Searching.{IsFine, HasFree, ArePartsOf, LeavesParts, LeavesLet, LeavesValues, IsMet}
-use Rattle.contexts.proofs.References.{leaf_of, from_true, from_false, either_true, either_false}
+use Rattle.contexts.proofs.References.{leaf_of, head_other, head_of_let, from_true, from_false, either_true, either_false}
 use Rattle.contexts.proofs.LeavingValues.{free_among}
 
 -- what is left to be looked at, and what has been met
@@ -121,18 +121,6 @@ search_none p one k r seen left e h t known g =
 
 -- the parts of a cell that is no let
 module _ (p : PassView) (one : IsOneToOne p) (parts : HasPartsOfTrees p) (k r a b : ℕ) (first : (s t : Tree) → Knows p r (cell s t) → Knows p a s) (second : (s t : Tree) → Knows p r (cell s t) → Knows p b t) where
-  not_let : (s : Tree) → Knows p a s → ¬ (a ≡ 1) → is_let_head s ≡ false
-  not_let (leaf j) known differs = go (j == 1) refl
-    where
-      go : (t : Bool) → (j == 1) ≡ t → (j == 1) ≡ false
-      go false e = e
-      go true e = absurd (differs ((parts.leaf_number a j known).0 ∙ eqb-true j 1 e))
-  not_let (cell c d) known differs = refl
-
-  is_let : (s : Tree) → Knows p a s → a ≡ 1 → is_let_head s ≡ true
-  is_let (leaf j) known same = let e : j ≡ 1 = sym (parts.leaf_number a j known).0 ∙ same in rw e
-  is_let (cell c d) known same = let high = one.high a c d known in absurd (omega arith)
-
   pub plain_parts : ¬ (a ≡ 1) → (old new : List ℕ) → IsKnownCell p r → new ≡ (old ++ a ∷ []) ++ b ∷ [] → LeavesParts p k r old new
   plain_parts differs old new c added = record {
     parts = a ∷ b ∷ [];
@@ -146,7 +134,7 @@ module _ (p : PassView) (one : IsOneToOne p) (parts : HasPartsOfTrees p) (k r a 
           impossible : leaf j ≡ cell c.first c.second → ⊥
           impossible e = cc
       are (cell s t) known shape =
-          let no = not_let s (first s t known) differs in
+          let no = head_other p parts a s (first s t known) differs in
           let shapes = from_false (is_let_head s) (HasLetShape t) (HasShape s × HasShape t) no shape in
           record {
             each = λ x i. elim (Contains-push_cases (a ∷ []) b x i) [ inl before ↦ subst (IsFine p k (IsFreeLeaf k (cell s t))) (only a x before) (record { tree = s; known = first s t known; shape = shapes.0; sound = λ g. either_false (is_let_head s) _ _ no (inl g) }) | inr same ↦ subst (IsFine p k (IsFreeLeaf k (cell s t))) same (record { tree = t; known = second s t known; shape = shapes.1; sound = λ g. either_false (is_let_head s) _ _ no (inr g) }) ];
@@ -164,7 +152,7 @@ module _ (p : PassView) (one : IsOneToOne p) (parts : HasPartsOfTrees p) (k r a 
       go (cell s t) known shape = record {
         tree = t;
         known = second s t known;
-        shape = from_true (is_let_head s) (HasLetShape t) (HasShape s × HasShape t) (is_let s (first s t known) same) shape;
+        shape = from_true (is_let_head s) (HasLetShape t) (HasShape s × HasShape t) (head_of_let p one parts a s (first s t known) same) shape;
       }
 
   pub let_parts : a ≡ 1 → (old new : List ℕ) → IsKnownCell p r → LeavesLet p k b old new → LeavesParts p k r old new
@@ -176,7 +164,7 @@ module _ (p : PassView) (one : IsOneToOne p) (parts : HasPartsOfTrees p) (k r a 
           impossible : leaf j ≡ cell c.first c.second → ⊥
           impossible e = cc
       are (cell s t) known shape =
-          let yes = is_let s (first s t known) same in
+          let yes = head_of_let p one parts a s (first s t known) same in
           let inner = leaves.are t (second s t known) (from_true (is_let_head s) (HasLetShape t) (HasShape s × HasShape t) yes shape) in
           record {
             each = λ x i. let f = inner.each x i in record { tree = f.tree; known = f.known; shape = f.shape; sound = λ g. either_true (is_let_head s) _ _ yes (f.sound g) };

@@ -1,3 +1,9 @@
 pub mod Shapes
 pub mod FreeLeaves
 pub mod Searching
+pub mod Layers
+pub mod Becoming
+pub mod Places
+pub mod Hiding
+pub mod PutIn
+pub mod Firsts

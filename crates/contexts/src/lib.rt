@@ -5,6 +5,12 @@
 #![tactic(auto)]
 
 mod free;
+mod hiding;
+mod layers;
 mod leaves;
+mod places;
+mod putting;
+mod substitution;
 
 pub use free::free_in;
+pub use substitution::put_in;
