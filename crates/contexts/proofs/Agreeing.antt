@@ -90,7 +90,7 @@ module _ (f : ℕ → Tree) where
     let_agrees (cell list u) D E shape h =
         let x = bindings_agree list D E shape.0 (λ k g. h k (inl g)) in
         let y = becomes_agree u (D ++ pair_leaves list) (E ++ pair_leaves list) shape.1
-            (λ k g. under_let f D E k (pair_leaves list) (λ n. h k (inr (λ b. n (binds_listed k list shape.0 b), g)))) in
+        (λ k g. under_let f D E k (pair_leaves list) (λ n. h k (inr (λ b. n (binds_listed k list shape.0 b), g)))) in
         cc
 
     pub bindings_agree : (t : Tree) (D E : List ℕ) → HasListShape t → ((k : ℕ) → IsFreeInValues k t → image f D k ≡ image f E k) → bindings_become f D t ≡ bindings_become f E t

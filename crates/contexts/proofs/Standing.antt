@@ -99,10 +99,11 @@ module _ (s : Table) (table : IsTable s) (f : ℕ → Tree) where
         let first = becomes_stands t a hidden q h p.1.0 in
         let rest = list_stands ts b hidden q h p.1.1 in
         subst (λ (z : Tree). StandsForApplication s z l (term (put_in q t) (put_in_all q ts)))
-        (sym (if_false (k == 1) (cell (leaf k) (let_becomes f hidden (cell a b))) (cell (image f hidden k) (becomes f hidden (cell a b))) (not_let s table k l p.0 other)))
-        (stays hidden q h l never (leaf k) p.0,
-        subst (λ (z : Tree). StandsForList s z (term (put_in q t) (put_in_all q ts)))
-        (sym (if_false (is_let_head a) (cell a (let_becomes f hidden b)) (cell (becomes f hidden a) (becomes f hidden b)) (term_no_head s table t a p.1.0))) (first, rest))
+        (sym (if_false (k == 1) (cell (leaf k) (let_becomes f hidden (cell a b))) (cell (image f hidden k) (becomes f hidden (cell a b))) (not_let s table k l p.0 other))) (
+          stays hidden q h l never (leaf k) p.0,
+          subst (λ (z : Tree). StandsForList s z (term (put_in q t) (put_in_all q ts)))
+              (sym (if_false (is_let_head a) (cell a (let_becomes f hidden b)) (cell (becomes f hidden a) (becomes f hidden b)) (term_no_head s table t a p.1.0))) (first, rest),
+        )
 
     list_stands : (ts : Terms) (tree : Tree) (hidden : List ℕ) (q : Replacement) → PutsFor s f hidden q → StandsForList s tree ts → StandsForList s (becomes f hidden tree) (put_in_all q ts)
     list_stands no_terms tree hidden q h p =

@@ -152,15 +152,18 @@ pub walk_start : (o : PassView) (images : Images) (lists : Lists) (memo : Memory
 unfolding Descends Starts
 walk_start o images lists memo r way empty one h high none = rw none (record {
   root_inside = omega arith;
-  on = (record {
-    tree = h.tree;
-    known = h.known;
-    shape = h.shape;
-    high = high;
-    inside = omega arith;
-    unmet = rw empty;
-    part = λ f are. part-refl (becomes_there f lists (Term r 0) h.tree);
-  }, tt);
+  on = (
+    record {
+      tree = h.tree;
+      known = h.known;
+      shape = h.shape;
+      high = high;
+      inside = omega arith;
+      unmet = rw empty;
+      part = λ f are. part-refl (becomes_there f lists (Term r 0) h.tree);
+    },
+    tt,
+  );
   descends = (tt, tt);
   starts = refl;
 })
@@ -261,9 +264,10 @@ right_lists o p f before after root whole keeps inside h = subst (PlacesOnlyIn o
 unmet_after : (o p q : PassView) (images : Images) (before after : Lists) (old new : Memory) (root : Place) (whole : Tree) → IsOneToOne p → KeepsPass p q → KeepsLayers before after → layer_of root < length before → (at : Place) → ((x : Place) → x ≢ at → remembered new x ≡ remembered old x) → (xs : List Place) → Descends p (xs ++ at ∷ []) → AllByRecursion (IsOn o p images before old root whole) xs → AllByRecursion (IsOn o q images after new root whole) xs
 unfolding Descends
 unmet_after o p q images before after old new root whole one k keeps inside at others [] d h = tt
-unmet_after o p q images before after old new root whole one k keeps inside at others (x ∷ xs) d h =
-    (on_later o p q images before after old new root whole k keeps inside x (others x (deeper_apart p one x at (last_of (IsDeeper p x) xs at d.0))) h.0,
-    unmet_after o p q images before after old new root whole one k keeps inside at others xs d.1 h.1)
+unmet_after o p q images before after old new root whole one k keeps inside at others (x ∷ xs) d h = (
+  on_later o p q images before after old new root whole k keeps inside x (others x (deeper_apart p one x at (last_of (IsDeeper p x) xs at d.0))) h.0,
+  unmet_after o p q images before after old new root whole one k keeps inside at others xs d.1 h.1,
+)
 
 pub walk_up : (o p q : PassView) → IsOneToOne p → (images : Images) (before after : Lists) (old new : Memory) (root : Place) (whole : Tree) (way : List Place) (above at : Place) (d : ℕ) → KeepsPass p q → KeepsLayers before after → Remembers old new at d → IsWalk o p images before old root whole ((way ++ above ∷ []) ++ at ∷ []) → IsWalk o q images after new root whole (way ++ above ∷ [])
 walk_up o p q one images before after old new root whole way above at d k keeps noted w = record {

@@ -14,6 +14,7 @@ plain_byte b h = ((λ e. no (subst (λ n. is_plain n ≡ true) e h)), (λ e. no_
   where
     no : is_plain 124 ≡ true → ⊥
     no e = cc
+
     no_other : is_plain 92 ≡ true → ⊥
     no_other e = cc
 

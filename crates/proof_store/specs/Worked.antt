@@ -7,12 +7,12 @@ abbrev pub worked : Items ℕ ℕ
 worked =
     with_subproof (with_assume no_items (codes "h") 2) ((20, 3) ∷ []) (with_assume no_items (codes "t.h") 4)
     (record {
-  id = codes "t";
-  rule = Rule.Unknown;
-  rule_name = codes "ac_simp";
-  clause = 5 ∷ 6 ∷ [];
-  premises = 0 ∷ [];
-  discharged = 1 ∷ [];
-  pivots = [];
-  ratios = None;
-})
+      id = codes "t";
+      rule = Rule.Unknown;
+      rule_name = codes "ac_simp";
+      clause = 5 ∷ 6 ∷ [];
+      premises = 0 ∷ [];
+      discharged = 1 ∷ [];
+      pivots = [];
+      ratios = None;
+    })
