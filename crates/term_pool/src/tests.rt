@@ -70,38 +70,3 @@ fn long(rt: HostRuntime) -> Result<(), Fail> {
     assert_eq!(rt; terms.cells_of(rt.alloc(), &[term])?, 100_001);
     Ok(())
 }
-
-// Two towers of so many equalities of the term below and a leaf, whose sides stand the one way and the other.
-fn towers(terms: &mut Terms, equal: u32, count: u32) -> Result<(Ref, Ref), PoolFull>
-    requires { equal < 2 ^ 30 }
-    ensures one { IfOk result (λ tops. IsKnown terms.new.pass tops.0) }
-    ensures other { IfOk result (λ tops. IsKnown terms.new.pass tops.1) }
-{
-    let mut one = Ref::leaf(2);
-    let mut other = Ref::leaf(2);
-    'equalities: for _ in 0..count {
-        one = terms.app(equal, &[one, Ref::leaf(3)])?;
-        other = terms.app(equal, &[Ref::leaf(3), other])?;
-    }
-    Ok((one, other))
-}
-
-// Two towers of equalities whose sides stand the one way and the other.
-#[test]
-fn flips(rt: HostRuntime) -> Result<(), Fail> {
-    let (pool, pass) = Pool::new(rt.alloc(), 13)?;
-    let mut terms = Terms::new(&pool, pass);
-    let symbols = Symbols::new(rt.alloc())?;
-    let equal = symbols.operator(Op::Equal);
-    assert!(rt; equal < 1 << 30);
-    let (one, other) = towers(&mut terms, equal, 1000)?;
-    assert_eq!(rt;
-        terms.same_up_to_flips(rt.alloc(), &symbols, one, other)?,
-        true
-    );
-    assert_eq!(rt;
-        terms.same_up_to_flips(rt.alloc(), &symbols, one, Ref::leaf(3))?,
-        false
-    );
-    Ok(())
-}
