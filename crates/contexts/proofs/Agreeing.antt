@@ -7,8 +7,8 @@ use Rattle.pair_pool.specs.Trees.{Tree, leaf, cell}
 use Rattle.term_pool.specs.Heights.{is_let_head}
 use Rattle.term_pool.specs.Trees.{pair_leaves}
 use Rattle.contexts.specs.Becoming.{image, becomes, let_becomes, bindings_become, binding_becomes}
-use Rattle.contexts.specs.FreeLeaves.{IsBinder, BindsLeaf, IsFreeLeaf, IsFreeInLet, IsFreeInValues, IsFreeInValue}
-use Rattle.contexts.specs.Shapes.{Either, HasShape, HasLetShape, HasListShape, HasPairShape}
+use Rattle.contexts.specs.FreeLeaves.{BindsLeaf, IsFreeLeaf, IsFreeInLet, IsFreeInValues, IsFreeInValue}
+use Rattle.contexts.specs.Shapes.{HasShape, HasLetShape, HasListShape, HasPairShape}
 use Rattle.contexts.proofs.References.{either_true, either_false, from_true, from_false}
 use Rattle.contexts.proofs.Sets.{has-test}
 
@@ -90,7 +90,7 @@ module _ (f : ℕ → Tree) where
     let_agrees (cell list u) D E shape h =
         let x = bindings_agree list D E shape.0 (λ k g. h k (inl g)) in
         let y = becomes_agree u (D ++ pair_leaves list) (E ++ pair_leaves list) shape.1
-            (λ k g. under_let f D E k (pair_leaves list) (λ n. h k (inr (λ b. n (binds_listed k list shape.0 b), g)))) in
+        (λ k g. under_let f D E k (pair_leaves list) (λ n. h k (inr (λ b. n (binds_listed k list shape.0 b), g)))) in
         cc
 
     pub bindings_agree : (t : Tree) (D E : List ℕ) → HasListShape t → ((k : ℕ) → IsFreeInValues k t → image f D k ≡ image f E k) → bindings_become f D t ≡ bindings_become f E t

@@ -1,19 +1,18 @@
 -- The walk that puts references in: the places on the way, what is remembered, and what is placed.
-use Rattle.std.proofs.Common.{◌≡◌, ◌≢◌, ℕ, zero, suc, ◌<◌, ◌≤◌, ◌+◌, ◌^◌, ◌⊎◌, inl, inr, List, [], ◌∷◌, ◌++◌, length, take, ◌-◌, Option, Some, None, Result, Ok, Err, IfOk, IfErr, Bool, true, false, nat_eq, refl, sym, ◌∙◌, ap, subst, arith}
-use Rattle.std.specs.HashMap.{get, hash_map_len}
+use Rattle.std.proofs.Common.{◌≡◌, ◌≢◌, ℕ, ◌<◌, ◌≤◌, ◌^◌, ◌⊎◌, inl, inr, List, [], ◌∷◌, ◌++◌, length, take, ◌-◌, Option, Some, None, nat_eq, refl, sym, ◌∙◌, ap, subst, arith}
+use Rattle.std.specs.HashMap.{get}
 use Rattle.std.specs.List.{AllByRecursion}
-use Rattle.pair_pool.specs.Trees.{Tree, leaf, cell}
+use Rattle.pair_pool.specs.Trees.{Tree}
 use Rattle.pair_pool.specs.Views.{PassView, Knows, IsOneToOne, HasPartsOfTrees}
 use Rattle.term_pool.specs.Building.{PlacesOnlyIn, IsFullIn}
 use Rattle.term_pool.specs.Trees.{IsPartOf, depth}
 use Rattle.term_pool.specs.Views.{KeepsPass}
-use Rattle.contexts.specs.contracts.places.PlacePartialEq.TheImpl as places
 use Rattle.contexts.specs.declared.places.Place.{Place}
-use Rattle.contexts.specs.declared.places.Place.TheVariants.{Term, Bindings}
+use Rattle.contexts.specs.declared.places.Place.TheVariants.{Term}
 use Rattle.contexts.specs.Becoming.{becomes, Images, IsImageAt, AreImages, HasImages}
 use Rattle.contexts.specs.Layers.{shadowed, KeepsLayers}
 use Rattle.contexts.specs.Places.{Lists, reference_of, layer_of, HasPlaceShape, becomes_there, IsSpot, Memory, remembered, HasBecome, IsMemory, Remembers, IsUnder, PlacesImage, LacksRoomForImage, IsReady, image_of_leaf}
-use Rattle.contexts.specs.Shapes.{HasShape, IsShaped}
+use Rattle.contexts.specs.Shapes.{IsShaped}
 use Rattle.contexts.proofs.CellBuilding.{part-refl, part-trans, placed-larger, placed-trans, placed-none, full-larger}
 use Rattle.contexts.proofs.References.{leaf_of}
 use Rattle.contexts.proofs.Visiting.{lists_same, image_known}
@@ -152,15 +151,18 @@ pub walk_start : (o : PassView) (images : Images) (lists : Lists) (memo : Memory
 unfolding Descends Starts
 walk_start o images lists memo r way empty one h high none = rw none (record {
   root_inside = omega arith;
-  on = (record {
-    tree = h.tree;
-    known = h.known;
-    shape = h.shape;
-    high = high;
-    inside = omega arith;
-    unmet = rw empty;
-    part = λ f are. part-refl (becomes_there f lists (Term r 0) h.tree);
-  }, tt);
+  on = (
+    record {
+      tree = h.tree;
+      known = h.known;
+      shape = h.shape;
+      high = high;
+      inside = omega arith;
+      unmet = rw empty;
+      part = λ f are. part-refl (becomes_there f lists (Term r 0) h.tree);
+    },
+    tt,
+  );
   descends = (tt, tt);
   starts = refl;
 })
@@ -261,9 +263,10 @@ right_lists o p f before after root whole keeps inside h = subst (PlacesOnlyIn o
 unmet_after : (o p q : PassView) (images : Images) (before after : Lists) (old new : Memory) (root : Place) (whole : Tree) → IsOneToOne p → KeepsPass p q → KeepsLayers before after → layer_of root < length before → (at : Place) → ((x : Place) → x ≢ at → remembered new x ≡ remembered old x) → (xs : List Place) → Descends p (xs ++ at ∷ []) → AllByRecursion (IsOn o p images before old root whole) xs → AllByRecursion (IsOn o q images after new root whole) xs
 unfolding Descends
 unmet_after o p q images before after old new root whole one k keeps inside at others [] d h = tt
-unmet_after o p q images before after old new root whole one k keeps inside at others (x ∷ xs) d h =
-    (on_later o p q images before after old new root whole k keeps inside x (others x (deeper_apart p one x at (last_of (IsDeeper p x) xs at d.0))) h.0,
-    unmet_after o p q images before after old new root whole one k keeps inside at others xs d.1 h.1)
+unmet_after o p q images before after old new root whole one k keeps inside at others (x ∷ xs) d h = (
+  on_later o p q images before after old new root whole k keeps inside x (others x (deeper_apart p one x at (last_of (IsDeeper p x) xs at d.0))) h.0,
+  unmet_after o p q images before after old new root whole one k keeps inside at others xs d.1 h.1,
+)
 
 pub walk_up : (o p q : PassView) → IsOneToOne p → (images : Images) (before after : Lists) (old new : Memory) (root : Place) (whole : Tree) (way : List Place) (above at : Place) (d : ℕ) → KeepsPass p q → KeepsLayers before after → Remembers old new at d → IsWalk o p images before old root whole ((way ++ above ∷ []) ++ at ∷ []) → IsWalk o q images after new root whole (way ++ above ∷ [])
 walk_up o p q one images before after old new root whole way above at d k keeps noted w = record {
