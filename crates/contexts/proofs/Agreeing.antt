@@ -7,8 +7,8 @@ use Rattle.pair_pool.specs.Trees.{Tree, leaf, cell}
 use Rattle.term_pool.specs.Heights.{is_let_head}
 use Rattle.term_pool.specs.Trees.{pair_leaves}
 use Rattle.contexts.specs.Becoming.{image, becomes, let_becomes, bindings_become, binding_becomes}
-use Rattle.contexts.specs.FreeLeaves.{IsBinder, BindsLeaf, IsFreeLeaf, IsFreeInLet, IsFreeInValues, IsFreeInValue}
-use Rattle.contexts.specs.Shapes.{Either, HasShape, HasLetShape, HasListShape, HasPairShape}
+use Rattle.contexts.specs.FreeLeaves.{BindsLeaf, IsFreeLeaf, IsFreeInLet, IsFreeInValues, IsFreeInValue}
+use Rattle.contexts.specs.Shapes.{HasShape, HasLetShape, HasListShape, HasPairShape}
 use Rattle.contexts.proofs.References.{either_true, either_false, from_true, from_false}
 use Rattle.contexts.proofs.Sets.{has-test}
 

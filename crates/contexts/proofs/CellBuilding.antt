@@ -1,10 +1,10 @@
 -- Cells that are interned, and the trees that they belong to.
-use Rattle.std.proofs.Common.{◌≡◌, ℕ, ◌⊎◌, inl, inr, refl, sym, ◌∙◌, ap, subst}
+use Rattle.std.proofs.Common.{◌≡◌, ℕ, ◌⊎◌, inl, inr, refl, ◌∙◌, subst}
 use Rattle.pair_pool.specs.Trees.{Tree, leaf, cell}
-use Rattle.pair_pool.specs.Views.{PassView, PoolView, Knows, IsKnown, IsPlaced}
+use Rattle.pair_pool.specs.Views.{PassView, Knows, IsPlaced}
 use Rattle.term_pool.specs.Building.{IsCellIn, PlacesOnlyIn, IsFullIn, Interns, Refuses}
 use Rattle.term_pool.specs.Trees.{IsPartOf}
-use Rattle.term_pool.specs.Views.{TermsView, KeepsPass, KeepsTerms, IsKnownCell}
+use Rattle.term_pool.specs.Views.{TermsView, KeepsPass, KeepsTerms}
 
 pub keeps-refl : (p : PassView) → KeepsPass p p
 keeps-refl p = record { places = refl; shares = refl; grows = λ r t k. k; sees = λ r a b k. k }

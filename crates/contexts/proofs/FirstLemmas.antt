@@ -3,7 +3,7 @@ use Rattle.std.proofs.Common.{◌≡◌, ◌≢◌, ℕ, suc, ◌<◌, ◌≤◌
 use Rattle.std.specs.HashMap.{get}
 use Rattle.std.proofs.lemmas.Bool.Decides.{eqb_tells}
 use Rattle.pair_pool.specs.Trees.{Tree, leaf}
-use Rattle.pair_pool.specs.Views.{PassView, Knows, IsKnown}
+use Rattle.pair_pool.specs.Views.{PassView, Knows}
 use Rattle.rule_model.specs.Replacement.{Replacement, term_at}
 use Rattle.rule_model.specs.Substitution.{put_in}
 use Rattle.sym_table.specs.Leaf.{Leaf}

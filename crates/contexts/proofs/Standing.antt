@@ -4,7 +4,6 @@ use Rattle.std.specs.List.{list_any}
 use Rattle.std.proofs.lemmas.List.Elements.{Contains-append_cases, Contains-push_cases}
 use Rattle.pair_pool.specs.Trees.{Tree, leaf, cell}
 use Rattle.sym_table.specs.Leaf.{Leaf, operator, let_head}
-use Rattle.sym_table.specs.Leaf as Leaf
 use Rattle.sym_table.specs.Table.{Table, IsLeaf, IsTable}
 use Rattle.term_model.specs.FreeVariables.{Binds}
 use Rattle.term_model.specs.Terms.{Var, Term, numeral, variable, operation, call, let_in, Terms, no_terms, term, Bindings, no_bindings, binding}
@@ -12,13 +11,13 @@ use Rattle.rule_model.specs.Replacement.{Replacement, term_at}
 use Rattle.rule_model.specs.Substitution.{unbound, put_in, put_in_all, put_in_bound}
 use Rattle.rule_model.proofs.Substituting.{binds-cases, term_at-bound, term_at-unbound}
 use Rattle.term_pool.specs.Heights.{is_let_head}
-use Rattle.term_pool.specs.StandsFor.{nil_tree, let_tree, variable_leaf, function_leaf, IsLeafOf, StandsFor, StandsForApplication, StandsForList, StandsForBindings}
+use Rattle.term_pool.specs.StandsFor.{nil_tree, variable_leaf, function_leaf, IsLeafOf, StandsFor, StandsForApplication, StandsForList, StandsForBindings}
 use Rattle.term_pool.specs.Trees.{pair_leaves}
-use Rattle.contexts.specs.Becoming.{image, becomes, let_becomes, bindings_become, binding_becomes}
+use Rattle.contexts.specs.Becoming.{image, becomes, let_becomes, bindings_become}
 use Rattle.contexts.specs.FreeLeaves.{BindsLeaf}
 use Rattle.contexts.specs.Shapes.{HasListShape}
 use Rattle.contexts.proofs.Agreeing.{image_bound, image_unbound, binds_listed}
-use Rattle.contexts.proofs.Links.{two_leaves, term_no_head, not_let, bindings_shape, binds_there, binds_back}
+use Rattle.contexts.proofs.Links.{term_no_head, not_let, bindings_shape, binds_there, binds_back}
 use Rattle.contexts.proofs.Sets.{has-test}
 
 -- what is put in for leaves is what the replacement puts in for variables, and other leaves stay

@@ -1,28 +1,26 @@
 -- Visits of places.
-use Rattle.std.proofs.Common.{◌≡◌, ◌≢◌, ℕ, suc, ◌<◌, ◌≤◌, ◌+◌, ◌^◌, ◌⊎◌, inl, inr, max, List, [], ◌∷◌, ◌++◌, length, Option, Some, None, Result, Ok, Err, IfOk, IfErr, IsErrAnd, Bool, true, false, nat_eq, if◌then◌else◌, refl, sym, ◌∙◌, ap, subst, arith}
+use Rattle.std.proofs.Common.{◌≡◌, ℕ, ◌<◌, ◌≤◌, ◌^◌, ◌⊎◌, inl, inr, List, ◌++◌, length, Option, Some, None, Result, Ok, Err, IsErrAnd, Bool, true, false, nat_eq, if◌then◌else◌, refl, sym, ◌∙◌, ap, subst, arith}
 use Rattle.std.specs.HashMap.{get}
 use Rattle.std.specs.List.{list_any}
 use Rattle.pair_pool.specs.Trees.{Tree, leaf, cell}
 use Rattle.pair_pool.specs.Views.{PassView, Knows, IsKnown, IsOneToOne, HasPartsOfTrees}
-use Rattle.term_pool.specs.Building.{PlacesOnlyIn, IsFullIn, Interns, Refuses}
+use Rattle.term_pool.specs.Building.{PlacesOnlyIn, IsFullIn}
 use Rattle.term_pool.specs.Heights.{is_let_head}
 use Rattle.term_pool.specs.Trees.{IsPartOf, depth, pair_leaves}
-use Rattle.term_pool.specs.Views.{KeepsPass, IsKnownCell}
+use Rattle.term_pool.specs.Views.{IsKnownCell}
 use Rattle.term_pool.specs.declared.stop.TermStop.{TermStop}
-use Rattle.term_pool.specs.declared.stop.TermStop.TheVariants as TermStop
 use Rattle.contexts.specs.declared.places.Place.{Place}
 use Rattle.contexts.specs.declared.places.Place.TheVariants.{Term, Bindings}
 use Rattle.contexts.specs.declared.places.Visit.{Visit}
 use Rattle.contexts.specs.declared.places.Visit.TheVariants.{Part, Done}
-use Rattle.contexts.specs.Becoming.{image, becomes, let_becomes, bindings_become, binding_becomes, Images, IsImageAt, AreImages}
-use Rattle.contexts.specs.FreeLeaves.{IsFreeLeaf}
+use Rattle.contexts.specs.Becoming.{image, becomes, bindings_become, Images, IsImageAt, AreImages}
 use Rattle.contexts.specs.Hiding.{Hides}
 use Rattle.contexts.specs.Layers.{shadowed, KeepsLayers}
-use Rattle.contexts.specs.Places.{Lists, reference_of, layer_of, HasPlaceShape, becomes_there, IsSpot, image_of_leaf, leaf_there, other, Memory, remembered, HasBecome, IsMemory, IsUnder, IsVisit, HasDone, PlacesImage, LacksRoomForImage, IsReady, Visits, HasHead}
-use Rattle.contexts.specs.Shapes.{Either, HasShape, HasLetShape, HasListShape, HasPairShape, IsShaped, IsLetRest, IsBindingList}
+use Rattle.contexts.specs.Places.{Lists, reference_of, layer_of, HasPlaceShape, becomes_there, IsSpot, image_of_leaf, leaf_there, other, Memory, remembered, IsMemory, IsUnder, HasDone, PlacesImage, LacksRoomForImage, IsReady, Visits, HasHead}
+use Rattle.contexts.specs.Shapes.{HasShape, HasLetShape, HasListShape, IsShaped, IsLetRest, IsBindingList}
 use Rattle.contexts.proofs.Agreeing.{becomes_agree}
-use Rattle.contexts.proofs.CellBuilding.{part-refl, first-part, second-part, part-trans, interned_places, refused_full, full-larger, placed-larger, placed-trans, placed-none, in_front, behind}
-use Rattle.contexts.proofs.References.{leaf_of, cell_of, from_true, from_false}
+use Rattle.contexts.proofs.CellBuilding.{placed-none}
+use Rattle.contexts.proofs.References.{cell_of, from_true, from_false}
 use Rattle.contexts.proofs.Standing.{if_true, if_false}
 
 same_some : {X : Type 0} {a b : X} → Some a ≡ Some b → a ≡ b

@@ -1,19 +1,18 @@
 -- The walk that puts references in: the places on the way, what is remembered, and what is placed.
-use Rattle.std.proofs.Common.{◌≡◌, ◌≢◌, ℕ, zero, suc, ◌<◌, ◌≤◌, ◌+◌, ◌^◌, ◌⊎◌, inl, inr, List, [], ◌∷◌, ◌++◌, length, take, ◌-◌, Option, Some, None, Result, Ok, Err, IfOk, IfErr, Bool, true, false, nat_eq, refl, sym, ◌∙◌, ap, subst, arith}
-use Rattle.std.specs.HashMap.{get, hash_map_len}
+use Rattle.std.proofs.Common.{◌≡◌, ◌≢◌, ℕ, ◌<◌, ◌≤◌, ◌^◌, ◌⊎◌, inl, inr, List, [], ◌∷◌, ◌++◌, length, take, ◌-◌, Option, Some, None, nat_eq, refl, sym, ◌∙◌, ap, subst, arith}
+use Rattle.std.specs.HashMap.{get}
 use Rattle.std.specs.List.{AllByRecursion}
-use Rattle.pair_pool.specs.Trees.{Tree, leaf, cell}
+use Rattle.pair_pool.specs.Trees.{Tree}
 use Rattle.pair_pool.specs.Views.{PassView, Knows, IsOneToOne, HasPartsOfTrees}
 use Rattle.term_pool.specs.Building.{PlacesOnlyIn, IsFullIn}
 use Rattle.term_pool.specs.Trees.{IsPartOf, depth}
 use Rattle.term_pool.specs.Views.{KeepsPass}
-use Rattle.contexts.specs.contracts.places.PlacePartialEq.TheImpl as places
 use Rattle.contexts.specs.declared.places.Place.{Place}
-use Rattle.contexts.specs.declared.places.Place.TheVariants.{Term, Bindings}
+use Rattle.contexts.specs.declared.places.Place.TheVariants.{Term}
 use Rattle.contexts.specs.Becoming.{becomes, Images, IsImageAt, AreImages, HasImages}
 use Rattle.contexts.specs.Layers.{shadowed, KeepsLayers}
 use Rattle.contexts.specs.Places.{Lists, reference_of, layer_of, HasPlaceShape, becomes_there, IsSpot, Memory, remembered, HasBecome, IsMemory, Remembers, IsUnder, PlacesImage, LacksRoomForImage, IsReady, image_of_leaf}
-use Rattle.contexts.specs.Shapes.{HasShape, IsShaped}
+use Rattle.contexts.specs.Shapes.{IsShaped}
 use Rattle.contexts.proofs.CellBuilding.{part-refl, part-trans, placed-larger, placed-trans, placed-none, full-larger}
 use Rattle.contexts.proofs.References.{leaf_of}
 use Rattle.contexts.proofs.Visiting.{lists_same, image_known}

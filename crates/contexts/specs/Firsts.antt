@@ -1,5 +1,5 @@
 -- Private. What a list of bindings puts in for a leaf: the first that it has.
-use Rattle.std.specs.Prelude.{◌≡◌, ℕ, List, [], ◌∷◌, ◌==◌, Option, Some, None, if◌then◌else◌}
+use Rattle.std.specs.Prelude.{ℕ, List, [], ◌∷◌, ◌==◌, Option, Some, None, if◌then◌else◌}
 
 abbrev pub first_for : List (ℕ × ℕ) → ℕ → Option ℕ
 first_for [] k = None

@@ -1,12 +1,12 @@
 -- Private. Which leaves a let hides below it.
-use Rattle.std.specs.Prelude.{◌≡◌, ◌<◌, ◌↔◌, ◌⊎◌, ℕ, List, ◌++◌, Contains, nat_eq, Some}
+use Rattle.std.specs.Prelude.{◌≡◌, ◌⊎◌, ℕ, List, ◌++◌, Contains, nat_eq, Some}
 use Rattle.std.specs.HashMap.{get}
 use Rattle.pair_pool.specs.Trees.{Tree}
 use Rattle.pair_pool.specs.Views.{PassView, Knows}
 use Rattle.term_pool.specs.Trees.{pair_leaves}
 use Rattle.contexts.specs.Becoming.{image, Images, AreImages}
 use Rattle.contexts.specs.FreeLeaves.{IsFreeLeaf}
-use Rattle.contexts.specs.Shapes.{HasShape, HasListShape}
+use Rattle.contexts.specs.Shapes.{HasListShape}
 
 -- something is put in for leaf k
 abbrev pub IsImage : Images → ℕ → Type 0

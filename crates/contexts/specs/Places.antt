@@ -1,17 +1,16 @@
 -- Private. The places that the walk visits, what it remembers of them, and what a visit comes to.
-use Rattle.std.specs.Prelude.{◌≡◌, ◌≢◌, ◌<◌, ◌≤◌, ◌+◌, ◌^◌, ℕ, List, [], ◌∷◌, length, Option, Some, None, Result, IfOk, IfErr, nat_eq, if◌then◌else◌, Vec, Bool, true, false}
+use Rattle.std.specs.Prelude.{◌≡◌, ◌≢◌, ◌<◌, ◌≤◌, ◌+◌, ◌^◌, ℕ, List, length, Option, Some, None, Result, IfOk, IfErr, nat_eq, if◌then◌else◌, Vec, Bool}
 use Rattle.std.specs.HashMap.{HashMap, get, hash_map_len}
 use Rattle.std.specs.List.{list_any}
 use Rattle.std.specs.declared.alloc.Global.{Global}
 use Rattle.std.specs.declared.hash.BuildHasherDefault.{BuildHasherDefault}
 use Rattle.std.specs.declared.hash.FoldHasher.{FoldHasher}
-use Rattle.pair_pool.specs.Trees.{Tree, leaf, cell}
+use Rattle.pair_pool.specs.Trees.{Tree, cell}
 use Rattle.pair_pool.specs.Views.{PassView, Knows}
 use Rattle.term_pool.specs.Building.{PlacesOnlyIn, IsFullIn}
 use Rattle.term_pool.specs.Heights.{is_let_head}
 use Rattle.term_pool.specs.Trees.{IsPartOf, depth}
 use Rattle.term_pool.specs.declared.stop.TermStop.{TermStop}
-use Rattle.term_pool.specs.declared.stop.TermStop.TheVariants as TermStop
 use Rattle.contexts.specs.contracts.places.PlacePartialEq.TheImpl as places
 use Rattle.contexts.specs.declared.places.Place.{Place}
 use Rattle.contexts.specs.declared.places.Place.TheVariants.{Term, Bindings}

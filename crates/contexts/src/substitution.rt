@@ -45,10 +45,10 @@ fn images_of(alloc: Global, bindings: &[(u32, Ref)]) -> Result<HashMap<u32, Ref>
 /// variable: all at once, and never for a variable that a let binds there (Alethe, contexts). Where no second part has a
 /// free variable, none gets bound.
 ///
-/// Each distinct cell is gone through once for each set of these variables that lets around it hide and that matters there,
-/// which is once where no let binds one of them; at a let that binds one, its body is searched for each variable that is
-/// hidden there. Loads a cell at most three times each time, and takes memory for each. Takes no stack. Refuses where the pool
-/// had no room for a cell of the answer, and for want of memory.
+/// Each distinct cell is gone through once for each list of these variables that lets around it hide, and once where no let
+/// binds one of them; a list has only what stands free in the body of the let where it begins. At a let that binds one, its
+/// body is searched for each variable that is hidden there. Loads a cell at most three times each time, and takes memory for
+/// each. Takes no stack. Refuses where the pool had no room for a cell of the answer, and for want of memory.
 pub fn put_in(
     alloc: Global,
     bindings: &[(u32, Ref)],

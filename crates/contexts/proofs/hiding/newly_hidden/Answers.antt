@@ -1,4 +1,4 @@
-use Rattle.std.proofs.Common.{refl, ◌≡◌, ◌∷◌, [], ap, false, arith}
+use Rattle.std.proofs.Common.{refl, ◌≡◌, [], false, arith}
 use Rattle.std.proofs.lemmas.List.{take_more}
 use Rattle.contexts.proofs.HidingLeaves.{hidden_start, hidden_more, hidden_skip}
 use Rattle.contexts.proofs.hiding.newly_hidden.Goals as goal

@@ -1,5 +1,4 @@
-use Rattle.std.proofs.Common.{◌≡◌, ◌∙◌, ◌<◌, ◌≤◌, ◌^◌, refl, sym, arith, [], ◌++◌}
-use Rattle.pair_pool.specs.Trees.{Tree}
+use Rattle.std.proofs.Common.{◌∙◌, ◌<◌, ◌≤◌, ◌^◌, arith}
 use Rattle.pair_pool.specs.Views.{Knows}
 use Rattle.term_pool.specs.Building.{PlacesOnlyIn, IsFullIn}
 use Rattle.contexts.specs.declared.places.Place.TheVariants.{Term}

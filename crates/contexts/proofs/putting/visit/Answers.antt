@@ -1,5 +1,3 @@
-use Rattle.std.proofs.Common.{◌≡◌, arith}
-use Rattle.contexts.proofs.References.{head_other, head_of_let}
 use Rattle.contexts.proofs.Visiting.{spot_cell}
 use Rattle.contexts.proofs.putting.visit.Goals as goal
 

@@ -1,4 +1,4 @@
-use Rattle.pair_pool.specs.Trees.{leaf, cell}
+use Rattle.pair_pool.specs.Trees.{cell}
 use Rattle.contexts.proofs.CellBuilding.{second-part, first_in_rest, second_in_rest, refused_part, behind, behind_refused}
 use Rattle.contexts.proofs.References.{rest_cell}
 use Rattle.contexts.proofs.Visiting.{spot_cell, let_split, let_rest_of, let_composed, split_list, split_body, first_missing, second_missing, first_is, second_is, both_done, both_stop, image_is_known}

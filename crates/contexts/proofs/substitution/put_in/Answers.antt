@@ -1,5 +1,4 @@
 use Rattle.std.proofs.lemmas.Result.{IfOk-weaker, IfErr-weaker}
-use Rattle.term_pool.specs.Views.{RefersTo}
 use Rattle.contexts.proofs.FirstLemmas.{have_images, term_is, places_are, room_lacks, places_none}
 use Rattle.contexts.proofs.Links.{term_shape}
 use Rattle.contexts.proofs.substitution.put_in.Goals as goal
