@@ -1,5 +1,10 @@
+pub mod Counts
 pub mod OverLemmas
 pub mod ReferLemmas
 pub mod Steps
 pub mod Shapes
 pub mod Loops
+pub mod ArgumentLemmas
+pub mod ArgumentAnswers
+pub mod GivesLemmas
+pub mod InstanceLemmas

@@ -9,7 +9,7 @@ use Rattle.rule_model.specs.declared.letter.Letter.{Letter}
 use Rattle.rule_model.specs.Schemas.{Pattern}
 use Rattle.rules_clausal.specs.declared.letters.Letters.{Letters}
 use Rattle.rules_clausal.specs.declared.part.Part.{Part}
-use Rattle.rules_clausal.specs.Arguments.{StackOf}
+use Rattle.rules_clausal.specs.Stack.{StackOf}
 use Rattle.rules_clausal.specs.Letters.{slot}
 use Rattle.rules_clausal.specs.Matching.{parts_of, Fits}
 use Rattle.rules_clausal.specs.Reads.{Reads, Left, IsSettledAt}

@@ -1,10 +1,11 @@
 -- References to terms in lists and on stacks.
-use Rattle.std.proofs.Common.{◌≡◌, ◌↔◌, ℕ, List, [], ◌∷◌, ◌++◌, reverse, refl, sym, ◌∙◌, ap, subst}
+use Rattle.std.proofs.Common.{◌≡◌, ◌↔◌, ◌<◌, ℕ, zero, suc, List, [], ◌∷◌, ◌++◌, length, get_or, reverse, Contains, inl, inr, refl, sym, ◌∙◌, ap, subst, arith}
 use Rattle.std.proofs.lemmas.List.{reverse-append, reverse-reverse}
+use Rattle.rule_model.proofs.Lists.{contains_none, contains_cases, contains_head, contains_later}
 use Rattle.sym_table.specs.Table.{Table}
 use Rattle.term_model.specs.Terms.{Term}
 use Rattle.term_pool.specs.Views.{TermsView, RefersTo, ReferToAll}
-use Rattle.rules_clausal.specs.Arguments.{StackOf}
+use Rattle.rules_clausal.specs.Stack.{StackOf}
 
 -- references are equal exactly where their terms are
 abbrev pub AreOne : Table → TermsView → Type 0
@@ -39,3 +40,35 @@ pub stack_more : (s : Table) (v : TermsView) (items more : List ℕ) (ts us : Li
 stack_more s v items more ts us h k =
     subst (λ rs. ReferToAll s v rs (us ++ ts)) (sym (reverse-append items (reverse more) ∙ ap (λ rs. rs ++ reverse items) (reverse-reverse more)))
     (refer_append s v more (reverse items) us ts h k)
+
+-- a reference is in a list where its term is among the list's terms
+pub contains_terms : (s : Table) (v : TermsView) → AreOne s v → (rs : List ℕ) (ts : List Term) (r : ℕ) (t : Term) → ReferToAll s v rs ts → RefersTo s v r t → Contains rs r → Contains ts t
+contains_terms s v one [] ts r t h refers c = absurd (contains_none r c)
+contains_terms s v one (q ∷ rs) [] r t h refers c = absurd h
+contains_terms s v one (q ∷ rs) (u ∷ ts) r t h refers c =
+    elim (contains_cases q r rs c) [
+      | inl e ↦ rw (← (one q r u t h.0 refers).0 e) (contains_head u ts)
+      | inr later ↦ contains_later u t ts (contains_terms s v one rs ts r t h.1 refers later)
+    ]
+
+pub contains_references : (s : Table) (v : TermsView) → AreOne s v → (rs : List ℕ) (ts : List Term) (r : ℕ) (t : Term) → ReferToAll s v rs ts → RefersTo s v r t → Contains ts t → Contains rs r
+contains_references s v one [] [] r t h refers c = absurd (contains_none t c)
+contains_references s v one [] (u ∷ ts) r t h refers c = absurd h
+contains_references s v one (q ∷ rs) [] r t h refers c = absurd h
+contains_references s v one (q ∷ rs) (u ∷ ts) r t h refers c =
+    elim (contains_cases u t ts c) [
+      | inl e ↦ rw (← (one q r u t h.0 refers).1 e) (contains_head q rs)
+      | inr later ↦ contains_later q r rs (contains_references s v one rs ts r t h.1 refers later)
+    ]
+
+pub refer_length : (s : Table) (v : TermsView) (rs : List ℕ) (ts : List Term) → ReferToAll s v rs ts → length rs ≡ length ts
+refer_length s v [] [] h = refl
+refer_length s v [] (t ∷ ts) h = absurd h
+refer_length s v (r ∷ rs) [] h = absurd h
+refer_length s v (r ∷ rs) (t ∷ ts) h = ap suc (refer_length s v rs ts h.1)
+
+pub refer_at : (s : Table) (v : TermsView) (rs : List ℕ) (ts : List Term) → ReferToAll s v rs ts → (i d : ℕ) (e : Term) → i < length rs → RefersTo s v (get_or rs i d) (get_or ts i e)
+refer_at s v [] ts h i d e below = absurd (omega arith)
+refer_at s v (r ∷ rs) [] h i d e below = absurd h
+refer_at s v (r ∷ rs) (t ∷ ts) h zero d e below = h.0
+refer_at s v (r ∷ rs) (t ∷ ts) h (suc i) d e below = refer_at s v rs ts h.1 i d e (omega arith)

@@ -6,29 +6,7 @@ use Rattle.rule_model.specs.Schemas.{Pattern, letter, constant, unary, binary, t
 use Rattle.rules_clausal.specs.declared.part.Part.{Part}
 use Rattle.rules_clausal.specs.Matching.{prefix, parts_of}
 use Rattle.rules_clausal.specs.Reads.{Reads}
-
--- so many arguments
-none : (ts : Terms) → length (list_of ts) ≡ 0 → ts ≡ no_terms
-none no_terms e = refl
-none (term t ts) e = absurd cc
-
-one : (ts : Terms) → length (list_of ts) ≡ 1 → (t : Term) × (ts ≡ term t no_terms)
-one no_terms e = absurd cc
-one (term t ts) e = (t, ap (term t) (none ts cc))
-
-two : (ts : Terms) → length (list_of ts) ≡ 2 → (t : Term) × (u : Term) × (ts ≡ term t (term u no_terms))
-two no_terms e = absurd cc
-two (term t ts) e = go (one ts cc)
-  where
-    go : ((u : Term) × (ts ≡ term u no_terms)) → (x : Term) × (u : Term) × (term t ts ≡ term x (term u no_terms))
-    go (u, same) = (t, u, ap (term t) same)
-
-three : (ts : Terms) → length (list_of ts) ≡ 3 → (t : Term) × (u : Term) × (w : Term) × (ts ≡ term t (term u (term w no_terms)))
-three no_terms e = absurd cc
-three (term t ts) e = go (two ts cc)
-  where
-    go : ((u : Term) × (w : Term) × (ts ≡ term u (term w no_terms))) → (x : Term) × (u : Term) × (w : Term) × (term t ts ≡ term x (term u (term w no_terms)))
-    go (u, w, same) = (t, u, w, ap (term t) same)
+use Rattle.rules_clausal.proofs.Counts.{none, one, two, three}
 
 module _ (f : Letter → Term) where
   -- the terms begin with one, and the others are read from these parts

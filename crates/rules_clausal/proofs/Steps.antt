@@ -11,10 +11,11 @@ use Rattle.rule_model.specs.declared.letter.Letter.{Letter}
 use Rattle.rules_clausal.specs.declared.letters.Letters.{Letters}
 use Rattle.rules_clausal.specs.declared.part.Part.{Part}
 use Rattle.rules_clausal.specs.declared.part.Part.TheVariants.{Any, Apply}
-use Rattle.rules_clausal.specs.Arguments.{AddsArguments}
+use Rattle.rules_clausal.specs.Stack.{AddsArguments}
 use Rattle.rules_clausal.specs.Letters.{slot, with_letter}
 use Rattle.rules_clausal.specs.Over.{IsOver}
 use Rattle.rules_clausal.specs.Reads.{Reads, IsSettledAt, Left}
+use Rattle.rules_clausal.proofs.OverLemmas.{over_term, is_over}
 use Rattle.rules_clausal.proofs.ReferLemmas.{AreOne, stack_top, stack_more}
 
 -- the same terms, but that a letter stands for t
@@ -107,16 +108,6 @@ module _ (s : Table) (v : TermsView) (one : AreOne s v) where
         let here : RefersTo s v q (f l) = rw settled at (h.0 l) in
         other ((one q r (f l) on_top.top here on_top.top_refers).1 k.0)
 
-    over_term : (op : Op) (n : ℕ) (t : Term) → IsOver op n t → (us : Terms) × (t ≡ operation op us) × (length (list_of us) ≡ n) × (arguments_of t ≡ list_of us) × (IsLet t → ⊥)
-    over_term op n (operation o us) h = (us, ap (λ o. operation o us) h.0, h.1, refl, λ is. is)
-    over_term op n (numeral z) h = absurd h
-    over_term op n (variable x) h = absurd h
-    over_term op n (call f us) h = absurd h
-    over_term op n (let_in bs u) h = absurd h
-
-    is_over : (op : Op) (n : ℕ) (t : Term) (us : Terms) → t ≡ operation op us → length (list_of us) ≡ n → IsOver op n t
-    is_over op n t us e h = rw e (refl, h)
-
     same_arguments : (op : Op) (us ws : Terms) → operation op us ≡ operation op ws → us ≡ ws
     same_arguments op us ws e = cc
 
@@ -160,25 +151,3 @@ module _ (s : Table) (v : TermsView) (one : AreOne s v) where
     letter_refused letters new l None b e some none is left = absurd (let yes_is = none.1 in cc)
     letter_refused letters new l (Some q) b e some none is left =
         letter_other letters l q e (λ same. absurd (let yes_is = some.1.1 same in cc)) left
-
--- the count is another, or it is this one
-one_count : (m n : ℕ) (op : Op) (t : Term) → IsOver op m t → IsOver op n t → m ≡ n
-one_count m n op (operation o us) h k = sym h.1 ∙ k.1
-one_count m n op (numeral z) h k = absurd h
-one_count m n op (variable x) h k = absurd h
-one_count m n op (call f us) h k = absurd h
-one_count m n op (let_in bs u) h k = absurd h
-
-pub not_so_many : (s : Table) (v : TermsView) (r n : ℕ) (op : Op) (found : Option ℕ) → IfSome found (λ m. (t : Term) → RefersTo s v r t → IsOver op m t) → IfNone found ((t : Term) → RefersTo s v r t → (m : ℕ) → ¬ IsOver op m t) → true ≡ not (option_eq nat_eq found (Some n)) → (t : Term) → RefersTo s v r t → ¬ IsOver op n t
-not_so_many s v r n op None some none other t refers h = none t refers n h
-not_so_many s v r n op (Some m) some none other t refers h =
-    absurd (let same = eq-eqb m n (one_count m n op t (some t refers) h) in cc)
-
-pub so_many : (s : Table) (v : TermsView) (r n : ℕ) (op : Op) (found : Option ℕ) → IfSome found (λ m. (t : Term) → RefersTo s v r t → IsOver op m t) → false ≡ not (option_eq nat_eq found (Some n)) → (t : Term) → RefersTo s v r t → IsOver op n t
-so_many s v r n op None some same t refers = absurd cc
-so_many s v r n op (Some m) some same t refers =
-    subst (λ k. IsOver op k t) (eqb-true m n (double (nat_eq m n) same)) (some t refers)
-  where
-    double : (b : Bool) → false ≡ not b → b ≡ true
-    double true e = refl
-    double false e = absurd cc

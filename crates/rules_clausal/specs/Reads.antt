@@ -7,7 +7,7 @@ use Rattle.rule_model.specs.declared.letter.Letter.{Letter}
 use Rattle.rules_clausal.specs.declared.letters.Letters.{Letters}
 use Rattle.rules_clausal.specs.declared.part.Part.{Part}
 use Rattle.rules_clausal.specs.declared.part.Part.TheVariants.{Any, Apply}
-use Rattle.rules_clausal.specs.Arguments.{StackOf}
+use Rattle.rules_clausal.specs.Stack.{StackOf}
 use Rattle.rules_clausal.specs.Letters.{slot}
 
 -- the terms are what the parts spell where the letters stand for these

@@ -7,15 +7,15 @@ ghost use Rattle.rule_model.specs.declared.letter.Letter.{Letter};
 ghost use Rattle.sym_table.specs.Table.{IsTable};
 ghost use Rattle.term_model.specs.Terms.{Term};
 ghost use Rattle.term_pool.specs.Views.{IsTerm};
-ghost use Rattle.rules_clausal.specs.Arguments.{StackOf, IsStack};
+ghost use Rattle.rules_clausal.specs.Stack.{StackOf, IsStack};
 ghost use Rattle.rules_clausal.specs.Matching.{parts_of, Fits};
 ghost use Rattle.rules_clausal.specs.Reads.{Left, Reads};
 ghost use Rattle.rules_clausal.specs.declared.part.Part.{Part};
 
-use crate::arguments::push_arguments;
 use crate::letters::Letters;
 use crate::over::over;
 use crate::part::Part;
+use crate::stack::push_arguments;
 use pair_pool::{Memory, Ref};
 use sym_table::Symbols;
 use term_pool::Terms;

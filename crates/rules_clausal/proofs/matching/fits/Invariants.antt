@@ -1,6 +1,6 @@
 use Rattle.std.proofs.Common.{◌≡◌, List, drop}
 use Rattle.term_model.specs.Terms.{Term}
-use Rattle.rules_clausal.specs.Arguments.{StackOf}
+use Rattle.rules_clausal.specs.Stack.{StackOf}
 use Rattle.rules_clausal.specs.Reads.{Left}
 use Rattle.rules_clausal.proofs.matching.fits.Given as goal
 

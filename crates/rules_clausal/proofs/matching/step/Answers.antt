@@ -1,7 +1,8 @@
 use Rattle.std.proofs.Common.{refl}
 use Rattle.std.proofs.lemmas.Bool.{OnTrue_from, OnFalse_from}
 use Rattle.rules_clausal.specs.Letters.{slot}
-use Rattle.rules_clausal.proofs.Steps.{letter_read, letter_refused, operator_read, operator_other, so_many, not_so_many}
+use Rattle.rules_clausal.proofs.OverLemmas.{so_many, not_so_many}
+use Rattle.rules_clausal.proofs.Steps.{letter_read, letter_refused, operator_read, operator_other}
 use Rattle.rules_clausal.proofs.matching.step.Goals as goal
 
 pub returns-then-ne-clause-refused : goal.returns-then-ne-clause-refused

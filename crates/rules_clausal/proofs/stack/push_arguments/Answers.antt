@@ -1,5 +1,5 @@
 use Rattle.std.proofs.Common.{◌≡◌, ◌++◌, length, drop, reverse, ◌∙◌, ap, rules}
-use Rattle.rules_clausal.proofs.arguments.push_arguments.Goals as goal
+use Rattle.rules_clausal.proofs.stack.push_arguments.Goals as goal
 
 pub returns-clause-pushed : goal.returns-clause-pushed
 returns-clause-pushed c =

@@ -1,11 +1,21 @@
-//! The arguments of terms.
+//! Stacks of terms.
 
 ghost use Rattle.std.specs.Prelude.{◌≡◌, ◌≤◌, ◌++◌, length, take, drop, reverse, OnOk};
 ghost use Rattle.pair_pool.specs.Views.{IsKnown};
-ghost use Rattle.rules_clausal.specs.Arguments.{AddsArguments};
+ghost use Rattle.rules_clausal.specs.Stack.{AddsArguments};
 
 use pair_pool::{Memory, Ref};
 use term_pool::Terms;
+
+/// Puts the literals of a clause alone on a stack, the first one at the top.
+pub(crate) fn stack_clause(stack: &mut Vec<Ref>, clause: &[Ref]) -> Result<(), Memory>
+    ensures { OnOk result (stack.new.items ≡ reverse clause.now) }
+{
+    stack.clear();
+    stack.extend_from_slice(clause)?;
+    stack.reverse();
+    Ok(())
+}
 
 /// Reverses what stands on a stack from a place on.
 fn reverse_from(stack: &mut Vec<Ref>, start: usize)
