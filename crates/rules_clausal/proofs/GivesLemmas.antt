@@ -125,9 +125,9 @@ module _ (s : Table) (v : TermsView) where
         go (t ∷ us) h = (
           λ e. record { whole = t; rest = us; none = no_premises premises ps empty premises_are; literals = refl; given = (test t us h.0 h.1).0 e },
           λ begins.
-            (let first : t ≡ begins.whole = (let e = begins.literals in cc) in
-            let others : us ≡ begins.rest = (let e = begins.literals in cc) in
-            (test t us h.0 h.1).1 (rw (first, others) begins.given)),
+              (let first : t ≡ begins.whole = (let e = begins.literals in cc) in
+              let others : us ≡ begins.rest = (let e = begins.literals in cc) in
+              (test t us h.0 h.1).1 (rw (first, others) begins.given)),
         )
 
     pub not_given : IsNoUnit premises → IsTrue false ↔ IsGiven G ps ts
@@ -140,6 +140,6 @@ module _ (s : Table) (v : TermsView) where
         go (t, same, refers) = (
           λ e. record { whole = t; unit = same; given = (test t ts refers clause_is).0 e },
           λ g.
-            (let first : t ≡ g.whole = (let e = sym same ∙ g.unit in cc) in
-            (test t ts refers clause_is).1 (rw first g.given)),
+              (let first : t ≡ g.whole = (let e = sym same ∙ g.unit in cc) in
+              (test t ts refers clause_is).1 (rw first g.given)),
         )

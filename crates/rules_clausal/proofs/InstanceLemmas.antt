@@ -83,10 +83,10 @@ module _ (s : Table) (v : TermsView) where
         go : ((t : Term) × (ps ≡ (t ∷ []) ∷ []) × RefersTo s v r t) → IsTrue b ↔ IsInstance (schema_with (p ∷ []) C) ps ts
         go (t, same, refers) = (
           λ e.
-            (let f = (test (p ∷ C) t refers has).0 e in
-            record { terms = f.0; units = same ∙ ap (λ x. (x ∷ []) ∷ []) (first_is f.0 t f.1); literals = others_are f.0 t f.1 }),
+              (let f = (test (p ∷ C) t refers has).0 e in
+              record { terms = f.0; units = same ∙ ap (λ x. (x ∷ []) ∷ []) (first_is f.0 t f.1); literals = others_are f.0 t f.1 }),
           λ i.
-            (let first = inner_is i.terms t (sym same ∙ i.units) in
-            (test (p ∷ C) t refers has).1 (i.terms, ap (λ x. x ∷ ts) first ∙ ap (λ us. fill i.terms p ∷ us) i.literals)),
+              (let first = inner_is i.terms t (sym same ∙ i.units) in
+              (test (p ∷ C) t refers has).1 (i.terms, ap (λ x. x ∷ ts) first ∙ ap (λ us. fill i.terms p ∷ us) i.literals)),
         )
     from_is (p ∷ q ∷ P) C parts r b has is test = absurd has

@@ -15,7 +15,7 @@ returns-in-One-clause-gives c t ts whole literals =
     let test = rw (c.deref.ensures.value, same) at c.is_one.ensures.one in
     rw c.in-One.is
     (gives_one c.args.symbols.now c.args.terms.now row.2 row.3 row.4 t ts c.load.new.arguments.items c.is_one.result loaded
-      (test (loaded.first ∷ loaded.others) ts loaded.refer literals))
+    (test (loaded.first ∷ loaded.others) ts loaded.refer literals))
 
 pub returns-in-All-clause-gives : goal.returns-in-All-clause-gives
 returns-in-All-clause-gives c t ts whole literals =
@@ -25,4 +25,4 @@ returns-in-All-clause-gives c t ts whole literals =
     let test = rw (c.deref-in-All.ensures.value, same) at c.are_all.ensures.all in
     rw c.in-All.is
     (gives_all c.args.symbols.now c.args.terms.now row.2 row.3 row.4 t ts c.load.new.arguments.items c.are_all.result loaded
-      (test (loaded.first ∷ loaded.others) ts loaded.refer literals))
+    (test (loaded.first ∷ loaded.others) ts loaded.refer literals))

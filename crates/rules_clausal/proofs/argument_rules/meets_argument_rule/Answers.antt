@@ -18,7 +18,7 @@ returns-then-not-is_empty-clause-meets c ps ts premises clause =
     let row = c.args.row in
     rw c.in-Begins.is
     (with_premises c.args.symbols.now c.args.terms.now (Gives row.1 row.2 row.3 row.4) c.args.premises.now c.args.clause.now ps ts premises clause
-      (λ e. absurd (let f = eq-eqb (length c.args.premises.now) 0 e in let g = c.if-not-is_empty.ensures in cc)))
+    (λ e. absurd (let f = eq-eqb (length c.args.premises.now) 0 e in let g = c.if-not-is_empty.ensures in cc)))
 
 pub gives-requires-clause-literals : goal.gives-requires-clause-literals
 gives-requires-clause-literals c =
@@ -39,13 +39,13 @@ returns-else-not-is_empty-clause-meets c =
     let row = c.args.row in
     rw c.in-Begins.is
     (IfOk-weaker c.gives.result _ _ (λ b test ps ts premises clause.
-      begins_is c.args.symbols.now c.args.terms.now (Gives row.1 row.2 row.3 row.4) c.args.premises.now c.args.clause.now ps ts premises clause
-      c.in-Some.whole.now c.in-Some.literals.now b c.in-Some.ensures.cases.0 (eqb-true (length c.args.premises.now) 0 (sym c.if-not-is_empty.ensures)) test) c.gives.ensures.gives)
+    begins_is c.args.symbols.now c.args.terms.now (Gives row.1 row.2 row.3 row.4) c.args.premises.now c.args.clause.now ps ts premises clause
+    c.in-Some.whole.now c.in-Some.literals.now b c.in-Some.ensures.cases.0 (eqb-true (length c.args.premises.now) 0 (sym c.if-not-is_empty.ensures)) test) c.gives.ensures.gives)
 
 pub returns-in-Some-unit-clause-meets : goal.returns-in-Some-unit-clause-meets
 returns-in-Some-unit-clause-meets c =
     let row = c.args.row in
     rw c.in-Given.is
     (IfOk-weaker c.gives-in-Given.result _ _ (λ b test ps ts premises clause.
-      given_is c.args.symbols.now c.args.terms.now (Gives row.1 row.2 row.3 row.4) c.args.premises.now c.args.clause.now ps ts premises clause
-      c.in-Some-unit.whole b c.in-Some-unit.ensures.unit test) c.gives-in-Given.ensures.gives)
+    given_is c.args.symbols.now c.args.terms.now (Gives row.1 row.2 row.3 row.4) c.args.premises.now c.args.clause.now ps ts premises clause
+    c.in-Some-unit.whole b c.in-Some-unit.ensures.unit test) c.gives-in-Given.ensures.gives)

@@ -26,13 +26,13 @@ fits-requires-in-From c =
 pub returns-else-not-is_empty-clause-instance : goal.returns-else-not-is_empty-clause-instance
 returns-else-not-is_empty-clause-instance c =
     IfOk-weaker c.fits.result _ _ (λ b test of ps ts has premises clause.
-      tautology_is c.args.symbols.now c.args.terms.now c.args.premises.now ps ts premises of.premises of.clause c.in-Tautology.parts b (rw c.in-Tautology.is at has)
-      (eqb-true (length c.args.premises.now) 0 (sym c.if-not-is_empty.ensures))
-      (λ qs is. test qs ts is (clause_stack c.args.symbols.now c.args.terms.now c.stack_clause.new.stack.items c.args.clause.now ts c.in_ok-stack_clause.ensures clause))) c.fits.ensures.fits
+    tautology_is c.args.symbols.now c.args.terms.now c.args.premises.now ps ts premises of.premises of.clause c.in-Tautology.parts b (rw c.in-Tautology.is at has)
+    (eqb-true (length c.args.premises.now) 0 (sym c.if-not-is_empty.ensures))
+    (λ qs is. test qs ts is (clause_stack c.args.symbols.now c.args.terms.now c.stack_clause.new.stack.items c.args.clause.now ts c.in_ok-stack_clause.ensures clause))) c.fits.ensures.fits
 
 pub returns-in_ok-push-in-From-clause-instance : goal.returns-in_ok-push-in-From-clause-instance
 returns-in_ok-push-in-From-clause-instance c =
     IfOk-weaker c.fits-in-From.result _ _ (λ b test of ps ts has premises clause.
-      from_is c.args.symbols.now c.args.terms.now c.args.premises.now ps ts premises of.premises of.clause c.in-From.parts c.in-Some.premise b (rw c.in-From.is at has) c.in-Some.ensures.unit
-      (λ qs t refers is. test qs (t ∷ ts) is
-        (step_stack c.args.symbols.now c.args.terms.now c.push.new.self.items c.stack_clause.new.stack.items c.args.clause.now c.in-Some.premise t ts c.in_ok-push-in-From.ensures.items c.in_ok-stack_clause.ensures refers clause))) c.fits-in-From.ensures.fits
+    from_is c.args.symbols.now c.args.terms.now c.args.premises.now ps ts premises of.premises of.clause c.in-From.parts c.in-Some.premise b (rw c.in-From.is at has) c.in-Some.ensures.unit
+    (λ qs t refers is. test qs (t ∷ ts) is
+    (step_stack c.args.symbols.now c.args.terms.now c.push.new.self.items c.stack_clause.new.stack.items c.args.clause.now c.in-Some.premise t ts c.in_ok-push-in-From.ensures.items c.in_ok-stack_clause.ensures refers clause))) c.fits-in-From.ensures.fits
