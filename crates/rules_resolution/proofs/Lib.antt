@@ -13,3 +13,4 @@ pub mod Renamings
 pub mod Keys
 pub mod TermLiterals
 pub mod TermAnswers
+pub mod TermTests

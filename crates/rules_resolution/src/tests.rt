@@ -1,9 +1,14 @@
 //! Small sets of clauses, each with the answer that the definition gives by hand.
-ghost use Rattle.std.specs.Prelude.{◌<◌, ◌^◌, length, vec_len, All, IfOk, IsTrue};
+ghost use Rattle.std.specs.Prelude.{◌≡◌, ◌<◌, ◌^◌, length, vec_len, All, IfOk, IsTrue};
+ghost use Rattle.term_pool.specs.Views.{IsTerm};
 
-use crate::{Lit, follows};
+use crate::{Lit, entails_by_units, follows};
+use pair_pool::{Pool, Ref};
 use std::alloc::{AllocError, Global};
 use std::test::Fail;
+use sym_table::Symbols;
+use term_model::Op;
+use term_pool::Terms;
 
 const A: Lit = Lit::Plain {
     atom: 0,
@@ -232,5 +237,63 @@ fn a_chain_needs_each_of_its_links(rt: HostRuntime) -> Result<(), Fail> {
         )?,
         Some(299)
     );
+    Ok(())
+}
+
+/// The term of an operator without arguments.
+fn constant(symbols: &Symbols, terms: &Terms<'_>, op: Op) -> Ref
+    ensures { IsTerm symbols.now terms.now result }
+{
+    let _leaves = symbols.count();
+    Ref::leaf(symbols.operator(op))
+}
+
+/// Whether the clause of one term follows from two clauses of two terms.
+fn follows_of_two(
+    alloc: Global,
+    symbols: &Symbols,
+    terms: &mut Terms<'_>,
+    first: (Ref, Ref),
+    second: (Ref, Ref),
+    goal: Ref,
+) -> Result<bool, Fail>
+    requires first { IsTerm symbols.now terms.old first.0 × IsTerm symbols.now terms.old first.1 }
+    requires second { IsTerm symbols.now terms.old second.0 × IsTerm symbols.now terms.old second.1 }
+    requires goal { IsTerm symbols.now terms.old goal }
+    ensures same { terms.new ≡ terms.old }
+{
+    let premises = vec![in alloc; vec![in alloc; first.0, first.1]?, vec![in alloc; second.0, second.1]?]?;
+    let found = entails_by_units(alloc, symbols, terms, &premises, &[goal])
+        .ok()
+        .ok_or("out of memory")?;
+    Ok(found.is_some())
+}
+
+/// Whether `true` in a premise is heeded, each premise counts, and a conclusion that is true always follows, in clauses
+/// of `true` and `false`.
+fn answers_are_right(
+    alloc: Global,
+    symbols: &Symbols,
+    terms: &mut Terms<'_>,
+    yes: Ref,
+    no: Ref,
+) -> Result<bool, Fail>
+    requires yes { IsTerm symbols.now terms.old yes }
+    requires no { IsTerm symbols.now terms.old no }
+{
+    let heeded = !follows_of_two(alloc, symbols, terms, (no, yes), (yes, no), no)?;
+    let counted = follows_of_two(alloc, symbols, terms, (no, yes), (no, no), no)?;
+    let always = follows_of_two(alloc, symbols, terms, (no, yes), (yes, no), yes)?;
+    Ok(heeded && counted && always)
+}
+
+#[test]
+fn clauses_of_terms(rt: HostRuntime) -> Result<(), Fail> {
+    let (pool, pass) = Pool::new(rt.alloc(), 12)?;
+    let mut terms = Terms::new(&pool, pass);
+    let symbols = Symbols::new(rt.alloc())?;
+    let yes = constant(&symbols, &terms, Op::True);
+    let no = constant(&symbols, &terms, Op::False);
+    assert!(rt; answers_are_right(rt.alloc(), &symbols, &mut terms, yes, no)?);
     Ok(())
 }
