@@ -262,7 +262,10 @@ fn follows_of_two(
     requires goal { IsTerm symbols.now terms.old goal }
     ensures same { terms.new ≡ terms.old }
 {
-    let premises = vec![in alloc; vec![in alloc; first.0, first.1]?, vec![in alloc; second.0, second.1]?]?;
+    let premises = vec![in alloc;
+        vec![in alloc; first.0, first.1]?,
+        vec![in alloc; second.0, second.1]?,
+    ]?;
     let found = entails_by_units(alloc, symbols, terms, &premises, &[goal])
         .ok()
         .ok_or("out of memory")?;
