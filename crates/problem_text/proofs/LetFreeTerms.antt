@@ -18,7 +18,7 @@ use Rattle.problem_text.specs.Scripts.{Named, Script, is_taken, with_named, with
 use Rattle.problem_text.specs.Names.{Bound, Place, itself, innermost, is_bound, replacement, Meaning, value, macro, function, operator, meaning_of_bound, meaning_of_named, meaning_of, trees, sorts_of, expansion, applied, bindings_of, inside, let_term}
 use Rattle.problem_text.specs.Terms.{settled, with_meaning, with_names, term_from, terms_from, bounds_from}
 use Rattle.problem_text.proofs.Outcomes.{Ends, ends-and_then, all_joined, if_found, if_some-or, if_some-map, if_some-and_then}
-use Rattle.problem_text.proofs.Replacing.{AreLetFree, replaced-let_free}
+use Rattle.rule_model.proofs.Replacing.{AreLetFree, replaced-let_free}
 
 -- where lets are replaced, a term has none, and nothing in scope stands for a term with one
 abbrev pub IsFreeIn : Place → Typed → Type 0

@@ -1,9 +1,7 @@
 pub mod Outcomes
-pub mod Replacing
 pub mod Meanings
 pub mod Readings
 pub mod Scripts
-pub mod Freedom
 pub mod LetFreeTerms
 pub mod LetFree
 pub mod OneReading

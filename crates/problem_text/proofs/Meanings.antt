@@ -13,7 +13,8 @@ use Rattle.problem_text.specs.Scripts.{Script}
 use Rattle.problem_text.specs.Names.{Bound, Place, itself, innermost, is_bound, replacement, Meaning, value, macro, function, operator, meaning_of_bound, meaning_of_named, meaning_of, trees, sorts_of, expansion, applied, bindings_of, inside, let_term}
 use Rattle.problem_text.specs.Soundness.{AreSorted, IsSound}
 use Rattle.problem_text.proofs.Outcomes.{all_joined, if_found, if_some-or, if_some-map, if_some-and_then}
-use Rattle.problem_text.proofs.Replacing.{AreFit, replaced-sort}
+use Rattle.rule_model.specs.Substitution.{HaveTheirSorts}
+use Rattle.rule_model.proofs.Replacing.{replaced-sort}
 
 -- a meaning that is a term, or has a body, is well sorted
 abbrev pub IsFit : Meaning → Type 0
@@ -22,7 +23,7 @@ IsFit (macro m) = IsOf m.body m.target
 IsFit (function f) = Unit {0}
 IsFit (operator op) = Unit {0}
 
-pub replacement-fits : (scope : List Bound) → AreSorted scope → AreFit (replacement scope)
+pub replacement-fits : (scope : List Bound) → AreSorted scope → HaveTheirSorts (replacement scope)
 replacement-fits [] h = tt
 replacement-fits (b ∷ scope) h = (h.0, replacement-fits scope h.1)
 
@@ -68,7 +69,7 @@ pub arguments-fit : (ts : List Typed) → AreTyped ts → AreOf (trees ts) (sort
 arguments-fit [] h = tt
 arguments-fit (t ∷ ts) h = (h.0, arguments-fit ts h.1)
 
-pub parameters-fit : (xs : List Var) (ts : List Typed) → map (λ x. x.sort) xs ≡ sorts_of ts → AreTyped ts → AreFit (zip xs (map (λ t. t.tree) ts))
+pub parameters-fit : (xs : List Var) (ts : List Typed) → map (λ x. x.sort) xs ≡ sorts_of ts → AreTyped ts → HaveTheirSorts (zip xs (map (λ t. t.tree) ts))
 parameters-fit [] ts e h = tt
 parameters-fit (x ∷ xs) [] e h = tt
 parameters-fit (x ∷ xs) (t ∷ ts) e h = (subst (IsOf t.tree) (first e) h.0, parameters-fit xs ts (rest e) h.1)

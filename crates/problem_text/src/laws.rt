@@ -1,33 +1,14 @@
 //! Laws of the definitions. The functions do nothing: their contracts are the laws.
-ghost use Rattle.std.specs.Prelude.{◌≡◌, ◌++◌, ◌↔◌, ◌⊎◌, [], List, ℕ, Bool, Contains};
+ghost use Rattle.std.specs.Prelude.{◌≡◌, ◌⊎◌, List, ℕ, Bool};
 ghost use Rattle.sexpr.specs.declared.causes.Refusal.{Refusal};
 ghost use Rattle.sexpr.specs.Form.{HasForm};
 ghost use Rattle.sexpr.specs.Source.{source};
-ghost use Rattle.term_model.specs.FreeVariables.{IsFree};
-ghost use Rattle.term_model.specs.Interpretations.{Interpretation};
-ghost use Rattle.term_model.specs.Meaning.{Valuation, value};
-ghost use Rattle.term_model.specs.Terms.{Var, Term, Bindings, let_in};
-ghost use Rattle.rule_model.specs.Replacement.{Replacement, replaced, values_put, HasNoLet, free_variables};
 ghost use Rattle.problem_text.specs.Scripts.{Script};
 ghost use Rattle.problem_text.specs.Problems.{StandsForProblem, IsFirstFault};
 ghost use Rattle.problem_text.specs.Soundness.{IsSound, HasNoLets};
 
+pub use rule_model::laws::replacement::{free_variables_are_listed, replacing_lets_keeps_values};
 use sexpr::{faults_are_unique, items_are_unique};
-
-/// A term whose lets are replaced has the value of the term, where its variables have the values of what is put in
-/// for them. No let is left.
-pub fn replacing_lets_keeps_values()
-    ensures value { (t : Term) (I : Interpretation) (v : Valuation) (r : Replacement) →
-        value I v (replaced r t) ≡ value I (values_put I v r ++ v) t }
-    ensures lets { (bs : Bindings) (t : Term) (I : Interpretation) (v : Valuation) →
-        value I v (replaced [] (let_in bs t)) ≡ value I v (let_in bs t) }
-    ensures none_left { (t : Term) → HasNoLet (replaced [] t) }
-{}
-
-/// The list of the free variables of a term has those that stand free in it, and no others.
-pub fn free_variables_are_listed()
-    ensures { (x : Var) (t : Term) → Contains (free_variables t) x ↔ IsFree x t }
-{}
 
 /// The bodies of macros have no let, and where lets are replaced no assertion has one.
 pub fn replaced_lets_are_gone()

@@ -18,7 +18,7 @@ use Rattle.term_expansion.specs.declared.values.Bound.{Bound}
 use Rattle.term_expansion.specs.declared.values.Value.{Value}
 use Rattle.term_expansion.proofs.Expansions.{PlacesOne, FillsOne}
 use Rattle.term_expansion.proofs.NeedLemmas.{part-refl}
-use Rattle.problem_text.proofs.Replacing.{AreLetFree, replaced-let_free}
+use Rattle.rule_model.proofs.Replacing.{AreLetFree, replaced-let_free}
 
 -- some tree stands for the term, the arguments or each term of a replacement
 record HasTree (s : Table) (t : Term) : Type 0 where

@@ -20,7 +20,7 @@ use Rattle.term_names.specs.declared.entries.Named as held
 use Rattle.term_names.specs.declared.known.KnownEntry.{KnownEntry}
 use Rattle.term_names.specs.declared.known.Which.{Which}
 use Rattle.term_expansion.proofs.Images.{drop-at}
-use Rattle.problem_text.proofs.Freedom.{free_variables-are}
+use Rattle.rule_model.proofs.Freedom.{free_variables-are}
 use Rattle.term_expansion.proofs.SetLemmas.{none_in}
 use Rattle.term_expansion.proofs.LeafLemmas.{added-leaves, adds-both, adds-same, has_more, is_variable, one-adds, one-more, one_leaf, one_variable, same_some, swapped}
 

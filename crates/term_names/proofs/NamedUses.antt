@@ -21,7 +21,7 @@ use Rattle.term_names.specs.declared.faults.ReadFault.{ReadFault}
 use Rattle.term_expansion.specs.declared.values.Bound as holds
 use Rattle.term_expansion.specs.declared.values.Value.{Value}
 use Rattle.problem_text.proofs.Agreement.{replaced_agrees}
-use Rattle.problem_text.proofs.Freedom.{free_variables-are}
+use Rattle.rule_model.proofs.Freedom.{free_variables-are}
 
 pub applied_value : (m : Meaning) (t : Typed) → m ≡ value t → applied m [] ≡ Some t
 unfolding applied
