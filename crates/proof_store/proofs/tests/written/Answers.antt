@@ -1,5 +1,5 @@
 -- What is written call by call, and that each call's conditions hold there.
-use Rattle.std.proofs.Common.{◌≡◌, ◌∷◌, [], ℕ, zero, suc, true, false, Some, None, codes, refl, sym, ◌∙◌, ap, subst, inl, inr, arith, Bool, Contains, IfOk}
+use Rattle.std.proofs.Common.{◌≡◌, ◌∷◌, [], ℕ, zero, suc, true, false, Some, None, codes, refl, sym, ◌∙◌, ap, subst, inl, inr, arith, Bool, Contains}
 use Rattle.rule_model.specs.declared.rules.Rule.{Rule}
 use Rattle.rule_model.specs.RuleNames.{rule_named, left_out_rules}
 use Rattle.rule_model.specs.Proofs.{Step, no_items, with_assume}
@@ -7,7 +7,6 @@ use Rattle.rule_model.specs.Scopes.{Scope, outermost, inside, at}
 use Rattle.rule_model.specs.WellFormed.{MayOpen}
 use Rattle.rule_model.specs.Writing.{unwritten, add_assume, open_anchor, take_step, MayTake}
 use Rattle.proof_store.specs.Steps.{step_with, anchor_with}
-use Rattle.proof_store.specs.Worked.{worked}
 use Rattle.proof_store.proofs.Conditions.{symbol, lacks}
 use Rattle.proof_store.proofs.tests.written.Goals as goal
 
@@ -85,11 +84,3 @@ finish-requires c =
     let is_second : c.anchor.new.self ≡ second = c.in_ok-anchor.ensures.written ∙ rw (is_first, c.leaf-2.ensures.number) refl in
     let is_third : c.assume-2.new.self ≡ third = c.in_ok-assume-2.ensures.written ∙ rw (is_second, c.leaf-3.ensures.number) refl in
     ap (λ s. s.nesting) c.in_ok-step.ensures.written ∙ rw is_third refl
-
-pub returns : goal.returns
-returns c =
-    let is_first : c.assume.new.self ≡ first = c.in_ok-assume.ensures.written ∙ rw (c.new-builder.ensures, c.leaf.ensures.number) refl in
-    let is_second : c.anchor.new.self ≡ second = c.in_ok-anchor.ensures.written ∙ rw (is_first, c.leaf-2.ensures.number) refl in
-    let is_third : c.assume-2.new.self ≡ third = c.in_ok-assume-2.ensures.written ∙ rw (is_second, c.leaf-3.ensures.number) refl in
-    let whole : c.step.new.self.items ≡ worked = ap (λ s. s.items) c.in_ok-step.ensures.written ∙ rw (is_third, c.leaf-4.ensures.number, c.leaf-5.ensures.number) refl in
-    subst (λ items. IfOk c.finish.result (λ proof. proof ≡ items)) whole c.finish.ensures
