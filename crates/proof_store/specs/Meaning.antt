@@ -1,12 +1,13 @@
 -- Public. The proof over terms that a proof over references stands for: the same items, each leaf of a variable for the
 -- variable and each reference for its term.
-use Rattle.std.specs.Prelude.{◌≡◌, ℕ, Bool, List, map, Option}
+use Rattle.std.specs.Prelude.{◌≡◌, ℕ, Bool, List}
 use Rattle.std.specs.List.{AllZip}
 use Rattle.sym_table.specs.Table.{Table, IsLeaf}
 use Rattle.term_model.specs.Terms.{Var, Term}
 use Rattle.term_pool.specs.StandsFor.{variable_leaf}
 use Rattle.term_pool.specs.Views.{TermsView, RefersTo}
 use Rattle.rule_model.specs.Proofs.{Step, Items, no_items, with_assume, with_step, with_subproof}
+use Rattle.rule_model.specs.Scopes.{Anchor, Nesting, outermost, inside, Scope}
 
 -- a leaf of a variable with a reference stands for the variable with its term
 pub record IsBindingOf (s : Table) (v : TermsView) (b : ℕ × ℕ) (c : Var × Term) : Type 0 where
@@ -29,23 +30,8 @@ pub record IsStepOf (s : Table) (v : TermsView) (step : Step ℕ) (of : Step Ter
   pub ratios : step.ratios ≡ of.ratios
 
 -- the items over references stand for those over terms, each in its place
-abbrev pub StandForItems : Table → TermsView → Items ℕ ℕ → Items Var Term → Type 0
-StandForItems s v no_items no_items = Unit {0}
-StandForItems s v no_items (with_assume ps id t) = ⊥
-StandForItems s v no_items (with_step ps step) = ⊥
-StandForItems s v no_items (with_subproof ps bindings proof step) = ⊥
-StandForItems s v (with_assume is id r) no_items = ⊥
-StandForItems s v (with_assume is id r) (with_assume ps id' t) =
-    StandForItems s v is ps × (id ≡ id') × RefersTo s v r t
-StandForItems s v (with_assume is id r) (with_step ps step) = ⊥
-StandForItems s v (with_assume is id r) (with_subproof ps bindings proof step) = ⊥
-StandForItems s v (with_step is step) no_items = ⊥
-StandForItems s v (with_step is step) (with_assume ps id t) = ⊥
-StandForItems s v (with_step is step) (with_step ps of) = StandForItems s v is ps × IsStepOf s v step of
-StandForItems s v (with_step is step) (with_subproof ps bindings proof of) = ⊥
-StandForItems s v (with_subproof is bindings inner step) no_items = ⊥
-StandForItems s v (with_subproof is bindings inner step) (with_assume ps id t) = ⊥
-StandForItems s v (with_subproof is bindings inner step) (with_step ps of) = ⊥
-StandForItems s v (with_subproof is bindings inner step) (with_subproof ps bound proof of) =
-    StandForItems s v is ps × AllZip (IsBindingOf s v) bindings bound × StandForItems s v inner proof
-    × IsStepOf s v step of
+pub data StandForItems (s : Table) (v : TermsView) : Items ℕ ℕ → Items Var Term → Type 0 where
+  no_items_stand : StandForItems s v no_items no_items
+  assume_stands : (is : Items ℕ ℕ) (ps : Items Var Term) (id : List ℕ) (r : ℕ) (t : Term) → StandForItems s v is ps → RefersTo s v r t → StandForItems s v (with_assume is id r) (with_assume ps id t)
+  step_stands : (is : Items ℕ ℕ) (ps : Items Var Term) (step : Step ℕ) (of : Step Term) → StandForItems s v is ps → IsStepOf s v step of → StandForItems s v (with_step is step) (with_step ps of)
+  subproof_stands : (is : Items ℕ ℕ) (ps : Items Var Term) (bindings : List (ℕ × ℕ)) (bound : List (Var × Term)) (inner : Items ℕ ℕ) (proof : Items Var Term) (step : Step ℕ) (of : Step Term) → StandForItems s v is ps → AllZip (IsBindingOf s v) bindings bound → StandForItems s v inner proof → IsStepOf s v step of → StandForItems s v (with_subproof is bindings inner step) (with_subproof ps bound proof of)
