@@ -71,11 +71,11 @@ inner_same : (s : Table) (v : TermsView) (n : Nesting ℕ ℕ) (m : Nesting Var 
 inner_same s v n m is ps bs cs a of k h =
     let commands = commands_same s v is ps h in
     let subproofs = subproofs_same s v is ps h in record {
-  number = let e = k.number in omega arith;
-  around = k.number;
-  first = let e = k.first in omega arith;
-  parent = ap Some k.number;
-}
+      number = let e = k.number in omega arith;
+      around = k.number;
+      first = let e = k.first in omega arith;
+      parent = ap Some k.number;
+    }
 
 -- commands and scopes that stand for others
 pub data IsCommandOf (s : Table) (v : TermsView) : Command ℕ → Command Term → Type 0 where
@@ -131,9 +131,10 @@ module _ (s : Table) (v : TermsView) (is : Items ℕ ℕ) (ps : Items Var Term) 
   entries_stand = entries_in_stand s v outermost outermost is ps outermost_same h
 
   pub scopes_stand : AllZip (IsScopeOf s v) (scopes is) (scopes ps)
-  scopes_stand =
-      (record { parent = refl; bindings = tt; last = last_same s v outermost outermost is ps outermost_same h },
-       scopes_in_stand s v outermost outermost is ps outermost_same h)
+  scopes_stand = (
+    record { parent = refl; bindings = tt; last = last_same s v outermost outermost is ps outermost_same h },
+    scopes_in_stand s v outermost outermost is ps outermost_same h,
+  )
 
 -- what stands for something goes on standing for it
 step_stays : (s z : Table) (v w : TermsView) → ((r : ℕ) (t : Term) → RefersTo s v r t → RefersTo z w r t) → (step' : Step ℕ) (of : Step Term) → IsStepOf s v step' of → IsStepOf z w step' of
