@@ -13,7 +13,7 @@ use Rattle.term_pool.specs.Nots.{IsStripped}
 use Rattle.term_pool.specs.StandsFor.{StandsFor, function_leaf}
 use Rattle.term_pool.specs.Views.{TermsView, RefersTo, ReferToAll, KeepsTerms}
 use Rattle.rule_model.specs.Heights.{height}
-use Rattle.problem_text.specs.Limits.{most_height}
+use Rattle.smtlib_reader.specs.Limits.{most_height}
 use Rattle.carcara_cli.specs.declared.literal.Literal.{Literal}
 use Rattle.carcara_cli.specs.Names.{Word, name_at, AreApart}
 use Rattle.carcara_cli.specs.Problem.{IsConstantLeaf, AddsLiteral, AreLiteralsBelow}

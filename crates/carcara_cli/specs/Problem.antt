@@ -6,7 +6,7 @@ use Rattle.term_model.specs.declared.symbols.Sort.{Sort}
 use Rattle.term_model.specs.Terms.{Term}
 use Rattle.term_pool.specs.Views.{TermsView, RefersTo}
 use Rattle.rule_model.specs.Heights.{height}
-use Rattle.problem_text.specs.Limits.{most_height}
+use Rattle.smtlib_reader.specs.Limits.{most_height}
 use Rattle.smtlib_reader.specs.ProblemViews.{ProblemView, IsProblemOf}
 use Rattle.smtlib_reader.specs.Problems.{StandsForProblem}
 use Rattle.smtlib_reader.specs.Scripts.{Script}
