@@ -73,8 +73,8 @@ answer_is content before after p asked j e h = rw (← e) h
 pub unread_is : (content : List ℕ → Option (List ℕ)) (before after : ℕ) (p : Asked) (asked : Option Asked) (stop : ReadStop) (a : Answer)
     → Some p ≡ asked → (stop ≡ stops.TooLong → IsTooLong (content p.problem) (content p.proof)) → (stop ≡ stops.Fault → HasRisen before after)
     → IsUnread stop a → IsAnswer content before after asked a
-unread_is content before after p asked stops.Fault a e too_long fault h = rw (← e, ← h) (fault refl)
-unread_is content before after p asked stops.TooLong a e too_long fault h = rw (← e, ← h) (too_long refl)
+unread_is content before after p asked stops.Fault a e too_long fault h = rw (← e, h) (fault refl)
+unread_is content before after p asked stops.TooLong a e too_long fault h = rw (← e, h) (too_long refl)
 unread_is content before after p asked stops.Memory a e too_long fault h = absurd h
 
 -- a list that has all of an unsatisfiable list's terms is unsatisfiable too
