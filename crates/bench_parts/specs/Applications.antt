@@ -1,4 +1,4 @@
--- What building terms over earlier ones needs of the table of symbols and of the pool.
+-- Private. What building terms over earlier ones needs of the table of symbols and of the pool.
 use Rattle.std.specs.Prelude.{ℕ, ◌<◌, ◌^◌}
 use Rattle.sym_table.specs.Table.{Table, IsLeaf}
 use Rattle.term_model.specs.Terms.{Fun, Term}

@@ -1,4 +1,4 @@
--- Terms that are read one after another from a short text, as tests read them.
+-- Private. Terms that are read one after another from a short text, as tests read them.
 use Rattle.std.specs.Prelude.{◌≡◌, ◌≤◌, List, length, Ok, Some}
 use Rattle.sexpr.specs.declared.lexing.Lexer.{Lexer}
 use Rattle.sexpr.specs.declared.lexing.Token.{Token}

@@ -1,4 +1,4 @@
--- What the parts of the top call say on the way to an answer. Private.
+-- Private. What the parts of the top call say on the way to an answer.
 use Rattle.std.specs.Prelude.{◌≡◌, ℕ, ◌<◌, List, ⊤}
 use Rattle.file_ports.specs.declared.whole.ReadStop.{ReadStop}
 use Rattle.file_ports.specs.declared.whole.ReadStop.TheVariants as stop

@@ -1,4 +1,4 @@
--- How many cells terms have in sum, where each is counted as often as it stands there. Public.
+-- Public. How many cells terms have in sum, where each is counted as often as it stands there.
 use Rattle.std.specs.Prelude.{ℕ, ◌+◌, List, [], ◌∷◌}
 use Rattle.term_model.specs.Terms.{Term, Terms, Bindings, numeral, variable, operation, call, let_in, no_terms, term, no_bindings, binding}
 

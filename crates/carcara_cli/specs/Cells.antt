@@ -1,4 +1,4 @@
--- How many cells the terms of a problem's text have. Public.
+-- Public. How many cells the terms of a problem's text have.
 use Rattle.std.specs.Prelude.{◌≡◌, ℕ, ◌≤◌, List, Bool}
 use Rattle.pair_pool.specs.Trees.{Tree}
 use Rattle.sym_table.specs.Table.{Table, IsTable}

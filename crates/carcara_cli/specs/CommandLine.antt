@@ -1,6 +1,6 @@
--- What the words of a command line ask for (POSIX.1-2017, Base Definitions, section 12.2). The first word is the command,
--- and behind it stand operands and options, in any order. The first `--` ends the options (guideline 10): every word
--- behind it is an operand.
+-- Public. What the words of a command line ask for (POSIX.1-2017, Base Definitions, "Utility Syntax Guidelines"). The
+-- first word is the command, and behind it stand operands and options, in any order. The first `--` ends the options:
+-- every word behind it is an operand.
 use Rattle.std.specs.Prelude.{ℕ, List, [], ◌∷◌, ◌++◌, Bool, true, false, not, if◌then◌else◌, Option, None, Some, nat_eq, bytes_eq, codes, drop, filter, take_while}
 use Rattle.std.specs.List.{prefix_len}
 use Rattle.carcara_cli.specs.declared.command_line.Request.{Request}

@@ -1,4 +1,4 @@
--- What a command of the code states.
+-- Private. What a command of the code states.
 use Rattle.std.specs.Prelude.{◌<◌, ◌^◌, List, map, vec_len}
 use Rattle.carcara_cli.specs.declared.command.Command.{Command}
 use Rattle.carcara_cli.specs.declared.command.Command.TheVariants.{Assume, Step}

@@ -1,4 +1,4 @@
--- What the texts of a problem and of a proof come to. Public.
+-- Public. What the texts of a problem and of a proof come to.
 use Rattle.std.specs.Prelude.{◌≡◌, ◌⊎◌, ℕ, ◌^◌, List, Bool}
 use Rattle.sexpr.specs.declared.causes.Cause.TheVariants.{LeftOut}
 use Rattle.sexpr.specs.declared.causes.Refusal.{Refusal}

@@ -1,4 +1,4 @@
--- Names by their places.
+-- Public. Names by their places.
 use Rattle.std.specs.Prelude.{◌≡◌, ◌≢◌, ℕ, ◌<◌, List, [], length, map, slice_index_or, Vec, true}
 use Rattle.sexpr.specs.Printing.{is_plain_symbol}
 use Rattle.sym_table.specs.Words.{IsBuiltIn}

@@ -1,4 +1,4 @@
--- What an answer prints, and the status with which it ends. Public.
+-- Public. What an answer prints, and the status with which it ends.
 use Rattle.std.specs.Prelude.{ℕ, List, [], ◌∷◌, ◌++◌, codes, decimal}
 use Rattle.sexpr.specs.declared.causes.Refusal.{Refusal}
 use Rattle.sexpr.specs.Causes.{text_of_cause}

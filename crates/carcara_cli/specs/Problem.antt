@@ -1,4 +1,5 @@
--- What the problem of a text says of the Boolean constants, and of the assertions that are constants behind `not`s.
+-- Public. What the problem of a text says of the Boolean constants, and of the assertions that are constants behind
+-- `not`s.
 use Rattle.std.specs.Prelude.{◌≡◌, ◌↔◌, ◌⊎◌, ℕ, ◌<◌, ◌≤◌, Bool, [], ◌∷◌, ◌++◌, List, length, All, Contains, Some, slice_get}
 use Rattle.sym_table.specs.Leaf.{function}
 use Rattle.sym_table.specs.Table.{Table, IsLeaf}

@@ -1,5 +1,5 @@
--- The proofs that are read so far (the Alethe specification, the syntax of proofs): assumes, and resolution steps
--- with premises.
+-- Public. The proofs that are read so far (the Alethe specification, the syntax of proofs): assumes, and resolution
+-- steps with premises.
 use Rattle.std.specs.Prelude.{◌≡◌, true, ℕ, ◌+◌, ◌<◌, List, [], ◌∷◌, ◌++◌, flat_map, map, length, codes, All, slice_index_or}
 use Rattle.carcara_cli.specs.declared.literal.Literal.{Literal}
 use Rattle.carcara_cli.specs.Names.{Word, name_at, AreApart}

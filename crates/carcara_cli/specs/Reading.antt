@@ -1,4 +1,4 @@
--- Reading words one after another.
+-- Private. Reading words one after another.
 use Rattle.std.specs.Prelude.{◌≡◌, ℕ, ◌+◌, ◌≤◌, List, ◌++◌, length, drop, map}
 use Rattle.std.specs.Borrow.{Bor}
 use Rattle.carcara_cli.specs.Names.{Word}

@@ -1,4 +1,4 @@
--- What the reading of a problem's text comes to, and the pool that it begins with. Private.
+-- Private. What the reading of a problem's text comes to, and the pool that it begins with.
 use Rattle.std.specs.Prelude.{◌≡◌, ◌⊎◌, ◌*◌, ◌^◌, ◌<◌, ◌≤◌, ℕ, List, Bool}
 use Rattle.smtlib_reader.specs.Problems.{IsFirstFault}
 use Rattle.smtlib_reader.specs.Scripts.{Script}

@@ -1,4 +1,4 @@
--- The words of a text: what its tokens are spelled by.
+-- Public. The words of a text: what its tokens are spelled by.
 use Rattle.std.specs.Prelude.{◌≡◌, ℕ, ◌≤◌, ◌++◌, List, length, map}
 use Rattle.sexpr.specs.declared.lexing.Token.{Token}
 use Rattle.sexpr.specs.Tokens.{AreTokens, token_text}

@@ -1,4 +1,4 @@
--- Spelled terms: the words, brackets among them, that spell a term of the texts that are read so far.
+-- Public. Spelled terms: the words, brackets among them, that spell a term of the texts that are read so far.
 use Rattle.std.specs.Prelude.{ℕ, zero, suc, ◌<◌, ◌≤◌, List, [], ◌∷◌, ◌++◌, length, codes}
 use Rattle.carcara_cli.specs.Names.{Word, name_at}
 use Rattle.carcara_cli.specs.Reading.{Reads}

@@ -1,5 +1,5 @@
--- What the top call answers, over what a folder tells of its files and what the command line asks for, and what it
--- prints. Public.
+-- Public. What the top call answers, over what a folder tells of its files and what the command line asks for, and what
+-- it prints.
 use Rattle.std.specs.Prelude.{◌≡◌, ◌≢◌, ◌⊎◌, ℕ, ◌≤◌, List, length, Bool, Option, None, Some, ⊤}
 use Rattle.std.specs.Io.KnownBytes.{Appends}
 use Rattle.term_model.specs.Unsatisfiable.{Unsatisfiable}

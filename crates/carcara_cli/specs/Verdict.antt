@@ -1,4 +1,4 @@
--- The verdict on a proof: which commands are met, and what follows for the proof as a whole.
+-- Public. The verdict on a proof: which commands are met, and what follows for the proof as a whole.
 use Rattle.std.specs.Prelude.{◌≡◌, ℕ, zero, suc, ◌<◌, Bool, false, not, ◌&&◌, nat_eq, List, [], map, length, Contains, MatchBool}
 use Rattle.std.specs.List.{list_any}
 use Rattle.rule_model.specs.Consequence.{Follows}

@@ -102,7 +102,8 @@ fn asked_with<'a>(operands: &[&'a str], replaces_lets: Option<bool>) -> Option<R
     }
 }
 
-/// What the words of a command line ask for, where they spell a command (POSIX.1-2017, Base Definitions, section 12.2):
+/// What the words of a command line ask for, where they spell a command (POSIX.1-2017, Base
+/// Definitions, "Utility Syntax Guidelines"):
 /// `check PROOF PROBLEM`, and in any place behind `check` the option `--expand-let-bindings`.
 pub fn asked_of<'a>(alloc: Global, words: &'a [String]) -> Result<Option<Request<'a>>, AllocError>
     ensures { IfOk result (λ r. told_of r ≡ asked_of (map string_bytes words.now)) }

@@ -1,4 +1,4 @@
--- A count of faults: a number that never falls, and that stops at the greatest number of 64 bits.
+-- Public. A count of faults: a number that never falls, and that stops at the greatest number of 64 bits.
 use Rattle.std.specs.Prelude.{ℕ, ◌+◌, ◌-◌, ◌^◌, ◌<◌, ◌≤◌, ◌↔◌, ◌⊎◌, min}
 
 -- where a count stops

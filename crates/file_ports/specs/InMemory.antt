@@ -1,4 +1,4 @@
--- What the objects in memory are: files, two texts, and the bytes written.
+-- Public. What the objects in memory are: files, two texts, and the bytes written.
 use Rattle.std.specs.Prelude.{◌==◌, ◌⊎◌, IsNone, ℕ, List, [], ◌∷◌, slice_get, map, Option, None, Some, String, Vec, string_bytes, codes, if◌then◌else◌}
 use Rattle.std.specs.Str.{bytes_eq}
 use Rattle.std.specs.declared.alloc.Global.{Global}

@@ -1,4 +1,4 @@
--- An open file of a folder in memory, and the place up to which it was read.
+-- Private. An open file of a folder in memory, and the place up to which it was read.
 use Rattle.std.specs.Prelude.{ℕ, ◌<◌, ◌≤◌, List, [], length, map, drop, slice_index_or}
 use Rattle.file_ports.specs.declared.memory_folder.Opened.{Opened}
 

@@ -1,4 +1,4 @@
--- The calls of an object in memory, numbered from 0, of which some are told to fail.
+-- Public. The calls of an object in memory, numbered from 0, of which some are told to fail.
 use Rattle.std.specs.Prelude.{◌≡◌, ℕ, List, Contains}
 use Rattle.file_ports.specs.Faults.{one_more}
 

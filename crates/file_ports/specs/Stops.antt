@@ -1,4 +1,4 @@
--- How an answer of a folder stops the reading of a whole file.
+-- Private. How an answer of a folder stops the reading of a whole file.
 use Rattle.file_ports.specs.declared.ports.OutStop.{OutStop}
 use Rattle.file_ports.specs.declared.whole.ReadStop.{ReadStop}
 use Rattle.file_ports.specs.declared.ports.OutStop.TheVariants as out

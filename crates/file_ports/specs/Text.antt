@@ -1,4 +1,4 @@
--- A text of a folder of two texts, and the place up to which it was read.
+-- Private. A text of a folder of two texts, and the place up to which it was read.
 use Rattle.std.specs.Prelude.{ℕ, List, drop}
 use Rattle.file_ports.specs.declared.steady_folder.Text.{Text}
 

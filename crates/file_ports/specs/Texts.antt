@@ -1,4 +1,4 @@
--- What a whole reading and a whole writing do to bytes that are told.
+-- Public. What a whole reading and a whole writing do to bytes that are told.
 use Rattle.std.specs.Prelude.{◌≡◌, ℕ, ◌≤◌, ◌<◌, List, ◌++◌, length, take, Option, None, Some, ⊤}
 use Rattle.std.specs.Io.KnownBytes.{Appends, Consumes, IsAtEnd}
 

@@ -1,4 +1,4 @@
--- The good states of a pool: what is true of its words and its passes between any two steps.
+-- Private. The good states of a pool: what is true of its words and its passes between any two steps.
 use Rattle.std.specs.Prelude.{◌≡◌, ℕ, ◌+◌, ◌-◌, ◌^◌, ◌<◌, ◌≤◌, ◌⊎◌, List, [], length, slice_index, All, Any, sum_by}
 use Rattle.pair_pool.specs.Trees.{Tree}
 use Rattle.pair_pool.specs.Views.{PassView, IsListed}

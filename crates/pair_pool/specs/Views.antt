@@ -1,7 +1,7 @@
--- What contracts see of a pool and of a pass on it.
--- A pass is a user's part in a pool: what that user has seen of the table, what it knows, and what it placed itself.
--- Crates above name `IsOf`, `Knows`, `IsKnown`, `HasCell`, `IsSeen`, `IsPlaced` and the relations between two views
--- below, and no list of cells as such, so another body may keep the lists in another way.
+-- Public. What contracts see of a pool and of a pass on it. A pass is a user's part in a pool: what that user has seen
+-- of the table, what it knows, and what it placed itself. Crates above name `IsOf`, `Knows`, `IsKnown`, `HasCell`,
+-- `IsSeen`, `IsPlaced` and the relations between two views below, and no list of cells as such, so another body may
+-- keep the lists in another way.
 use Rattle.std.specs.Prelude.{◌≡◌, ℕ, ◌+◌, ◌<◌, ◌≤◌, ◌^◌, ◌⊎◌, ◌≢◌, List, Contains}
 use Rattle.pair_pool.specs.Trees.{Tree, leaf, cell, StandsBy}
 

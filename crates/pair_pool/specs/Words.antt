@@ -1,4 +1,4 @@
--- The words of a pool's table, and the probe for a cell.
+-- Private. The words of a pool's table, and the probe for a cell.
 use Rattle.std.specs.Prelude.{◌≡◌, ◌≢◌, ℕ, ◌+◌, ◌-◌, ◌*◌, ◌%◌, ◌^◌, ◌<◌, ◌≤◌, List, length, slice_index}
 use Rattle.pair_pool.specs.Trees.{Tree, StandsBy}
 

@@ -1,4 +1,4 @@
--- What the functions over the words say of a probe and of a write.
+-- Private. What the functions over the words say of a probe and of a write.
 use Rattle.std.specs.Prelude.{◌≡◌, ℕ, ◌-◌, ◌^◌, ◌<◌, ◌⊎◌, List, length, slice_index, slice_set}
 use Rattle.pair_pool.specs.declared.table.Probe.{Probe}
 use Rattle.pair_pool.specs.declared.table.Probe.TheVariants.{Here, Free, Full}

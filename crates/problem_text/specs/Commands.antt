@@ -1,5 +1,5 @@
--- Public. The commands of a problem (SMT-LIB 2.6, sections 3.9 and 4.2) and their shapes, which reach down to the terms and
--- sorts of a command, but not into them.
+-- Public. The commands of a problem (SMT-LIB 2.6, "Scripts" and "Commands") and their shapes, which reach down
+-- to the terms and sorts of a command, but not into them.
 use Rattle.std.specs.Prelude.{ℕ, Bool, if◌then◌else◌, List, [], ◌∷◌, codes, bytes_eq, Option, Some, None, Result, Ok, Err}
 use Rattle.std.specs.Option.{option_or}
 use Rattle.sexpr.specs.declared.causes.Cause.{Cause}

@@ -1,5 +1,6 @@
--- Public. The forms of terms (SMT-LIB 2.6, section 3.6): what an item in a term's place spells, before any name is looked
--- up. A fault of spelling or of shape is a form too, so that it is met where the text has it and no earlier.
+-- Public. The forms of terms (SMT-LIB 2.6, "Terms and Formulas"): what an item in a term's place spells, before
+-- any name is looked up. A fault of spelling or of shape is a form too, so that it is met where the text has it and no
+-- earlier.
 use Rattle.std.specs.Prelude.{ℕ, ◌^◌, nat_lt, Bool, not, ◌&&◌, ◌||◌, if◌then◌else◌, List, [], ◌∷◌, codes, bytes_eq, Option, Some, None, is_some}
 use Rattle.std.specs.Option.{option_or}
 use Rattle.sexpr.specs.declared.causes.Cause.{Cause}

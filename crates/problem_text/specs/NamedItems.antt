@@ -1,4 +1,4 @@
--- Public. The attribute that gives a term a name (SMT-LIB 2.6, section 3.6.6).
+-- Public. The attribute that gives a term a name (SMT-LIB 2.6, on attributes of terms).
 use Rattle.std.specs.Prelude.{Bool, false, codes, bytes_eq}
 use Rattle.sexpr.specs.Items.{Item, word, quoted, string, list}
 

@@ -1,4 +1,4 @@
--- Public. What a symbol means where it stands in a term (SMT-LIB 2.6, sections 3.6.1 and 5.2.1).
+-- Public. What a symbol means where it stands in a term (SMT-LIB 2.6, on binders and on signatures).
 use Rattle.std.specs.Prelude.{ℕ, Bool, false, if◌then◌else◌, List, [], ◌∷◌, ◌++◌, map, zip, bytes_eq, find, Option, Some, None, option_map, option_and_then}
 use Rattle.std.specs.Option.{option_or, option_map_or}
 use Rattle.std.specs.List.{list_all}

@@ -1,4 +1,4 @@
--- Public. What the text of a problem stands for, and its first fault (SMT-LIB 2.6, sections 3.10 and 4.2).
+-- Public. What the text of a problem stands for, and its first fault (SMT-LIB 2.6, "Scripts" and "Commands").
 use Rattle.std.specs.Prelude.{◌≡◌, ℕ, ◌==◌, Bool, true, false, ◌||◌, if◌then◌else◌, List, [], map, Contains, Err, ⊤, ◌⊎◌}
 use Rattle.sexpr.specs.declared.causes.Cause.TheVariants.{Repeated, LeftOut, SortMismatch}
 use Rattle.sexpr.specs.declared.causes.Refusal.{Refusal}

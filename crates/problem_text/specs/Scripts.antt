@@ -7,7 +7,7 @@ use Rattle.term_model.specs.Terms.{Var, Fun, Term}
 use Rattle.problem_text.specs.Words.{is_among, is_built_in}
 use Rattle.problem_text.specs.TypedTerms.{Typed}
 
--- A defined function (SMT-LIB 2.6, section 4.2.3): its use stands for its body with terms put in for the parameters.
+-- A defined function (SMT-LIB 2.6, "Commands"): its use stands for its body with terms put in for the parameters.
 -- The body has no let.
 pub record Macro : Type 0 where
   pub name : List ℕ

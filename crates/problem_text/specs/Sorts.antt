@@ -1,4 +1,4 @@
--- Public. Sorts (SMT-LIB 2.6, section 3.5): Bool, Int and the declared ones.
+-- Public. Sorts (SMT-LIB 2.6, section of that title): Bool, Int and the declared ones.
 use Rattle.std.specs.Prelude.{ℕ, ◌||◌, if◌then◌else◌, List, [], ◌∷◌, codes, bytes_eq, position, Option, Some, None, Result, Ok, Err}
 use Rattle.sexpr.specs.declared.causes.Cause.TheVariants.{BadCommand, LeftOut, UnknownName, Repeated}
 use Rattle.sexpr.specs.declared.causes.Refusal.{Refusal}

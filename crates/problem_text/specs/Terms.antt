@@ -1,4 +1,5 @@
--- Public. Reading a term (SMT-LIB 2.6, section 3.6): the tree that it stands for and its sort, or its first fault.
+-- Public. Reading a term (SMT-LIB 2.6, "Terms and Formulas"): the tree that it stands for and its sort, or its first
+-- fault.
 use Rattle.std.specs.Prelude.{ℕ, nat_le, ◌||◌, if◌then◌else◌, List, [], ◌∷◌, Option, Some, None}
 use Rattle.sexpr.specs.declared.causes.Cause.TheVariants.{UnknownName, Repeated, SortMismatch, TooHigh}
 use Rattle.sexpr.specs.Items.{Item}

@@ -1,4 +1,4 @@
--- Public. The words of scripts (SMT-LIB 2.6, sections 3.9, 4.1 and 4.2) that are read, and those that are left out.
+-- Public. The words of scripts (SMT-LIB 2.6, "Scripts" and "Commands") that are read, and those that are left out.
 use Rattle.std.specs.Prelude.{ℕ, Bool, List, [], ◌∷◌, codes, bytes_eq, find, Option}
 use Rattle.std.specs.List.{list_any}
 use Rattle.term_model.specs.declared.symbols.Op.{Op}

@@ -1,4 +1,4 @@
--- Public. Putting terms in for variables and for lets (SMT-LIB 2.6, section 3.6.1: a let means its body with the terms put
+-- Public. Putting terms in for variables and for lets (SMT-LIB 2.6, on binders: a let means its body with the terms put
 -- in for the variables that it binds).
 use Rattle.std.specs.Prelude.{Bool, false, not, ◌||◌, List, [], ◌∷◌, ◌++◌, filter, if◌then◌else◌, ⊤}
 use Rattle.term_model.specs.Terms.{Var, var_eq, Term, numeral, variable, operation, call, let_in, Terms, no_terms, term, Bindings, no_bindings, binding}

@@ -133,6 +133,6 @@ left_out_rules =
     codes "bind" ∷ codes "sko_ex" ∷ codes "sko_forall" ∷ codes "onepoint" ∷ codes "forall_inst" ∷ codes "qnt_join"
     ∷ codes "qnt_rm_unused" ∷ codes "qnt_simplify" ∷ codes "qnt_cnf" ∷ []
 
--- the bytes are the name of a symbol: none of them is a bar or a backslash (SMT-LIB 2.6, section 3.1)
+-- the bytes are the name of a symbol: none of them is a bar or a backslash (SMT-LIB 2.6, "Lexicon")
 abbrev pub IsSymbolName : List ℕ → Type 0
 IsSymbolName name = All (λ b. (b ≢ 124) × (b ≢ 92)) name

@@ -1,4 +1,4 @@
--- The words that name each cause of a refusal.
+-- Public. The words that name each cause of a refusal.
 use Rattle.std.specs.Prelude.{ℕ, List, codes}
 use Rattle.sexpr.specs.declared.causes.Cause.{Cause}
 use Rattle.sexpr.specs.declared.causes.Cause.TheVariants.{BadByte, OpenList, StrayClose, UnknownCommand, BadCommand, UnknownName, Repeated, SortMismatch, LeftOut, WideNumber, TooHigh, NoStep, BadAnchor}

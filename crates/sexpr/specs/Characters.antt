@@ -1,4 +1,4 @@
--- The characters of a text, as bytes (SMT-LIB 2.6, section 3.1).
+-- Public. The characters of a text, as bytes (SMT-LIB 2.6, "Lexicon").
 use Rattle.std.specs.Prelude.{ℕ, Bool, not, ◌&&◌, ◌||◌, ◌==◌, codes}
 use Rattle.std.specs.List.{list_any}
 use Rattle.std.specs.Char.{is_ascii_alphanumeric}

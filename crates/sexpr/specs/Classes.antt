@@ -1,4 +1,4 @@
--- The classes of bytes that the lexer's table holds.
+-- Private. The classes of bytes that the lexer's table holds.
 use Rattle.std.specs.Prelude.{ℕ, if◌then◌else◌}
 use Rattle.sexpr.specs.declared.bytes.Class.{Class}
 use Rattle.sexpr.specs.declared.bytes.Class.TheVariants.{Other, White, Word}

@@ -1,4 +1,4 @@
--- How many lists are open, and where the outermost of them began.
+-- Private. How many lists are open, and where the outermost of them began.
 use Rattle.std.specs.Prelude.{ℕ, ◌+◌, ◌-◌, ◌==◌, if◌then◌else◌, Option, Some, None, option_map, List, [], ◌∷◌, option_and_then}
 use Rattle.sexpr.specs.declared.brackets.OpenLists.{OpenLists}
 use Rattle.sexpr.specs.declared.lexing.Token.{Token}

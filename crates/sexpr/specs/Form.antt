@@ -1,4 +1,4 @@
--- When a text has the form of nested items, and its first fault where it hasn't.
+-- Public. When a text has the form of nested items, and its first fault where it hasn't.
 use Rattle.std.specs.Prelude.{◌≡◌, ℕ, List, [], ◌∷◌, ◌++◌, Ok, Some}
 use Rattle.sexpr.specs.declared.causes.Cause.{Cause}
 use Rattle.sexpr.specs.declared.causes.Cause.TheVariants.{BadByte, OpenList, StrayClose, UnknownCommand, BadCommand, UnknownName, Repeated, SortMismatch, LeftOut, WideNumber, TooHigh, NoStep, BadAnchor}

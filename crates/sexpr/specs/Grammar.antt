@@ -1,4 +1,4 @@
--- How a token is spelled, and what may stand before it (SMT-LIB 2.6, section 3.1).
+-- Public. How a token is spelled, and what may stand before it (SMT-LIB 2.6, "Lexicon").
 use Rattle.std.specs.Prelude.{◌≡◌, ℕ, ◌<◌, Bool, true, false, not, ◌==◌, List, [], ◌∷◌, ◌++◌, length, drop}
 use Rattle.std.specs.List.{AllPass}
 use Rattle.sexpr.specs.declared.lexing.Token.{Token}

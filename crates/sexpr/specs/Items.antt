@@ -1,4 +1,4 @@
--- The nested items that the tokens of a text stand for (s-expressions, SMT-LIB 2.6, section 3.2).
+-- Public. The nested items that the tokens of a text stand for (SMT-LIB 2.6, "S-expressions").
 use Rattle.std.specs.Prelude.{◌≡◌, ℕ, if◌then◌else◌, Option, Some, None, List, [], ◌∷◌}
 use Rattle.sexpr.specs.declared.lexing.Token.{Token}
 use Rattle.sexpr.specs.declared.lexing.TokenKind.{TokenKind}

@@ -1,4 +1,4 @@
--- How a symbol is printed (SMT-LIB 2.6, "Lexicon": symbols). Public.
+-- Public. How a symbol is printed (SMT-LIB 2.6, "Lexicon": symbols).
 use Rattle.std.specs.Prelude.{◌≡◌, ℕ, Bool, ◌&&◌, if◌then◌else◌, Some, List, [], ◌∷◌, ◌++◌}
 use Rattle.std.specs.List.{list_all}
 use Rattle.sexpr.specs.declared.lexing.TokenKind.{TokenKind}

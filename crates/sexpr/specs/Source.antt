@@ -1,4 +1,4 @@
--- What a lexer reads, and how far it has come.
+-- Public. What a lexer reads, and how far it has come.
 use Rattle.std.specs.Prelude.{ℕ, List}
 use Rattle.sexpr.specs.declared.lexing.Lexer.{Lexer}
 

@@ -1,4 +1,4 @@
--- The kinds of words, by how they are spelled (SMT-LIB 2.6, section 3.1).
+-- Public. The kinds of words, by how they are spelled (SMT-LIB 2.6, "Lexicon").
 use Rattle.std.specs.Prelude.{ℕ, ◌+◌, ◌-◌, ◌*◌, Bool, false, not, ◌&&◌, ◌||◌, ◌==◌, if◌then◌else◌, Option, Some, None, List, [], ◌∷◌, length, take, drop, fold}
 use Rattle.std.specs.List.{list_all, before_first, after_first}
 use Rattle.std.specs.Char.{is_ascii_digit}

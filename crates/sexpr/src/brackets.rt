@@ -38,8 +38,8 @@ impl OpenLists {
 /// Whether a text has the form of nested items: tokens in which each bracket has its partner.
 ///
 /// The first fault from the left is refused: a bad byte, or a closing bracket where no list is open. Where there
-/// is none and a list is open at the end, that is refused at the outermost open bracket (SMT-LIB 2.6, sections
-/// 3.1 and 3.2). The text is read once, from the left.
+/// is none and a list is open at the end, that is refused at the outermost open bracket (SMT-LIB 2.6,
+/// "Lexicon" and "S-expressions"). The text is read once, from the left.
 pub fn form(bytes: &[u8]) -> Result<(), Refusal>
     ensures formed { OnOk result (HasForm bytes.now) }
     ensures fault { IfErr result (IsFormFault bytes.now) }

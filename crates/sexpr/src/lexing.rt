@@ -53,7 +53,7 @@ impl<'a> Lexer<'a> {
         Lexer { bytes, place: 0 }
     }
 
-    /// The next token, and None exactly at the end of the text (SMT-LIB 2.6, section 3.1).
+    /// The next token, and None exactly at the end of the text (SMT-LIB 2.6, "Lexicon").
     ///
     /// White space and comments before the token are skipped. A byte that no token can have there is refused
     /// as a bad byte at its place; the lexer then stays where it is, so the same refusal comes again.

@@ -1,4 +1,4 @@
-//! Texts with the tokens and the form that the rules of SMT-LIB 2.6, section 3.1, give them.
+//! Texts with the tokens and the form that the rules of SMT-LIB 2.6, "Lexicon", give them.
 use crate::{
     Lexer, Token, TokenKind, WordKind, cause_text, form, print_symbol, symbol_name, word_kind,
 };

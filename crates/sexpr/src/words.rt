@@ -22,7 +22,7 @@ pub enum WordKind {
     Ratio,
 }
 
-/// The kind of a word, and None of what is no word (SMT-LIB 2.6, section 3.1).
+/// The kind of a word, and None of what is no word (SMT-LIB 2.6, "Lexicon").
 #[tactic(auto, unfolding(crate::specs::Words::word_kind))]
 pub fn word_kind(word: &[u8]) -> Option<WordKind>
     ensures { result ≡ word_kind word.now }
@@ -45,7 +45,7 @@ pub fn word_kind(word: &[u8]) -> Option<WordKind>
 }
 
 /// The name of the symbol that a token spells, with its bars cut off, and None of a token that is no symbol.
-/// `|abc|` and `abc` have one name (SMT-LIB 2.6, section 3.1).
+/// `|abc|` and `abc` have one name (SMT-LIB 2.6, "Lexicon").
 pub fn symbol_name<'a>(lexer: &Lexer<'a>, token: &Token) -> Option<&'a [u8]>
     requires start { token.now.start ≤ token.now.end }
     requires within { token.now.end ≤ length (source lexer.now) }

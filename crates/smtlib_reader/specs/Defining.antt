@@ -1,4 +1,4 @@
--- Private. The parts of a command that defines a function (SMT-LIB 2.6, section 4.2.3), as the code holds them.
+-- Private. The parts of a command that defines a function (SMT-LIB 2.6, "Commands"), as the code holds them.
 use Rattle.std.specs.Prelude.{◌≡◌, ◌≤◌, ◌+◌, ℕ, true, if◌then◌else◌, List, [], ◌∷◌, ◌++◌, map, length, None, Result, Ok, Err, ⊤}
 use Rattle.sexpr.specs.declared.causes.Cause.TheVariants.{SortMismatch}
 use Rattle.sexpr.specs.declared.causes.Refusal.{Refusal}

@@ -1,4 +1,4 @@
-//! The words of commands (SMT-LIB 2.6, sections 3.9 and 4.2).
+//! The words of commands (SMT-LIB 2.6, "Scripts" and "Commands").
 ghost use Rattle.std.specs.Prelude.{◌≡◌};
 ghost use Rattle.smtlib_reader.specs.CommandShapes as spec;
 

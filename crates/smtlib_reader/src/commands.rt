@@ -1,4 +1,4 @@
-//! The commands of a problem (SMT-LIB 2.6, sections 3.9 and 4.2) and their shapes, over the nodes of one top item.
+//! The commands of a problem (SMT-LIB 2.6, "Scripts" and "Commands") and their shapes, over the nodes of one top item.
 ghost use Rattle.std.specs.Prelude.{◌≡◌, ◌<◌, ℕ, List, length};
 ghost use Rattle.sexpr.specs.Items.{Item, Items};
 ghost use Rattle.sexpr.specs.Source.{source};

@@ -1,4 +1,4 @@
-//! Declarations of sorts and functions, and the logic (SMT-LIB 2.6, sections 4.1.1 and 4.2.3).
+//! Declarations of sorts and functions, and the logic (SMT-LIB 2.6, "Commands").
 ghost use Rattle.std.specs.Prelude.{◌≡◌, ◌≤◌, ◌<◌, ◌^◌, ◌+◌, ◌||◌, ◌++◌, [], ◌∷◌, length, position, bytes_eq, false, None, OnOk, IfErr};
 ghost use Rattle.sexpr.specs.Source.{source};
 ghost use Rattle.sym_table.specs.Leaf.{function};

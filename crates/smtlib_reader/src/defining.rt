@@ -1,4 +1,4 @@
-//! Defined functions (SMT-LIB 2.6, section 4.2.3).
+//! Defined functions (SMT-LIB 2.6, "Commands").
 ghost use Rattle.std.specs.Prelude.{◌≡◌, ◌≤◌, ◌<◌, ◌^◌, ◌+◌, ◌-◌, ℕ, List, [], map, length, None, IfOk, IfErr};
 ghost use Rattle.sexpr.specs.Items.{Item, Items};
 ghost use Rattle.sexpr.specs.Source.{source};

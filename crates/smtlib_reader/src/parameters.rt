@@ -1,4 +1,4 @@
-//! The parameters of a defined function (SMT-LIB 2.6, section 4.2.3).
+//! The parameters of a defined function (SMT-LIB 2.6, "Commands").
 ghost use Rattle.std.specs.Prelude.{◌≡◌, ℕ, not, ◌||◌, List, [], ◌∷◌, None, IsTrue, IfOk, IfErr};
 ghost use Rattle.sexpr.specs.Items.{Item, Items};
 ghost use Rattle.sexpr.specs.Source.{source};

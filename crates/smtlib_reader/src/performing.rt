@@ -1,4 +1,4 @@
-//! What the commands of a problem do (SMT-LIB 2.6, section 4.2).
+//! What the commands of a problem do (SMT-LIB 2.6, "Commands").
 ghost use Rattle.std.specs.Prelude.{◌≡◌, ◌≤◌, ◌^◌, ◌+◌, length};
 ghost use Rattle.sexpr.specs.Source.{source};
 ghost use Rattle.sym_table.specs.Table.{Keeps};

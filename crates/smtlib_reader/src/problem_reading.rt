@@ -1,4 +1,4 @@
-//! Reading a problem (SMT-LIB 2.6, sections 3.10 and 4.2).
+//! Reading a problem (SMT-LIB 2.6, "Scripts" and "Commands").
 ghost use Rattle.std.specs.Prelude.{◌≡◌, ◌≤◌, ◌<◌, ◌+◌, length, Err, All, IfOk};
 ghost use Rattle.pair_pool.specs.Views.{IsKnown};
 ghost use Rattle.sexpr.specs.declared.causes.Refusal.{Refusal};

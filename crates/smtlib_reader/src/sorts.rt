@@ -1,4 +1,4 @@
-//! Sorts where they stand in a text (SMT-LIB 2.6, section 3.5).
+//! Sorts where they stand in a text (SMT-LIB 2.6, "Sorts").
 ghost use Rattle.std.specs.Prelude.{◌≡◌, List, bytes_eq, position, option_copied, OnOk};
 ghost use Rattle.sexpr.specs.Form.{HasForm};
 ghost use Rattle.sexpr.specs.Items.{Item};

@@ -1,5 +1,5 @@
--- The symbols that head an application, and the sort that the application has (SMT-LIB 2.6, sections 3.6 and
--- 5.2.2).
+-- Public. The symbols that head an application, and the sort that the application has (SMT-LIB 2.6, "Terms and
+-- Formulas" and "Well-sorted terms").
 use Rattle.std.specs.Prelude.{ℕ, List, Bool, true, false, IsTrue, Option, None}
 use Rattle.term_model.specs.declared.symbols.Sort.{Sort}
 use Rattle.term_model.specs.Sorts.{application_sort, call_sort}

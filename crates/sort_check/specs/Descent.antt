@@ -1,4 +1,4 @@
--- What one step on the way down to the sort of a term comes to.
+-- Private. What one step on the way down to the sort of a term comes to.
 use Rattle.std.specs.Prelude.{◌≡◌, ℕ, ◌<◌}
 use Rattle.sym_table.specs.Leaf.{operator}
 use Rattle.sym_table.specs.Table.{Table, IsLeaf}

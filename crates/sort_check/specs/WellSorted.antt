@@ -1,4 +1,4 @@
--- What the sort of a term is asked of.
+-- Public. What the sort of a term is asked of.
 use Rattle.std.specs.Prelude.{ℕ}
 use Rattle.sym_table.specs.Table.{Table}
 use Rattle.term_model.specs.Terms.{Term}

@@ -13,7 +13,7 @@ use sym_table::{Kind, Symbols};
 use term_model::Sort;
 
 /// The sort of an operator or a declared function applied to arguments of these sorts, in order, or None exactly
-/// where it may not be applied to so many or to arguments of these sorts (SMT-LIB 2.6, section 5.2.2 and the
+/// where it may not be applied to so many or to arguments of these sorts (SMT-LIB 2.6, "Well-sorted terms" and the
 /// theories Core and Ints).
 ///
 /// The symbol is told by its leaf. No arguments stand for the symbol by itself. Where the arguments are well sorted

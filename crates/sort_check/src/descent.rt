@@ -26,7 +26,7 @@ enum Step {
     Below(Ref),
 }
 
-/// The sort of a well-sorted term (SMT-LIB 2.6, section 5.2.2).
+/// The sort of a well-sorted term (SMT-LIB 2.6, "Well-sorted terms").
 ///
 /// An `ite` has the sort of its branches and a let that of its body, so these are followed down, one term for each; any
 /// other term tells its sort at its top. The way may be as long as the term is high. Places no cell in the pool and

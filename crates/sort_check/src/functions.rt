@@ -1,4 +1,4 @@
-//! What declared functions may be applied to (SMT-LIB 2.6, sections 4.2.3 and 5.2.2).
+//! What declared functions may be applied to (SMT-LIB 2.6, "Commands" and "Well-sorted terms").
 
 ghost use Rattle.std.specs.Prelude.{◌≡◌};
 ghost use Rattle.sym_table.specs.Leaf.{arguments_of};

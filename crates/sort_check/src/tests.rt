@@ -1,4 +1,4 @@
-//! The arities and sorts of the operators, from SMT-LIB 2.6, section 3.7, and the theories Core and Ints.
+//! The arities and sorts of the operators, from SMT-LIB 2.6, the theories Core and Ints.
 
 ghost use Rattle.std.specs.Prelude.{◌<◌, length};
 

@@ -1,4 +1,4 @@
--- What a table of symbols says: which leaf stands for what, and the names of the declared sorts.
+-- Public. What a table of symbols says: which leaf stands for what, and the names of the declared sorts.
 use Rattle.std.specs.Prelude.{pos, ◌≤ℤ◌, ℤ, ◌≡◌, ◌⊎◌, ℕ, List, [], ◌∷◌, ◌++◌, length, take, slice_get, count_by, Some, IsTrue, IsSomeAnd}
 use Rattle.term_model.specs.declared.symbols.Sort.{Sort}
 use Rattle.sym_table.specs.declared.kind.Kind.{Kind}

@@ -1,4 +1,4 @@
--- The built-in words, and the symbols of the operators.
+-- Public. The built-in words, and the symbols of the operators.
 use Rattle.std.specs.Prelude.{ℕ, List, [], ◌∷◌, Contains, codes}
 use Rattle.term_model.specs.declared.symbols.Op.{Op}
 

@@ -6,7 +6,7 @@ use term_model::{Op, Sort};
 pub enum Kind {
     /// The end of a list of arguments.
     Nil,
-    /// The head of a let term (SMT-LIB 2.6, section 3.6.1).
+    /// The head of a let term (SMT-LIB 2.6, on binders).
     Let,
     /// An operator of the theories Core and Ints.
     Op(Op),

@@ -1,4 +1,4 @@
--- What the arguments of an operator have to be, as facts about the list of their sorts. The laws compare
+-- Public. What the arguments of an operator have to be, as facts about the list of their sorts. The laws compare
 -- `application_sort` with these.
 use Rattle.std.specs.Prelude.{◌≡◌, ℕ, ◌≤◌, List, length, All}
 use Rattle.term_model.specs.declared.symbols.Sort.{Sort}

@@ -1,4 +1,4 @@
--- The terms and the table of the worked examples.
+-- Public. The terms and the table of the worked examples.
 use Rattle.std.specs.Prelude.{ℕ, pos, [], ◌∷◌}
 use Rattle.term_model.specs.declared.symbols.Sort.{Sort}
 use Rattle.term_model.specs.declared.symbols.Op.{Op}

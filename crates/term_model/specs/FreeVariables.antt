@@ -1,4 +1,4 @@
--- Free variables (SMT-LIB 2.6, section 3.6.1).
+-- Public. Free variables (SMT-LIB 2.6, on binders).
 use Rattle.std.specs.Prelude.{◌≡◌, ◌⊎◌, List, [], ◌∷◌}
 use Rattle.term_model.specs.Terms.{Var, Term, numeral, variable, operation, call, let_in, Terms, no_terms, term, Bindings, no_bindings, binding}
 

@@ -1,5 +1,5 @@
--- Interpretations (SMT-LIB 2.6, section 5.3): what each declared function means. Finitely many rows and a
--- default are enough, since the terms of a text apply a function to finitely many lists of values.
+-- Public. Interpretations (SMT-LIB 2.6, on structures and satisfiability): what each declared function means. Finitely
+-- many rows and a default are enough, since the terms of a text apply a function to finitely many lists of values.
 use Rattle.std.specs.Prelude.{List, [], ◌∷◌, Bool, true, false, ◌&&◌, if◌then◌else◌}
 use Rattle.std.specs.List.{AllByRecursion}
 use Rattle.term_model.specs.Terms.{Fun}

@@ -1,4 +1,4 @@
--- The value of a term (SMT-LIB 2.6, section 5.3).
+-- Public. The value of a term (SMT-LIB 2.6, on structures and satisfiability).
 use Rattle.std.specs.Prelude.{pos, List, [], ◌∷◌, ◌++◌, if◌then◌else◌}
 use Rattle.std.specs.List.{AllByRecursion}
 use Rattle.term_model.specs.Terms.{Var, var_eq, Term, numeral, variable, operation, call, let_in, Terms, no_terms, term, Bindings, no_bindings, binding}

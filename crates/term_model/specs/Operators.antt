@@ -1,5 +1,4 @@
--- The meanings of the operators, as the theories Core and Ints fix them (SMT-LIB 2.6, section 3.7, and the
--- theories' declarations).
+-- Public. The meanings of the operators, as the declarations of the theories Core and Ints of SMT-LIB 2.6 fix them.
 use Rattle.std.specs.Prelude.{ℤ, pos, ◌+ℤ◌, ◌-ℤ◌, ◌*ℤ◌, neg_ℤ, int_le, int_lt, Bool, true, false, not, ◌&&◌, ◌||◌, List, [], ◌∷◌, map, fold, if◌then◌else◌}
 use Rattle.std.specs.List.{list_all, list_any}
 use Rattle.term_model.specs.declared.symbols.Op.{Op}

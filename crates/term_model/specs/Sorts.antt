@@ -1,5 +1,5 @@
--- Well-sorted terms (SMT-LIB 2.6, section 5.2.2): the arities and sorts of the operators, and the sort of a
--- term. That a let names no variable twice is a rule for texts, and no part of this.
+-- Public. Well-sorted terms (SMT-LIB 2.6, section of that title): the arities and sorts of the operators, and the sort
+-- of a term. That a let names no variable twice is a rule for texts, and no part of this.
 use Rattle.std.specs.Prelude.{◌≡◌, ℕ, List, [], ◌∷◌, length, nat_le, Bool, true, false, ◌&&◌, if◌then◌else◌, Option, Some, None, ⊤}
 use Rattle.std.specs.List.{list_all}
 use Rattle.term_model.specs.declared.symbols.Sort.{Sort}

@@ -1,5 +1,5 @@
--- Terms as trees (SMT-LIB 2.6, sections 3.6 and 5.2). Macros and named terms are replaced, and attributes
--- are gone. Two terms are equal where the trees are. A declared sort is known by its number in the order of
+-- Public. Terms as trees (SMT-LIB 2.6, "Terms and Formulas"). Macros and named terms are replaced, and attributes are
+-- gone. Two terms are equal where the trees are. A declared sort is known by its number in the order of
 -- declaration, from 0, so a term means the same wherever its text is read.
 use Rattle.std.specs.Prelude.{ℕ, List, [], ◌∷◌, Bool, true, false, ◌&&◌, ◌==◌, bytes_eq}
 use Rattle.term_model.specs.declared.symbols.Sort.{Sort}

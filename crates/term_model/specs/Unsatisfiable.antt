@@ -1,5 +1,5 @@
--- Satisfaction (SMT-LIB 2.6, section 5.3): when an interpretation makes a term true, and when none makes
--- every assertion true.
+-- Public. Satisfaction (SMT-LIB 2.6, on structures and satisfiability): when an interpretation makes a term true, and
+-- when none makes every assertion true.
 use Rattle.std.specs.Prelude.{◌≡◌, true, List, []}
 use Rattle.std.specs.List.{AllByRecursion}
 use Rattle.term_model.specs.Terms.{Term}

@@ -1,6 +1,6 @@
--- Values (SMT-LIB 2.6, section 5.3): the truth values of Bool, and the whole numbers, without a limit, of
--- Int. The elements of a declared sort are whole numbers too: terms have no quantifiers, so any set with
--- elements enough serves.
+-- Public. Values (SMT-LIB 2.6, on structures and satisfiability): the truth values of Bool, and the whole numbers,
+-- without a limit, of Int. The elements of a declared sort are whole numbers too: terms have no quantifiers, so any set
+-- with elements enough serves.
 use Rattle.std.specs.Prelude.{ℤ, pos, Bool, true, false, not, List, [], ◌∷◌, ⊤}
 use Rattle.std.specs.Ordering.{int_eq}
 use Rattle.term_model.specs.declared.symbols.Sort.{Sort}

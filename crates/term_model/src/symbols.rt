@@ -1,5 +1,5 @@
 /// The sorts of a problem. A declared sort is known by its number in the order of declaration, from 0
-/// (SMT-LIB 2.6, sections 3.5 and 4.2.3).
+/// (SMT-LIB 2.6, "Sorts" and "Commands").
 #[derive(Clone, Copy, Debug, PartialEq, Eq, Hash)]
 pub enum Sort {
     Bool,
@@ -7,7 +7,7 @@ pub enum Sort {
     Declared(u32),
 }
 
-/// The operators of the theories Core and Ints that a term may apply (SMT-LIB 2.6, section 3.7).
+/// The operators of the theories Core and Ints of SMT-LIB 2.6 that a term may apply.
 #[derive(Clone, Copy, Debug, PartialEq, Eq)]
 pub enum Op {
     True,

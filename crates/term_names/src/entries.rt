@@ -1,4 +1,5 @@
-//! The names of macros and of named terms, and what they stand for (SMT-LIB 2.6, sections 4.2.3 and 3.6.6).
+//! The names of macros and of named terms, and what they stand for (SMT-LIB 2.6, "Commands", and on attributes of
+//! terms).
 ghost use Rattle.std.specs.Prelude.{◌≡◌, [], ◌∷◌, ◌++◌, ◌<◌, length, slice_get, Some, None, OnOk, OnErr, IfSome};
 ghost use Rattle.term_names.specs.Entries.{lookup, no_entries, Puts, IsThere};
 ghost use Rattle.term_names.specs.declared.entries.Entry.TheVariants as Entry;

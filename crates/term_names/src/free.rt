@@ -256,7 +256,7 @@ fn leaves_of(
     Ok(leaves)
 }
 
-/// The leaves of the free variables of a term (SMT-LIB 2.6, section 3.6.1).
+/// The leaves of the free variables of a term (SMT-LIB 2.6, on binders).
 ///
 /// Goes through each distinct cell once for each distinct body of a let that it stands in, but for those of terms that
 /// were named before, whose leaves are kept, and takes memory for each that it meets there. Takes stack in proportion to

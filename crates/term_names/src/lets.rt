@@ -1,4 +1,4 @@
-//! The variables that a let binds, in scope and out of it (SMT-LIB 2.6, section 3.6.1).
+//! The variables that a let binds, in scope and out of it (SMT-LIB 2.6, on binders).
 ghost use Rattle.std.specs.Prelude.{◌≡◌, ◌≤◌, ◌<◌, ◌^◌, ◌∷◌, ◌++◌, List, if◌then◌else◌, length, drop, Some, OnOk};
 ghost use Rattle.sym_table.specs.Table.{Table, IsLeaf};
 ghost use Rattle.term_model.specs.Terms.{Var, variable};

@@ -1,4 +1,4 @@
-//! What a symbol means where it stands (SMT-LIB 2.6, sections 3.6.1 and 5.2.1).
+//! What a symbol means where it stands (SMT-LIB 2.6, on binders and on signatures).
 ghost use Rattle.std.specs.Prelude.{◌≡◌, List, Some};
 ghost use Rattle.std.specs.List.{list_all};
 ghost use Rattle.sym_table.specs.Table.{Table, IsLeaf};

@@ -1,4 +1,4 @@
--- How many distinct cells trees have.
+-- Public. How many distinct cells trees have.
 use Rattle.std.specs.Prelude.{◌≡◌, ℕ, ◌⊎◌, List, [], ◌∷◌, length}
 use Rattle.pair_pool.specs.Trees.{Tree}
 use Rattle.term_pool.specs.Trees.{IsPartOf, IsCellTree}

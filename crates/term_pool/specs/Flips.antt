@@ -1,5 +1,5 @@
 -- Public. When two terms are equal up to flips: what is left where the order of the two sides of an equality does not
--- count, at any depth outside lets (`=` is symmetric: SMT-LIB 2.6, section 3.7, the theory Core).
+-- count, at any depth outside lets (`=` is symmetric: SMT-LIB 2.6, the theory Core).
 use Rattle.term_model.specs.declared.symbols.Op.{Op}
 use Rattle.term_model.specs.Terms.{Fun, Term, Terms, operation, call, no_terms, term}
 

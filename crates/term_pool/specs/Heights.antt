@@ -1,4 +1,4 @@
--- The height of a term, and of the parts of its tree.
+-- Public. The height of a term, and of the parts of its tree.
 use Rattle.std.specs.Prelude.{ℕ, ◌+◌, ◌==◌, max, Bool, false, if◌then◌else◌}
 use Rattle.pair_pool.specs.Trees.{Tree, leaf, cell}
 use Rattle.term_model.specs.Terms.{Term, Terms, Bindings, numeral, variable, operation, call, let_in, no_terms, term, no_bindings, binding}

@@ -1,4 +1,4 @@
--- What meeting a reference changes: the cells that have been met, and the references that are left to be met.
+-- Private. What meeting a reference changes: the cells that have been met, and the references that are left to be met.
 use Rattle.std.specs.Prelude.{◌≡◌, ℕ, ◌<◌, ◌≤◌, ◌^◌, ◌⊎◌, List, [], ◌∷◌, ◌++◌}
 use Rattle.pair_pool.specs.Trees.{Tree, cell}
 use Rattle.pair_pool.specs.Views.{PassView, Knows}

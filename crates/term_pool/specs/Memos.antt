@@ -1,4 +1,4 @@
--- What a walk for heights remembers, and what a visit of a cell comes to.
+-- Private. What a walk for heights remembers, and what a visit of a cell comes to.
 use Rattle.std.specs.Prelude.{◌≡◌, ℕ, ◌^◌, ◌<◌, ◌≤◌, [], ◌∷◌, ◌++◌, length, slice_index_or}
 use Rattle.pair_pool.specs.Trees.{Tree}
 use Rattle.pair_pool.specs.Views.{PassView, Knows}

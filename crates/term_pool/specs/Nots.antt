@@ -1,4 +1,4 @@
--- Leading negations.
+-- Public. Leading negations.
 use Rattle.std.specs.Prelude.{◌≡◌, ◌↔◌, ℕ, zero, suc, ◌%◌, Bool, IsTrue}
 use Rattle.pair_pool.specs.Trees.{Tree, leaf, cell}
 use Rattle.pair_pool.specs.Views.{PassView, Knows}

@@ -1,4 +1,4 @@
--- Cells that have been met, each with its number in the order in which they were met.
+-- Private. Cells that have been met, each with its number in the order in which they were met.
 use Rattle.std.specs.Prelude.{◌≡◌, ℕ, zero, suc, ◌+◌, ◌-◌, ◌<◌, ◌≤◌, ◌^◌, nat_eq, List, [], ◌∷◌, ◌++◌, length, slice_index, Option, Some, None}
 use Rattle.std.specs.HashMap.{get}
 use Rattle.term_pool.specs.declared.numbering.Numbering.{Numbering}

@@ -1,4 +1,4 @@
--- Putting trees in for the leaves of a tree.
+-- Public. Putting trees in for the leaves of a tree.
 use Rattle.std.specs.Prelude.{◌≡◌, ℕ, ◌+◌, ◌≤◌, ◌<◌, ◌^◌, ◌≢◌, ◌⊎◌, max, Bool, true, ◌&&◌, Option, Some, None, nat_eq}
 use Rattle.std.specs.declared.hash.FoldHasher.{FoldHasher}
 use Rattle.std.specs.declared.hash.BuildHasherDefault.{BuildHasherDefault}

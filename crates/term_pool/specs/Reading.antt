@@ -1,4 +1,4 @@
--- What the calls that read terms answer.
+-- Public. What the calls that read terms answer.
 use Rattle.std.specs.Prelude.{◌≡◌, ℕ, ◌<◌, pos, List, [], ◌∷◌, length, ◌==◌, if◌then◌else◌}
 use Rattle.pair_pool.specs.Trees.{Tree, leaf, cell}
 use Rattle.pair_pool.specs.Views.{PassView, Knows}

@@ -1,8 +1,8 @@
--- When a binary tree stands for a term, by a table of symbols.
+-- Public. When a binary tree stands for a term, by a table of symbols.
 -- A variable, a numeral or a symbol without arguments is a leaf. An application `(f t1 .. tn)` is the cell
 -- (f, [t1 .. tn]). The list [t1 .. tn] is the cell (t1, [t2 .. tn]), and the empty list is the leaf of nil. A let
 -- `(let ((x1 t1) .. (xn tn)) u)` is the cell (let, (B, u)), where B is the list of the cells (xi, ti)
--- (SMT-LIB 2.6, section 3.6). The leaves of nil and of let are the same in every table.
+-- (SMT-LIB 2.6, "Terms and Formulas"). The leaves of nil and of let are the same in every table.
 use Rattle.std.specs.Prelude.{◌≡◌, pos, ℕ, List, [], ◌∷◌}
 use Rattle.pair_pool.specs.Trees.{Tree, leaf, cell}
 use Rattle.sym_table.specs.Leaf.{Leaf, operator, function}

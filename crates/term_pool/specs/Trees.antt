@@ -1,4 +1,4 @@
--- The trees of lists, applications and lets, and the parts and sizes of trees.
+-- Public. The trees of lists, applications and lets, and the parts and sizes of trees.
 use Rattle.std.specs.Prelude.{◌≡◌, ℕ, zero, suc, ◌⊎◌, List, [], ◌∷◌, max}
 pub use Rattle.pair_pool.specs.Trees.{depth}
 use Rattle.pair_pool.specs.Trees.{Tree, leaf, cell}

@@ -1,4 +1,4 @@
--- What contracts see of a `Terms`, and when a reference in it stands for a term.
+-- Public. What contracts see of a `Terms`, and when a reference in it stands for a term.
 use Rattle.std.specs.Prelude.{◌≡◌, ℕ, ◌<◌, List, [], ◌∷◌, ◌++◌}
 use Rattle.pair_pool.specs.Trees.{Tree, cell}
 use Rattle.pair_pool.specs.Views.{PoolView, PassView, Knows, Grows, SeesMore, IsUnchanged}

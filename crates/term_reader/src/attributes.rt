@@ -1,4 +1,4 @@
-//! The attributes of an annotated term (SMT-LIB 2.6, section 3.6), told by their nodes.
+//! The attributes of an annotated term (SMT-LIB 2.6, "Terms and Formulas"), told by their nodes.
 ghost use Rattle.std.specs.Prelude.{◌≡◌, ◌<◌, ℕ, List, [], is_some, IfSome, IfNone};
 ghost use Rattle.sexpr.specs.Items.{Item, Items, item, symbol_name};
 ghost use Rattle.sexpr.specs.Source.{source};

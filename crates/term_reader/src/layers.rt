@@ -48,7 +48,7 @@ pub(crate) enum Layer {
     },
 }
 
-/// The top of the form that the item at a node spells (SMT-LIB 2.6, section 3.6).
+/// The top of the form that the item at a node spells (SMT-LIB 2.6, "Terms and Formulas").
 ///
 /// A list costs as much as its items are, and a let also what the items of its bindings are, but nothing below them. No
 /// memory is taken.

@@ -1,4 +1,4 @@
-//! What is done with a term that was read in a let (SMT-LIB 2.6, section 3.6.1).
+//! What is done with a term that was read in a let (SMT-LIB 2.6, on binders).
 ghost use Rattle.std.specs.Prelude.{◌≡◌, ◌≤◌, ◌<◌, ◌^◌, ◌+◌, ◌++◌, [], ◌∷◌, ℕ, List, length, OnOk, IfErr};
 ghost use Rattle.sexpr.specs.Source.{source};
 ghost use Rattle.sym_table.specs.Leaf as leaf;

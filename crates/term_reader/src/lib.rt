@@ -1,4 +1,4 @@
-//! Reading terms (SMT-LIB 2.6, section 3.6) by explicit frames, so that no depth of a text takes stack.
+//! Reading terms (SMT-LIB 2.6, "Terms and Formulas") by explicit frames, so that no depth of a text takes stack.
 //!
 //! - `layers`: the top of what a node in a term's place spells, by `let_shapes` and `attributes`; `repeats`: variables of a
 //!   let that may not be bound; `taken`: names that are in use.

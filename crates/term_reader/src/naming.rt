@@ -1,4 +1,4 @@
-//! Names that attributes give to terms (SMT-LIB 2.6, section 3.6.6).
+//! Names that attributes give to terms (SMT-LIB 2.6, on attributes of terms).
 ghost use Rattle.std.specs.Prelude.{◌≡◌, ◌≤◌, List, [], ◌∷◌};
 ghost use Rattle.sexpr.specs.Source.{source};
 ghost use Rattle.pair_pool.specs.Views.{IsUnchanged};

@@ -97,7 +97,8 @@ impl<'a> TermReader<'a> {
         }
     }
 
-    /// Reads the term that begins with `first`, the token that the lexer gave last (SMT-LIB 2.6, section 3.6), and leaves
+    /// Reads the term that begins with `first`, the token that the lexer gave last (SMT-LIB 2.6, "Terms and Formulas"),
+    /// and leaves
     /// the lexer behind it.
     ///
     /// The text has to be one of nested items, and `first` no closing bracket. Refused at the first fault of the term; and

@@ -1,4 +1,4 @@
-//! Names that are in use (SMT-LIB 2.6, sections 3.6.6 and 4.2.3).
+//! Names that are in use (SMT-LIB 2.6, "Commands", and on attributes of terms).
 ghost use Rattle.std.specs.Prelude.{◌≡◌};
 ghost use Rattle.term_pool.specs.Views.{TermsView};
 ghost use Rattle.problem_text.specs.Scripts as spec;

@@ -1,4 +1,4 @@
--- Public. The kinds of items that shapes ask for (SMT-LIB 2.6, sections 3.1 and 3.6.6).
+-- Public. The kinds of items that shapes ask for (SMT-LIB 2.6, "Lexicon" and on attributes of terms).
 use Rattle.std.specs.Prelude.{Bool, true, false}
 use Rattle.sexpr.specs.Words.{is_keyword}
 use Rattle.sexpr.specs.Items.{Item, word, quoted, string, list}

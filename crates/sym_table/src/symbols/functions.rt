@@ -14,7 +14,7 @@ use term_model::Sort;
 
 impl Symbols {
     /// Declares a function of these arguments' sorts and this target sort, and answers its leaf, which is new
-    /// (SMT-LIB 2.6, section 4.2.3).
+    /// (SMT-LIB 2.6, "Commands").
     ///
     /// A name is refused where it is a built-in word or a declared function. After a refusal the table is as
     /// before.

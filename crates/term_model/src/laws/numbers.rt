@@ -1,4 +1,4 @@
-//! What the operators of the theory Ints mean (SMT-LIB 2.6, section 3.7).
+//! What the operators of the theory Ints of SMT-LIB 2.6 mean.
 
 ghost use Rattle.std.specs.Prelude.{◌≡◌, ◌∷◌, ◌↔◌, ◌+ℤ◌, ◌-ℤ◌, ◌*ℤ◌, ◌≤ℤ◌, ◌<ℤ◌, neg_ℤ, pos, [], ℕ};
 ghost use Rattle.term_model.specs.Interpretations.{Interpretation};

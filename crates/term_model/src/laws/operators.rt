@@ -1,4 +1,4 @@
-//! What the operators of the theory Core mean (SMT-LIB 2.6, section 3.7).
+//! What the operators of the theory Core of SMT-LIB 2.6 mean.
 
 ghost use Rattle.std.specs.Prelude.{◌≡◌, ◌≢◌, ◌∷◌, ◌↔◌, [], map, All, Any, AllPairs};
 ghost use Rattle.term_model.specs.Interpretations.{Interpretation};

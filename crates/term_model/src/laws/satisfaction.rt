@@ -1,4 +1,4 @@
-//! Assertions that no interpretation makes all true (SMT-LIB 2.6, section 5.3).
+//! Assertions that no interpretation makes all true (SMT-LIB 2.6, on structures and satisfiability).
 
 ghost use Rattle.std.specs.Prelude.{◌≡◌, ◌∷◌, ◌↔◌, [], List, ℕ, All, Any, Contains};
 ghost use Rattle.term_model.specs.Interpretations.{Interpretation};

@@ -1,4 +1,4 @@
-//! Sorts of terms and of their values (SMT-LIB 2.6, section 5.2.2).
+//! Sorts of terms and of their values (SMT-LIB 2.6, "Well-sorted terms").
 
 ghost use Rattle.std.specs.Prelude.{◌≡◌, ◌++◌, ◌∷◌, ◌↔◌, ◌⊎◌, ◌<◌, [], Bool, List, ℕ, ℤ, All, Some, length};
 ghost use Rattle.std.specs.Prelude.{slice_index_or};

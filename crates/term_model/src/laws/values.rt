@@ -1,4 +1,4 @@
-//! Values of terms, variables and declared functions (SMT-LIB 2.6, section 5.3).
+//! Values of terms, variables and declared functions (SMT-LIB 2.6, on structures and satisfiability).
 
 ghost use Rattle.std.specs.Prelude.{◌≡◌, ◌≢◌, ◌++◌, ◌∷◌, ◌↔◌, [], List, ℕ, All, Any, Contains, true};
 ghost use Rattle.term_model.specs.FreeVariables.{variables_of, bound_terms, Binds, IsFree, IsClosed};

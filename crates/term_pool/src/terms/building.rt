@@ -32,8 +32,8 @@ impl<'a> Terms<'a> {
         build::application(self.pool, &mut self.pass, head, args)
     }
 
-    /// The let that binds each variable, by its leaf, to the value at its place, with a body (SMT-LIB 2.6, section
-    /// 3.6.1). Over n bindings it interns 2 * n + 2 cells.
+    /// The let that binds each variable, by its leaf, to the value at its place, with a body (SMT-LIB 2.6, on
+    /// binders). Over n bindings it interns 2 * n + 2 cells.
     ///
     /// Refuses only where the pool had no room for a cell of the answer.
     pub fn let_term(&mut self, vars: &[u32], values: &[Ref], body: Ref) -> Result<Ref, PoolFull>

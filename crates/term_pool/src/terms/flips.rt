@@ -15,7 +15,7 @@ use term_model::Op;
 
 impl<'a> Terms<'a> {
     /// Whether two terms are equal up to flips: where the order of the two sides of an equality does not count, at any
-    /// depth outside lets (`=` is symmetric: SMT-LIB 2.6, section 3.7, the theory Core). Lets are equal where they are
+    /// depth outside lets (`=` is symmetric: SMT-LIB 2.6, the theory Core). Lets are equal where they are
     /// identical.
     ///
     /// Equal references are answered at once, and terms with other heads after two loads. Otherwise it compares pairs of
