@@ -22,7 +22,7 @@ any_contained P xs x (k, below, same) p = (k, x, below, same, p)
 
 module _ (I : Interpretation) (r : Valuation) where
   -- each term is true or not
-  true_or_not : (t : Term) → MakesTrue I r t ⊎ (¬ MakesTrue I r t)
+  pub true_or_not : (t : Term) → MakesTrue I r t ⊎ (¬ MakesTrue I r t)
   true_or_not t = go (as_truth (value I r t)) refl
     where
       go : (b : Bool) → as_truth (value I r t) ≡ b → MakesTrue I r t ⊎ (¬ MakesTrue I r t)

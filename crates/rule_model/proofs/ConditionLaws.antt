@@ -17,6 +17,7 @@ use Rattle.rule_model.specs.Resolution.{Resolves}
 use Rattle.rule_model.specs.Schemas.{Schema, IsInstanceOf}
 use Rattle.rule_model.proofs.ArgumentLists.{and_pos_keeps, and_neg_keeps, or_pos_keeps, or_neg_keeps, and_keeps, or_keeps, not_or_keeps, not_and_keeps}
 use Rattle.rule_model.proofs.ClausalTables.{IsSound, clausal_tables}
+use Rattle.rule_model.proofs.Congruence.{symm_keeps, not_symm_keeps, trans_keeps, cong_keeps, eq_reflexive_keeps, eq_symmetric_keeps, eq_transitive_keeps, eq_congruent_keeps, eq_congruent_pred_keeps}
 use Rattle.rule_model.proofs.Instances.{instance_keeps_truth}
 use Rattle.rule_model.proofs.Resolution.{check_sound}
 use Rattle.rule_model.proofs.StrictResolution.{strict_sound}
@@ -85,6 +86,15 @@ module _ (I : Interpretation) (r : Valuation) where
   rule_keeps : (rule : Rule) (j : Judged) → MeetsRule rule j → IsWellSortedStep r j → KeepsTruth I r j
   rule_keeps Rule.Resolution j met sorted = resolution_keeps j.mode j met
   rule_keeps Rule.ThResolution j met sorted = resolution_keeps j.mode j met
+  rule_keeps Rule.Symm j met sorted = symm_keeps I r j.mode j.premises j.clause met
+  rule_keeps Rule.NotSymm j met sorted = not_symm_keeps I r j.mode j.premises j.clause met
+  rule_keeps Rule.Trans j met sorted = trans_keeps I r j.mode j.premises j.clause met
+  rule_keeps Rule.Cong j met sorted = cong_keeps I r j.mode j.premises j.clause met
+  rule_keeps Rule.EqReflexive j met sorted = λ all. eq_reflexive_keeps I r j.mode j.premises j.clause met
+  rule_keeps Rule.EqSymmetric j met sorted = λ all. eq_symmetric_keeps I r j.mode j.premises j.clause met
+  rule_keeps Rule.EqTransitive j met sorted = λ all. eq_transitive_keeps I r j.mode j.premises j.clause met
+  rule_keeps Rule.EqCongruent j met sorted = λ all. eq_congruent_keeps I r j.mode j.premises j.clause met
+  rule_keeps Rule.EqCongruentPred j met sorted = λ all. eq_congruent_pred_keeps I r j.mode j.premises j.clause met
   rule_keeps rule j met sorted = clausal_keeps rule j.premises j.clause met sorted.values sorted.premises sorted.clause
 
   pub met_keeps : (j : Judged) → Met j → IsWellSortedStep r j → KeepsTruth I r j

@@ -16,6 +16,7 @@ pub mod TruthTables
 pub mod Instances
 pub mod ClausalTables
 pub mod ArgumentLists
+pub mod Congruence
 pub mod ConditionLaws
 pub mod Freedom
 pub mod Replacing

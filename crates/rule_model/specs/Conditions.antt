@@ -10,6 +10,7 @@ use Rattle.term_model.specs.Terms.{Term}
 use Rattle.rule_model.specs.declared.rules.Rule.{Rule}
 use Rattle.rule_model.specs.Clausal.{MeetsClausal}
 use Rattle.rule_model.specs.Clauses.{MakesClauseTrue}
+use Rattle.rule_model.specs.Congruence.{MeetsSymm, MeetsNotSymm, MeetsTrans, MeetsCong, MeetsEqReflexive, MeetsEqSymmetric, MeetsEqTransitive, MeetsEqCongruent, MeetsEqCongruentPred}
 use Rattle.rule_model.specs.Judged.{Judged}
 use Rattle.rule_model.specs.Resolution.{Resolves}
 
@@ -17,6 +18,15 @@ use Rattle.rule_model.specs.Resolution.{Resolves}
 abbrev pub MeetsRule : Rule → Judged → Type 0
 MeetsRule Rule.Resolution j = Resolves j.mode j.pivots j.premises j.clause
 MeetsRule Rule.ThResolution j = Resolves j.mode j.pivots j.premises j.clause
+MeetsRule Rule.Symm j = MeetsSymm j.mode j.premises j.clause
+MeetsRule Rule.NotSymm j = MeetsNotSymm j.mode j.premises j.clause
+MeetsRule Rule.Trans j = MeetsTrans j.mode j.premises j.clause
+MeetsRule Rule.Cong j = MeetsCong j.mode j.premises j.clause
+MeetsRule Rule.EqReflexive j = MeetsEqReflexive j.mode j.premises j.clause
+MeetsRule Rule.EqSymmetric j = MeetsEqSymmetric j.mode j.premises j.clause
+MeetsRule Rule.EqTransitive j = MeetsEqTransitive j.mode j.premises j.clause
+MeetsRule Rule.EqCongruent j = MeetsEqCongruent j.mode j.premises j.clause
+MeetsRule Rule.EqCongruentPred j = MeetsEqCongruentPred j.mode j.premises j.clause
 MeetsRule rule j = MeetsClausal rule j.premises j.clause
 
 -- the step meets the condition of its rule

@@ -16,6 +16,7 @@ pub mod Worked
 pub mod Judged
 pub mod Schemas
 pub mod Clausal
+pub mod Congruence
 pub mod Conditions
 pub mod Heights
 pub mod Replacement

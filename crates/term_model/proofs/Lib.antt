@@ -8,3 +8,4 @@ pub mod Existence
 pub mod Meanings
 pub mod Chains
 pub mod Satisfaction
+pub mod Flips

@@ -6,5 +6,6 @@ pub mod Meaning
 pub mod Sorts
 pub mod Arities
 pub mod FreeVariables
+pub mod Flips
 pub mod Unsatisfiable
 pub mod Examples

@@ -1,67 +1,20 @@
 -- Terms that are equal up to flips, and their trees.
 use Rattle.std.proofs.Common.{◌≡◌, ◌≢◌, ◌↔◌, ℕ, ◌^◌, ◌<◌, ◌⊎◌, inl, inr, refl, sym, ◌∙◌, ap, subst, Bool, true, false, not, ◌&&◌, ◌||◌, if◌then◌else◌, nat_eq, IsTrue, Some}
-use Rattle.std.proofs.lemmas.Cmp.{int_eq_equiv}
 use Rattle.pair_pool.specs.Trees.{Tree, leaf, cell}
 use Rattle.pair_pool.specs.Views.{Knows}
 use Rattle.sym_table.specs.Leaf.{Leaf, operator, let_head}
 use Rattle.sym_table.specs.Table.{Table, IsLeaf, IsTable}
 use Rattle.term_model.specs.declared.symbols.Op.{Op}
 use Rattle.term_model.specs.Terms.{Fun, Term, Terms, Bindings, numeral, variable, operation, call, let_in, no_terms, term}
-use Rattle.term_model.specs.Values.{Value, truth, whole, value_eq}
-use Rattle.term_model.specs.Operators.{meaning}
-use Rattle.term_model.specs.Interpretations.{Interpretation, first_row}
-use Rattle.term_model.specs.Meaning.{Valuation, value, values}
 use Rattle.term_pool.specs.StandsFor.{nil_tree, function_leaf, IsLeafOf, StandsFor, StandsForApplication, StandsForList}
 use Rattle.term_pool.specs.Heights.{is_let_head}
 use Rattle.term_pool.specs.Views.{TermsView, RefersTo}
-use Rattle.term_pool.specs.Flips.{equality, EqualUpToFlips, same, operations, calls, flipped, AllEqualUpToFlips, none, each}
+use Rattle.term_model.specs.Flips.{equality, EqualUpToFlips, same, operations, calls, flipped, AllEqualUpToFlips, none, each}
 use Rattle.term_pool.specs.Pairs.{same_tree, same_terms, same_lists, crossed}
 use Rattle.term_pool.proofs.OneTree.{one_tree}
 use Rattle.term_pool.proofs.OneTerm.{one_term}
 use Rattle.term_pool.proofs.HeightLemmas.{other_head}
 use Rattle.term_pool.proofs.PairLemmas.{tree_refl, tree_same, terms_refl}
-
--- the laws of the relation
-mutual
-  pub flips_turned : (t u : Term) → EqualUpToFlips t u → EqualUpToFlips u t
-  flips_turned _ _ (same t) = same t
-  flips_turned _ _ (operations op ts us h) = operations op us ts (all_turned ts us h)
-  flips_turned _ _ (calls f ts us h) = calls f us ts (all_turned ts us h)
-  flips_turned _ _ (flipped a b c d h k) = flipped c d a b (flips_turned b c k) (flips_turned a d h)
-
-  all_turned : (ts us : Terms) → AllEqualUpToFlips ts us → AllEqualUpToFlips us ts
-  all_turned _ _ none = none
-  all_turned _ _ (each t u ts us h hs) = each u t us ts (flips_turned t u h) (all_turned ts us hs)
-
-value_turned : (v w : Value) → value_eq v w ≡ value_eq w v
-value_turned (truth true) (truth true) = refl
-value_turned (truth true) (truth false) = refl
-value_turned (truth false) (truth true) = refl
-value_turned (truth false) (truth false) = refl
-value_turned (truth true) (whole y) = refl
-value_turned (truth false) (whole y) = refl
-value_turned (whole x) (truth true) = refl
-value_turned (whole x) (truth false) = refl
-value_turned (whole x) (whole y) = int_eq_equiv.symm x y
-
-mutual
-  pub flips_value : (I : Interpretation) (r : Valuation) (t u : Term) → EqualUpToFlips t u → value I r t ≡ value I r u
-  flips_value I r _ _ (same t) = refl
-  flips_value I r _ _ (operations op ts us h) = ap (meaning op) (flips_values I r ts us h)
-  flips_value I r _ _ (calls f ts us h) =
-      ap (first_row (I.table f).rows (I.table f).default) (flips_values I r ts us h)
-  flips_value I r _ _ (flipped a b c d h k) =
-      let first = flips_value I r a d h in
-      let second = flips_value I r b c k in
-      rw (first, second) (ap (λ (x : Bool). truth (x && true)) (value_turned (value I r d) (value I r c)))
-
-  flips_values : (I : Interpretation) (r : Valuation) (ts us : Terms) → AllEqualUpToFlips ts us → values I r ts ≡ values I r us
-  flips_values I r _ _ none = refl
-  flips_values I r _ _ (each t u ts us h hs) =
-      let first = flips_value I r t u h in let rest = flips_values I r ts us hs in rw (first, rest) refl
-
-pub let_alone : (bs : Bindings) (t u : Term) → EqualUpToFlips (let_in bs t) u → u ≡ let_in bs t
-let_alone bs t _ (same _) = refl
 
 -- one leaf stands for one symbol, and one symbol for one leaf
 one_symbol : (s : Table) (k : ℕ) (l m : Leaf) → IsLeaf s k l → IsLeaf s k m → l ≡ m

@@ -10,6 +10,5 @@ pub mod Putting
 pub mod Numbering
 pub mod Meetings
 pub mod Memos
-pub mod Flips
 pub mod Pairs
 pub mod Decoding

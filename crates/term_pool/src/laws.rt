@@ -3,11 +3,8 @@
 ghost use Rattle.std.specs.Prelude.{◌≡◌, ℕ, ◌<◌, List, slice_get, Some};
 ghost use Rattle.pair_pool.specs.Trees.{Tree};
 ghost use Rattle.sym_table.specs.Table.{Table, IsTable, Keeps};
-ghost use Rattle.term_model.specs.Interpretations.{Interpretation};
-ghost use Rattle.term_model.specs.Meaning.{Valuation, value};
 ghost use Rattle.term_model.specs.Terms.{Var, Term, Bindings, let_in};
 ghost use Rattle.term_pool.specs.Building.{IsApplication};
-ghost use Rattle.term_pool.specs.Flips.{EqualUpToFlips};
 ghost use Rattle.term_pool.specs.Heights.{height_of};
 ghost use Rattle.term_pool.specs.Reading.{arguments_of, bindings_of};
 ghost use Rattle.term_pool.specs.StandsFor.{StandsFor, StandForAll, StandForValues};
@@ -33,14 +30,6 @@ pub fn references_stay()
 pub fn trees_are_built_of_parts()
     ensures application { (s : Table) (head : ℕ) (trees : List Tree) (ts : List Term) (t : Term) → StandForAll s trees ts → IsApplication s head ts t → StandsFor s (app_tree head trees) t }
     ensures let_term { (s : Table) (vars : List ℕ) (trees : List Tree) (body : Tree) (bs : Bindings) (u : Term) → StandForValues s vars trees bs → StandsFor s body u → StandsFor s (let_term_tree vars trees body) (let_in bs u) }
-{}
-
-/// A law: equality up to flips goes both ways and from term to term; terms that are equal up to flips have one value
-/// under every interpretation; and a let is equal to itself alone. The call does nothing; its contract is the law.
-pub fn flips_keep_values()
-    ensures turned { (t u : Term) → EqualUpToFlips t u → EqualUpToFlips u t }
-    ensures value { (I : Interpretation) (r : Valuation) (t u : Term) → EqualUpToFlips t u → value I r t ≡ value I r u }
-    ensures let_alone { (bs : Bindings) (t u : Term) → EqualUpToFlips (let_in bs t) u → u ≡ let_in bs t }
 {}
 
 /// A law: an argument of an application is less high than it, and so are a let's values and its body. The call does

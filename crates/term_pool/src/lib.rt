@@ -24,10 +24,7 @@ mod terms;
 #[cfg(test)]
 mod tests;
 
-pub use laws::{
-    flips_keep_values, parts_are_less_high, references_stay, trees_are_built_of_parts,
-    trees_of_terms,
-};
+pub use laws::{parts_are_less_high, references_stay, trees_are_built_of_parts, trees_of_terms};
 pub use putting::Image;
 pub use shape::Shape;
 pub use stop::TermStop;

@@ -2,8 +2,8 @@
 
 ghost use Rattle.std.specs.Prelude.{◌↔◌, IsTrue, IfOk};
 ghost use Rattle.pair_pool.specs.Views.{IsKnown, IsUnchanged};
+ghost use Rattle.term_model.specs.Flips.{EqualUpToFlips};
 ghost use Rattle.term_model.specs.Terms.{Term};
-ghost use Rattle.term_pool.specs.Flips.{EqualUpToFlips};
 ghost use Rattle.term_pool.specs.Views.{RefersTo, KeepsTerms};
 
 use super::Terms;

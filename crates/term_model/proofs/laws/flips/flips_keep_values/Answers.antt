@@ -1,5 +1,5 @@
-use Rattle.term_pool.proofs.FlipLemmas.{flips_turned, flips_value, let_alone}
-use Rattle.term_pool.proofs.laws.flips_keep_values.Goals as goal
+use Rattle.term_model.proofs.Flips.{flips_turned, flips_value, let_alone}
+use Rattle.term_model.proofs.laws.flips.flips_keep_values.Goals as goal
 
 pub returns-clause-turned : goal.returns-clause-turned
 returns-clause-turned c = flips_turned
