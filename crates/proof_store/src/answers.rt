@@ -1,20 +1,6 @@
 //! What is said of a command.
 
 use pair_pool::{Memory, PoolFull};
-use rule_model::StepCause;
-
-/// What a command comes to.
-#[derive(Clone, Copy, Debug, PartialEq, Eq)]
-pub enum Status {
-    /// It meets its condition.
-    Ok,
-    /// Its rule leaves a hole.
-    Hole,
-    /// It is faulty, for this cause.
-    Faulty(StepCause),
-    /// Its numbers are too wide to be judged.
-    Wide,
-}
 
 /// Whether a step meets its rule's condition.
 #[derive(Clone, Copy, Debug, PartialEq, Eq)]

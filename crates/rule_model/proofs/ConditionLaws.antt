@@ -11,7 +11,8 @@ use Rattle.rule_model.specs.declared.rules.Mode.{Mode}
 use Rattle.rule_model.specs.declared.rules.Rule.{Rule}
 use Rattle.rule_model.specs.Clausal.{schema_of, Begins, IsGiven, Changes, HasEachOnce, HasEach, IsTautology, MeetsClausal}
 use Rattle.rule_model.specs.Clauses.{MakesClauseTrue}
-use Rattle.rule_model.specs.Conditions.{MeetsRule, Met, IsClauseOfTruths, IsWellSortedStep, KeepsTruth}
+use Rattle.rule_model.specs.Conditions.{MeetsRule, Met, LooksAtContext, IsClauseOfTruths, IsWellSortedStep, KeepsTruth}
+use Rattle.rule_model.specs.Contexts.{IsInContext}
 use Rattle.rule_model.specs.Judged.{Judged}
 use Rattle.rule_model.specs.Resolution.{Resolves}
 use Rattle.rule_model.specs.Schemas.{Schema, IsInstanceOf}
@@ -19,6 +20,7 @@ use Rattle.rule_model.proofs.ArgumentLists.{and_pos_keeps, and_neg_keeps, or_pos
 use Rattle.rule_model.proofs.ClausalTables.{IsSound, clausal_tables}
 use Rattle.rule_model.proofs.Congruence.{symm_keeps, not_symm_keeps, trans_keeps, cong_keeps, eq_reflexive_keeps, eq_symmetric_keeps, eq_transitive_keeps, eq_congruent_keeps, eq_congruent_pred_keeps}
 use Rattle.rule_model.proofs.Instances.{instance_keeps_truth}
+use Rattle.rule_model.proofs.Reflexivity.{refl_keeps}
 use Rattle.rule_model.proofs.Resolution.{check_sound}
 use Rattle.rule_model.proofs.StrictResolution.{strict_sound}
 
@@ -79,23 +81,24 @@ module _ (I : Interpretation) (r : Valuation) where
       schema_keeps (schema_of rule) (clausal_tables rule) premises clause met fits units literals all
 
   -- resolution and th_resolution
-  resolution_keeps : (mode : Mode) (j : Judged) → Resolves mode j.pivots j.premises j.clause → KeepsTruth I r j
+  resolution_keeps : (mode : Mode) (j : Judged) → Resolves mode j.pivots j.premises j.clause → All (MakesClauseTrue I r) j.premises → MakesClauseTrue I r j.clause
   resolution_keeps Mode.Check j met all = check_sound I r j.premises j.clause met all
   resolution_keeps Mode.Strict j met all = strict_sound I r j.pivots j.premises j.clause met all
 
-  rule_keeps : (rule : Rule) (j : Judged) → MeetsRule rule j → IsWellSortedStep r j → KeepsTruth I r j
-  rule_keeps Rule.Resolution j met sorted = resolution_keeps j.mode j met
-  rule_keeps Rule.ThResolution j met sorted = resolution_keeps j.mode j met
-  rule_keeps Rule.Symm j met sorted = symm_keeps I r j.mode j.premises j.clause met
-  rule_keeps Rule.NotSymm j met sorted = not_symm_keeps I r j.mode j.premises j.clause met
-  rule_keeps Rule.Trans j met sorted = trans_keeps I r j.mode j.premises j.clause met
-  rule_keeps Rule.Cong j met sorted = cong_keeps I r j.mode j.premises j.clause met
-  rule_keeps Rule.EqReflexive j met sorted = λ all. eq_reflexive_keeps I r j.mode j.premises j.clause met
-  rule_keeps Rule.EqSymmetric j met sorted = λ all. eq_symmetric_keeps I r j.mode j.premises j.clause met
-  rule_keeps Rule.EqTransitive j met sorted = λ all. eq_transitive_keeps I r j.mode j.premises j.clause met
-  rule_keeps Rule.EqCongruent j met sorted = λ all. eq_congruent_keeps I r j.mode j.premises j.clause met
-  rule_keeps Rule.EqCongruentPred j met sorted = λ all. eq_congruent_pred_keeps I r j.mode j.premises j.clause met
-  rule_keeps rule j met sorted = clausal_keeps rule j.premises j.clause met sorted.values sorted.premises sorted.clause
+  rule_keeps : (rule : Rule) (j : Judged) → MeetsRule rule j → IsWellSortedStep r j → (LooksAtContext rule → IsInContext I r j.anchors) → All (MakesClauseTrue I r) j.premises → MakesClauseTrue I r j.clause
+  rule_keeps Rule.Resolution j met sorted context = resolution_keeps j.mode j met
+  rule_keeps Rule.ThResolution j met sorted context = resolution_keeps j.mode j met
+  rule_keeps Rule.Refl j met sorted context = λ all. refl_keeps I r j.mode j.anchors j.premises j.clause met (context tt)
+  rule_keeps Rule.Symm j met sorted context = symm_keeps I r j.mode j.premises j.clause met
+  rule_keeps Rule.NotSymm j met sorted context = not_symm_keeps I r j.mode j.premises j.clause met
+  rule_keeps Rule.Trans j met sorted context = trans_keeps I r j.mode j.premises j.clause met
+  rule_keeps Rule.Cong j met sorted context = cong_keeps I r j.mode j.premises j.clause met
+  rule_keeps Rule.EqReflexive j met sorted context = λ all. eq_reflexive_keeps I r j.mode j.premises j.clause met
+  rule_keeps Rule.EqSymmetric j met sorted context = λ all. eq_symmetric_keeps I r j.mode j.premises j.clause met
+  rule_keeps Rule.EqTransitive j met sorted context = λ all. eq_transitive_keeps I r j.mode j.premises j.clause met
+  rule_keeps Rule.EqCongruent j met sorted context = λ all. eq_congruent_keeps I r j.mode j.premises j.clause met
+  rule_keeps Rule.EqCongruentPred j met sorted context = λ all. eq_congruent_pred_keeps I r j.mode j.premises j.clause met
+  rule_keeps rule j met sorted context = clausal_keeps rule j.premises j.clause met sorted.values sorted.premises sorted.clause
 
   pub met_keeps : (j : Judged) → Met j → IsWellSortedStep r j → KeepsTruth I r j
   met_keeps j met sorted = rule_keeps j.rule j met sorted

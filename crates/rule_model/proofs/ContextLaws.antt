@@ -1,5 +1,5 @@
 -- Images of open anchors, and truth in a scope.
-use Rattle.std.proofs.Common.{◌≡◌, List, [], ◌∷◌, ◌++◌, ◌⊎◌, ◌↔◌, refl, sym, ap, ◌∙◌, inl, inr}
+use Rattle.std.proofs.Common.{◌≡◌, List, [], ◌∷◌, ◌++◌, ◌⊎◌, ◌↔◌, refl, sym, ap, ◌∙◌, inl, inr, arith}
 use Rattle.std.specs.List.{AllByRecursion}
 use Rattle.term_model.specs.Terms.{Var, Term}
 use Rattle.term_model.specs.FreeVariables.{IsFree, IsClosed}
@@ -8,9 +8,10 @@ use Rattle.term_model.specs.Meaning.{Valuation, value}
 use Rattle.term_model.specs.Sorts.{IsOf}
 use Rattle.term_model.specs.Unsatisfiable.{MakesAllTrue, Unsatisfiable}
 use Rattle.term_model.proofs.Coincidence.{value_coincides}
+use Rattle.rule_model.specs.Clauses.{MakesClauseTrue}
 use Rattle.rule_model.specs.Replacement.{Replacement, values_put}
 use Rattle.rule_model.specs.Substitution.{put_in, Replaces, AreClosed, HaveTheirSorts}
-use Rattle.rule_model.specs.Contexts.{put_in_each, images, IsBoundBy, IsClosedUnder, AreNested, context_values, MakesSomeTrue, IsTrueInScope}
+use Rattle.rule_model.specs.Contexts.{put_in_each, images, IsBoundBy, IsClosedUnder, AreNested, context_values, IsTrueInScope}
 use Rattle.rule_model.proofs.ReplacementLists.{all_joined}
 use Rattle.rule_model.proofs.Replacing.{values_put-joined}
 use Rattle.rule_model.proofs.Substituting.{put_in_sort, result_closed}
@@ -106,8 +107,8 @@ anchor_keeps_others I anchor outer t h =
     (λ x free. value_at-others I [] (context_values I outer) (put_in_each (images outer) anchor) x (λ k. h x free (each_replaces (images outer) anchor x k)))
 
 -- the outermost scope
-pub outermost_clause : (assertions clause : List Term) → IsTrueInScope assertions [] [] clause ↔ ((I : Interpretation) → MakesAllTrue I assertions → MakesSomeTrue I [] clause)
+pub outermost_clause : (assertions clause : List Term) → IsTrueInScope assertions [] [] clause ↔ ((I : Interpretation) → MakesAllTrue I assertions → MakesClauseTrue I [] clause)
 outermost_clause assertions clause = (λ h I m. h I m tt, λ h I m none. h I m)
 
 pub outermost_empty : (assertions : List Term) → IsTrueInScope assertions [] [] [] → Unsatisfiable assertions
-outermost_empty assertions h I m = h I m tt
+outermost_empty assertions h I m = let some = h I m tt in absurd (omega (arith, some.2))

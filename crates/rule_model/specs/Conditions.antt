@@ -1,20 +1,27 @@
--- Public. The condition of each rule (Alethe specification, "List of rules"), for steps that close no scope, and what is
--- asked of a step's terms and of the values of variables for a condition to keep truth. Each family of rules has a file of
--- its own.
-use Rattle.std.specs.Prelude.{List, All}
+-- Public. The condition of each rule (Alethe specification, "List of rules"), and what is asked of a step's terms and of
+-- the values of variables for a condition to keep truth. Each family of rules has a file of its own. Those of the rules
+-- whose steps close a scope are in `Closings`.
+use Rattle.std.specs.Prelude.{ℕ, Bool, true, ◌||◌, is_some, List, All, Option, Some, None}
 use Rattle.term_model.specs.declared.symbols.Sort.{Sort}
 use Rattle.term_model.specs.Interpretations.{Interpretation}
 use Rattle.term_model.specs.Meaning.{Valuation, ValuationFits}
 use Rattle.term_model.specs.Sorts.{IsOf}
-use Rattle.term_model.specs.Terms.{Term}
+use Rattle.term_model.specs.Terms.{Var, Term}
+use Rattle.rule_model.specs.declared.rules.Mode.{Mode}
 use Rattle.rule_model.specs.declared.rules.Rule.{Rule}
-use Rattle.rule_model.specs.Clausal.{MeetsClausal}
+use Rattle.rule_model.specs.Clausal.{MeetsClausal, schema_of, is_over_list}
 use Rattle.rule_model.specs.Clauses.{MakesClauseTrue}
-use Rattle.rule_model.specs.Congruence.{MeetsSymm, MeetsNotSymm, MeetsTrans, MeetsCong, MeetsEqReflexive, MeetsEqSymmetric, MeetsEqTransitive, MeetsEqCongruent, MeetsEqCongruentPred}
-use Rattle.rule_model.specs.Judged.{Judged}
+use Rattle.rule_model.specs.Closings.{MeetsClosing}
+use Rattle.rule_model.specs.Congruence.{MeetsSymm, MeetsNotSymm, MeetsTrans, MeetsCong, MeetsEqReflexive, MeetsEqSymmetric, MeetsEqTransitive, MeetsEqCongruent, MeetsEqCongruentPred, is_of_equality}
+use Rattle.rule_model.specs.Contexts.{IsInContext}
+use Rattle.rule_model.specs.Judged.{Judged, judged_at}
+use Rattle.rule_model.specs.Proofs.{Items}
+use Rattle.rule_model.specs.Reading.{rule_at, closes_at}
+use Rattle.rule_model.specs.Reflexivity.{MeetsRefl}
 use Rattle.rule_model.specs.Resolution.{Resolves}
 
--- What a step meets under a rule. Rules that have no condition here yet are met by no step: they have no schema.
+-- What a step that closes nothing meets under a rule. Rules that have no condition here yet are met by no step: they have no
+-- schema.
 abbrev pub MeetsRule : Rule → Judged → Type 0
 MeetsRule Rule.Resolution j = Resolves j.mode j.pivots j.premises j.clause
 MeetsRule Rule.ThResolution j = Resolves j.mode j.pivots j.premises j.clause
@@ -27,11 +34,46 @@ MeetsRule Rule.EqSymmetric j = MeetsEqSymmetric j.mode j.premises j.clause
 MeetsRule Rule.EqTransitive j = MeetsEqTransitive j.mode j.premises j.clause
 MeetsRule Rule.EqCongruent j = MeetsEqCongruent j.mode j.premises j.clause
 MeetsRule Rule.EqCongruentPred j = MeetsEqCongruentPred j.mode j.premises j.clause
+MeetsRule Rule.Refl j = MeetsRefl j.mode j.anchors j.premises j.clause
 MeetsRule rule j = MeetsClausal rule j.premises j.clause
 
 -- the step meets the condition of its rule
 abbrev pub Met : Judged → Type 0
 Met j = MeetsRule j.rule j
+
+-- the rules that have a condition here
+abbrev pub has_condition : Rule → Bool
+has_condition Rule.Resolution = true
+has_condition Rule.ThResolution = true
+has_condition Rule.Refl = true
+has_condition Rule.Subproof = true
+has_condition Rule.Let = true
+has_condition rule = is_some (schema_of rule) || (is_over_list rule || is_of_equality rule)
+
+-- The numbers of the step are too wide to be judged: those of no rule that is built are.
+abbrev pub IsTooWide : Judged → Type 0
+IsTooWide j = ⊥
+
+-- The same of the command at an index: the numbers of a step that closes a scope are not looked at.
+abbrev pub IsTooWideWhere : Mode → Items Var Term → ℕ → Option ℕ → Type 0
+IsTooWideWhere mode proof i None = IsTooWide (judged_at mode proof i)
+IsTooWideWhere mode proof i (Some k) = ⊥
+
+abbrev pub IsTooWideAt : Mode → Items Var Term → ℕ → Type 0
+IsTooWideAt mode proof i = IsTooWideWhere mode proof i (closes_at proof i)
+
+-- the command at an index meets the condition of its rule: that of a closing where it closes a scope
+abbrev pub MeetsWhere : Mode → Items Var Term → ℕ → Option ℕ → Type 0
+MeetsWhere mode proof i None = Met (judged_at mode proof i)
+MeetsWhere mode proof i (Some k) = MeetsClosing mode (rule_at proof i) proof i k
+
+abbrev pub IsMetAt : Mode → Items Var Term → ℕ → Type 0
+IsMetAt mode proof i = MeetsWhere mode proof i (closes_at proof i)
+
+-- the rules whose condition looks at what open anchors put in
+abbrev pub LooksAtContext : Rule → Type 0
+LooksAtContext Rule.Refl = Unit {0}
+LooksAtContext rule = ⊥
 
 -- all literals of a clause are well-sorted terms of Bool
 abbrev pub IsClauseOfTruths : List Term → Type 0
@@ -43,6 +85,8 @@ pub record IsWellSortedStep (r : Valuation) (j : Judged) : Type 0 where
   pub premises : All IsClauseOfTruths j.premises
   pub values : ValuationFits r
 
--- where the premises' clauses are true, the clause is true
+-- Where the premises' clauses are true, the clause is true. Under a rule that looks at what open anchors put in, their
+-- variables have the values of their images.
 abbrev pub KeepsTruth : Interpretation → Valuation → Judged → Type 0
-KeepsTruth I r j = All (MakesClauseTrue I r) j.premises → MakesClauseTrue I r j.clause
+KeepsTruth I r j =
+    (LooksAtContext j.rule → IsInContext I r j.anchors) → All (MakesClauseTrue I r) j.premises → MakesClauseTrue I r j.clause

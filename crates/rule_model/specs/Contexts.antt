@@ -1,13 +1,14 @@
 -- Public. Contexts (Alethe, "The Proof Format": anchors, and subproofs with a context): what open anchors put in for the
 -- variables that they bind, and when a clause is true in its scope. The anchors that are open are listed with the
 -- innermost first. An anchor is here what it binds, each variable with its term; it binds nothing in these terms.
-use Rattle.std.specs.Prelude.{◌⊎◌, List, [], ◌∷◌, ◌++◌, map}
+use Rattle.std.specs.Prelude.{◌≡◌, ◌⊎◌, List, [], ◌∷◌, ◌++◌, map}
 use Rattle.std.specs.List.{AllByRecursion}
 use Rattle.term_model.specs.FreeVariables.{IsFree}
 use Rattle.term_model.specs.Interpretations.{Interpretation}
-use Rattle.term_model.specs.Meaning.{Valuation}
+use Rattle.term_model.specs.Meaning.{Valuation, value_at}
 use Rattle.term_model.specs.Terms.{Var, Term}
 use Rattle.term_model.specs.Unsatisfiable.{MakesTrue, MakesAllTrue}
+use Rattle.rule_model.specs.Clauses.{MakesClauseTrue}
 use Rattle.rule_model.specs.Replacement.{Replacement}
 use Rattle.rule_model.specs.Substitution.{put_in, Replaces, image_values}
 
@@ -39,10 +40,11 @@ AreNested (anchor ∷ outer) = AllByRecursion (λ b. IsClosedUnder outer b.1) an
 abbrev pub context_values : Interpretation → List Replacement → Valuation
 context_values I anchors = image_values I (images anchors)
 
--- some literal of the clause is true
-abbrev pub MakesSomeTrue : Interpretation → Valuation → List Term → Type 0
-MakesSomeTrue I r [] = ⊥
-MakesSomeTrue I r (t ∷ ts) = MakesTrue I r t ⊎ MakesSomeTrue I r ts
+-- The variables that the anchors bind have the values of their images, and the anchors outside one bind what stands free
+-- in its terms.
+pub record IsInContext (I : Interpretation) (r : Valuation) (anchors : List Replacement) : Type 0 where
+  pub nested : AreNested anchors
+  pub values : (x : Var) → IsBoundBy anchors x → value_at r x ≡ value_at (context_values I anchors) x
 
 -- The clause is true in its scope. The anchors are those that are open there, and the assumes those that stand directly
 -- in an open scope other than the outermost. Where an interpretation makes the assertions true, and under the values of
@@ -51,4 +53,4 @@ abbrev pub IsTrueInScope : List Term → List Replacement → List Term → List
 IsTrueInScope assertions anchors assumes clause =
     (I : Interpretation) → MakesAllTrue I assertions →
     AllByRecursion (MakesTrue I (context_values I anchors)) assumes →
-    MakesSomeTrue I (context_values I anchors) clause
+    MakesClauseTrue I (context_values I anchors) clause

@@ -16,9 +16,14 @@ pub mod Worked
 pub mod Judged
 pub mod Schemas
 pub mod Clausal
-pub mod Congruence
-pub mod Conditions
 pub mod Heights
 pub mod Replacement
 pub mod Substitution
 pub mod Contexts
+pub mod Reflexivity
+pub mod Congruence
+pub mod Closings
+pub mod Conditions
+pub mod Truth
+pub mod Statuses
+pub mod Soundness

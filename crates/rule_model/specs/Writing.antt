@@ -44,6 +44,12 @@ pub record MayTake {V T : Type 0} (scope : Scope V T) (s : Step T) : Type 0 wher
   pub closing : is_open_id scope.nesting s.id ≡ true → MayCloseHere scope.nesting scope.items s
   pub standing : is_open_id scope.nesting s.id ≡ false → MayStand scope.nesting scope.items s
 
+-- what a command adds where it is reached: the scope to which it belongs, written up to it
+abbrev pub add_command : {V T : Type 0} → Scope V T → Command T → Scope V T
+add_command scope (assume id t) = add_assume scope id t
+add_command scope (step s) = add_step scope s
+add_command scope (closing s) = close_scope scope.nesting scope.items s
+
 -- where the scope stands to which a command belongs: a closing step belongs to the scope around
 abbrev pub own_nesting : {V T : Type 0} → Nesting V T → Command T → Nesting V T
 own_nesting nesting (assume id t) = nesting

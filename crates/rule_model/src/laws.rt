@@ -9,5 +9,6 @@ pub mod replacement;
 pub mod resolution;
 pub mod rules;
 pub mod scopes;
+pub mod soundness;
 pub mod substitution;
 pub mod worked;

@@ -8,7 +8,9 @@ pub mod laws;
 mod letter;
 mod literal;
 mod rules;
+mod statuses;
 
 pub use letter::Letter;
 pub use literal::Literal;
 pub use rules::{Mode, Rule, StepCause};
+pub use statuses::{Status, Verdict};

@@ -10,7 +10,8 @@ ghost use Rattle.term_model.specs.Terms.{Var, Term, numeral, variable, operation
 ghost use Rattle.term_model.specs.Unsatisfiable.{MakesAllTrue, Unsatisfiable};
 ghost use Rattle.term_model.specs.declared.symbols.Op.{Op};
 ghost use Rattle.rule_model.specs.Contexts.{images, IsBoundBy, IsClosedUnder, AreNested, context_values};
-ghost use Rattle.rule_model.specs.Contexts.{MakesSomeTrue, IsTrueInScope};
+ghost use Rattle.rule_model.specs.Clauses.{MakesClauseTrue};
+ghost use Rattle.rule_model.specs.Contexts.{IsTrueInScope};
 ghost use Rattle.rule_model.specs.Replacement.{Replacement, values_put};
 ghost use Rattle.rule_model.specs.Substitution.{put_in, Replaces, AreClosed, HaveTheirSorts};
 
@@ -43,7 +44,7 @@ pub fn anchors_bind_like_lets()
 /// makes the assertions true makes a literal true, and the empty clause where there is none.
 pub fn the_outermost_scope()
     ensures clause { (assertions clause : List Term) →
-        IsTrueInScope assertions [] [] clause ↔ ((I : Interpretation) → MakesAllTrue I assertions → MakesSomeTrue I [] clause) }
+        IsTrueInScope assertions [] [] clause ↔ ((I : Interpretation) → MakesAllTrue I assertions → MakesClauseTrue I [] clause) }
     ensures empty { (assertions : List Term) →
         IsTrueInScope assertions [] [] [] → Unsatisfiable assertions }
 {}

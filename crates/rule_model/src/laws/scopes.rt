@@ -1,6 +1,6 @@
 //! The scopes of a proof (Alethe, "Subproofs").
 
-ghost use Rattle.std.specs.Prelude.{◌≡◌, ◌<◌, ◌≤◌, ◌+◌, ℕ, length, slice_get, Some, None};
+ghost use Rattle.std.specs.Prelude.{◌≡◌, ◌<◌, ◌≤◌, ◌+◌, ◌↔◌, ℕ, length, slice_get, Some, None};
 ghost use Rattle.rule_model.specs.Commands.{ScopeEntry, scopes};
 ghost use Rattle.rule_model.specs.Proofs.{Items};
 ghost use Rattle.rule_model.specs.Reading.{parent_at, scope_at, closes_at};
@@ -19,4 +19,10 @@ pub fn scopes_are_a_tree()
 pub fn scopes_are_closed()
     ensures { (proof : Items Var Term) (k : ℕ) → 0 < k → k ≤ subproofs_in proof →
         (i : ℕ) × (i < commands_in proof) × (closes_at proof i ≡ Some k) × (parent_at proof k ≡ Some (scope_at proof i)) }
+{}
+
+/// The commands of a scope and of those inside it stand together, right before the step that closes it.
+pub fn scopes_stand_together()
+    ensures { (proof : Items Var Term) (i k : ℕ) → closes_at proof i ≡ Some k →
+        (first : ℕ) × ((j : ℕ) → j < i → first ≤ j ↔ k ≤ scope_at proof j) }
 {}
