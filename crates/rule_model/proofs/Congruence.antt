@@ -1,11 +1,10 @@
 -- The rules of equality keep truth.
-use Rattle.std.proofs.Common.{◌≡◌, ◌⊎◌, inl, inr, List, [], ◌∷◌, ◌++◌, map, Bool, ◌&&◌, true, refl, sym, ap, ◌∙◌, subst, arith, All, Any, Contains}
+use Rattle.std.proofs.Common.{◌≡◌, ◌⊎◌, inl, inr, List, [], ◌∷◌, ◌++◌, map, Bool, ◌&&◌, true, refl, sym, ap, ◌∙◌, subst, arith, All}
 use Rattle.std.specs.List.{AllZip}
 use Rattle.std.proofs.lemmas.List.Elements.{All-nil, All-cons, All-head, All-tail, All-contains}
-use Rattle.term_model.specs.declared.symbols.Op.{Op}
 use Rattle.term_model.specs.Flips.{equality}
 use Rattle.term_model.specs.Terms.{Term, terms_of, not_of}
-use Rattle.term_model.specs.Values.{Value, truth, value_eq}
+use Rattle.term_model.specs.Values.{truth}
 use Rattle.term_model.specs.Operators.{meaning}
 use Rattle.term_model.specs.Interpretations.{Interpretation, first_row}
 use Rattle.term_model.specs.Meaning.{Valuation, value, values}
@@ -15,7 +14,7 @@ use Rattle.term_model.proofs.Flips.{flips_value, value_turned}
 use Rattle.term_model.proofs.Meanings.{negation_is, equality_is}
 use Rattle.rule_model.specs.declared.rules.Mode.{Mode}
 use Rattle.rule_model.specs.Clauses.{MakesClauseTrue}
-use Rattle.rule_model.specs.Congruence.{TurnsRound, IsReflexive, IsSymmetric, Equates, Implies, IsImplied, units, denials, Denies, AreSides, IsConnected, here, further, IsChain, IsWay, Head, operator, function, applied, IsLinked, AreCrossed, AreLinked, AreDifferences, ArePlaces, HangTogether, HangTogetherDenied, AreCongruent, AreCongruentTruths, GivesPredicates, MeetsSymm, MeetsNotSymm, MeetsTrans, MeetsCong, MeetsEqReflexive, MeetsEqSymmetric, MeetsEqTransitive, MeetsEqCongruent, MeetsEqCongruentPred}
+use Rattle.rule_model.specs.Congruence.{Equates, Implies, IsImplied, units, denials, Denies, AreSides, IsConnected, here, further, IsChain, IsWay, Head, operator, function, applied, IsLinked, AreLinked, AreDifferences, ArePlaces, HangTogether, HangTogetherDenied, AreCongruent, AreCongruentTruths, GivesPredicates, MeetsSymm, MeetsNotSymm, MeetsTrans, MeetsCong, MeetsEqReflexive, MeetsEqSymmetric, MeetsEqTransitive, MeetsEqCongruent, MeetsEqCongruentPred}
 use Rattle.rule_model.proofs.ArgumentLists.{true_or_not}
 
 module _ (I : Interpretation) (r : Valuation) where

@@ -17,6 +17,10 @@ pub mod Instances
 pub mod ClausalTables
 pub mod ArgumentLists
 pub mod Congruence
+pub mod Rewriting
+pub mod Simplification
+pub mod Joining
+pub mod Definitions
 pub mod ConditionLaws
 pub mod Freedom
 pub mod Replacing

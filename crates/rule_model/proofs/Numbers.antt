@@ -1,9 +1,9 @@
 -- How many commands and scopes there are.
-use Rattle.std.proofs.Common.{◌≡◌, ◌+◌, ℕ, suc, List, [], ◌∷◌, ◌++◌, length, refl, sym, ◌∙◌, ap, arith}
+use Rattle.std.proofs.Common.{◌≡◌, ◌∷◌, ◌++◌, length, refl, arith}
 use Rattle.std.proofs.lemmas.List.{length-append}
-use Rattle.rule_model.specs.Proofs.{Step, Items, no_items, with_assume, with_step, with_subproof}
-use Rattle.rule_model.specs.Scopes.{Anchor, Nesting, outermost, inside, Scope, inner, commands_in, subproofs_in, scope_number, first_index, next_index, next_scope}
-use Rattle.rule_model.specs.Commands.{Line, lines_in, lines_around, lines_to, scope_entry, scopes_in, scopes_before, scopes_to}
+use Rattle.rule_model.specs.Proofs.{Items, no_items, with_assume, with_step, with_subproof}
+use Rattle.rule_model.specs.Scopes.{Nesting, outermost, inside, Scope, inner, commands_in, subproofs_in, scope_number, first_index, next_index, next_scope}
+use Rattle.rule_model.specs.Commands.{lines_in, lines_around, lines_to, scope_entry, scopes_in, scopes_before, scopes_to}
 
 pub lines_in_count : {V T : Type 0} (nesting : Nesting V T) (items : Items V T) → length (lines_in nesting items) ≡ commands_in items
 lines_in_count nesting no_items = refl

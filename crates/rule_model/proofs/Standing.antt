@@ -1,16 +1,16 @@
 -- Each command of a well-formed proof may stand where it is reached, and its premises stand before it.
-use Rattle.std.proofs.Common.{◌≡◌, ◌<◌, ◌≤◌, ◌+◌, ◌-◌, ◌⊎◌, inl, inr, ℕ, zero, suc, List, [], ◌∷◌, ◌++◌, map, length, take, slice_get, slice_index_or, Some, None, All, Contains, refl, sym, ◌∙◌, ap, subst, arith}
+use Rattle.std.proofs.Common.{◌≡◌, ◌<◌, ◌≤◌, ◌+◌, ℕ, zero, suc, List, [], ◌∷◌, ◌++◌, map, length, take, slice_get, slice_index_or, Some, Contains, refl, sym, ◌∙◌, ap, subst, arith}
 use Rattle.std.specs.List.{AllByRecursion}
 use Rattle.std.proofs.lemmas.List.{length-append, append_assoc}
 use Rattle.std.proofs.lemmas.Option.{slice_get_within}
-use Rattle.rule_model.specs.Proofs.{Step, Items, no_items, with_assume, with_step, with_subproof}
-use Rattle.rule_model.specs.Scopes.{Anchor, Nesting, outermost, inside, Scope, at, inner, commands_in, scope_number, first_index, next_index}
+use Rattle.rule_model.specs.Proofs.{Items, no_items, with_assume, with_step, with_subproof}
+use Rattle.rule_model.specs.Scopes.{Nesting, outermost, inside, Scope, at, inner, commands_in, scope_number, first_index}
 use Rattle.rule_model.specs.Commands.{Command, assume, step, closing, Line, lines_in, lines_around, lines_to, own_scope}
 use Rattle.rule_model.specs.Reading.{premises_of}
 use Rattle.rule_model.specs.Visibility.{Sight, sight, direct, seen_around, seen, visible, open_scopes}
-use Rattle.rule_model.specs.WellFormed.{IsNewId, MayOpen, MayStand, MayClose, AreWellFormed}
+use Rattle.rule_model.specs.WellFormed.{AreWellFormed}
 use Rattle.rule_model.specs.Writing.{MayAddHere, own_nesting}
-use Rattle.rule_model.proofs.Numbers.{lines_in_count, lines_around_count, lines_count}
+use Rattle.rule_model.proofs.Numbers.{lines_in_count, lines_count}
 use Rattle.rule_model.proofs.Lines.{lines_before}
 
 pub all_append : {X : Type 0} (P : X → Type 0) (xs ys : List X) → AllByRecursion P xs → AllByRecursion P ys → AllByRecursion P (xs ++ ys)

@@ -1,11 +1,10 @@
 -- The scopes stand in one another as a tree, and steps close them.
-use Rattle.std.proofs.Common.{◌≡◌, ◌<◌, ◌≤◌, ◌+◌, ◌-◌, ◌⊎◌, inl, inr, ℕ, zero, suc, List, [], ◌∷◌, ◌++◌, map, length, slice_get, Option, Some, None, refl, sym, ◌∙◌, ap, subst, arith}
-use Rattle.std.specs.Option.{option_map, option_map_or}
-use Rattle.std.proofs.lemmas.List.{length-append}
+use Rattle.std.proofs.Common.{◌≡◌, ◌<◌, ◌≤◌, ◌+◌, ◌-◌, ◌⊎◌, inl, inr, ℕ, zero, suc, List, [], ◌∷◌, ◌++◌, map, length, slice_get, Some, refl, sym, ◌∙◌, ap, subst, arith}
+use Rattle.std.specs.Option.{option_map}
 use Rattle.std.proofs.lemmas.Option.{slice_get-map, slice_get_within}
-use Rattle.rule_model.specs.Proofs.{Step, Items, no_items, with_assume, with_step, with_subproof}
-use Rattle.rule_model.specs.Scopes.{Nesting, outermost, inside, at, inner, commands_in, subproofs_in, scope_number}
-use Rattle.rule_model.specs.Commands.{Command, closing, Line, Entry, entry_of, lines_in, own_scope, closed_scope, ScopeEntry, scope_entry, scopes_in, scopes}
+use Rattle.rule_model.specs.Proofs.{Items, no_items, with_assume, with_step, with_subproof}
+use Rattle.rule_model.specs.Scopes.{Nesting, outermost, at, inner, commands_in, subproofs_in, scope_number}
+use Rattle.rule_model.specs.Commands.{closing, Line, entry_of, lines_in, own_scope, closed_scope, ScopeEntry, scope_entry, scopes_in}
 use Rattle.rule_model.specs.Reading.{scope_at, closes_at, parent_at}
 use Rattle.rule_model.proofs.Numbers.{scopes_in_count, lines_in_count}
 use Rattle.rule_model.proofs.Lines.{get_append}

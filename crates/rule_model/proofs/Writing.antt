@@ -1,9 +1,9 @@
 -- What each command adds to the commands and to the scopes.
 use Rattle.std.proofs.Common.{◌≡◌, ◌+◌, ℕ, zero, suc, List, [], ◌∷◌, ◌++◌, length, Some, None, refl, sym, ◌∙◌, ap, subst, arith}
 use Rattle.std.proofs.lemmas.List.{append_assoc, append-nil}
-use Rattle.rule_model.specs.Proofs.{Step, Items, no_items, with_assume, with_step, with_subproof}
-use Rattle.rule_model.specs.Scopes.{Anchor, Nesting, outermost, inside, Scope, at, inner, commands_in, scope_number, first_index, next_index}
-use Rattle.rule_model.specs.Commands.{Line, assume, step, closing, lines_in, lines_around, lines_to, ScopeEntry, scope_entry, scopes_in, scopes_before, scopes_to}
+use Rattle.rule_model.specs.Proofs.{Step, Items}
+use Rattle.rule_model.specs.Scopes.{Anchor, Nesting, inside, Scope, at, inner, commands_in, scope_number, first_index, next_index}
+use Rattle.rule_model.specs.Commands.{assume, step, closing, lines_in, lines_around, lines_to, ScopeEntry, scope_entry, scopes_in, scopes_before, scopes_to}
 use Rattle.rule_model.specs.Writing.{add_assume, add_step, open_anchor, close_scope}
 use Rattle.rule_model.proofs.Numbers.{scopes_before_count}
 

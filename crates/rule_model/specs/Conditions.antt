@@ -11,8 +11,10 @@ use Rattle.rule_model.specs.declared.rules.Rule.{Rule}
 use Rattle.rule_model.specs.Clausal.{MeetsClausal}
 use Rattle.rule_model.specs.Clauses.{MakesClauseTrue}
 use Rattle.rule_model.specs.Congruence.{MeetsSymm, MeetsNotSymm, MeetsTrans, MeetsCong, MeetsEqReflexive, MeetsEqSymmetric, MeetsEqTransitive, MeetsEqCongruent, MeetsEqCongruentPred}
+use Rattle.rule_model.specs.Definitions.{MeetsChoice, MeetsConnectiveDef, MeetsIteIntro, MeetsDistinctElim}
 use Rattle.rule_model.specs.Judged.{Judged}
 use Rattle.rule_model.specs.Resolution.{Resolves}
+use Rattle.rule_model.specs.Simplification.{not_simplify, implies_simplify, equiv_simplify, bool_simplify, ite_simplify, eq_simplify, MeetsSimplification, MeetsAndSimplify, MeetsOrSimplify}
 
 -- What a step meets under a rule. Rules that have no condition here yet are met by no step: they have no schema.
 abbrev pub MeetsRule : Rule → Judged → Type 0
@@ -27,6 +29,25 @@ MeetsRule Rule.EqSymmetric j = MeetsEqSymmetric j.mode j.premises j.clause
 MeetsRule Rule.EqTransitive j = MeetsEqTransitive j.mode j.premises j.clause
 MeetsRule Rule.EqCongruent j = MeetsEqCongruent j.mode j.premises j.clause
 MeetsRule Rule.EqCongruentPred j = MeetsEqCongruentPred j.mode j.premises j.clause
+MeetsRule Rule.ItePos1 j = MeetsChoice Rule.ItePos1 j.premises j.clause
+MeetsRule Rule.ItePos2 j = MeetsChoice Rule.ItePos2 j.premises j.clause
+MeetsRule Rule.IteNeg1 j = MeetsChoice Rule.IteNeg1 j.premises j.clause
+MeetsRule Rule.IteNeg2 j = MeetsChoice Rule.IteNeg2 j.premises j.clause
+MeetsRule Rule.Ite1 j = MeetsChoice Rule.Ite1 j.premises j.clause
+MeetsRule Rule.Ite2 j = MeetsChoice Rule.Ite2 j.premises j.clause
+MeetsRule Rule.NotIte1 j = MeetsChoice Rule.NotIte1 j.premises j.clause
+MeetsRule Rule.NotIte2 j = MeetsChoice Rule.NotIte2 j.premises j.clause
+MeetsRule Rule.ConnectiveDef j = MeetsConnectiveDef j.premises j.clause
+MeetsRule Rule.IteIntro j = MeetsIteIntro j.premises j.clause
+MeetsRule Rule.DistinctElim j = MeetsDistinctElim j.premises j.clause
+MeetsRule Rule.NotSimplify j = MeetsSimplification not_simplify j.premises j.clause
+MeetsRule Rule.ImpliesSimplify j = MeetsSimplification implies_simplify j.premises j.clause
+MeetsRule Rule.EquivSimplify j = MeetsSimplification equiv_simplify j.premises j.clause
+MeetsRule Rule.BoolSimplify j = MeetsSimplification bool_simplify j.premises j.clause
+MeetsRule Rule.IteSimplify j = MeetsSimplification ite_simplify j.premises j.clause
+MeetsRule Rule.EqSimplify j = MeetsSimplification eq_simplify j.premises j.clause
+MeetsRule Rule.AndSimplify j = MeetsAndSimplify j.premises j.clause
+MeetsRule Rule.OrSimplify j = MeetsOrSimplify j.premises j.clause
 MeetsRule rule j = MeetsClausal rule j.premises j.clause
 
 -- the step meets the condition of its rule

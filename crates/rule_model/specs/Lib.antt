@@ -15,8 +15,13 @@ pub mod Writing
 pub mod Worked
 pub mod Judged
 pub mod Schemas
+pub mod Patterns
 pub mod Clausal
 pub mod Congruence
+pub mod Constants
+pub mod Rewriting
+pub mod Definitions
+pub mod Simplification
 pub mod Conditions
 pub mod Heights
 pub mod Replacement

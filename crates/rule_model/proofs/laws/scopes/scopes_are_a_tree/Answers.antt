@@ -1,5 +1,5 @@
 -- The scope around a scope is that of the step that closes it.
-use Rattle.std.proofs.Common.{ap, suc, arith, ◌∙◌}
+use Rattle.std.proofs.Common.{arith}
 use Rattle.rule_model.specs.Scopes.{outermost}
 use Rattle.rule_model.proofs.Numbers.{scopes_in_count}
 use Rattle.rule_model.proofs.Tree.{scope_closed}
