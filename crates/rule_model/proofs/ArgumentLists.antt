@@ -17,7 +17,7 @@ pub list_of-terms_of : (ts : List Term) → list_of (terms_of ts) ≡ ts
 list_of-terms_of [] = refl
 list_of-terms_of (t ∷ ts) = ap (λ us. t ∷ us) (list_of-terms_of ts)
 
-any_contained : {X : Type 0} (P : X → Type 0) (xs : List X) (x : X) → Contains xs x → P x → Any P xs
+pub any_contained : {X : Type 0} (P : X → Type 0) (xs : List X) (x : X) → Contains xs x → P x → Any P xs
 any_contained P xs x (k, below, same) p = (k, x, below, same, p)
 
 module _ (I : Interpretation) (r : Valuation) where
@@ -29,16 +29,16 @@ module _ (I : Interpretation) (r : Valuation) where
       go true e = inl (is_true (value I r t) e)
       go false e = inr (λ h. absurd (let f = true_is (value I r t) h in cc))
 
-  all_of_and : (ts : List Term) → MakesTrue I r (operation Op.And (terms_of ts)) → All (MakesTrue I r) ts
+  pub all_of_and : (ts : List Term) → MakesTrue I r (operation Op.And (terms_of ts)) → All (MakesTrue I r) ts
   all_of_and ts h = subst (All (MakesTrue I r)) (list_of-terms_of ts) ((conjunction_is I r (terms_of ts)).0 h)
 
-  and_of_all : (ts : List Term) → All (MakesTrue I r) ts → MakesTrue I r (operation Op.And (terms_of ts))
+  pub and_of_all : (ts : List Term) → All (MakesTrue I r) ts → MakesTrue I r (operation Op.And (terms_of ts))
   and_of_all ts h = (conjunction_is I r (terms_of ts)).1 (subst (All (MakesTrue I r)) (sym (list_of-terms_of ts)) h)
 
-  some_of_or : (ts : List Term) → MakesTrue I r (operation Op.Or (terms_of ts)) → Any (MakesTrue I r) ts
+  pub some_of_or : (ts : List Term) → MakesTrue I r (operation Op.Or (terms_of ts)) → Any (MakesTrue I r) ts
   some_of_or ts h = subst (Any (MakesTrue I r)) (list_of-terms_of ts) ((disjunction_is I r (terms_of ts)).0 h)
 
-  or_of_some : (ts : List Term) → Any (MakesTrue I r) ts → MakesTrue I r (operation Op.Or (terms_of ts))
+  pub or_of_some : (ts : List Term) → Any (MakesTrue I r) ts → MakesTrue I r (operation Op.Or (terms_of ts))
   or_of_some ts h = (disjunction_is I r (terms_of ts)).1 (subst (Any (MakesTrue I r)) (sym (list_of-terms_of ts)) h)
 
   some_negation : (ts : List Term) → ¬ All (MakesTrue I r) ts → Any (MakesTrue I r) (map not_of ts)

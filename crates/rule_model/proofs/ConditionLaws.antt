@@ -13,15 +13,21 @@ use Rattle.rule_model.specs.Clausal.{schema_of, Begins, IsGiven, Changes, HasEac
 use Rattle.rule_model.specs.Clauses.{MakesClauseTrue}
 use Rattle.rule_model.specs.Conditions.{MeetsRule, Met, LooksAtContext, IsClauseOfTruths, IsWellSortedStep, KeepsTruth}
 use Rattle.rule_model.specs.Contexts.{IsInContext}
+use Rattle.rule_model.specs.Definitions.{choice_schema_of, MeetsChoice}
 use Rattle.rule_model.specs.Judged.{Judged}
 use Rattle.rule_model.specs.Resolution.{Resolves}
+use Rattle.rule_model.specs.Rewriting.{Row}
 use Rattle.rule_model.specs.Schemas.{Schema, IsInstanceOf}
+use Rattle.rule_model.specs.Simplification.{not_simplify, implies_simplify, equiv_simplify, bool_simplify, ite_simplify, eq_simplify, MeetsSimplification}
 use Rattle.rule_model.proofs.ArgumentLists.{and_pos_keeps, and_neg_keeps, or_pos_keeps, or_neg_keeps, and_keeps, or_keeps, not_or_keeps, not_and_keeps}
 use Rattle.rule_model.proofs.ClausalTables.{IsSound, clausal_tables}
 use Rattle.rule_model.proofs.Congruence.{symm_keeps, not_symm_keeps, trans_keeps, cong_keeps, eq_reflexive_keeps, eq_symmetric_keeps, eq_transitive_keeps, eq_congruent_keeps, eq_congruent_pred_keeps}
+use Rattle.rule_model.proofs.Definitions.{choice_tables, instance_keeps, connective_def_keeps, ite_intro_keeps, distinct_elim_keeps}
 use Rattle.rule_model.proofs.Instances.{instance_keeps_truth}
 use Rattle.rule_model.proofs.Reflexivity.{refl_keeps}
+use Rattle.rule_model.proofs.Joining.{and_simplify_keeps, or_simplify_keeps}
 use Rattle.rule_model.proofs.Resolution.{check_sound}
+use Rattle.rule_model.proofs.Simplification.{AreKept, not_kept, implies_kept, equiv_kept, bool_kept, ite_kept, eq_kept, simplification_keeps}
 use Rattle.rule_model.proofs.StrictResolution.{strict_sound}
 
 -- a clause with the literals of one that is true
@@ -85,6 +91,14 @@ module _ (I : Interpretation) (r : Valuation) where
   resolution_keeps Mode.Check j met all = check_sound I r j.premises j.clause met all
   resolution_keeps Mode.Strict j met all = strict_sound I r j.pivots j.premises j.clause met all
 
+  choice_keeps : (rule : Rule) (j : Judged) → MeetsChoice rule j.premises j.clause → IsWellSortedStep r j → All (MakesClauseTrue I r) j.premises → MakesClauseTrue I r j.clause
+  choice_keeps rule j met sorted all =
+      instance_keeps I r sorted.values (choice_schema_of rule) (choice_tables rule) j.premises j.clause met sorted.premises sorted.clause all
+
+  simplify_keeps : (rows : List Row) → AreKept rows → (j : Judged) → MeetsSimplification rows j.premises j.clause → IsWellSortedStep r j → All (MakesClauseTrue I r) j.premises → MakesClauseTrue I r j.clause
+  simplify_keeps rows kept j met sorted all =
+      simplification_keeps I r sorted.values rows kept j.premises j.clause met sorted.clause
+
   rule_keeps : (rule : Rule) (j : Judged) → MeetsRule rule j → IsWellSortedStep r j → (LooksAtContext rule → IsInContext I r j.anchors) → All (MakesClauseTrue I r) j.premises → MakesClauseTrue I r j.clause
   rule_keeps Rule.Resolution j met sorted context = resolution_keeps j.mode j met
   rule_keeps Rule.ThResolution j met sorted context = resolution_keeps j.mode j met
@@ -98,6 +112,25 @@ module _ (I : Interpretation) (r : Valuation) where
   rule_keeps Rule.EqTransitive j met sorted context = λ all. eq_transitive_keeps I r j.mode j.premises j.clause met
   rule_keeps Rule.EqCongruent j met sorted context = λ all. eq_congruent_keeps I r j.mode j.premises j.clause met
   rule_keeps Rule.EqCongruentPred j met sorted context = λ all. eq_congruent_pred_keeps I r j.mode j.premises j.clause met
+  rule_keeps Rule.ItePos1 j met sorted context = choice_keeps Rule.ItePos1 j met sorted
+  rule_keeps Rule.ItePos2 j met sorted context = choice_keeps Rule.ItePos2 j met sorted
+  rule_keeps Rule.IteNeg1 j met sorted context = choice_keeps Rule.IteNeg1 j met sorted
+  rule_keeps Rule.IteNeg2 j met sorted context = choice_keeps Rule.IteNeg2 j met sorted
+  rule_keeps Rule.Ite1 j met sorted context = choice_keeps Rule.Ite1 j met sorted
+  rule_keeps Rule.Ite2 j met sorted context = choice_keeps Rule.Ite2 j met sorted
+  rule_keeps Rule.NotIte1 j met sorted context = choice_keeps Rule.NotIte1 j met sorted
+  rule_keeps Rule.NotIte2 j met sorted context = choice_keeps Rule.NotIte2 j met sorted
+  rule_keeps Rule.ConnectiveDef j met sorted context = λ all. connective_def_keeps I r sorted.values j.premises j.clause met sorted.clause
+  rule_keeps Rule.IteIntro j met sorted context = λ all. ite_intro_keeps I r sorted.values j.premises j.clause met sorted.clause
+  rule_keeps Rule.DistinctElim j met sorted context = λ all. distinct_elim_keeps I r sorted.values j.premises j.clause met sorted.clause
+  rule_keeps Rule.NotSimplify j met sorted context = simplify_keeps not_simplify not_kept j met sorted
+  rule_keeps Rule.ImpliesSimplify j met sorted context = simplify_keeps implies_simplify implies_kept j met sorted
+  rule_keeps Rule.EquivSimplify j met sorted context = simplify_keeps equiv_simplify equiv_kept j met sorted
+  rule_keeps Rule.BoolSimplify j met sorted context = simplify_keeps bool_simplify bool_kept j met sorted
+  rule_keeps Rule.IteSimplify j met sorted context = simplify_keeps ite_simplify ite_kept j met sorted
+  rule_keeps Rule.EqSimplify j met sorted context = simplify_keeps eq_simplify eq_kept j met sorted
+  rule_keeps Rule.AndSimplify j met sorted context = λ all. and_simplify_keeps I r sorted.values j.premises j.clause met sorted.clause
+  rule_keeps Rule.OrSimplify j met sorted context = λ all. or_simplify_keeps I r sorted.values j.premises j.clause met sorted.clause
   rule_keeps rule j met sorted context = clausal_keeps rule j.premises j.clause met sorted.values sorted.premises sorted.clause
 
   pub met_keeps : (j : Judged) → Met j → IsWellSortedStep r j → KeepsTruth I r j

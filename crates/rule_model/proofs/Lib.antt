@@ -19,6 +19,10 @@ pub mod Instances
 pub mod ClausalTables
 pub mod ArgumentLists
 pub mod Congruence
+pub mod Rewriting
+pub mod Simplification
+pub mod Joining
+pub mod Definitions
 pub mod Freedom
 pub mod Replacing
 pub mod HeightLaws

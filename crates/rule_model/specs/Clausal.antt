@@ -4,28 +4,9 @@
 use Rattle.std.specs.Prelude.{◌≡◌, ◌≢◌, ◌↔◌, Bool, true, false, ◌||◌, List, [], ◌∷◌, map, AllPairs, Contains, IsPermutation, Option, None, is_some, IsTrue}
 use Rattle.term_model.specs.declared.symbols.Op.{Op}
 use Rattle.term_model.specs.Terms.{Term, operation, no_terms, terms_of, not_of}
-use Rattle.rule_model.specs.declared.letter.Letter.{Letter}
 use Rattle.rule_model.specs.declared.rules.Rule.{Rule}
-use Rattle.rule_model.specs.Schemas.{Pattern, letter, constant, unary, binary, Schema, tautology, from, IsInstanceOf}
-
--- the patterns of the table below
-abbrev a : Pattern
-a = letter Letter.A
-
-abbrev b : Pattern
-b = letter Letter.B
-
-abbrev no : Pattern → Pattern
-no p = unary Op.Not p
-
-abbrev xor : Pattern → Pattern → Pattern
-xor p q = binary Op.Xor p q
-
-abbrev implies : Pattern → Pattern → Pattern
-implies p q = binary Op.Implies p q
-
-abbrev equal : Pattern → Pattern → Pattern
-equal p q = binary Op.Equal p q
+use Rattle.rule_model.specs.Patterns.{a, b, no, xor, implies, equal}
+use Rattle.rule_model.specs.Schemas.{constant, Schema, tautology, from, IsInstanceOf}
 
 -- the schemas of the rules that have one
 abbrev pub schema_of : Rule → Option Schema

@@ -14,11 +14,13 @@ use Rattle.rule_model.specs.Clauses.{MakesClauseTrue}
 use Rattle.rule_model.specs.Closings.{MeetsClosing}
 use Rattle.rule_model.specs.Congruence.{MeetsSymm, MeetsNotSymm, MeetsTrans, MeetsCong, MeetsEqReflexive, MeetsEqSymmetric, MeetsEqTransitive, MeetsEqCongruent, MeetsEqCongruentPred, is_of_equality}
 use Rattle.rule_model.specs.Contexts.{IsInContext}
+use Rattle.rule_model.specs.Definitions.{MeetsChoice, MeetsConnectiveDef, MeetsIteIntro, MeetsDistinctElim}
 use Rattle.rule_model.specs.Judged.{Judged, judged_at}
 use Rattle.rule_model.specs.Proofs.{Items}
 use Rattle.rule_model.specs.Reading.{rule_at, closes_at}
 use Rattle.rule_model.specs.Reflexivity.{MeetsRefl}
 use Rattle.rule_model.specs.Resolution.{Resolves}
+use Rattle.rule_model.specs.Simplification.{not_simplify, implies_simplify, equiv_simplify, bool_simplify, ite_simplify, eq_simplify, MeetsSimplification, MeetsAndSimplify, MeetsOrSimplify}
 
 -- What a step that closes nothing meets under a rule. Rules that have no condition here yet are met by no step: they have no
 -- schema.
@@ -35,13 +37,32 @@ MeetsRule Rule.EqTransitive j = MeetsEqTransitive j.mode j.premises j.clause
 MeetsRule Rule.EqCongruent j = MeetsEqCongruent j.mode j.premises j.clause
 MeetsRule Rule.EqCongruentPred j = MeetsEqCongruentPred j.mode j.premises j.clause
 MeetsRule Rule.Refl j = MeetsRefl j.mode j.anchors j.premises j.clause
+MeetsRule Rule.ItePos1 j = MeetsChoice Rule.ItePos1 j.premises j.clause
+MeetsRule Rule.ItePos2 j = MeetsChoice Rule.ItePos2 j.premises j.clause
+MeetsRule Rule.IteNeg1 j = MeetsChoice Rule.IteNeg1 j.premises j.clause
+MeetsRule Rule.IteNeg2 j = MeetsChoice Rule.IteNeg2 j.premises j.clause
+MeetsRule Rule.Ite1 j = MeetsChoice Rule.Ite1 j.premises j.clause
+MeetsRule Rule.Ite2 j = MeetsChoice Rule.Ite2 j.premises j.clause
+MeetsRule Rule.NotIte1 j = MeetsChoice Rule.NotIte1 j.premises j.clause
+MeetsRule Rule.NotIte2 j = MeetsChoice Rule.NotIte2 j.premises j.clause
+MeetsRule Rule.ConnectiveDef j = MeetsConnectiveDef j.premises j.clause
+MeetsRule Rule.IteIntro j = MeetsIteIntro j.premises j.clause
+MeetsRule Rule.DistinctElim j = MeetsDistinctElim j.premises j.clause
+MeetsRule Rule.NotSimplify j = MeetsSimplification not_simplify j.premises j.clause
+MeetsRule Rule.ImpliesSimplify j = MeetsSimplification implies_simplify j.premises j.clause
+MeetsRule Rule.EquivSimplify j = MeetsSimplification equiv_simplify j.premises j.clause
+MeetsRule Rule.BoolSimplify j = MeetsSimplification bool_simplify j.premises j.clause
+MeetsRule Rule.IteSimplify j = MeetsSimplification ite_simplify j.premises j.clause
+MeetsRule Rule.EqSimplify j = MeetsSimplification eq_simplify j.premises j.clause
+MeetsRule Rule.AndSimplify j = MeetsAndSimplify j.premises j.clause
+MeetsRule Rule.OrSimplify j = MeetsOrSimplify j.premises j.clause
 MeetsRule rule j = MeetsClausal rule j.premises j.clause
 
 -- the step meets the condition of its rule
 abbrev pub Met : Judged → Type 0
 Met j = MeetsRule j.rule j
 
--- the rules that have a condition here
+-- the rules by whose condition a step is judged
 abbrev pub has_condition : Rule → Bool
 has_condition Rule.Resolution = true
 has_condition Rule.ThResolution = true

@@ -15,6 +15,7 @@ pub mod Writing
 pub mod Worked
 pub mod Judged
 pub mod Schemas
+pub mod Patterns
 pub mod Clausal
 pub mod Heights
 pub mod Replacement
@@ -22,6 +23,10 @@ pub mod Substitution
 pub mod Contexts
 pub mod Reflexivity
 pub mod Congruence
+pub mod Constants
+pub mod Rewriting
+pub mod Definitions
+pub mod Simplification
 pub mod Closings
 pub mod Conditions
 pub mod Truth

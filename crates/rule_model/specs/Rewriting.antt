@@ -1,0 +1,71 @@
+-- Public. Rewriting by the rows of a table.
+use Rattle.std.specs.Prelude.{◌≡◌, ◌≢◌, ◌⊎◌, ℤ, List, [], ◌∷◌, Any, Some}
+use Rattle.term_model.specs.declared.symbols.Sort.{Sort}
+use Rattle.term_model.specs.Sorts.{IsOf}
+use Rattle.term_model.specs.Terms.{Term}
+use Rattle.rule_model.specs.declared.letter.Letter.{Letter}
+use Rattle.rule_model.specs.Constants.{constant_of}
+use Rattle.rule_model.specs.Patterns.{equal}
+use Rattle.rule_model.specs.Schemas.{Pattern, fill}
+
+-- what a row asks besides: nothing; that two patterns are of Bool; that they are constants of one number, or of two
+pub data Guard : Type 0 where
+  always : Guard
+  truths : Pattern → Pattern → Guard
+  one_number : Pattern → Pattern → Guard
+  two_numbers : Pattern → Pattern → Guard
+
+pub record AreOneNumber (t u : Term) : Type 0 where
+  pub number : ℤ
+  pub first : constant_of t ≡ Some number
+  pub second : constant_of u ≡ Some number
+
+pub record AreTwoNumbers (t u : Term) : Type 0 where
+  pub number : ℤ
+  pub other : ℤ
+  pub first : constant_of t ≡ Some number
+  pub second : constant_of u ≡ Some other
+  pub differ : number ≢ other
+
+abbrev pub Passes : (Letter → Term) → Guard → Type 0
+Passes terms always = Unit {0}
+Passes terms (truths p q) = IsOf (fill terms p) Sort.Bool × IsOf (fill terms q) Sort.Bool
+Passes terms (one_number p q) = AreOneNumber (fill terms p) (fill terms q)
+Passes terms (two_numbers p q) = AreTwoNumbers (fill terms p) (fill terms q)
+
+pub record Row : Type 0 where
+  pub left : Pattern
+  pub right : Pattern
+  pub guard : Guard
+
+infix 4 ◌⇝◌
+-- a row that asks nothing besides, and one for an equality of two truth values
+abbrev pub ◌⇝◌ : Pattern → Pattern → Row
+left ⇝ right = record { left = left; right = right; guard = always }
+
+abbrev pub over_truths : Pattern → Pattern → Pattern → Row
+over_truths p q right = record { left = equal p q; right = right; guard = truths p q }
+
+-- some terms, put in for the letters, give these two terms, and pass
+pub record Rewrites (row : Row) (t u : Term) : Type 0 where
+  pub terms : Letter → Term
+  pub from : t ≡ fill terms row.left
+  pub to : u ≡ fill terms row.right
+  pub passes : Passes terms row.guard
+
+abbrev pub Fits : Row → Term → Type 0
+Fits row t = (u : Term) × Rewrites row t u
+
+-- by the first row that fits
+abbrev pub IsFirstFit : List Row → Term → Term → Type 0
+IsFirstFit [] t u = ⊥
+IsFirstFit (row ∷ rows) t u = Rewrites row t u ⊎ ((¬ Fits row t) × IsFirstFit rows t u)
+
+-- once or more
+pub data IsReached (rows : List Row) : Term → Term → Type 0 where
+  once : (t u : Term) → IsFirstFit rows t u → IsReached rows t u
+  again : (t u w : Term) → IsFirstFit rows t u → IsReached rows u w → IsReached rows t w
+
+-- the second is what any row makes of the first, or is reached from it
+abbrev pub Simplifies : List Row → Term → Term → Type 0
+Simplifies rows t u = Any (λ row. Rewrites row t u) rows ⊎ IsReached rows t u

@@ -1,0 +1,141 @@
+-- Public. The rules of simplification (Alethe specification, "List of rules"): tables of rewrites in order, and those over
+-- the arguments of `and` and `or`. The step has no premise, and its clause is one equality. Both modes ask the same.
+use Rattle.std.specs.Prelude.{ℕ, suc, zero, ◌+◌, ◌≡◌, ◌≢◌, ◌⊎◌, List, [], ◌∷◌, Contains}
+use Rattle.term_model.specs.declared.symbols.Op.{Op}
+use Rattle.term_model.specs.Flips.{equality}
+use Rattle.term_model.specs.Terms.{Term, operation, no_terms, terms_of, not_of}
+use Rattle.rule_model.specs.Patterns.{a, b, c, d, yes, never, no, conj, disj, implies, equal, ite}
+use Rattle.rule_model.specs.Rewriting.{Row, ◌⇝◌, over_truths, one_number, two_numbers, Simplifies}
+
+abbrev pub not_simplify : List Row
+not_simplify =
+    (no (no a) ⇝ a)
+    ∷ (no never ⇝ yes)
+    ∷ (no yes ⇝ never)
+    ∷ []
+
+abbrev pub implies_simplify : List Row
+implies_simplify =
+    (implies (no a) (no b) ⇝ implies b a)
+    ∷ (implies never a ⇝ yes)
+    ∷ (implies a yes ⇝ yes)
+    ∷ (implies yes a ⇝ a)
+    ∷ (implies a never ⇝ no a)
+    ∷ (implies a a ⇝ yes)
+    ∷ (implies (no a) a ⇝ a)
+    ∷ (implies a (no a) ⇝ no a)
+    ∷ (implies (implies a b) b ⇝ disj a b)
+    ∷ []
+
+-- both sides are of Bool
+abbrev pub equiv_simplify : List Row
+equiv_simplify =
+    over_truths (no a) (no b) (equal a b)
+    ∷ over_truths a a yes
+    ∷ over_truths a (no a) never
+    ∷ over_truths (no a) a never
+    ∷ over_truths yes a a
+    ∷ over_truths a yes a
+    ∷ over_truths never a (no a)
+    ∷ over_truths a never (no a)
+    ∷ []
+
+abbrev pub bool_simplify : List Row
+bool_simplify =
+    (no (implies a b) ⇝ conj a (no b))
+    ∷ (no (disj a b) ⇝ conj (no a) (no b))
+    ∷ (no (conj a b) ⇝ disj (no a) (no b))
+    ∷ (implies a (implies b c) ⇝ implies (conj a b) c)
+    ∷ (implies (implies a b) b ⇝ disj a b)
+    ∷ (conj a (implies a b) ⇝ conj a b)
+    ∷ (conj (implies a b) a ⇝ conj a b)
+    ∷ []
+
+abbrev pub ite_simplify : List Row
+ite_simplify =
+    (ite yes a b ⇝ a)
+    ∷ (ite never a b ⇝ b)
+    ∷ (ite c a a ⇝ a)
+    ∷ (ite (no c) a b ⇝ ite c b a)
+    ∷ (ite c (ite c a b) d ⇝ ite c a d)
+    ∷ (ite c a (ite c b d) ⇝ ite c a d)
+    ∷ (ite c yes never ⇝ c)
+    ∷ (ite c never yes ⇝ no c)
+    ∷ (ite c yes a ⇝ disj c a)
+    ∷ (ite c a never ⇝ conj c a)
+    ∷ (ite c never a ⇝ conj (no c) a)
+    ∷ (ite c a yes ⇝ disj (no c) a)
+    ∷ []
+
+-- constants are compared by their numbers
+abbrev pub eq_simplify : List Row
+eq_simplify =
+    (equal a a ⇝ yes)
+    ∷ record { left = equal a b; right = never; guard = two_numbers a b }
+    ∷ record { left = no (equal a b); right = never; guard = one_number a b }
+    ∷ []
+
+pub record MeetsSimplification (rows : List Row) (premises : List (List Term)) (clause : List Term) : Type 0 where
+  pub left : Term
+  pub right : Term
+  pub none : premises ≡ []
+  pub literal : clause ≡ equality left right ∷ []
+  pub simplifies : Simplifies rows left right
+
+-- a term behind so many `not`s
+abbrev pub negated : ℕ → Term → Term
+negated zero t = t
+negated (suc n) t = not_of (negated n t)
+
+-- two items are one term, the one behind an even and the other behind an odd number of `not`s
+pub record AreOpposed (items : List Term) : Type 0 where
+  pub same : Term
+  pub m : ℕ
+  pub n : ℕ
+  pub even : Contains items (negated (m + m) same)
+  pub odd : Contains items (negated (suc (n + n)) same)
+
+-- a list without each occurrence of this term
+pub data IsWithout (left_out : Term) : List Term → List Term → Type 0 where
+  end : IsWithout left_out [] []
+  drop : (ts us : List Term) → IsWithout left_out ts us → IsWithout left_out (left_out ∷ ts) us
+  keep : (t : Term) (ts us : List Term) → t ≢ left_out → IsWithout left_out ts us → IsWithout left_out (t ∷ ts) (t ∷ us)
+
+-- a list without later repeats, where these terms stand before it
+pub data IsOnceEach : List Term → List Term → List Term → Type 0 where
+  end_of : (before : List Term) → IsOnceEach before [] []
+  repeat :
+      (before : List Term) (t : Term) (ts us : List Term) → Contains before t → IsOnceEach before ts us →
+      IsOnceEach before (t ∷ ts) us
+  fresh :
+      (before : List Term) (t : Term) (ts us : List Term) → (¬ Contains before t) → IsOnceEach (t ∷ before) ts us →
+      IsOnceEach before (t ∷ ts) (t ∷ us)
+
+-- without the neutral term, without later repeats, or without both
+abbrev pub IsShortened : Term → List Term → List Term → Type 0
+IsShortened neutral ts us =
+    IsWithout neutral ts us ⊎ (IsOnceEach [] ts us ⊎ ((vs : List Term) × IsWithout neutral ts vs × IsOnceEach [] vs us))
+
+-- what a list of arguments stands as: none as the neutral term, one as itself or as an application
+abbrev pub StandsAs : Op → Term → List Term → Term → Type 0
+StandsAs op neutral [] t = t ≡ neutral
+StandsAs op neutral (u ∷ []) t = (t ≡ u) ⊎ (t ≡ operation op (terms_of (u ∷ [])))
+StandsAs op neutral (u ∷ w ∷ us) t = t ≡ operation op (terms_of (u ∷ w ∷ us))
+
+-- the absorbing term, where an argument is it or two are opposed; or a shortened list
+abbrev pub JoinsTo : Op → Term → Term → List Term → Term → Type 0
+JoinsTo op neutral absorbing ts t =
+    ((t ≡ absorbing) × (Contains ts absorbing ⊎ AreOpposed ts)) ⊎ ((us : List Term) × IsShortened neutral ts us × StandsAs op neutral us t)
+
+pub record MeetsJoining (op : Op) (neutral absorbing : Term) (premises : List (List Term)) (clause : List Term) : Type 0 where
+  pub arguments : List Term
+  pub right : Term
+  pub none : premises ≡ []
+  pub literal : clause ≡ equality (operation op (terms_of arguments)) right ∷ []
+  pub joins : JoinsTo op neutral absorbing arguments right
+
+abbrev pub MeetsAndSimplify : List (List Term) → List Term → Type 0
+MeetsAndSimplify = MeetsJoining Op.And (operation Op.True no_terms) (operation Op.False no_terms)
+
+abbrev pub MeetsOrSimplify : List (List Term) → List Term → Type 0
+MeetsOrSimplify = MeetsJoining Op.Or (operation Op.False no_terms) (operation Op.True no_terms)
