@@ -18,8 +18,9 @@ use Rattle.rule_model.specs.Judged.{Judged}
 use Rattle.rule_model.specs.Resolution.{Resolves}
 use Rattle.rule_model.specs.Rewriting.{Row}
 use Rattle.rule_model.specs.Schemas.{Schema, IsInstanceOf}
-use Rattle.rule_model.specs.Simplification.{not_simplify, implies_simplify, equiv_simplify, bool_simplify, ite_simplify, eq_simplify, MeetsSimplification}
+use Rattle.rule_model.specs.Simplification.{not_simplify, implies_simplify, equiv_simplify, bool_simplify, ite_simplify, eq_simplify, comp_simplify, MeetsSimplification}
 use Rattle.rule_model.proofs.ArgumentLists.{and_pos_keeps, and_neg_keeps, or_pos_keeps, or_neg_keeps, and_keeps, or_keeps, not_or_keeps, not_and_keeps}
+use Rattle.rule_model.proofs.Arithmetic.{form_simplify_keeps, la_disequality_keeps, la_totality_keeps, la_rw_eq_keeps, la_generic_keeps}
 use Rattle.rule_model.proofs.ClausalTables.{IsSound, clausal_tables}
 use Rattle.rule_model.proofs.Congruence.{symm_keeps, not_symm_keeps, trans_keeps, cong_keeps, eq_reflexive_keeps, eq_symmetric_keeps, eq_transitive_keeps, eq_congruent_keeps, eq_congruent_pred_keeps}
 use Rattle.rule_model.proofs.Definitions.{choice_tables, instance_keeps, connective_def_keeps, ite_intro_keeps, distinct_elim_keeps}
@@ -27,7 +28,7 @@ use Rattle.rule_model.proofs.Instances.{instance_keeps_truth}
 use Rattle.rule_model.proofs.Reflexivity.{refl_keeps}
 use Rattle.rule_model.proofs.Joining.{and_simplify_keeps, or_simplify_keeps}
 use Rattle.rule_model.proofs.Resolution.{check_sound}
-use Rattle.rule_model.proofs.Simplification.{AreKept, not_kept, implies_kept, equiv_kept, bool_kept, ite_kept, eq_kept, simplification_keeps}
+use Rattle.rule_model.proofs.Simplification.{AreKept, not_kept, implies_kept, equiv_kept, bool_kept, ite_kept, eq_kept, comp_kept, simplification_keeps}
 use Rattle.rule_model.proofs.StrictResolution.{strict_sound}
 
 -- a clause with the literals of one that is true
@@ -131,6 +132,15 @@ module _ (I : Interpretation) (r : Valuation) where
   rule_keeps Rule.EqSimplify j met sorted context = simplify_keeps eq_simplify eq_kept j met sorted
   rule_keeps Rule.AndSimplify j met sorted context = λ all. and_simplify_keeps I r sorted.values j.premises j.clause met sorted.clause
   rule_keeps Rule.OrSimplify j met sorted context = λ all. or_simplify_keeps I r sorted.values j.premises j.clause met sorted.clause
+  rule_keeps Rule.CompSimplify j met sorted context = simplify_keeps comp_simplify comp_kept j met sorted
+  rule_keeps Rule.SumSimplify j met sorted context = λ all. form_simplify_keeps I r sorted.values j.premises j.clause met
+  rule_keeps Rule.ProdSimplify j met sorted context = λ all. form_simplify_keeps I r sorted.values j.premises j.clause met
+  rule_keeps Rule.MinusSimplify j met sorted context = λ all. form_simplify_keeps I r sorted.values j.premises j.clause met
+  rule_keeps Rule.UnaryMinusSimplify j met sorted context = λ all. form_simplify_keeps I r sorted.values j.premises j.clause met
+  rule_keeps Rule.LaDisequality j met sorted context = λ all. la_disequality_keeps I r sorted.values j.premises j.clause met sorted.clause
+  rule_keeps Rule.LaTotality j met sorted context = λ all. la_totality_keeps I r j.premises j.clause met
+  rule_keeps Rule.LaRwEq j met sorted context = λ all. la_rw_eq_keeps I r sorted.values j.premises j.clause met sorted.clause
+  rule_keeps Rule.LaGeneric j met sorted context = λ all. la_generic_keeps I r j.ratios j.premises j.clause met
   rule_keeps rule j met sorted context = clausal_keeps rule j.premises j.clause met sorted.values sorted.premises sorted.clause
 
   pub met_keeps : (j : Judged) → Met j → IsWellSortedStep r j → KeepsTruth I r j

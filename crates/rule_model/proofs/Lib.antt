@@ -21,6 +21,10 @@ pub mod ArgumentLists
 pub mod Congruence
 pub mod Rewriting
 pub mod Simplification
+pub mod TermTests
+pub mod Ring
+pub mod LinearForms
+pub mod Arithmetic
 pub mod Joining
 pub mod Definitions
 pub mod Freedom

@@ -11,7 +11,7 @@ use Rattle.term_model.proofs.Basics.{and-left, and-right}
 use Rattle.term_model.proofs.Sorting.{when-same, choice_sort-branches, value_has_sort, bool_value}
 use Rattle.term_model.proofs.Tests.{sort_eq_decides}
 use Rattle.rule_model.specs.declared.letter.Letter.{Letter}
-use Rattle.rule_model.specs.Rewriting.{Guard, always, truths, one_number, two_numbers, Passes, Row}
+use Rattle.rule_model.specs.Rewriting.{Guard, always, truths, one_number, two_numbers, below, at_most, Passes, Row}
 use Rattle.rule_model.specs.Schemas.{Pattern, letter, constant, unary, binary, ternary, fill}
 use Rattle.rule_model.proofs.TruthTables.{pattern_value, fill_value, is_in, is_truth_in, or_cases, or_left, or_right, same_values, truth_letter, table, both}
 
@@ -168,6 +168,8 @@ is_truth_guarded l always = false
 is_truth_guarded l (truths p q) = is_truth_in l p || is_truth_in l q
 is_truth_guarded l (one_number p q) = false
 is_truth_guarded l (two_numbers p q) = false
+is_truth_guarded l (below p q) = false
+is_truth_guarded l (at_most p q) = false
 
 abbrev is_known_in : Row → Letter → Bool
 is_known_in row l =
@@ -220,6 +222,8 @@ guarded_truth terms l (truths p q) e h =
     elim (or_cases (is_truth_in l p) (is_truth_in l q) e) [ inl f ↦ truth_letter terms l p f h.0 | inr f ↦ truth_letter terms l q f h.1 ]
 guarded_truth terms l (one_number p q) e h = absurd cc
 guarded_truth terms l (two_numbers p q) e h = absurd cc
+guarded_truth terms l (below p q) e h = absurd cc
+guarded_truth terms l (at_most p q) e h = absurd cc
 
 used_truth : (terms : Letter → Term) (row : Row) (l : Letter) → is_known_in row l ≡ true → (is_in l row.left || is_in l row.right) ≡ true → IsOf (fill terms row.left) Sort.Bool → Passes terms row.guard → IsOf (terms l) Sort.Bool
 used_truth terms row l e used h passes =

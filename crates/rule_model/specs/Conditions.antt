@@ -9,6 +9,7 @@ use Rattle.term_model.specs.Sorts.{IsOf}
 use Rattle.term_model.specs.Terms.{Var, Term}
 use Rattle.rule_model.specs.declared.rules.Mode.{Mode}
 use Rattle.rule_model.specs.declared.rules.Rule.{Rule}
+use Rattle.rule_model.specs.Arithmetic.{MeetsFormSimplification, IsWideFormSimplification, MeetsLaDisequality, MeetsLaTotality, MeetsLaRwEq, MeetsLaGeneric, IsWideLaGeneric}
 use Rattle.rule_model.specs.Clausal.{MeetsClausal, schema_of, is_over_list}
 use Rattle.rule_model.specs.Clauses.{MakesClauseTrue}
 use Rattle.rule_model.specs.Closings.{MeetsClosing}
@@ -20,7 +21,7 @@ use Rattle.rule_model.specs.Proofs.{Items}
 use Rattle.rule_model.specs.Reading.{rule_at, closes_at}
 use Rattle.rule_model.specs.Reflexivity.{MeetsRefl}
 use Rattle.rule_model.specs.Resolution.{Resolves}
-use Rattle.rule_model.specs.Simplification.{not_simplify, implies_simplify, equiv_simplify, bool_simplify, ite_simplify, eq_simplify, MeetsSimplification, MeetsAndSimplify, MeetsOrSimplify}
+use Rattle.rule_model.specs.Simplification.{not_simplify, implies_simplify, equiv_simplify, bool_simplify, ite_simplify, eq_simplify, comp_simplify, MeetsSimplification, MeetsAndSimplify, MeetsOrSimplify}
 
 -- What a step that closes nothing meets under a rule. Rules that have no condition here yet are met by no step: they have no
 -- schema.
@@ -56,6 +57,15 @@ MeetsRule Rule.IteSimplify j = MeetsSimplification ite_simplify j.premises j.cla
 MeetsRule Rule.EqSimplify j = MeetsSimplification eq_simplify j.premises j.clause
 MeetsRule Rule.AndSimplify j = MeetsAndSimplify j.premises j.clause
 MeetsRule Rule.OrSimplify j = MeetsOrSimplify j.premises j.clause
+MeetsRule Rule.CompSimplify j = MeetsSimplification comp_simplify j.premises j.clause
+MeetsRule Rule.SumSimplify j = MeetsFormSimplification j.premises j.clause
+MeetsRule Rule.ProdSimplify j = MeetsFormSimplification j.premises j.clause
+MeetsRule Rule.MinusSimplify j = MeetsFormSimplification j.premises j.clause
+MeetsRule Rule.UnaryMinusSimplify j = MeetsFormSimplification j.premises j.clause
+MeetsRule Rule.LaDisequality j = MeetsLaDisequality j.premises j.clause
+MeetsRule Rule.LaTotality j = MeetsLaTotality j.premises j.clause
+MeetsRule Rule.LaRwEq j = MeetsLaRwEq j.premises j.clause
+MeetsRule Rule.LaGeneric j = MeetsLaGeneric j.ratios j.premises j.clause
 MeetsRule rule j = MeetsClausal rule j.premises j.clause
 
 -- the step meets the condition of its rule
@@ -71,9 +81,17 @@ has_condition Rule.Subproof = true
 has_condition Rule.Let = true
 has_condition rule = is_some (schema_of rule) || (is_over_list rule || is_of_equality rule)
 
--- The numbers of the step are too wide to be judged: those of no rule that is built are.
+-- the numbers of the step are too wide to be judged
+abbrev pub IsTooWideBy : Rule → Judged → Type 0
+IsTooWideBy Rule.SumSimplify j = IsWideFormSimplification j.premises j.clause
+IsTooWideBy Rule.ProdSimplify j = IsWideFormSimplification j.premises j.clause
+IsTooWideBy Rule.MinusSimplify j = IsWideFormSimplification j.premises j.clause
+IsTooWideBy Rule.UnaryMinusSimplify j = IsWideFormSimplification j.premises j.clause
+IsTooWideBy Rule.LaGeneric j = IsWideLaGeneric j.ratios j.premises j.clause
+IsTooWideBy rule j = ⊥
+
 abbrev pub IsTooWide : Judged → Type 0
-IsTooWide j = ⊥
+IsTooWide j = IsTooWideBy j.rule j
 
 -- The same of the command at an index: the numbers of a step that closes a scope are not looked at.
 abbrev pub IsTooWideWhere : Mode → Items Var Term → ℕ → Option ℕ → Type 0

@@ -27,6 +27,10 @@ pub mod Constants
 pub mod Rewriting
 pub mod Definitions
 pub mod Simplification
+pub mod TermTests
+pub mod LinearForms
+pub mod Weights
+pub mod Arithmetic
 pub mod Closings
 pub mod Conditions
 pub mod Truth

@@ -41,3 +41,15 @@ equal p q = binary Op.Equal p q
 
 abbrev pub ite : Pattern → Pattern → Pattern → Pattern
 ite p q r = ternary Op.Ite p q r
+
+abbrev pub less_eq : Pattern → Pattern → Pattern
+less_eq p q = binary Op.LessEq p q
+
+abbrev pub less : Pattern → Pattern → Pattern
+less p q = binary Op.Less p q
+
+abbrev pub greater_eq : Pattern → Pattern → Pattern
+greater_eq p q = binary Op.GreaterEq p q
+
+abbrev pub greater : Pattern → Pattern → Pattern
+greater p q = binary Op.Greater p q

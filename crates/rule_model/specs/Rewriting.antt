@@ -1,5 +1,5 @@
 -- Public. Rewriting by the rows of a table.
-use Rattle.std.specs.Prelude.{◌≡◌, ◌≢◌, ◌⊎◌, ℤ, List, [], ◌∷◌, Any, Some}
+use Rattle.std.specs.Prelude.{◌≡◌, ◌≢◌, ◌⊎◌, ℤ, ◌<ℤ◌, ◌≤ℤ◌, List, [], ◌∷◌, Any, Some}
 use Rattle.term_model.specs.declared.symbols.Sort.{Sort}
 use Rattle.term_model.specs.Sorts.{IsOf}
 use Rattle.term_model.specs.Terms.{Term}
@@ -8,30 +8,31 @@ use Rattle.rule_model.specs.Constants.{constant_of}
 use Rattle.rule_model.specs.Patterns.{equal}
 use Rattle.rule_model.specs.Schemas.{Pattern, fill}
 
--- what a row asks besides: nothing; that two patterns are of Bool; that they are constants of one number, or of two
+-- what a row asks besides: nothing; that two patterns are of Bool; or that they are constants, of one number or of two, or
+-- with the first number below the second one or at most it
 pub data Guard : Type 0 where
   always : Guard
   truths : Pattern → Pattern → Guard
   one_number : Pattern → Pattern → Guard
   two_numbers : Pattern → Pattern → Guard
+  below : Pattern → Pattern → Guard
+  at_most : Pattern → Pattern → Guard
 
-pub record AreOneNumber (t u : Term) : Type 0 where
-  pub number : ℤ
-  pub first : constant_of t ≡ Some number
-  pub second : constant_of u ≡ Some number
-
-pub record AreTwoNumbers (t u : Term) : Type 0 where
+-- two constants whose numbers are related
+pub record AreConstants (related : ℤ → ℤ → Type 0) (t u : Term) : Type 0 where
   pub number : ℤ
   pub other : ℤ
   pub first : constant_of t ≡ Some number
   pub second : constant_of u ≡ Some other
-  pub differ : number ≢ other
+  pub are : related number other
 
 abbrev pub Passes : (Letter → Term) → Guard → Type 0
 Passes terms always = Unit {0}
 Passes terms (truths p q) = IsOf (fill terms p) Sort.Bool × IsOf (fill terms q) Sort.Bool
-Passes terms (one_number p q) = AreOneNumber (fill terms p) (fill terms q)
-Passes terms (two_numbers p q) = AreTwoNumbers (fill terms p) (fill terms q)
+Passes terms (one_number p q) = AreConstants (λ m n. m ≡ n) (fill terms p) (fill terms q)
+Passes terms (two_numbers p q) = AreConstants (λ m n. m ≢ n) (fill terms p) (fill terms q)
+Passes terms (below p q) = AreConstants (λ m n. m <ℤ n) (fill terms p) (fill terms q)
+Passes terms (at_most p q) = AreConstants (λ m n. m ≤ℤ n) (fill terms p) (fill terms q)
 
 pub record Row : Type 0 where
   pub left : Pattern
@@ -45,6 +46,9 @@ left ⇝ right = record { left = left; right = right; guard = always }
 
 abbrev pub over_truths : Pattern → Pattern → Pattern → Row
 over_truths p q right = record { left = equal p q; right = right; guard = truths p q }
+
+abbrev pub where_constants : Guard → Pattern → Pattern → Row
+where_constants guard left right = record { left = left; right = right; guard = guard }
 
 -- some terms, put in for the letters, give these two terms, and pass
 pub record Rewrites (row : Row) (t u : Term) : Type 0 where

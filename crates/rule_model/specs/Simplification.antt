@@ -4,8 +4,8 @@ use Rattle.std.specs.Prelude.{ℕ, suc, zero, ◌+◌, ◌≡◌, ◌≢◌, ◌
 use Rattle.term_model.specs.declared.symbols.Op.{Op}
 use Rattle.term_model.specs.Flips.{equality}
 use Rattle.term_model.specs.Terms.{Term, operation, no_terms, terms_of, not_of}
-use Rattle.rule_model.specs.Patterns.{a, b, c, d, yes, never, no, conj, disj, implies, equal, ite}
-use Rattle.rule_model.specs.Rewriting.{Row, ◌⇝◌, over_truths, one_number, two_numbers, Simplifies}
+use Rattle.rule_model.specs.Patterns.{a, b, c, d, yes, never, no, conj, disj, implies, equal, ite, less, less_eq, greater, greater_eq}
+use Rattle.rule_model.specs.Rewriting.{Row, ◌⇝◌, over_truths, one_number, two_numbers, below, at_most, where_constants, Simplifies}
 
 abbrev pub not_simplify : List Row
 not_simplify =
@@ -71,8 +71,21 @@ ite_simplify =
 abbrev pub eq_simplify : List Row
 eq_simplify =
     (equal a a ⇝ yes)
-    ∷ record { left = equal a b; right = never; guard = two_numbers a b }
-    ∷ record { left = no (equal a b); right = never; guard = one_number a b }
+    ∷ where_constants (two_numbers a b) (equal a b) never
+    ∷ where_constants (one_number a b) (no (equal a b)) never
+    ∷ []
+
+abbrev pub comp_simplify : List Row
+comp_simplify =
+    where_constants (below a b) (less a b) yes
+    ∷ where_constants (at_most b a) (less a b) never
+    ∷ where_constants (at_most a b) (less_eq a b) yes
+    ∷ where_constants (below b a) (less_eq a b) never
+    ∷ (less a a ⇝ never)
+    ∷ (less_eq a a ⇝ yes)
+    ∷ (greater_eq a b ⇝ less_eq b a)
+    ∷ (less a b ⇝ no (less_eq b a))
+    ∷ (greater a b ⇝ no (less_eq a b))
     ∷ []
 
 pub record MeetsSimplification (rows : List Row) (premises : List (List Term)) (clause : List Term) : Type 0 where
