@@ -1,16 +1,14 @@
 -- What is asked of clauses of references is what is asked of the clauses for which they stand.
-use Rattle.std.proofs.Common.{◌≡◌, ◌≢◌, ◌↔◌, ℕ, zero, suc, ◌<◌, List, [], ◌∷◌, length, get_or, slice_set, Bool, true, false, IsTrue, All, AllPairs, Contains, IsPermutation, refl, sym, ◌∙◌, ap, subst, arith}
+use Rattle.std.proofs.Common.{◌≡◌, ◌≢◌, ◌↔◌, ℕ, zero, suc, ◌<◌, List, [], ◌∷◌, length, get_or, slice_set, Bool, false, IsTrue, All, AllPairs, Contains, IsPermutation, refl, ◌∙◌, ap, subst, arith}
 use Rattle.std.specs.List.{swap}
 use Rattle.std.specs.Borrow.{Bor}
-use Rattle.std.proofs.lemmas.List.Edits.{swap_is, length-swap}
+use Rattle.std.proofs.lemmas.List.Edits.{swap_is}
 use Rattle.std.proofs.lemmas.List.Elements.{All-contains, All-contains_itself, All-weaker}
 use Rattle.std.proofs.lemmas.List.Sorted.{IsPermutation-refl, IsPermutation-trans, IsPermutation-swap, IsPermutation-keeps}
 use Rattle.sym_table.specs.Table.{Table}
-use Rattle.term_model.specs.Terms.{Term, numeral, not_of, operation, no_terms}
-use Rattle.term_model.specs.declared.symbols.Op.{Op}
+use Rattle.term_model.specs.Terms.{Term, numeral}
 use Rattle.term_pool.specs.Views.{TermsView, RefersTo, ReferToAll}
-use Rattle.rule_model.specs.Clausal.{Changes, HasEach, HasEachOnce, IsTautology}
-use Rattle.rules_clausal.specs.Changes.{HasOpposites}
+use Rattle.rule_model.specs.Clausal.{Changes, HasEach, HasEachOnce}
 use Rattle.rules_clausal.specs.Sorting.{HasAllOnce}
 use Rattle.rules_clausal.specs.Steps.{ReferToClauses}
 use Rattle.rules_clausal.proofs.ReferLemmas.{AreOne, contains_terms, contains_references, refer_length, refer_at}

@@ -1,5 +1,5 @@
 -- What a check answers of the step of a proof at an index.
-use Rattle.std.proofs.Common.{◌≡◌, ◌≢◌, ◌↔◌, ℕ, ◌≤◌, List, [], ◌∷◌, map, length, Bool, true, false, IsTrue, Option, Some, None, refl, sym, ◌∙◌, ap, subst, arith}
+use Rattle.std.proofs.Common.{◌≡◌, ◌↔◌, ℕ, ◌≤◌, List, [], ◌∷◌, map, length, Bool, true, false, IsTrue, Option, Some, None, sym, subst, arith}
 use Rattle.std.specs.Borrow.{Bor}
 use Rattle.std.specs.Option.{is_some}
 use Rattle.sym_table.specs.Table.{Table}
@@ -8,12 +8,11 @@ use Rattle.term_pool.specs.Views.{TermsView, ReferToAll}
 use Rattle.rule_model.specs.declared.rules.Mode.{Mode}
 use Rattle.rule_model.specs.declared.rules.Rule.{Rule}
 use Rattle.rule_model.specs.Clausal.{IsClausal, MeetsClausal}
-use Rattle.rule_model.specs.Conditions.{MeetsRule, Met}
+use Rattle.rule_model.specs.Conditions.{MeetsRule}
 use Rattle.rule_model.specs.Judged.{Judged, judged_at}
 use Rattle.rule_model.specs.Proofs.{Items}
 use Rattle.rule_model.specs.Reading.{rule_at, clause_at, premises_at, closes_at}
 use Rattle.proof_store.specs.Checks.{IsMetAt}
-use Rattle.proof_store.specs.declared.answers.Answer.TheVariants as Answer
 use Rattle.rules_clausal.specs.Steps.{MeetsAt, ReferToClauses}
 use Rattle.rules_clausal.proofs.CheckLemmas.{many_premises}
 

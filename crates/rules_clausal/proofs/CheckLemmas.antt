@@ -1,24 +1,22 @@
 -- The step of a proof at an index, and the clauses of its premises.
-use Rattle.std.proofs.Common.{◌≡◌, ◌≢◌, ◌↔◌, ℕ, zero, suc, ◌<◌, ◌≤◌, List, [], ◌∷◌, map, length, get_or, slice_get, Bool, true, false, IsTrue, All, Contains, Option, Some, None, refl, sym, ◌∙◌, ap, subst, arith}
-use Rattle.std.specs.Borrow.{Bor}
+use Rattle.std.proofs.Common.{◌≡◌, ℕ, zero, suc, ◌<◌, ◌≤◌, List, [], ◌∷◌, map, length, get_or, slice_get, Bool, true, false, All, Contains, Option, Some, None, refl, sym, ap, subst, arith}
 use Rattle.std.specs.List.{AllZip}
 use Rattle.std.specs.Option.{option_map_or}
 use Rattle.std.proofs.lemmas.List.{get_or_default}
 use Rattle.std.proofs.lemmas.List.Elements.{All-cons}
 use Rattle.sym_table.specs.Table.{Table}
-use Rattle.term_model.specs.Terms.{Var, Term}
+use Rattle.term_model.specs.Terms.{Term}
 use Rattle.term_pool.specs.Views.{TermsView, RefersTo, IsTerm, ReferToAll}
 use Rattle.rule_model.specs.declared.rules.Rule.{Rule}
 use Rattle.rule_model.specs.Clausal.{schema_of, Begins, IsGiven, Changes, MeetsClausal}
 use Rattle.rule_model.specs.Commands.{Line, entry_of, lines_in}
 use Rattle.rule_model.specs.Proofs.{Items}
-use Rattle.rule_model.specs.Reading.{premises_of, premises_at, clause_at}
+use Rattle.rule_model.specs.Reading.{premises_of, premises_at}
 use Rattle.rule_model.specs.Schemas.{Pattern, fill, Schema, IsInstanceOf}
 use Rattle.rule_model.specs.Scopes.{outermost, commands_in}
 use Rattle.rule_model.specs.WellFormed.{IsWellFormed}
 use Rattle.rule_model.proofs.Lists.{contains_none}
 use Rattle.rule_model.proofs.Standing.{premise_earlier}
-use Rattle.rules_clausal.specs.Steps.{ReferToClauses}
 
 -- the premises of a command stand before it
 module _ {V T : Type 0} (proof : Items V T) where

@@ -1,5 +1,5 @@
 -- Arguments of which there are so many.
-use Rattle.std.proofs.Common.{◌≡◌, ◌∷◌, length, refl, ap}
+use Rattle.std.proofs.Common.{◌≡◌, length, refl, ap}
 use Rattle.term_model.specs.Terms.{Term, Terms, no_terms, term, list_of}
 
 pub none : (ts : Terms) → length (list_of ts) ≡ 0 → ts ≡ no_terms

@@ -1,13 +1,12 @@
 -- What rules over arguments ask.
-use Rattle.std.proofs.Common.{◌≡◌, ◌≢◌, ◌↔◌, ◌∷◌, [], List, ℕ, map, length, Bool, true, false, IsTrue, Contains, All, refl, sym, ◌∙◌, ap, subst, arith}
+use Rattle.std.proofs.Common.{◌≡◌, ◌≢◌, ◌↔◌, ◌∷◌, [], List, ℕ, map, length, Bool, false, IsTrue, Contains, All, refl, sym, ◌∙◌, ap, subst}
 use Rattle.std.proofs.lemmas.List.Elements.{All-head}
 use Rattle.std.specs.Borrow.{Bor}
-use Rattle.std.specs.List.{AllZip}
 use Rattle.sym_table.specs.Table.{Table}
 use Rattle.term_model.specs.declared.symbols.Op.{Op}
 use Rattle.term_model.specs.Terms.{Term, Terms, operation, list_of, terms_of}
 use Rattle.term_pool.specs.Views.{TermsView, RefersTo, ReferToAll, IsTerm}
-use Rattle.rule_model.specs.Clausal.{GivesOne, GivesAll, Begins, IsGiven}
+use Rattle.rule_model.specs.Clausal.{Begins, IsGiven}
 use Rattle.rule_model.proofs.ArgumentLists.{list_of-terms_of}
 use Rattle.rule_model.proofs.Lists.{contains_none}
 use Rattle.rules_clausal.specs.declared.argument_rules.Which.{Which}

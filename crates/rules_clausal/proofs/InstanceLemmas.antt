@@ -1,5 +1,5 @@
 -- Steps that are instances of a schema.
-use Rattle.std.proofs.Common.{◌≡◌, ◌≢◌, ◌↔◌, ◌∷◌, ◌++◌, [], List, ℕ, map, length, reverse, Bool, true, false, IsTrue, All, refl, sym, ◌∙◌, ap, subst}
+use Rattle.std.proofs.Common.{◌≡◌, ◌≢◌, ◌↔◌, ◌∷◌, ◌++◌, [], List, ℕ, map, length, reverse, Bool, false, IsTrue, All, sym, ◌∙◌, ap, subst}
 use Rattle.std.specs.Borrow.{Bor}
 use Rattle.std.proofs.lemmas.List.{reverse-reverse}
 use Rattle.std.proofs.lemmas.List.Elements.{All-head, All-tail}
@@ -9,7 +9,6 @@ use Rattle.term_pool.specs.Views.{TermsView, RefersTo, ReferToAll, IsTerm}
 use Rattle.rule_model.specs.declared.letter.Letter.{Letter}
 use Rattle.rule_model.specs.Schemas.{Pattern, fill, Schema, IsInstance}
 use Rattle.rules_clausal.specs.declared.part.Part.{Part}
-use Rattle.rules_clausal.specs.declared.schemas.SchemaParts.{SchemaParts}
 use Rattle.rules_clausal.specs.declared.schemas.SchemaParts.TheVariants.{Tautology, From}
 use Rattle.rules_clausal.specs.Matching.{parts_of, Fits}
 use Rattle.rules_clausal.specs.Premises.{IsUnit, IsNoUnit}

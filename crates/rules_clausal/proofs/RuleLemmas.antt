@@ -1,5 +1,5 @@
 -- Which of the three kinds of rule a rule is of.
-use Rattle.std.proofs.Common.{◌≡◌, ◌↔◌, List, Bool, true, false, IsTrue, Option, Some, None}
+use Rattle.std.proofs.Common.{◌≡◌, ◌↔◌, List, Bool, false, IsTrue, Option, Some, None}
 use Rattle.term_model.specs.Terms.{Term}
 use Rattle.rule_model.specs.declared.rules.Rule.{Rule}
 use Rattle.rule_model.specs.Clausal.{schema_of, MeetsClausal}

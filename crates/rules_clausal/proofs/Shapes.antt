@@ -1,6 +1,6 @@
 -- What the parts of patterns are read from are the patterns with terms put in.
-use Rattle.std.proofs.Common.{◌≡◌, List, [], ◌∷◌, length, map, refl, sym, ◌∙◌, ap}
-use Rattle.term_model.specs.Terms.{Term, Terms, no_terms, term, operation, list_of}
+use Rattle.std.proofs.Common.{◌≡◌, List, [], ◌∷◌, map, refl, sym, ◌∙◌, ap}
+use Rattle.term_model.specs.Terms.{Term, no_terms, term, operation}
 use Rattle.rule_model.specs.declared.letter.Letter.{Letter}
 use Rattle.rule_model.specs.Schemas.{Pattern, letter, constant, unary, binary, ternary, fill}
 use Rattle.rules_clausal.specs.declared.part.Part.{Part}

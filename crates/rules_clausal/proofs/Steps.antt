@@ -1,11 +1,9 @@
 -- One part is read.
-use Rattle.std.proofs.Common.{◌≡◌, ◌≢◌, ◌↔◌, ℕ, List, [], ◌∷◌, ◌++◌, length, Bool, true, false, Option, Some, None, IsTrue, not, nat_eq, refl, sym, ◌∙◌, ap, subst}
-use Rattle.std.specs.Option.{IfSome, IfNone, option_eq}
-use Rattle.std.proofs.lemmas.Bool.{eqb-true, eq-eqb}
+use Rattle.std.proofs.Common.{◌≡◌, ◌≢◌, ◌↔◌, ℕ, List, [], ◌∷◌, ◌++◌, length, Bool, true, false, Option, Some, None, IsTrue, not, refl, sym, ◌∙◌, ap}
+use Rattle.std.specs.Option.{IfSome, IfNone}
 use Rattle.sym_table.specs.Table.{Table}
 use Rattle.term_model.specs.declared.symbols.Op.{Op}
-use Rattle.term_model.specs.Terms.{Term, Terms, numeral, variable, operation, call, let_in, list_of}
-use Rattle.term_pool.specs.Reading.{arguments_of, IsLet}
+use Rattle.term_model.specs.Terms.{Term, Terms, operation, list_of}
 use Rattle.term_pool.specs.Views.{TermsView, RefersTo, ReferToAll}
 use Rattle.rule_model.specs.declared.letter.Letter.{Letter}
 use Rattle.rules_clausal.specs.declared.letters.Letters.{Letters}

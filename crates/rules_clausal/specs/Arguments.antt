@@ -1,5 +1,5 @@
 -- Private. The arguments of an application, and the list of their cells.
-use Rattle.std.specs.Prelude.{◌≡◌, ℕ, List, [], ◌∷◌, length}
+use Rattle.std.specs.Prelude.{◌≡◌, ℕ, List, ◌∷◌, length}
 use Rattle.pair_pool.specs.Trees.{Tree}
 use Rattle.pair_pool.specs.Views.{Knows}
 use Rattle.sym_table.specs.Table.{Table}

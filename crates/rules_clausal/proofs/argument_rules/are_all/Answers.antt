@@ -1,4 +1,4 @@
-use Rattle.std.proofs.Common.{◌≡◌, ◌∙◌, arith}
+use Rattle.std.proofs.Common.{◌∙◌}
 use Rattle.rules_clausal.proofs.ArgumentAnswers.{other_number, other_there, same_there, all_are}
 use Rattle.rules_clausal.proofs.argument_rules.are_all.Goals as goal
 

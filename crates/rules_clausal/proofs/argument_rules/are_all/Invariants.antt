@@ -1,4 +1,4 @@
-use Rattle.std.proofs.Common.{◌≡◌, List, length}
+use Rattle.std.proofs.Common.{◌≡◌, List}
 use Rattle.term_model.specs.Terms.{Term}
 use Rattle.term_pool.specs.Views.{ReferToAll}
 use Rattle.rules_clausal.proofs.ArgumentAnswers.{AreSoFar}

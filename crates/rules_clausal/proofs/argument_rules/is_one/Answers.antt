@@ -1,4 +1,4 @@
-use Rattle.std.proofs.Common.{◌≡◌, rules, arith, nat_eq}
+use Rattle.std.proofs.Common.{arith, nat_eq}
 use Rattle.std.proofs.lemmas.Bool.Decides.{Decides-eqb}
 use Rattle.std.proofs.lemmas.List.Elements.{contains_decides, Decides-contains}
 use Rattle.rules_clausal.proofs.ArgumentAnswers.{many_are_not_one, one_is, none_is}

@@ -1,5 +1,4 @@
-use Rattle.std.proofs.Common.{◌≡◌, [], ◌∷◌, List, length, sym, ◌∙◌, arith}
-use Rattle.rules_clausal.specs.Signs.{sign_of}
+use Rattle.std.proofs.Common.{sym, ◌∙◌}
 use Rattle.rules_clausal.proofs.ArgumentLemmas.{so_many_loaded, unsigned_is_term, none_loaded, loaded}
 use Rattle.rules_clausal.proofs.argument_rules.load.Goals as goal
 

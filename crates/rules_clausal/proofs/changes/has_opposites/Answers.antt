@@ -1,4 +1,4 @@
-use Rattle.std.proofs.Common.{◌≡◌, ◌∙◌, refl, arith, rules, get_or}
+use Rattle.std.proofs.Common.{◌∙◌, refl, arith}
 use Rattle.rules_clausal.proofs.OppositeLemmas.{opposite_there, none_more, none_at_all}
 use Rattle.rules_clausal.proofs.changes.has_opposites.Goals as goal
 

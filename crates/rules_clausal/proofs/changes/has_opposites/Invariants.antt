@@ -1,5 +1,4 @@
 use Rattle.std.proofs.Common.{◌≡◌, List}
-use Rattle.sym_table.specs.Table.{IsTable}
 use Rattle.term_model.specs.Terms.{Term}
 use Rattle.term_pool.specs.Views.{ReferToAll}
 use Rattle.rules_clausal.specs.Sorting.{IsInOrder}

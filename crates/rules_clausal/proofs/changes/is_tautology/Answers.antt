@@ -1,4 +1,4 @@
-use Rattle.std.proofs.Common.{◌≡◌, arith}
+use Rattle.std.proofs.Common.{arith}
 use Rattle.term_model.specs.declared.symbols.Op.{Op}
 use Rattle.rules_clausal.proofs.CheckLemmas.{one_is_it}
 use Rattle.rules_clausal.proofs.OppositeLemmas.{many_are_not_true, other_is_not_true, tautology_is}

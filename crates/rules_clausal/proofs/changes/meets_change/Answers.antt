@@ -1,6 +1,5 @@
 use Rattle.std.proofs.Common.{arith}
 use Rattle.std.proofs.lemmas.Result.{IfOk-weaker}
-use Rattle.rule_model.specs.Clausal.{HasEach, HasEachOnce, IsTautology}
 use Rattle.rules_clausal.specs.Changes.{relation_of}
 use Rattle.rules_clausal.specs.declared.changes.Change.{Change}
 use Rattle.rules_clausal.proofs.ChangeLemmas.{no_change, one_change, weakened, contracted, reordered}

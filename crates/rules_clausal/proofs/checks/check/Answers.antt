@@ -1,4 +1,4 @@
-use Rattle.std.proofs.Common.{◌≡◌, Bool, false, refl, sym, ◌∙◌, rules}
+use Rattle.std.proofs.Common.{◌≡◌, false, refl, ◌∙◌, rules}
 use Rattle.std.specs.Option.{is_some}
 use Rattle.rule_model.specs.Judged.{judged_at}
 use Rattle.rule_model.specs.Reading.{rule_at}

@@ -1,6 +1,6 @@
-use Rattle.std.proofs.Common.{◌≡◌, ◌+◌, length, drop, get_or, rules, refl, ◌∙◌}
+use Rattle.std.proofs.Common.{◌+◌, drop, get_or, rules, refl, ◌∙◌}
 use Rattle.std.proofs.lemmas.Bool.{OnTrue_at, OnFalse_at}
-use Rattle.std.proofs.lemmas.List.{drop_all, nil_from_length}
+use Rattle.std.proofs.lemmas.List.{drop_all}
 use Rattle.rule_model.specs.declared.letter.Letter.{Letter}
 use Rattle.rules_clausal.specs.declared.part.Part.TheVariants.{Any}
 use Rattle.rules_clausal.proofs.Loops.{left_whole, left_next, left_none, left_all, none_fits, some_fits}

@@ -1,6 +1,6 @@
 use Rattle.std.proofs.Common.{◌≡◌, refl, rules}
 use Rattle.term_model.specs.declared.symbols.Op.{Op}
-use Rattle.term_model.specs.Terms.{not_of, no_terms, term}
+use Rattle.term_model.specs.Terms.{no_terms, term}
 use Rattle.rules_clausal.proofs.OverLemmas.{negated_is, is_over, so_many, not_so_many, has_first}
 use Rattle.rules_clausal.proofs.signs.under_not.Goals as goal
 

@@ -1,4 +1,4 @@
-use Rattle.std.proofs.Common.{◌≡◌, ◌∙◌, ap, subst, arith, rules, IsPermutation}
+use Rattle.std.proofs.Common.{◌≡◌, ◌∙◌, subst, arith, rules, IsPermutation}
 use Rattle.std.proofs.lemmas.List.{take_all}
 use Rattle.std.proofs.lemmas.List.Sorted.{IsNonDecreasingBy-from_sort}
 use Rattle.smallvec.proofs.SmallVecLemmas.{items-with_items}

@@ -1,4 +1,4 @@
-use Rattle.std.proofs.Common.{◌≡◌, ◌-◌, ◌∙◌, refl, sym, subst, arith, rules}
+use Rattle.std.proofs.Common.{◌≡◌, ◌-◌, ◌∙◌, refl, subst, arith, rules}
 use Rattle.rules_clausal.specs.Stack.{AddsArguments}
 use Rattle.rules_clausal.proofs.StackLemmas.{adds_none, has_argument, adds_more}
 use Rattle.rules_clausal.proofs.stack.push_arguments.Goals as goal

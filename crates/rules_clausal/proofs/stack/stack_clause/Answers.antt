@@ -1,4 +1,4 @@
-use Rattle.std.proofs.Common.{arith, rules}
+use Rattle.std.proofs.Common.{arith}
 use Rattle.rules_clausal.proofs.StackLemmas.{stacked_none, stacked_more}
 use Rattle.rules_clausal.proofs.stack.stack_clause.Goals as goal
 
