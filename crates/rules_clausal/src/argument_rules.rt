@@ -1,0 +1,199 @@
+//! The rules over the arguments of `and` and `or`.
+
+ghost use Rattle.std.specs.Prelude.{◌≡◌, ◌↔◌, List, All, IsTrue, IfOk, map, Some};
+ghost use Rattle.std.specs.Bool.{OnTrue, OnFalse};
+ghost use Rattle.term_model.specs.Terms.{Term};
+ghost use Rattle.term_pool.specs.Views.{IsTerm, RefersTo, ReferToAll};
+ghost use Rattle.rules_clausal.specs.ArgumentRules.{Asks, Gives, HasCondition, HasArguments, HasNoArguments, IsOneOf};
+ghost use Rattle.rules_clausal.specs.Signs.{sign_of};
+ghost use Rattle.rules_clausal.specs.Steps.{ReferToClauses};
+
+use crate::argument_rules::Place::{Begins, Given};
+use crate::argument_rules::Which::{All, One};
+use crate::arguments::read_arguments;
+use crate::over::over;
+use crate::premises::unit;
+use crate::scratch::{Scratch, Slot, slot_of};
+use crate::signs::Sign::{self, Itself, Negation};
+use crate::signs::unsigned;
+use pair_pool::{Memory, Ref};
+use rule_model::Rule;
+use sym_table::Symbols;
+use term_model::Op;
+use term_pool::Terms;
+
+/// Where the application stands.
+#[derive(Clone, Copy)]
+enum Place {
+    /// It is the first literal of the clause, and there is no premise.
+    Begins,
+    /// It is the one premise.
+    Given,
+}
+
+/// Which of its arguments the other literals are.
+#[derive(Clone, Copy)]
+enum Which {
+    /// One of them.
+    One,
+    /// All in order.
+    All,
+}
+
+/// A rule that asks of a step an application of an operator, and its arguments: where the application stands, which of
+/// the arguments there are, the operator, with which sign the application stands, and with which the arguments do.
+#[derive(Clone, Copy)]
+pub(crate) struct ArgumentRule(Place, Which, Op, Sign, Sign);
+
+/// What a rule over arguments asks.
+pub(crate) fn argument_rule(rule: Rule) -> Option<ArgumentRule>
+    ensures { HasCondition rule result }
+{
+    match rule {
+        Rule::AndPos => Some(ArgumentRule(Begins, One, Op::And, Negation, Itself)), // and_pos
+        Rule::AndNeg => Some(ArgumentRule(Begins, All, Op::And, Itself, Negation)), // and_neg
+        Rule::OrPos => Some(ArgumentRule(Begins, All, Op::Or, Negation, Itself)), // or_pos
+        Rule::OrNeg => Some(ArgumentRule(Begins, One, Op::Or, Itself, Negation)), // or_neg
+        Rule::And => Some(ArgumentRule(Given, One, Op::And, Itself, Itself)), // and
+        Rule::Or => Some(ArgumentRule(Given, All, Op::Or, Itself, Itself)), // or
+        Rule::NotOr => Some(ArgumentRule(Given, One, Op::Or, Negation, Negation)), // not_or
+        Rule::NotAnd => Some(ArgumentRule(Given, All, Op::And, Negation, Negation)), // not_and
+        _ => None,
+    }
+}
+
+/// Whether a literal is an application of an operator to one argument or more, with a sign. Where it is, only its
+/// arguments are in the list afterwards, in order.
+fn load(
+    symbols: &Symbols,
+    terms: &mut Terms<'_>,
+    op: Op,
+    sign: Sign,
+    literal: Ref,
+    arguments: &mut Scratch,
+) -> Result<bool, Memory>
+    requires { IsTerm symbols.now terms.old literal }
+    ensures loaded { IfOk result (λ yes. OnTrue yes ((t : Term) → RefersTo symbols.now terms.old literal t →
+        HasArguments symbols.now terms.old op sign t arguments.new.items)) }
+    ensures other { IfOk result (λ yes. OnFalse yes ((t : Term) → RefersTo symbols.now terms.old literal t → HasNoArguments op sign t)) }
+    ensures same { terms.new ≡ terms.old }
+{
+    let Some(whole) = unsigned(symbols, terms, sign, literal) else {
+        return Ok(false);
+    };
+    let count = over(symbols, terms, op, whole).unwrap_or(0);
+    if count == 0 {
+        return Ok(false);
+    }
+    read_arguments(terms, whole, count, arguments)?;
+    Ok(true)
+}
+
+/// Whether the literals are one of the arguments, with a sign.
+fn is_one(
+    symbols: &Symbols,
+    terms: &mut Terms<'_>,
+    sign: Sign,
+    arguments: &[Slot],
+    literals: &[Ref],
+) -> bool
+    requires { All (IsTerm symbols.now terms.old) literals.now }
+    ensures one { (us ts : List Term) → ReferToAll symbols.now terms.old arguments.now us → ReferToAll symbols.now terms.old literals.now ts →
+        IsTrue result ↔ IsOneOf sign us ts }
+    ensures same { terms.new ≡ terms.old }
+{
+    let _leaves = symbols.count();
+    terms.equal_exactly_where_terms_are();
+    let [literal] = literals else {
+        return false;
+    };
+    match unsigned(symbols, terms, sign, *literal) {
+        Some(term) => arguments.contains(&slot_of(term)),
+        None => false,
+    }
+}
+
+/// Whether the literals are all the arguments, in order, with a sign.
+fn are_all(
+    symbols: &Symbols,
+    terms: &mut Terms<'_>,
+    sign: Sign,
+    arguments: &[Slot],
+    literals: &[Ref],
+) -> bool
+    requires { All (IsTerm symbols.now terms.old) literals.now }
+    ensures all { (us ts : List Term) → ReferToAll symbols.now terms.old arguments.now us → ReferToAll symbols.now terms.old literals.now ts →
+        IsTrue result ↔ (ts ≡ map (sign_of sign) us) }
+    ensures same { terms.new ≡ terms.old }
+{
+    let _leaves = symbols.count();
+    terms.equal_exactly_where_terms_are();
+    if arguments.len() != literals.len() {
+        return false;
+    }
+    for (place, literal) in literals.iter().enumerate() {
+        if unsigned(symbols, terms, sign, *literal) != Some(arguments[place].get()) {
+            return false;
+        }
+    }
+    true
+}
+
+/// Whether an application and other literals are what a rule over arguments asks.
+fn gives(
+    symbols: &Symbols,
+    terms: &mut Terms<'_>,
+    row: ArgumentRule,
+    whole: Ref,
+    literals: &[Ref],
+    arguments: &mut Scratch,
+) -> Result<bool, Memory>
+    requires whole { IsTerm symbols.now terms.old whole }
+    requires literals { All (IsTerm symbols.now terms.old) literals.now }
+    ensures gives { IfOk result (λ yes. (t : Term) (ts : List Term) → RefersTo symbols.now terms.old whole t → ReferToAll symbols.now terms.old literals.now ts →
+        IsTrue yes ↔ Gives row.1 row.2 row.3 row.4 t ts) }
+    ensures same { terms.new ≡ terms.old }
+{
+    let ArgumentRule(_, which, op, sign, each) = row;
+    if !load(symbols, terms, op, sign, whole, arguments)? {
+        return Ok(false);
+    }
+    match which {
+        One => Ok(is_one(symbols, terms, each, arguments, literals)),
+        All => Ok(are_all(symbols, terms, each, arguments, literals)),
+    }
+}
+
+/// Whether a step is what a rule over arguments asks. Walks the arguments of the application twice. The list is scratch.
+pub(crate) fn meets_argument_rule(
+    symbols: &Symbols,
+    terms: &mut Terms<'_>,
+    row: ArgumentRule,
+    premises: &[&[Ref]],
+    clause: &[Ref],
+    arguments: &mut Scratch,
+) -> Result<bool, Memory>
+    requires premises { All (λ p. All (IsTerm symbols.now terms.old) p.now) premises.now }
+    requires clause { All (IsTerm symbols.now terms.old) clause.now }
+    ensures meets { IfOk result (λ yes. (ps : List (List Term)) (ts : List Term) → ReferToClauses symbols.now terms.old premises.now ps →
+        ReferToAll symbols.now terms.old clause.now ts → IsTrue yes ↔ Asks row ps ts) }
+    ensures same { terms.new ≡ terms.old }
+{
+    match row.0 {
+        Begins => {
+            let Some((whole, literals)) = clause.split_first() else {
+                return Ok(false);
+            };
+            if !premises.is_empty() {
+                return Ok(false);
+            }
+            gives(symbols, terms, row, *whole, literals, arguments)
+        }
+        Given => {
+            let Some(whole) = unit(premises) else {
+                return Ok(false);
+            };
+            gives(symbols, terms, row, whole, clause, arguments)
+        }
+    }
+}

@@ -1,0 +1,23 @@
+//! The clausal rules of the Alethe specification: whether a step meets the condition of its rule.
+//!
+//! A step is judged in time in proportion to the cells of its premise and its clause at the top, and of the arguments that
+//! its rule asks for; those rules that compare whole clauses sort them. A step of few literals takes no memory.
+#![tactic(auto)]
+
+mod argument_rules;
+mod arguments;
+mod changes;
+mod checks;
+mod instances;
+mod letters;
+mod matching;
+mod over;
+mod part;
+mod premises;
+mod schemas;
+mod scratch;
+mod signs;
+mod sorting;
+mod stack;
+
+pub use checks::check;
