@@ -56,7 +56,8 @@ fn meets(
     }
 }
 
-/// Whether the clauses of the step at an index meet its rule, whatever scope it closes.
+/// Whether the clauses of the step at an index meet its rule, whatever scope it closes. No clausal rule has two premises
+/// or more.
 fn meets_at(
     alloc: Global,
     proof: &Proof,
@@ -88,11 +89,12 @@ fn meets_at(
     }
 }
 
-/// Whether the step at an index meets the condition of its rule (Alethe specification, "List of rules"): one of the
-/// tautologies of the connectives, of the rules that take one premise apart, or of contraction, reordering, weakening and
-/// tautology, and none over `ite`. Both modes ask the same. A step that closes a scope meets none of them.
+/// Whether the step at an index meets the condition of its rule (Alethe specification, "List of rules"). The rule is a
+/// tautology of a connective, one that takes a premise apart, or contraction, reordering, weakening or tautology; those
+/// over `ite` are of another family. Both modes ask the same. A step that closes a scope meets none of these rules.
 ///
-/// A step of few literals takes no memory. It places no cell, and refuses want of memory alone.
+/// The step's own arguments are not looked at. Lists of up to 16 references take no memory, so a step of few literals
+/// takes none. Places no cell, and refuses want of memory alone.
 pub fn check(
     alloc: Global,
     proof: &Proof,
