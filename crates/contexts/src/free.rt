@@ -19,7 +19,8 @@ use std::alloc::Global;
 use sym_table::Symbols;
 use term_pool::Terms;
 
-/// Whether a variable, by its leaf, stands free in a term (SMT-LIB 2.6, section 3.6.1): outside each let that binds it.
+/// Whether a variable, by its leaf, stands free in a term (SMT-LIB 2.6, "Terms and Formulas"): outside each let that
+/// binds it.
 /// Of a leaf that is no variable's it says nothing.
 ///
 /// Meets each distinct cell of the term at most once, and takes memory for each that it meets. It places no cell. Refuses

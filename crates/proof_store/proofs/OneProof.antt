@@ -1,5 +1,5 @@
 -- A proof over references stands for at most one proof over terms, and for one where its references stand for terms.
-use Rattle.std.proofs.Common.{◌≡◌, ℕ, Bool, List, [], ◌∷◌, refl, sym, ◌∙◌, ap, subst}
+use Rattle.std.proofs.Common.{◌≡◌, ℕ, Bool, List, [], ◌∷◌, refl, sym, ◌∙◌, subst}
 use Rattle.std.specs.List.{AllZip, AllByRecursion}
 use Rattle.pair_pool.specs.Trees.{Tree, leaf}
 use Rattle.pair_pool.specs.Views.{IsOneToOne}
