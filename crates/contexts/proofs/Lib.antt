@@ -13,3 +13,4 @@ pub mod FirstLemmas
 pub mod SearchSteps
 pub mod LeavingValues
 pub mod Links
+mod TestTerms

@@ -11,6 +11,8 @@ mod leaves;
 mod places;
 mod putting;
 mod substitution;
+#[cfg(test)]
+mod tests;
 
 pub use free::free_in;
 pub use substitution::put_in;

@@ -1,11 +1,11 @@
 -- Public. The proof over terms that a proof over references stands for: the same items, each leaf of a variable for the
 -- variable and each reference for its term.
-use Rattle.std.specs.Prelude.{◌≡◌, ℕ, Bool, List}
-use Rattle.std.specs.List.{AllZip}
+use Rattle.std.specs.Prelude.{◌≡◌, ℕ, Bool, List, ⊤}
+use Rattle.std.specs.List.{AllByRecursion, AllZip}
 use Rattle.sym_table.specs.Table.{Table, IsLeaf}
 use Rattle.term_model.specs.Terms.{Var, Term}
 use Rattle.term_pool.specs.StandsFor.{variable_leaf}
-use Rattle.term_pool.specs.Views.{TermsView, RefersTo}
+use Rattle.term_pool.specs.Views.{TermsView, RefersTo, IsTerm}
 use Rattle.rule_model.specs.Proofs.{Step, Items, no_items, with_assume, with_step, with_subproof}
 use Rattle.rule_model.specs.Scopes.{Anchor, Nesting, outermost, inside, Scope}
 
@@ -35,3 +35,27 @@ pub data StandForItems (s : Table) (v : TermsView) : Items ℕ ℕ → Items Var
   assume_stands : (is : Items ℕ ℕ) (ps : Items Var Term) (id : List ℕ) (r : ℕ) (t : Term) → StandForItems s v is ps → RefersTo s v r t → StandForItems s v (with_assume is id r) (with_assume ps id t)
   step_stands : (is : Items ℕ ℕ) (ps : Items Var Term) (step : Step ℕ) (of : Step Term) → StandForItems s v is ps → IsStepOf s v step of → StandForItems s v (with_step is step) (with_step ps of)
   subproof_stands : (is : Items ℕ ℕ) (ps : Items Var Term) (bindings : List (ℕ × ℕ)) (bound : List (Var × Term)) (inner : Items ℕ ℕ) (proof : Items Var Term) (step : Step ℕ) (of : Step Term) → StandForItems s v is ps → AllZip (IsBindingOf s v) bindings bound → StandForItems s v inner proof → IsStepOf s v step of → StandForItems s v (with_subproof is bindings inner step) (with_subproof ps bound proof of)
+
+-- the leaf of a variable with a reference that stands for a term
+pub record BindsTerm (s : Table) (v : TermsView) (b : ℕ × ℕ) : Type 0 where
+  pub bound : Var
+  pub variable : IsLeaf s b.0 (variable_leaf bound)
+  pub term : IsTerm s v b.1
+
+-- each literal and each pivot of the step stands for a term
+pub record IsOfTerms (s : Table) (v : TermsView) (step : Step ℕ) : Type 0 where
+  pub clause : AllByRecursion (IsTerm s v) step.clause
+  pub pivots : AllByRecursion (λ p. IsTerm s v p.0) step.pivots
+
+-- each reference of the items stands for a term, and each anchor binds leaves of variables
+abbrev pub AreOfTerms : Table → TermsView → Items ℕ ℕ → Type 0
+AreOfTerms s v no_items = ⊤
+AreOfTerms s v (with_assume items id r) = AreOfTerms s v items × IsTerm s v r
+AreOfTerms s v (with_step items step) = AreOfTerms s v items × IsOfTerms s v step
+AreOfTerms s v (with_subproof items bindings proof step) =
+    AreOfTerms s v items × AllByRecursion (BindsTerm s v) bindings × AreOfTerms s v proof × IsOfTerms s v step
+
+-- the items over references stand for some over terms
+pub record IsMeant (s : Table) (v : TermsView) (items : Items ℕ ℕ) : Type 0 where
+  pub means : Items Var Term
+  pub stand : StandForItems s v items means

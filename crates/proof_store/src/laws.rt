@@ -2,15 +2,27 @@
 
 ghost use Rattle.std.specs.Prelude.{◌≡◌, ℕ};
 ghost use Rattle.std.specs.List.{AllZip};
+ghost use Rattle.pair_pool.specs.Views.{IsOneToOne};
 ghost use Rattle.rule_model.specs.Proofs.{Items};
 ghost use Rattle.rule_model.specs.Reading.{id_at, rule_at, rule_name_at, clause_at, premises_at, discharged_at, pivots_at, ratios_at, scope_at, closes_at, parent_at, bindings_at, last_inside_at};
 ghost use Rattle.rule_model.specs.Scopes.{commands_in, subproofs_in};
-ghost use Rattle.sym_table.specs.Table.{Table, Keeps};
+ghost use Rattle.sym_table.specs.Table.{Table, IsTable, Keeps};
 ghost use Rattle.term_model.specs.Terms.{Var, Term};
 ghost use Rattle.term_pool.specs.Views.{TermsView, RefersTo, KeepsTerms};
-ghost use Rattle.proof_store.specs.Meaning.{IsBindingOf, IsPivotOf, StandForItems};
+ghost use Rattle.proof_store.specs.Meaning.{IsBindingOf, IsPivotOf, StandForItems, AreOfTerms, IsMeant};
 
-use term_pool::references_stay;
+use term_pool::{references_stay, trees_of_terms};
+
+/// A law: a proof over references stands for exactly one proof over terms, where each of its references stands for a term
+/// and each of its anchors binds leaves of variables; for more than one it never stands. What a table and a pass are is
+/// told by `Symbols::count` and `Terms::one_to_one`. The call does nothing; its contract is the law.
+pub fn proofs_stand_for_one()
+    ensures some { (s : Table) (v : TermsView) (refs : Items ℕ ℕ) → AreOfTerms s v refs → IsMeant s v refs }
+    ensures one { (s : Table) (v : TermsView) (refs : Items ℕ ℕ) (p q : Items Var Term) → IsTable s → IsOneToOne v.pass →
+        StandForItems s v refs p → StandForItems s v refs q → p ≡ q }
+{
+    trees_of_terms();
+}
 
 /// A law: a proof over references goes on standing for the same proof over terms, as the table of symbols grows and as
 /// the pass comes to know more. The call does nothing; its contract is the law.

@@ -18,7 +18,7 @@ mod words;
 pub use added::{Added, Link};
 pub use answers::{Answer, Ratio, RuleStop};
 pub use builder::ProofBuilder;
-pub use laws::{commands_correspond, proofs_stay, terms_correspond};
+pub use laws::{commands_correspond, proofs_stand_for_one, proofs_stay, terms_correspond};
 pub use proof::Proof;
 pub use rule_model::Status;
 pub use words::word;
