@@ -24,6 +24,7 @@ pub mod Simplification
 pub mod TermTests
 pub mod Ring
 pub mod LinearForms
+pub mod Weights
 pub mod Arithmetic
 pub mod Joining
 pub mod Definitions

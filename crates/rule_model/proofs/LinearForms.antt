@@ -67,30 +67,30 @@ multiplied a (b ∷ bs) =
     let second = ap (λ x. a *ℤ x) (multiplied b bs) in
     omega (arith, ints, first, second, mul_assoc a b (product bs))
 
-product_is : (a : ℤ) (rest : List ℤ) → product (a ∷ rest) ≡ a *ℤ product rest
+pub product_is : (a : ℤ) (rest : List ℤ) → product (a ∷ rest) ≡ a *ℤ product rest
 product_is a rest = multiplied a rest
 
 -- of a constant nothing is left
-constant_part : (w : Term → ℤ) (t : Term) → is_constant t ≡ true → part w t ≡ pos 0
+pub constant_part : (w : Term → ℤ) (t : Term) → is_constant t ≡ true → part w t ≡ pos 0
 constant_part w (numeral n) e = refl
 constant_part w (operation Op.Minus (term (numeral n) no_terms)) e = refl
 constant_part w t e = absurd cc
 
-no_others : (t : Term) (ts : Terms) → others (term t ts) ≡ 0 → (is_constant t ≡ true) × (others ts ≡ 0)
+pub no_others : (t : Term) (ts : Terms) → others (term t ts) ≡ 0 → (is_constant t ≡ true) × (others ts ≡ 0)
 no_others t ts e = go (is_constant t) (others ts) e
   where
     go : (b : Bool) (n : ℕ) → (if b then 0 else 1) + n ≡ 0 → (b ≡ true) × (n ≡ 0)
     go true n e = (refl, omega (arith, e))
     go false n e = absurd (omega (arith, e))
 
-one_other : (t : Term) (ts : Terms) → is_constant t ≡ false → others (term t ts) ≤ 1 → others ts ≡ 0
+pub one_other : (t : Term) (ts : Terms) → is_constant t ≡ false → others (term t ts) ≤ 1 → others ts ≡ 0
 one_other t ts e h = go (is_constant t) (others ts) e h
   where
     go : (b : Bool) (n : ℕ) → b ≡ false → (if b then 0 else 1) + n ≤ 1 → n ≡ 0
     go true n e h = absurd cc
     go false n e h = omega (arith, h)
 
-rest_linear : (t : Term) (ts : Terms) → others (term t ts) ≤ 1 → others ts ≤ 1
+pub rest_linear : (t : Term) (ts : Terms) → others (term t ts) ≤ 1 → others ts ≤ 1
 rest_linear t ts h = go (is_constant t) (others ts) h
   where
     go : (b : Bool) (n : ℕ) → (if b then 0 else 1) + n ≤ 1 → n ≤ 1
@@ -177,7 +177,7 @@ pub dot_nothing : (c v : Term → ℤ) (us : List Term) → ((u : Term) → c u 
 dot_nothing c v [] h = refl
 dot_nothing c v (u ∷ us) h = omega (arith, ints, dot_nothing c v us h, ap (λ x. x *ℤ v u) (h u), zero-*ℤ (v u))
 
-or_false : (a b : Bool) → (a || b) ≡ false → (a ≡ false) × (b ≡ false)
+pub or_false : (a b : Bool) → (a || b) ≡ false → (a ≡ false) × (b ≡ false)
 or_false true b e = absurd cc
 or_false false b e = (refl, e)
 
@@ -207,11 +207,11 @@ dot_same c d v [] h = refl
 dot_same c d v (u ∷ us) h = omega (arith, ints, ap (λ x. x *ℤ v u) (h u), dot_same c d v us h)
 
 -- sums and differences by their first item
-summed : (a : ℤ) (rest : List ℤ) → fold ◌+ℤ◌ a rest ≡ a +ℤ from_left ◌+ℤ◌ (pos 0) rest
+pub summed : (a : ℤ) (rest : List ℤ) → fold ◌+ℤ◌ a rest ≡ a +ℤ from_left ◌+ℤ◌ (pos 0) rest
 summed a [] = omega (arith, ints)
 summed a (b ∷ bs) = omega (arith, ints, summed (a +ℤ b) bs, summed b bs)
 
-lessened : (a : ℤ) (rest : List ℤ) → fold ◌-ℤ◌ a rest ≡ a -ℤ from_left ◌+ℤ◌ (pos 0) rest
+pub lessened : (a : ℤ) (rest : List ℤ) → fold ◌-ℤ◌ a rest ≡ a -ℤ from_left ◌+ℤ◌ (pos 0) rest
 lessened a [] = omega (arith, ints)
 lessened a (b ∷ bs) = omega (arith, ints, lessened (a -ℤ b) bs, summed b bs)
 

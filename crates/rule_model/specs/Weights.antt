@@ -1,6 +1,6 @@
 -- Public. Weights of terms of Int, which bound the numbers of their linear forms: the absolute values of a form's constant and
 -- coefficients add up to at most the term's weight.
-use Rattle.std.specs.Prelude.{ℕ, ◌+◌, ◌*◌, max, if◌then◌else◌}
+use Rattle.std.specs.Prelude.{ℕ, ℤ, ◌+◌, ◌*◌, max, if◌then◌else◌, List, [], ◌∷◌, unsigned_abs}
 use Rattle.term_model.specs.declared.symbols.Op.{Op}
 use Rattle.term_model.specs.Terms.{Term, numeral, operation, Terms, no_terms, term}
 use Rattle.rule_model.specs.LinearForms.{is_linear}
@@ -21,3 +21,8 @@ abbrev mutual
   pub weight_product : Terms → ℕ
   weight_product no_terms = 1
   weight_product (term t ts) = weight t * weight_product ts
+
+-- the sum of the absolute values
+abbrev pub sizes : (Term → ℤ) → List Term → ℕ
+sizes c [] = 0
+sizes c (u ∷ us) = unsigned_abs (c u) + sizes c us

@@ -1,5 +1,6 @@
 //! Laws of the definitions. Each stands as the contract of a function that does nothing, so that the gate proves it.
 
+pub mod arithmetic;
 pub mod commands;
 pub mod conditions;
 pub mod consequence;
