@@ -13,7 +13,9 @@ use Rattle.text_items.specs.ItemShapes.{Name}
 use Rattle.problem_text.specs.Forms.{form_of}
 use Rattle.problem_text.specs.Commands.{Command, set_logic, without_effect, declare_sort, declare_fun, define_fun, assert_term, check_sat, exit, command_of}
 use Rattle.rule_model.specs.Replacement.{HasNoLet}
-use Rattle.problem_text.specs.Scripts.{Script, empty_script, is_taken, with_name, Outcome, done, refuse, given, and_then}
+use Rattle.problem_text.specs.Outcomes.{Outcome, done, refuse, given, and_then}
+use Rattle.problem_text.specs.Scripts.{Script, empty_script, is_taken, with_name}
+use Rattle.problem_text.specs.Limits.{limited}
 use Rattle.problem_text.specs.Sorts.{sort_from, sorts_from, parameters_from}
 use Rattle.problem_text.specs.Names.{Place, itself}
 use Rattle.problem_text.specs.Terms.{read_term}
@@ -41,14 +43,14 @@ module _ (replaces : Bool) where
   any_result (Ok a) = tt
   any_result (Err refusal) = tt
 
-  abbrev IsDone : Outcome ⊤ → Type 0
+  abbrev IsDone : Outcome Script ⊤ → Type 0
   IsDone o = Ends ArePlain Whatever o
 
-  unless_refused : (b : Bool) (cause : Cause) (place : ℕ) (s : Script) (o : Outcome ⊤) → ArePlain s → IsDone o → IsDone (if b then refuse cause place s else o)
+  unless_refused : (b : Bool) (cause : Cause) (place : ℕ) (s : Script) (o : Outcome Script ⊤) → ArePlain s → IsDone o → IsDone (if b then refuse cause place s else o)
   unless_refused true cause place s o plain h = (plain, tt)
   unless_refused false cause place s o plain h = h
 
-  where_allowed : (b : Bool) (cause : Cause) (place : ℕ) (s : Script) (o : Outcome ⊤) → ArePlain s → IsDone o → IsDone (if b then o else refuse cause place s)
+  where_allowed : (b : Bool) (cause : Cause) (place : ℕ) (s : Script) (o : Outcome Script ⊤) → ArePlain s → IsDone o → IsDone (if b then o else refuse cause place s)
   where_allowed true cause place s o plain h = h
   where_allowed false cause place s o plain h = (plain, tt)
 
@@ -72,13 +74,13 @@ module _ (replaces : Bool) where
       unless_refused (is_taken s n.name) Repeated n.place s _ plain
       (ends-and_then ArePlain Whatever Whatever (given (parameters_from s.sorts [] parameters) (with_name n.name s)) _ (plain, any_result (parameters_from s.sorts [] parameters))
       (λ xs named _ plain₁. ends-and_then ArePlain Whatever Whatever (given (sort_from s.sorts target) named) _ (plain₁, any_result (sort_from s.sorts target))
-      (λ sort sorted _ plain₂. ends-and_then ArePlain (IsFreeIn (record { scope = map itself xs; replaces_lets = true })) Whatever (read_term body (record { scope = map itself xs; replaces_lets = true }) sorted) _ (read-free body (record { scope = map itself xs; replaces_lets = true }) sorted (λ _. parameters-free xs) plain₂)
+      (λ sort sorted _ plain₂. ends-and_then ArePlain (IsFreeIn (record { scope = map itself xs; settings = limited true })) Whatever (read_term body (record { scope = map itself xs; settings = limited true }) sorted) _ (read-free body (record { scope = map itself xs; settings = limited true }) sorted (λ _. parameters-free xs) plain₂)
       (λ t last read plain₃. where_allowed (sort_eq t.sort sort) SortMismatch (place_of body) last _ plain₃
       ((all_at_end (λ m. HasNoLet m.body) last.macros (record { name = n.name; parameters = xs; target = sort; body = t.tree }) plain₃.0 (read refl), plain₃.1), tt)))))
 
   assertion-free : (i : Item) (s : Script) → ArePlain s → IsDone (term_asserted replaces i s)
   assertion-free i s plain =
-      ends-and_then ArePlain (IsFreeIn (record { scope = []; replaces_lets = replaces })) Whatever (read_term i (record { scope = []; replaces_lets = replaces }) s) _ (read-free i (record { scope = []; replaces_lets = replaces }) s (λ _. tt) plain)
+      ends-and_then ArePlain (IsFreeIn (record { scope = []; settings = limited replaces })) Whatever (read_term i (record { scope = []; settings = limited replaces }) s) _ (read-free i (record { scope = []; settings = limited replaces }) s (λ _. tt) plain)
       (λ t after read plain'. where_allowed (sort_eq t.sort Sort.Bool) SortMismatch (place_of i) after _ plain'
       ((plain'.0, λ e. all_at_end HasNoLet after.assertions t.tree (plain'.1 e) (read e)), tt))
 
@@ -93,7 +95,7 @@ module _ (replaces : Bool) where
   performed-free check_sat s plain = (plain, tt)
   performed-free exit s plain = (plain, tt)
 
-  next-free : (b : Bool) (c : Command) (s : Script) (next : Script → Outcome ⊤) → ArePlain s → ((s : Script) → ArePlain s → IsDone (next s)) → IsDone (if b then done tt s else and_then (performed replaces c s) (λ _ after. next after))
+  next-free : (b : Bool) (c : Command) (s : Script) (next : Script → Outcome Script ⊤) → ArePlain s → ((s : Script) → ArePlain s → IsDone (next s)) → IsDone (if b then done tt s else and_then (performed replaces c s) (λ _ after. next after))
   next-free true c s next plain k = (plain, tt)
   next-free false c s next plain k =
       ends-and_then ArePlain Whatever Whatever (performed replaces c s) (λ _ after. next after) (performed-free c s plain) (λ _ after _ plain'. k after plain')
@@ -107,5 +109,5 @@ module _ (replaces : Bool) where
 
   pub problem-free : (source : List ℕ) (s : Script) → StandsForProblem source replaces s → HasNoLets replaces s
   problem-free source s h =
-      let plain = subst (λ o. ArePlain o.script) h.read (commands-free h.items empty_script (tt, λ _. tt)).0 in
+      let plain = subst (λ o. ArePlain o.state) h.read (commands-free h.items empty_script (tt, λ _. tt)).0 in
       record { macros = plain.0; assertions = plain.1 }

@@ -15,7 +15,9 @@ use Rattle.text_items.specs.ItemShapes.{Name}
 use Rattle.problem_text.specs.Forms.{form_of}
 use Rattle.problem_text.specs.Commands.{Command, set_logic, without_effect, declare_sort, declare_fun, define_fun, assert_term, check_sat, exit, command_of}
 use Rattle.problem_text.specs.TypedTerms.{Typed}
-use Rattle.problem_text.specs.Scripts.{Macro, Script, empty_script, is_taken, with_name, with_sort, with_function, with_macro, with_assertion, Outcome, done, refuse, given, and_then}
+use Rattle.problem_text.specs.Outcomes.{Outcome, done, refuse, given, and_then}
+use Rattle.problem_text.specs.Scripts.{Macro, Script, empty_script, is_taken, with_name, with_sort, with_function, with_macro, with_assertion}
+use Rattle.problem_text.specs.Limits.{limited}
 use Rattle.problem_text.specs.Sorts.{sort_from, sorts_from, parameters_from}
 use Rattle.problem_text.specs.Names.{itself}
 use Rattle.problem_text.specs.Terms.{read_term}
@@ -32,7 +34,7 @@ any_result : {A : Type 0} (r : Result A Refusal) → IfOk r Any'
 any_result (Ok a) = tt
 any_result (Err refusal) = tt
 
-abbrev IsDone : Outcome ⊤ → Type 0
+abbrev IsDone : Outcome Script ⊤ → Type 0
 IsDone o = Ends IsSound Any' o
 
 -- the script has the same named terms, macros and assertions
@@ -43,11 +45,11 @@ same_terms s after e f g sound = record {
   assertions = subst (AllByRecursion (λ t. IsRead (record { tree = t; sort = Sort.Bool }))) g sound.assertions;
 }
 
-unless_refused : (b : Bool) (cause : Cause) (place : ℕ) (s : Script) (o : Outcome ⊤) → IsSound s → IsDone o → IsDone (if b then refuse cause place s else o)
+unless_refused : (b : Bool) (cause : Cause) (place : ℕ) (s : Script) (o : Outcome Script ⊤) → IsSound s → IsDone o → IsDone (if b then refuse cause place s else o)
 unless_refused true cause place s o sound h = (sound, tt)
 unless_refused false cause place s o sound h = h
 
-where_allowed : (b : Bool) (cause : Cause) (place : ℕ) (s : Script) (o : Outcome ⊤) → IsSound s → IsDone o → IsDone (if b then o else refuse cause place s)
+where_allowed : (b : Bool) (cause : Cause) (place : ℕ) (s : Script) (o : Outcome Script ⊤) → IsSound s → IsDone o → IsDone (if b then o else refuse cause place s)
 where_allowed true cause place s o sound h = h
 where_allowed false cause place s o sound h = (sound, tt)
 
@@ -95,7 +97,7 @@ macro-sound n parameters target body s sound =
     unless_refused (is_taken s n.name) Repeated n.place s _ sound
     (ends-and_then IsSound Any' Any' (given (parameters_from s.sorts [] parameters) (with_name n.name s)) _ (same_terms s (with_name n.name s) refl refl refl sound, any_result (parameters_from s.sorts [] parameters))
     (λ xs named _ sound₁. ends-and_then IsSound Any' Any' (given (sort_from s.sorts target) named) _ (sound₁, any_result (sort_from s.sorts target))
-    (λ sort sorted _ sound₂. ends-and_then IsSound IsRead Any' (read_term body (record { scope = map itself xs; replaces_lets = true }) sorted) _ (term-sound (form_of body) (record { scope = map itself xs; replaces_lets = true }) sorted (parameters-sorted xs) sound₂)
+    (λ sort sorted _ sound₂. ends-and_then IsSound IsRead Any' (read_term body (record { scope = map itself xs; settings = limited true }) sorted) _ (term-sound (form_of body) (record { scope = map itself xs; settings = limited true }) sorted (parameters-sorted xs) sound₂)
     (λ t last read sound₃. defined-sound (record { name = n.name; parameters = xs; target = sort; body = t.tree }) sort t (place_of body) last (sort_eq t.sort sort) refl sound₃ read refl refl))))
 
 asserted-sound : (t : Typed) (place : ℕ) (s : Script) (b : Bool) → sort_eq t.sort Sort.Bool ≡ b → IsSound s → IsRead t → IsDone (if b then done tt (with_assertion t.tree s) else refuse SortMismatch place s)
@@ -112,7 +114,7 @@ asserted-sound t place s true e sound read = (
 
 assertion-sound : (replaces : Bool) (i : Item) (s : Script) → IsSound s → IsDone (term_asserted replaces i s)
 assertion-sound replaces i s sound =
-    ends-and_then IsSound IsRead Any' (read_term i (record { scope = []; replaces_lets = replaces }) s) _ (term-sound (form_of i) (record { scope = []; replaces_lets = replaces }) s tt sound)
+    ends-and_then IsSound IsRead Any' (read_term i (record { scope = []; settings = limited replaces }) s) _ (term-sound (form_of i) (record { scope = []; settings = limited replaces }) s tt sound)
     (λ t after read sound'. asserted-sound t (place_of i) after (sort_eq t.sort Sort.Bool) refl sound' read)
 
 performed-sound : (replaces : Bool) (c : Command) (s : Script) → IsSound s → IsDone (performed replaces c s)
@@ -126,7 +128,7 @@ performed-sound replaces (assert_term i) s sound = assertion-sound replaces i s 
 performed-sound replaces check_sat s sound = (same_terms s (record s { is_checked = true }) refl refl refl sound, tt)
 performed-sound replaces exit s sound = (sound, tt)
 
-next-sound : (b replaces : Bool) (c : Command) (s : Script) (next : Script → Outcome ⊤) → IsSound s → ((s : Script) → IsSound s → IsDone (next s)) → IsDone (if b then done tt s else and_then (performed replaces c s) (λ _ after. next after))
+next-sound : (b replaces : Bool) (c : Command) (s : Script) (next : Script → Outcome Script ⊤) → IsSound s → ((s : Script) → IsSound s → IsDone (next s)) → IsDone (if b then done tt s else and_then (performed replaces c s) (λ _ after. next after))
 next-sound true replaces c s next sound k = (sound, tt)
 next-sound false replaces c s next sound k =
     ends-and_then IsSound Any' Any' (performed replaces c s) (λ _ after. next after) (performed-sound replaces c s sound) (λ _ after _ sound'. k after sound')
@@ -140,4 +142,4 @@ commands-sound (item i rest) replaces s sound =
 
 pub problem-sound : (source : List ℕ) (replaces : Bool) (s : Script) → StandsForProblem source replaces s → IsSound s
 problem-sound source replaces s h =
-    subst (λ o. IsSound o.script) h.read (commands-sound h.items replaces empty_script (record { named = tt; macros = tt; assertions = tt })).0
+    subst (λ o. IsSound o.state) h.read (commands-sound h.items replaces empty_script (record { named = tt; macros = tt; assertions = tt })).0

@@ -1,5 +1,5 @@
 -- Public. What holds of every script that a text stands for.
-use Rattle.std.specs.Prelude.{◌≡◌, ◌≤◌, Bool, true, List}
+use Rattle.std.specs.Prelude.{◌≡◌, ℕ, ◌≤◌, Bool, true, List, Option, Some, IfSome}
 use Rattle.std.specs.List.{AllByRecursion}
 use Rattle.term_model.specs.declared.symbols.Sort.{Sort}
 use Rattle.term_model.specs.Sorts.{IsOf}
@@ -10,10 +10,14 @@ use Rattle.problem_text.specs.TypedTerms.{Typed}
 use Rattle.problem_text.specs.Scripts.{Script}
 use Rattle.problem_text.specs.Names.{Bound}
 
--- the term is well sorted, and not too high
-pub record IsRead (t : Typed) : Type 0 where
+-- the term is well sorted, and no higher than the limit
+pub record IsReadWithin (limit : Option ℕ) (t : Typed) : Type 0 where
   pub sorted : IsOf t.tree t.sort
-  pub low : height t.tree ≤ most_height
+  pub low : IfSome limit (λ most. height t.tree ≤ most)
+
+-- the term is one of a problem
+abbrev pub IsRead : Typed → Type 0
+IsRead t = IsReadWithin (Some most_height) t
 
 -- each variable stands for a term of its sort
 abbrev pub AreSorted : List Bound → Type 0

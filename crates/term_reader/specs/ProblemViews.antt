@@ -11,7 +11,8 @@ use Rattle.problem_text.specs.Names.{Bound, Place, itself}
 use Rattle.problem_text.specs.Problems.{problem}
 use Rattle.term_reader.specs.Reading.{IsIdle, EndsWith, IsReadTerm}
 use Rattle.problem_text.specs.TypedTerms.{Typed}
-use Rattle.problem_text.specs.Scripts.{Script, Outcome, done}
+use Rattle.problem_text.specs.Outcomes.{Outcome, done}
+use Rattle.problem_text.specs.Scripts.{Script}
 use Rattle.term_names.specs.Standing.{IsScript, AreLeavesOf}
 use Rattle.term_names.specs.declared.faults.ReadFault.{ReadFault}
 use Rattle.term_reader.specs.declared.reader.Reader.{Reader}
@@ -37,7 +38,7 @@ pub record IsNewTable (s : Table) : Type 0 where
 pub record IsCounted (source : List ℕ) (replaces_lets : Bool) (t : Term) : Type 0 where
   pub items : Items
   pub nested : StandsForItems source items
-  pub read : Contains (problem replaces_lets items).script.terms t
+  pub read : Contains (problem replaces_lets items).state.terms t
 
 -- What a reader holds, and the variables that were pushed since it read a term, by their leaves, the last one first.
 pub record ReaderView : Type 0 where
@@ -50,14 +51,14 @@ pub record IsReaderOf (s : Table) (v : TermsView) (r : ReaderView) (sc : Script)
   pub around : List Bound
   pub scope : p.scope ≡ map itself variables ++ around
   pub pushed : AreLeavesOf s r.pushed variables
-  pub idle : IsIdle s v r.reader sc (record { scope = around; replaces_lets = p.replaces_lets })
+  pub idle : IsIdle s v r.reader sc (record { scope = around; settings = p.settings })
 
 -- A term was read, and the reader is ready for the next one; or the reading ended with a fault.
-abbrev pub IsTermRead : Table → TermsView → ReaderView → Place → Outcome Typed → Result ℕ ReadFault → Type 0
+abbrev pub IsTermRead : Table → TermsView → ReaderView → Place → Outcome Script Typed → Result ℕ ReadFault → Type 0
 IsTermRead s v r p whole (Ok c) =
     (t : Typed) × (sc : Script) × (whole ≡ done t sc) × RefersTo s v c t.tree × IsReaderOf s v r sc p
 IsTermRead s v r p whole (Err fault) = EndsWith s v.pass whole.result (IsReadTerm whole) fault
 
-pub record ReadsTerm (s : Table) (old new : TermsView) (r : ReaderView) (p : Place) (whole : Outcome Typed) (result : Result ℕ ReadFault) : Type 0 where
+pub record ReadsTerm (s : Table) (old new : TermsView) (r : ReaderView) (p : Place) (whole : Outcome Script Typed) (result : Result ℕ ReadFault) : Type 0 where
   pub outcome : IsTermRead s new r p whole result
   pub placed : PlacesCellsOf s old.pass new.pass (IsReadTerm whole)

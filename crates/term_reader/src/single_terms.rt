@@ -11,6 +11,7 @@ ghost use Rattle.term_pool.specs.StandsFor.{variable_leaf};
 ghost use Rattle.term_pool.specs.Views.{TermsView, KeepsTerms};
 ghost use Rattle.term_names.specs.InScope.{IsScope};
 ghost use Rattle.text_items.specs.Lexers.{IsFirstOfItem, GoesOnWith};
+ghost use Rattle.problem_text.specs.Limits.{limited};
 ghost use Rattle.problem_text.specs.Names.{Bound, Place, itself};
 ghost use Rattle.term_reader.specs.ProblemViews.{IsProblemOf, IsReaderOf, ReadsTerm};
 ghost use Rattle.term_reader.specs.Reading.{IsIdle, Reads};
@@ -60,7 +61,7 @@ impl<'a> Model for TermReader<'a> {
 impl<'a> TermReader<'a> {
     /// A reader that knows what the problem names, with no variable in scope.
     pub fn new(alloc: Global, problem: &'a Problem, flags: Flags) -> TermReader<'a>
-        ensures { (s : Table) (v : TermsView) (sc : Script) → IsProblemOf s v problem.now sc → IsReaderOf s v result sc (record { scope = []; replaces_lets = flags.expand_lets }) }
+        ensures { (s : Table) (v : TermsView) (sc : Script) → IsProblemOf s v problem.now sc → IsReaderOf s v result sc (record { scope = []; settings = limited flags.expand_lets }) }
     {
         TermReader {
             reader: Reader {
