@@ -7,8 +7,8 @@ use Rattle.term_pool.specs.StandsFor.{variable_leaf}
 use Rattle.term_pool.specs.Views.{TermsView}
 use Rattle.term_names.specs.InScope.{IsScope}
 use Rattle.problem_text.specs.Names.{Bound, Place, itself}
-use Rattle.term_reader.specs.ProblemViews.{ReaderView, IsReaderOf, ReadsTerm}
-use Rattle.term_reader.specs.Reading.{IsIdle, Reads}
+use Rattle.term_reader.specs.ProblemViews.{ReaderView, IsReaderOf, ReadsTerm, IsValueRead, ReadsValue}
+use Rattle.term_reader.specs.Reading.{IsIdle, IsOutcome, Reads}
 use Rattle.term_names.specs.Scope.{Scoped}
 use Rattle.problem_text.specs.TypedTerms.{Typed}
 use Rattle.problem_text.specs.Outcomes.{Outcome}
@@ -80,3 +80,21 @@ term_read s old new r pushed p whole c e h =
 
 pub term_refused : (s : Table) (old new : TermsView) (r : Reader) (view : ReaderView) (p : Place) (whole : Outcome Script Typed) (fault : ReadFault) → Reads s old new r p whole (Err fault) → ReadsTerm s old new view p whole (Err fault)
 term_refused s old new r view p whole fault h = record { outcome = h.outcome; placed = h.placed }
+
+-- the value that was read, or the fault that none was read for
+pub value_read : (s : Table) (old new : TermsView) (r : Reader) (pushed : List ℕ) (p : Place) (whole : Outcome Script Typed) (result : Result Value ReadFault) → pushed ≡ [] → Reads s old new r p whole result
+    → ReadsValue s old new (record { reader = r; pushed = pushed }) p whole result
+value_read s old new r pushed p whole result e h = record { outcome = go result h.outcome; placed = h.placed }
+  where
+    go : (x : Result Value ReadFault) → IsOutcome s new r p whole x → IsValueRead s new (record { reader = r; pushed = pushed }) p whole x
+    go (Ok c) (t, sc, is, value, low, idle) = (t, sc, is, value, low, reader_settled s new r pushed sc p e idle)
+    go (Err fault) h = h
+
+-- the term of the value
+pub term_of_value : (s : Table) (old new : TermsView) (r : ReaderView) (p : Place) (whole : Outcome Script Typed) (c : Value) → ReadsValue s old new r p whole (Ok c) → ReadsTerm s old new r p whole (Ok c.term)
+term_of_value s old new r p whole c h =
+    let (t, sc, is, value, low, reader) = h.outcome in
+    record { outcome = (t, sc, is, value.refers, reader); placed = h.placed }
+
+pub no_value : (s : Table) (old new : TermsView) (r : ReaderView) (p : Place) (whole : Outcome Script Typed) (fault : ReadFault) → ReadsValue s old new r p whole (Err fault) → ReadsTerm s old new r p whole (Err fault)
+no_value s old new r p whole fault h = record { outcome = h.outcome; placed = h.placed }

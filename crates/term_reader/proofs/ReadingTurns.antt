@@ -149,6 +149,16 @@ ends source nodes k s v r z w q c n none h i m sc p node idle = record {
   placed = h.placed i m sc p node idle;
 }
 
+-- each leaf that was added has a node of the item
+pub spent : (source : List ℕ) (nodes : List Node) (k : ℕ) (s : Table) (v : TermsView) (r : Reader) (z : Table) (w : TermsView) (q : Reader) (c : Value) (n : ℕ)
+    → q.frames ≡ [] → IsUnderWay source nodes k s v r z w q (Turn.Use c n) → (sc : Script) × (p : Place) × IsIdle s v r sc p
+    → (i : Item) (m : ℕ) → IsNode source nodes k i m → length z.leaves ≤ length s.leaves + (m - k)
+spent source nodes k s v r z w q c n none h (sc, p, idle) i m node =
+    let read = h.at i m sc p node idle in
+    let closed : AreFrames source nodes (reading r.scope i m sc p) z w q.known [] q.values q.leaves.items q.scope read.place n read.waiting = rw none at read.frames in
+    let last : n ≡ m = closed.5 in
+    omega (arith, h.few, last, node_behind source nodes k i m node, node_inside source nodes k i m node)
+
 pub none_open : (fs : List Frame) → length fs ≡ 0 → fs ≡ []
 none_open [] e = refl
 none_open (f ∷ fs) e = absurd (omega arith)
