@@ -1,5 +1,5 @@
 -- What the settings of a problem's terms are.
-use Rattle.std.proofs.Common.{◌≡◌, ap, Bool, Option, Some}
+use Rattle.std.proofs.Common.{◌≡◌, ap, Bool, Some}
 use Rattle.problem_text.specs.Limits.{Settings, limited, most_height}
 
 pub replaces_so : (x : Settings) (b : Bool) → x ≡ limited b → x.replaces_lets ≡ b
