@@ -13,17 +13,18 @@ use Rattle.smtlib_reader.specs.Lexers.{IsFirstOfItem, GoesOnWith}
 use Rattle.smtlib_reader.specs.Names.{Place}
 use Rattle.smtlib_reader.specs.ProblemViews.{ReaderView, IsReaderOf, ReadsTerm}
 use Rattle.smtlib_reader.specs.TypedTerms.{Typed}
-use Rattle.smtlib_reader.specs.Scripts.{Script, Outcome}
+use Rattle.smtlib_reader.specs.Outcomes.{Outcome}
+use Rattle.smtlib_reader.specs.Scripts.{Script}
 use Rattle.smtlib_reader.specs.Terms.{read_term}
 use Rattle.term_names.specs.declared.faults.ReadFault.{ReadFault}
 use Rattle.carcara.specs.TermTexts.{StandsInItems, StandsAt}
 use Rattle.carcara.proofs.ItemTokens.{stands_behind}
 
-is_known : (s : Table) (old new : TermsView) (r : ReaderView) (p : Place) (whole : Outcome Typed) (result : Result ℕ ReadFault) → ReadsTerm s old new r p whole result → IfOk result (IsKnown new.pass)
+is_known : (s : Table) (old new : TermsView) (r : ReaderView) (p : Place) (whole : Outcome Script Typed) (result : Result ℕ ReadFault) → ReadsTerm s old new r p whole result → IfOk result (IsKnown new.pass)
 is_known s old new r p whole (Ok c) reads = let refers = reads.outcome.3 in record { tree = refers.tree; stands = refers.known }
 is_known s old new r p whole (Err fault) reads = tt
 
-stands_on : (s : Table) (old new : TermsView) (r : ReaderView) (p : Place) (whole : Outcome Typed) (result : Result ℕ ReadFault) → ReadsTerm s old new r p whole result → IfOk result (λ _. StandsAt s new r p)
+stands_on : (s : Table) (old new : TermsView) (r : ReaderView) (p : Place) (whole : Outcome Script Typed) (result : Result ℕ ReadFault) → ReadsTerm s old new r p whole result → IfOk result (λ _. StandsAt s new r p)
 stands_on s old new r p whole (Ok c) reads = (reads.outcome.1, reads.outcome.4)
 stands_on s old new r p whole (Err fault) reads = tt
 

@@ -117,7 +117,7 @@ module _ (one_tree : (s : Table) (a b : Tree) (t : Term) → IsTable s → Stand
     (text : List ℕ) (replaces_lets : Bool) (n : ℕ) (more : HasMoreCells text replaces_lets n)
     (items : Items) (nested : StandsForItems text items) where
   abbrev terms : List Term
-  terms = (problem replaces_lets items).script.terms
+  terms = (problem replaces_lets items).state.terms
 
   abbrev IsOfText : Tree → Type 0
   IsOfText t = IsCellOfText more.table text replaces_lets t

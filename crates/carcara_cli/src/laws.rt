@@ -8,7 +8,7 @@ ghost use Rattle.carcara_cli.specs.CellSums.{cells_in_all};
 /// Where the terms that are read of a text have more distinct cells than n, they have more than n in sum. So `pool full` can
 /// be answered of no text whose terms have 2^26 cells or fewer, each counted as often as it stands there.
 pub fn full_pools_have_many_cells()
-    ensures { (text : List ℕ) (replaces_lets : Bool) (n : ℕ) → HasMoreCells text replaces_lets n → (items : Items) → StandsForItems text items → n < cells_in_all (problem replaces_lets items).script.terms }
+    ensures { (text : List ℕ) (replaces_lets : Bool) (n : ℕ) → HasMoreCells text replaces_lets n → (items : Items) → StandsForItems text items → n < cells_in_all (problem replaces_lets items).state.terms }
 {
     term_pool::trees_of_terms();
     sexpr::items_are_unique();

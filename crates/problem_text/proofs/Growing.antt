@@ -1,6 +1,6 @@
 -- Cited by crates above. The terms that were read stay read.
 use Rattle.std.proofs.Common.{ℕ, ◌==◌, List, [], ◌∷◌, map, Bool, true, false, ◌||◌, Result, Ok, Err, IfOk, if◌then◌else◌, Option, Some, None}
-use Rattle.std.specs.Prelude.{⊤, Contains, nat_le}
+use Rattle.std.specs.Prelude.{⊤, Contains}
 use Rattle.std.proofs.lemmas.List.Elements.{Contains-append_left}
 use Rattle.sexpr.specs.declared.causes.Cause.{Cause}
 use Rattle.sexpr.specs.declared.causes.Cause.TheVariants.{Repeated, LeftOut, SortMismatch, TooHigh}
@@ -12,10 +12,11 @@ use Rattle.problem_text.specs.Words.{is_among, is_built_in, logics}
 use Rattle.text_items.specs.ItemShapes.{Name}
 use Rattle.problem_text.specs.Forms.{Form, faulty, number, symbol, application, let_form, annotated, Forms, no_forms, form, Binds, no_binds, bind, form_of}
 use Rattle.rule_model.specs.Heights.{height}
-use Rattle.problem_text.specs.Limits.{most_height}
+use Rattle.problem_text.specs.Limits.{limited, is_low}
 use Rattle.problem_text.specs.Commands.{Command, set_logic, without_effect, declare_sort, declare_fun, define_fun, assert_term, check_sat, exit, command_of}
 use Rattle.problem_text.specs.TypedTerms.{Typed}
-use Rattle.problem_text.specs.Scripts.{Script, is_taken, with_name, with_named, with_term, with_let_name, Outcome, done, refuse, given, and_then}
+use Rattle.problem_text.specs.Outcomes.{Outcome, done, refuse, given, and_then}
+use Rattle.problem_text.specs.Scripts.{Script, is_taken, with_name, with_named, with_term, with_let_name}
 use Rattle.problem_text.specs.Sorts.{sort_from, sorts_from, parameters_from}
 use Rattle.problem_text.specs.Names.{Place, Meaning, meaning_of, applied, inside, let_term, itself}
 use Rattle.problem_text.specs.Terms.{settled, with_meaning, with_names, term_from, terms_from, bounds_from, read_term}
@@ -33,16 +34,16 @@ anything (Err refusal) = tt
 abbrev pub HasRead : Term → Script → Type 0
 HasRead x s = Contains s.terms x
 
-abbrev pub Reads : {A : Type 0} → Term → Outcome A → Type 0
+abbrev pub Reads : {A : Type 0} → Term → Outcome Script A → Type 0
 Reads x o = Ends (HasRead x) Anything o
 
 module _ (x : Term) where
-  pub reads_then : {A B : Type 0} (o : Outcome A) (next : A → Script → Outcome B) → HasRead x o.script → ((a : A) (s : Script) → HasRead x s → Reads x (next a s)) → Reads x (and_then o next)
+  pub reads_then : {A B : Type 0} (o : Outcome Script A) (next : A → Script → Outcome Script B) → HasRead x o.state → ((a : A) (s : Script) → HasRead x s → Reads x (next a s)) → Reads x (and_then o next)
   reads_then o next h k = ends-and_then (HasRead x) Anything Anything o next (h, anything o.result) (λ a s _ p. k a s p)
 
-  pub by_settled : (place : ℕ) (o : Option Typed) (s : Script) → HasRead x s → Reads x (settled place o s)
-  by_settled place None s h = (h, tt)
-  by_settled place (Some t) s h = go (nat_le (height t.tree) most_height)
+  pub by_settled : (limit : Option ℕ) (place : ℕ) (o : Option Typed) (s : Script) → HasRead x s → Reads x (settled limit place o s)
+  by_settled limit place None s h = (h, tt)
+  by_settled limit place (Some t) s h = go (is_low limit (height t.tree))
     where
       more : HasRead x (with_term t.tree s)
       more = Contains-append_left s.terms (t.tree ∷ []) x h
@@ -51,7 +52,7 @@ module _ (x : Term) where
       go true = (more, tt)
       go false = (more, tt)
 
-  by_meaning : (place : ℕ) (o : Option Meaning) (s : Script) (next : Meaning → Outcome Typed) → HasRead x s → ((m : Meaning) → Reads x (next m)) → Reads x (with_meaning place o s next)
+  by_meaning : (place : ℕ) (o : Option Meaning) (s : Script) (next : Meaning → Outcome Script Typed) → HasRead x s → ((m : Meaning) → Reads x (next m)) → Reads x (with_meaning place o s next)
   by_meaning place None s next h k = (h, tt)
   by_meaning place (Some m) s next h k = k m
 
@@ -64,11 +65,11 @@ module _ (x : Term) where
       go true rest = (h, tt)
       go false rest = rest
 
-  unless : {A : Type 0} (b : Bool) (cause : Cause) (place : ℕ) (s : Script) (o : Outcome A) → HasRead x s → Reads x o → Reads x (if b then refuse cause place s else o)
+  unless : {A : Type 0} (b : Bool) (cause : Cause) (place : ℕ) (s : Script) (o : Outcome Script A) → HasRead x s → Reads x o → Reads x (if b then refuse cause place s else o)
   unless true cause place s o h k = (h, tt)
   unless false cause place s o h k = k
 
-  where_so : {A : Type 0} (b : Bool) (cause : Cause) (place : ℕ) (s : Script) (o : Outcome A) → HasRead x s → Reads x o → Reads x (if b then o else refuse cause place s)
+  where_so : {A : Type 0} (b : Bool) (cause : Cause) (place : ℕ) (s : Script) (o : Outcome Script A) → HasRead x s → Reads x o → Reads x (if b then o else refuse cause place s)
   where_so true cause place s o h k = k
   where_so false cause place s o h k = (h, tt)
 
@@ -77,15 +78,15 @@ module _ (x : Term) where
 
     pub by_term : (f : Form) (p : Place) (s : Script) → HasRead x s → Reads x (term_from f p s)
     by_term (faulty cause place) p s h = (h, tt)
-    by_term (number place n) p s h = by_settled place (Some (record { tree = numeral n; sort = Sort.Int })) s h
-    by_term (symbol n) p s h = by_meaning n.place (meaning_of p s n.name) s _ h (λ m. by_settled n.place (applied m []) s h)
+    by_term (number place n) p s h = by_settled p.settings.limit place (Some (record { tree = numeral n; sort = Sort.Int })) s h
+    by_term (symbol n) p s h = by_meaning n.place (meaning_of p s n.name) s _ h (λ m. by_settled p.settings.limit n.place (applied m []) s h)
     by_term (application place head fs) p s h =
         by_meaning head.place (meaning_of p s head.name) s _ h
-        (λ m. reads_then (terms_from fs p s) _ (by_terms fs p s h).0 (λ ts end k. by_settled place (applied m ts) end k))
+        (λ m. reads_then (terms_from fs p s) _ (by_terms fs p s h).0 (λ ts end k. by_settled p.settings.limit place (applied m ts) end k))
     by_term (let_form place bs body) p s h =
         reads_then (bounds_from bs [] p s) _ (by_bounds bs [] p s h).0
         (λ bound end k. reads_then (term_from body (inside bound p) end) _ (by_term body (inside bound p) end k).0
-        (λ t last l. by_settled place (Some (let_term p bound t)) last l))
+        (λ t last l. by_settled p.settings.limit place (Some (let_term p bound t)) last l))
     by_term (annotated place f names) p s h = reads_then (term_from f p s) _ (by_term f p s h).0 (λ t end k. by_names t names end k)
 
     pub by_terms : (fs : Forms) (p : Place) (s : Script) → HasRead x s → Reads x (terms_from fs p s)
@@ -119,12 +120,12 @@ module _ (x : Term) where
       unless (is_taken s n.name) Repeated n.place s _ h
       (reads_then (given (parameters_from s.sorts [] parameters) (with_name n.name s)) _ h
       (λ xs named k. reads_then (given (sort_from s.sorts target) named) _ k
-      (λ sort sorted l. reads_then (read_term body (record { scope = map itself xs; replaces_lets = true }) sorted) _ (by_term (form_of body) _ sorted l).0
+      (λ sort sorted l. reads_then (read_term body (record { scope = map itself xs; settings = limited true }) sorted) _ (by_term (form_of body) _ sorted l).0
       (λ t last m. where_so (sort_eq t.sort sort) SortMismatch (place_of body) last _ m (m, tt)))))
 
   by_assertion : (replaces : Bool) (i : Item) (s : Script) → HasRead x s → Reads x (term_asserted replaces i s)
   by_assertion replaces i s h =
-      reads_then (read_term i (record { scope = []; replaces_lets = replaces }) s) _ (by_term (form_of i) _ s h).0
+      reads_then (read_term i (record { scope = []; settings = limited replaces }) s) _ (by_term (form_of i) _ s h).0
       (λ t end k. where_so (sort_eq t.sort Sort.Bool) SortMismatch (place_of i) end _ k (k, tt))
 
   pub by_command : (replaces : Bool) (c : Command) (s : Script) → HasRead x s → Reads x (performed replaces c s)
@@ -138,7 +139,7 @@ module _ (x : Term) where
   by_command replaces check_sat s h = (h, tt)
   by_command replaces exit s h = (h, tt)
 
-  by_next : (b replaces : Bool) (c : Command) (s : Script) (next : Script → Outcome ⊤) → HasRead x s → ((s : Script) → HasRead x s → Reads x (next s)) → Reads x (if b then done tt s else and_then (performed replaces c s) (λ _ end. next end))
+  by_next : (b replaces : Bool) (c : Command) (s : Script) (next : Script → Outcome Script ⊤) → HasRead x s → ((s : Script) → HasRead x s → Reads x (next s)) → Reads x (if b then done tt s else and_then (performed replaces c s) (λ _ end. next end))
   by_next true replaces c s next h k = (h, tt)
   by_next false replaces c s next h k = reads_then (performed replaces c s) (λ _ end. next end) (by_command replaces c s h).0 (λ _ end l. k end l)
 

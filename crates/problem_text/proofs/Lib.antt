@@ -1,9 +1,12 @@
 pub mod Outcomes
 pub mod Meanings
 pub mod Readings
+pub mod KeptByCommands
 pub mod Scripts
 pub mod LetFreeTerms
 pub mod LetFree
 pub mod OneReading
 pub mod Growing
 pub mod Agreement
+pub mod ScopedTerms
+pub mod ScopedScripts

@@ -28,7 +28,7 @@ replacement-fits [] h = tt
 replacement-fits (b ∷ scope) h = (h.0, replacement-fits scope h.1)
 
 pub named-fits : (p : Place) (t : Typed) → AreSorted p.scope → IsOf t.tree t.sort → IfSome (meaning_of_named p t) IsFit
-named-fits p t h e = go (list_all (is_bound p.scope) (free_variables t.tree)) p.replaces_lets
+named-fits p t h e = go (list_all (is_bound p.scope) (free_variables t.tree)) p.settings.replaces_lets
   where
     go : (b c : Bool) → IfSome (if b then Some (value (if c then record { tree = replaced (replacement p.scope) t.tree; sort = t.sort } else t)) else None) IsFit
     go true true = replaced-sort t.tree (replacement p.scope) t.sort (replacement-fits p.scope h) e
@@ -110,7 +110,7 @@ themselves-fit [] = tt
 themselves-fit (b ∷ bs) = (refl, themselves-fit bs)
 
 pub inside-fits : (p : Place) (bs : List Bound) → AreSorted p.scope → AreSorted bs → AreSorted (inside bs p).scope
-inside-fits p bs h k = go p.replaces_lets
+inside-fits p bs h k = go p.settings.replaces_lets
   where
     go : (b : Bool) → AreSorted ((if b then bs else map (λ b. itself b.variable) bs) ++ p.scope)
     go true = all_joined (λ b. IsOf b.stands_for b.variable.sort) bs p.scope k h
@@ -121,7 +121,7 @@ bindings-fit [] h = tt
 bindings-fit (b ∷ bs) h = (h.0, bindings-fit bs h.1)
 
 pub let-fits : (p : Place) (bs : List Bound) (t : Typed) → AreSorted bs → IsOf t.tree t.sort → IsOf (let_term p bs t).tree (let_term p bs t).sort
-let-fits p bs t h e = go p.replaces_lets
+let-fits p bs t h e = go p.settings.replaces_lets
   where
     go : (b : Bool) → IsTyped (if b then t else record { tree = let_in (bindings_of bs) t.tree; sort = t.sort })
     go true = e

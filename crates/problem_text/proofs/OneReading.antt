@@ -4,7 +4,8 @@ use Rattle.std.specs.Prelude.{⊤}
 use Rattle.sexpr.specs.declared.causes.Refusal.{Refusal}
 use Rattle.sexpr.specs.Form.{HasForm, IsFormFault}
 use Rattle.sexpr.specs.Items.{Items, StandsForItems}
-use Rattle.problem_text.specs.Scripts.{Script, Outcome, done}
+use Rattle.problem_text.specs.Outcomes.{Outcome, done}
+use Rattle.problem_text.specs.Scripts.{Script}
 use Rattle.problem_text.specs.Problems.{problem, StandsForProblem, IsCommandFault, IsFirstFault}
 
 -- a text stands for one list of items at most
@@ -19,8 +20,8 @@ NoFormFault = (source : List ℕ) (refusal : Refusal) → HasForm source → IsF
 abbrev pub OneFormFault : Type 0
 OneFormFault = (source : List ℕ) (a b : Refusal) → IsFormFault source a → IsFormFault source b → a ≡ b
 
-done_same : (s t : Script) → ◌≡◌ {A = Outcome ⊤} (done tt s) (done tt t) → s ≡ t
-done_same s t e = ap (λ o. o.script) e
+done_same : (s t : Script) → ◌≡◌ {A = Outcome Script ⊤} (done tt s) (done tt t) → s ≡ t
+done_same s t e = ap (λ o. o.state) e
 
 err_same : (a b : Refusal) → ◌≡◌ {A = Result ⊤ Refusal} (Err a) (Err b) → a ≡ b
 err_same a b e = cc
@@ -51,5 +52,5 @@ pub one_of_both : (source : List ℕ) (replaces : Bool) → HasForm source → (
 one_of_both source replaces (items, nested) = go (problem replaces items).result refl
   where
     go : (result : Result ⊤ Refusal) → (problem replaces items).result ≡ result → ((s : Script) × StandsForProblem source replaces s) ⊎ ((r : Refusal) × IsFirstFault source replaces r)
-    go (Ok u) e = inl ((problem replaces items).script, record { items = items; nested = nested; read = ap (λ o. record { result = o; script = (problem replaces items).script }) e })
+    go (Ok u) e = inl ((problem replaces items).state, record { items = items; nested = nested; read = ap (λ o. record { result = o; state = (problem replaces items).state }) e })
     go (Err r) e = inr (r, inr (record { items = items; nested = nested; refused = e }))

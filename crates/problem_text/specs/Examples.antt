@@ -73,9 +73,9 @@ first_fault replaces_lets text = fault_in (problem replaces_lets (items_in text)
 -- what the assertions of a text stand for, up to its first fault
 unfoldable pub assertions_in : Bool → List ℕ → List Term
 unfolding first_fault
-assertions_in replaces_lets text = (problem replaces_lets (items_in text)).script.assertions
+assertions_in replaces_lets text = (problem replaces_lets (items_in text)).state.assertions
 
 -- the script that its commands come to
 unfoldable pub script_in : List ℕ → Script
 unfolding first_fault
-script_in text = (problem false (items_in text)).script
+script_in text = (problem false (items_in text)).state

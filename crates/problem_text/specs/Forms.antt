@@ -1,15 +1,17 @@
 -- Public. The forms of terms (SMT-LIB 2.6, "Terms and Formulas"): what an item in a term's place spells, before
 -- any name is looked up. A fault of spelling or of shape is a form too, so that it is met where the text has it and no
 -- earlier.
-use Rattle.std.specs.Prelude.{ℕ, ◌^◌, nat_lt, Bool, not, ◌&&◌, ◌||◌, if◌then◌else◌, List, [], ◌∷◌, codes, bytes_eq, Option, Some, None, is_some}
+use Rattle.std.specs.Prelude.{ℕ, ◌^◌, nat_lt, false, if◌then◌else◌, List, [], ◌∷◌, codes, bytes_eq, Option, Some, None, is_some}
 use Rattle.std.specs.Option.{option_or}
 use Rattle.sexpr.specs.declared.causes.Cause.{Cause}
 use Rattle.sexpr.specs.declared.causes.Cause.TheVariants.{BadCommand, LeftOut, WideNumber}
 use Rattle.sexpr.specs.Words.{starts_with_digit, is_numeral, is_decimal, is_keyword, is_bit_literal, between_bars, numeral_value}
 use Rattle.sexpr.specs.Items.{Item, word, quoted, string, list, Items, no_items, item, place_of, symbol_name}
 use Rattle.problem_text.specs.NamedItems.{is_named_item}
-use Rattle.text_items.specs.Spelling.{is_keyword_item, is_list_item}
+use Rattle.text_items.specs.Spelling.{is_list_item}
 use Rattle.problem_text.specs.Words.{is_among, left_out_words}
+use Rattle.text_items.specs.Keywords.{Known, attributes_fault}
+use Rattle.text_items.specs.declared.keywords.Wanted.TheVariants as Wanted
 use Rattle.text_items.specs.ItemShapes.{Name, excess, name_at, pairs_fault}
 
 -- A fault; a numeral; a symbol; a head with its arguments; a let with its bindings and its body; a term with the
@@ -46,31 +48,13 @@ abbrev pub let_fault : ℕ → Items → Option ℕ
 let_fault place (item bindings (item body rest)) = option_or (bindings_fault bindings) (excess rest)
 let_fault place _ = Some place
 
--- After an item of a list of attributes the next one is out of place: it is no symbol and the keyword `:named`
--- wants one, or it is no keyword and no keyword stands before it.
-abbrev pub is_misplaced : Item → Item → Bool
-is_misplaced before i =
-    is_named_item before && not (is_some (symbol_name i)) || not (is_keyword_item before) && not (is_keyword_item i)
-
-abbrev pub misplaced_after : Item → Items → Option ℕ
-misplaced_after before no_items = None
-misplaced_after before (item i rest) = if is_misplaced before i then Some (place_of i) else misplaced_after i rest
-
--- The last item is `:named`, so the list lacks the name.
-abbrev pub lacks_name : Item → Items → Bool
-lacks_name last no_items = is_named_item last
-lacks_name before (item i rest) = lacks_name i rest
-
--- Attributes: each is a keyword and at most one item that is no keyword.
-abbrev pub attributes_fault : ℕ → Item → Items → Option ℕ
-attributes_fault place first rest =
-    if lacks_name first rest then Some place
-    else if is_keyword_item first then misplaced_after first rest
-    else Some (place_of first)
+-- the keyword that gives a term a name, as often as it stands
+abbrev pub naming_keyword : Known
+naming_keyword = record { spelling = codes ":named"; wants = Wanted.Name; once = false; needed = false }
 
 -- what stands after the `!` of an annotated term that begins at this place: the term, and one or more attributes
 abbrev pub annotation_fault : ℕ → Items → Option ℕ
-annotation_fault place (item t (item first rest)) = attributes_fault place first rest
+annotation_fault place (item t (item first rest)) = attributes_fault (naming_keyword ∷ []) place (item first rest)
 annotation_fault place _ = Some place
 
 -- the names that attributes give, in their order

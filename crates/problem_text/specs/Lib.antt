@@ -4,6 +4,7 @@ pub mod Forms
 pub mod Commands
 pub mod Limits
 pub mod TypedTerms
+pub mod Outcomes
 pub mod Scripts
 pub mod Sorts
 pub mod Names

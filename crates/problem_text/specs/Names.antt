@@ -8,6 +8,7 @@ use Rattle.term_model.specs.Terms.{Var, sort_eq, Fun, Term, variable, operation,
 use Rattle.term_model.specs.Sorts.{sorts_eq, application_sort, call_sort}
 use Rattle.problem_text.specs.Words.{operator_named}
 use Rattle.rule_model.specs.Replacement.{Replacement, replaced, free_variables}
+use Rattle.problem_text.specs.Limits.{Settings}
 use Rattle.problem_text.specs.TypedTerms.{Typed}
 use Rattle.problem_text.specs.Scripts.{Macro, Script}
 
@@ -17,10 +18,10 @@ pub record Bound : Type 0 where
   pub stands_for : Term
 
 -- Where a term stands: the variables of lets and parameters, the innermost first, and then those of open anchors; and
--- whether lets are replaced.
+-- how it is read.
 pub record Place : Type 0 where
   pub scope : List Bound
-  pub replaces_lets : Bool
+  pub settings : Settings
 
 abbrev pub itself : Var → Bound
 itself x = record { variable = x; stands_for = variable x }
@@ -50,7 +51,7 @@ meaning_of_bound b = value (record { tree = b.stands_for; sort = b.variable.sort
 abbrev pub meaning_of_named : Place → Typed → Option Meaning
 meaning_of_named p t =
     if list_all (is_bound p.scope) (free_variables t.tree)
-    then Some (value (if p.replaces_lets then record { tree = replaced (replacement p.scope) t.tree; sort = t.sort } else t))
+    then Some (value (if p.settings.replaces_lets then record { tree = replaced (replacement p.scope) t.tree; sort = t.sort } else t))
     else None
 
 -- The look-up of a name. Functions, macros and named terms never share one.
@@ -88,8 +89,8 @@ bindings_of (b ∷ bs) = binding b.variable b.stands_for (bindings_of bs)
 
 -- where the body of a let with these bindings stands
 abbrev pub inside : List Bound → Place → Place
-inside bs p = record p { scope = (if p.replaces_lets then bs else map (λ b. itself b.variable) bs) ++ p.scope }
+inside bs p = record p { scope = (if p.settings.replaces_lets then bs else map (λ b. itself b.variable) bs) ++ p.scope }
 
 -- a let with this body
 abbrev pub let_term : Place → List Bound → Typed → Typed
-let_term p bs t = if p.replaces_lets then t else record { tree = let_in (bindings_of bs) t.tree; sort = t.sort }
+let_term p bs t = if p.settings.replaces_lets then t else record { tree = let_in (bindings_of bs) t.tree; sort = t.sort }

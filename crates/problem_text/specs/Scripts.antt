@@ -1,7 +1,5 @@
--- Public. What the commands of a script up to some place stand for, and how a reading ends.
-use Rattle.std.specs.Prelude.{ℕ, Bool, false, ◌||◌, List, [], ◌∷◌, ◌++◌, Result, Ok, Err}
-use Rattle.sexpr.specs.declared.causes.Cause.{Cause}
-use Rattle.sexpr.specs.declared.causes.Refusal.{Refusal}
+-- Public. What the commands of a script up to some place stand for.
+use Rattle.std.specs.Prelude.{ℕ, Bool, false, ◌||◌, List, [], ◌∷◌, ◌++◌}
 use Rattle.term_model.specs.declared.symbols.Sort.{Sort}
 use Rattle.term_model.specs.Terms.{Var, Fun, Term}
 use Rattle.problem_text.specs.Words.{is_among, is_built_in}
@@ -75,26 +73,3 @@ with_term t s = record s { terms = s.terms ++ t ∷ [] }
 
 abbrev pub with_let_name : List ℕ → Script → Script
 with_let_name name s = record s { let_names = s.let_names ++ name ∷ [] }
-
--- how a reading ends: what was read or the first fault, and the script after it
-pub record Outcome (A : Type 0) : Type 0 where
-  pub result : Result A Refusal
-  pub script : Script
-
-abbrev pub done : {A : Type 0} → A → Script → Outcome A
-done a s = record { result = Ok a; script = s }
-
-abbrev pub refuse : {A : Type 0} → Cause → ℕ → Script → Outcome A
-refuse cause place s = record { result = Err (record { cause = cause; at = place }); script = s }
-
--- a reading that changes nothing
-abbrev pub given : {A : Type 0} → Result A Refusal → Script → Outcome A
-given r s = record { result = r; script = s }
-
--- One reading and then another. A fault of the first is the fault of both.
-abbrev pub goes_on : {A B : Type 0} → Result A Refusal → Script → (A → Script → Outcome B) → Outcome B
-goes_on (Ok a) s next = next a s
-goes_on (Err refusal) s next = record { result = Err refusal; script = s }
-
-abbrev pub and_then : {A B : Type 0} → Outcome A → (A → Script → Outcome B) → Outcome B
-and_then o next = goes_on o.result o.script next

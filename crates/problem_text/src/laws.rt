@@ -1,11 +1,14 @@
 //! Laws of the definitions. The functions do nothing: their contracts are the laws.
-ghost use Rattle.std.specs.Prelude.{◌≡◌, ◌⊎◌, List, ℕ, Bool};
+ghost use Rattle.std.specs.Prelude.{◌≡◌, ◌⊎◌, List, ℕ, Bool, IfOk};
 ghost use Rattle.sexpr.specs.declared.causes.Refusal.{Refusal};
+ghost use Rattle.sexpr.specs.Items.{Item};
 ghost use Rattle.sexpr.specs.Form.{HasForm};
 ghost use Rattle.sexpr.specs.Source.{source};
 ghost use Rattle.problem_text.specs.Scripts.{Script};
 ghost use Rattle.problem_text.specs.Problems.{StandsForProblem, IsFirstFault};
-ghost use Rattle.problem_text.specs.Soundness.{IsSound, HasNoLets};
+ghost use Rattle.problem_text.specs.Names.{Place};
+ghost use Rattle.problem_text.specs.Soundness.{IsSound, HasNoLets, AreSorted, IsReadWithin, AreThemselves, IsScoped, HasScopedTerms};
+ghost use Rattle.problem_text.specs.Terms.{read_term};
 
 pub use rule_model::laws::replacement::{free_variables_are_listed, replacing_lets_keeps_values};
 use sexpr::{faults_are_unique, items_are_unique};
@@ -19,6 +22,25 @@ pub fn replaced_lets_are_gone()
 /// assertions are formulas that are not too high.
 pub fn scripts_are_well_sorted()
     ensures { (source : List ℕ) (replaces : Bool) (s : Script) → StandsForProblem source replaces s → IsSound s }
+{}
+
+/// Whatever text a script comes from: an assertion has no free variable, and those of a macro's body are its parameters.
+pub fn scripts_are_closed()
+    ensures { (source : List ℕ) (replaces : Bool) (s : Script) → StandsForProblem source replaces s → HasScopedTerms s }
+{}
+
+/// A term that is read behind a sound script, where each variable in scope stands for a term of its sort, is well sorted
+/// and no higher than the limit. The script stays sound, whether a term is read or refused.
+pub fn terms_are_well_sorted()
+    ensures term { (i : Item) (p : Place) (s : Script) → AreSorted p.scope → IsSound s → IfOk (read_term i p s).result (IsReadWithin p.settings.limit) }
+    ensures script { (i : Item) (p : Place) (s : Script) → AreSorted p.scope → IsSound s → IsSound (read_term i p s).state }
+{}
+
+/// The free variables of a term that is read are those of what the variables in scope stand for: where these stand for
+/// themselves, they are variables in scope. The script stays one whose terms are scoped so.
+pub fn free_variables_are_in_scope()
+    ensures term { (i : Item) (p : Place) (s : Script) → AreThemselves p → HasScopedTerms s → IfOk (read_term i p s).result (λ t. IsScoped p.scope t.tree) }
+    ensures script { (i : Item) (p : Place) (s : Script) → AreThemselves p → HasScopedTerms s → HasScopedTerms (read_term i p s).state }
 {}
 
 /// A text has one reading: it stands for one script, or it has one first fault, and never both. One of the two

@@ -72,7 +72,7 @@ pub idle_moves : (s z : Table) (v : TermsView) (r : Reader) (a b : Script) (p : 
 idle_moves s z v r a b p keeps h script = record {
   script = script;
   scope = scope_stays s z v v keeps (keeps_none v) r.scope p.scope h.scope;
-  replaces = h.replaces;
+  settings = h.settings;
   no_values = h.no_values;
   no_leaves = h.no_leaves;
   no_frames = h.no_frames;

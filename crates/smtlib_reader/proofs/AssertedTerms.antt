@@ -14,7 +14,8 @@ use Rattle.problem_text.specs.Forms.{form_of}
 use Rattle.problem_text.specs.Problems.{term_asserted, performed}
 use Rattle.term_reader.specs.Reading.{IsReadTerm, Reads}
 use Rattle.problem_text.specs.TypedTerms.{Typed}
-use Rattle.problem_text.specs.Scripts.{Script, Outcome, done, refuse, goes_on, with_assertion}
+use Rattle.problem_text.specs.Outcomes.{Outcome, done, refuse, goes_on}
+use Rattle.problem_text.specs.Scripts.{Script, with_assertion}
 use Rattle.smtlib_reader.specs.Sessions.{top, IsSession, IsReadBy, Performs}
 use Rattle.term_names.specs.Standing.{AddsNoSymbols}
 use Rattle.problem_text.specs.Terms.{read_term}
@@ -43,11 +44,11 @@ all_refer s z v w adds keeps (q ∷ rs) [] r t h is = absurd h
 all_refer s z v w adds keeps (q ∷ rs) (u ∷ ts) r t h is = (refers_stays s z v w adds.keeps keeps q u h.0, all_refer s z v w adds keeps rs ts r t h.1 is)
 
 module _ (replaces : Bool) (i : Item) (sc : Script) where
-  abbrev read_here : Outcome Typed
+  abbrev read_here : Outcome Script Typed
   read_here = read_term i (top replaces) sc
 
   -- once the formula is this term
-  abbrev judged : Typed → Script → Bool → Outcome ⊤
+  abbrev judged : Typed → Script → Bool → Outcome Script ⊤
   judged t last same = if same then done tt (with_assertion t.tree last) else refuse SortMismatch (place_of i) last
 
   asserted : performed replaces (assert_term i) sc ≡ term_asserted replaces i sc
@@ -64,7 +65,7 @@ module _ (replaces : Bool) (i : Item) (sc : Script) where
   module _ (s : Table) (v w : TermsView) (r : Reader) where
     pub term_fails : (d : Session) (fault : ReadFault) → Reads s v w r (top replaces) read_here (Err fault) → Performs s v w d (performed replaces (assert_term i) sc) (Err fault)
     term_fails d (ReadFault.Text refusal) h = rw asserted (record {
-      outcome = ap (λ (q : Result Typed Refusal). (goes_on q read_here.script (λ t last. judged t last (sort_eq t.sort Sort.Bool))).result) h.outcome;
+      outcome = ap (λ (q : Result Typed Refusal). (goes_on q read_here.state (λ t last. judged t last (sort_eq t.sort Sort.Bool))).result) h.outcome;
       placed = places_more s v.pass w.pass _ _ read_more h.placed;
     })
     term_fails d ReadFault.PoolFull h = rw asserted (record { outcome = lacks_more s w.pass _ _ read_more h.outcome; placed = places_more s v.pass w.pass _ _ read_more h.placed })
@@ -77,7 +78,7 @@ module _ (replaces : Bool) (i : Item) (sc : Script) where
       -- with the sort of the term
       comes_to : (b : Bool) → sort_eq c.sort Sort.Bool ≡ b → term_asserted replaces i sc ≡ judged h.outcome.0 h.outcome.1 b
       comes_to b e =
-          ap (λ (q : Outcome Typed). goes_on q.result q.script (λ t last. judged t last (sort_eq t.sort Sort.Bool))) h.outcome.2
+          ap (λ (q : Outcome Script Typed). goes_on q.result q.state (λ t last. judged t last (sort_eq t.sort Sort.Bool))) h.outcome.2
           ∙ ap (judged h.outcome.0 h.outcome.1) (ap (λ sort. sort_eq sort Sort.Bool) (sym h.outcome.3.sort) ∙ e)
 
       pub other_sort : (d : Session) (refusal : Refusal) → Err refusal ≡ checked (sort_eq c.sort Sort.Bool) (place_of i) → Performs s v w d (performed replaces (assert_term i) sc) (Err (ReadFault.Text refusal))
@@ -85,7 +86,7 @@ module _ (replaces : Bool) (i : Item) (sc : Script) where
         where
           go : (b : Bool) → sort_eq c.sort Sort.Bool ≡ b → Err refusal ≡ checked b (place_of i) → (term_asserted replaces i sc).result ≡ Err refusal
           go true f g = absurd cc
-          go false f g = ap (λ (q : Outcome ⊤). q.result) (comes_to false f) ∙ sym g
+          go false f g = ap (λ (q : Outcome Script ⊤). q.result) (comes_to false f) ∙ sym g
 
       same_sort : checked true (place_of i) ≡ checked (sort_eq c.sort Sort.Bool) (place_of i) → sort_eq c.sort Sort.Bool ≡ true
       same_sort e = go (sort_eq c.sort Sort.Bool) e
@@ -95,7 +96,7 @@ module _ (replaces : Bool) (i : Item) (sc : Script) where
           go false f = absurd cc
 
       declared : DeclaresSame sc h.outcome.1
-      declared = subst (λ (q : Outcome Typed). DeclaresSame sc q.script) h.outcome.2 (same_declared (form_of i) (top replaces) sc)
+      declared = subst (λ (q : Outcome Script Typed). DeclaresSame sc q.state) h.outcome.2 (same_declared (form_of i) (top replaces) sc)
 
       pub is_asserted : (a : Table) (d : Session) (more : Vec ℕ Global) → IsSession a v d sc → AddsNoSymbols a s → KeepsTerms v w → checked true (place_of i) ≡ checked (sort_eq c.sort Sort.Bool) (place_of i)
           → more.items ≡ d.assertions.items ++ c.term ∷ [] → Performs s v w (record d { reader = r; assertions = more }) (performed replaces (assert_term i) sc) (Ok tt)
@@ -112,7 +113,7 @@ module _ (replaces : Bool) (i : Item) (sc : Script) where
                 idle = record {
                   script = script_agrees s w r.known last (with_assertion t.tree last) refl (λ name. record { functions = refl; macros = refl; named = refl; taken = refl }) idle.script;
                   scope = idle.scope;
-                  replaces = refl;
+                  settings = refl;
                   no_values = idle.no_values;
                   no_leaves = idle.no_leaves;
                   no_frames = idle.no_frames;

@@ -7,7 +7,8 @@ use Rattle.term_pool.specs.Views.{TermsView}
 use Rattle.smtlib_reader.specs.CommandShapes.{Says}
 use Rattle.problem_text.specs.Commands as shape
 use Rattle.problem_text.specs.Problems.{performed}
-use Rattle.problem_text.specs.Scripts.{Script, Outcome, done}
+use Rattle.problem_text.specs.Outcomes.{Outcome, done}
+use Rattle.problem_text.specs.Scripts.{Script}
 use Rattle.smtlib_reader.specs.Sessions.{IsSession, top, IsReadBy, Performs}
 use Rattle.smtlib_reader.specs.declared.commands.Command.{Command}
 use Rattle.term_names.specs.declared.faults.ReadFault.{ReadFault}
@@ -17,13 +18,13 @@ use Rattle.smtlib_reader.proofs.AgreeingScripts.{idle_agrees}
 use Rattle.term_reader.proofs.Staying.{places_none}
 
 module _ (s : Table) (v : TermsView) (d : Session) where
-  pub performs_done : (o : Outcome ⊤) (sc : Script) → o ≡ done tt sc → IsSession s v d sc → Performs s v v d o (Ok tt)
+  pub performs_done : (o : Outcome Script ⊤) (sc : Script) → o ≡ done tt sc → IsSession s v d sc → Performs s v v d o (Ok tt)
   performs_done o sc same is = record { outcome = (sc, same, is); placed = places_none s v.pass v.pass (IsReadBy o) refl }
 
-  pub performs_refused : (o : Outcome ⊤) (r : Refusal) → o.result ≡ Err r → Performs s v v d o (Err (ReadFault.Text r))
+  pub performs_refused : (o : Outcome Script ⊤) (r : Refusal) → o.result ≡ Err r → Performs s v v d o (Err (ReadFault.Text r))
   performs_refused o r same = record { outcome = same; placed = places_none s v.pass v.pass (IsReadBy o) refl }
 
-  pub performs_memory : (o : Outcome ⊤) → Performs s v v d o (Err ReadFault.Memory)
+  pub performs_memory : (o : Outcome Script ⊤) → Performs s v v d o (Err ReadFault.Memory)
   performs_memory o = record { outcome = tt; placed = places_none s v.pass v.pass (IsReadBy o) refl }
 
   -- nothing is asked for

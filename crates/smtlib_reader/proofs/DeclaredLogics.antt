@@ -8,7 +8,8 @@ use Rattle.term_pool.specs.Views.{TermsView}
 use Rattle.problem_text.specs.Commands.{set_logic}
 use Rattle.text_items.specs.ItemShapes.{Name}
 use Rattle.problem_text.specs.Problems.{performed}
-use Rattle.problem_text.specs.Scripts.{Script, Outcome, done, refuse}
+use Rattle.problem_text.specs.Outcomes.{Outcome, done, refuse}
+use Rattle.problem_text.specs.Scripts.{Script}
 use Rattle.smtlib_reader.specs.Sessions.{IsSession, top, Performs}
 use Rattle.problem_text.specs.Words.{is_among, logics}
 use Rattle.term_names.specs.declared.faults.ReadFault.{ReadFault}
@@ -21,7 +22,7 @@ module _ (s : Table) (v : TermsView) (d : Session) (replaces : Bool) (x : Name) 
   with_logic = record sc { has_logic = true }
 
   -- by whether a logic is set, and whether it is one that may be
-  abbrev logic_by : Bool → Bool → Outcome ⊤
+  abbrev logic_by : Bool → Bool → Outcome Script ⊤
   logic_by set allowed = if set then refuse Repeated x.place sc else if allowed then done tt with_logic else refuse LeftOut x.place sc
 
   logic_parts : (set allowed : Bool) → d.has_logic ≡ set → is_among logics x.name ≡ allowed → performed replaces (set_logic x) sc ≡ logic_by set allowed

@@ -17,7 +17,8 @@ use Rattle.text_items.specs.ItemShapes.{Name}
 use Rattle.term_names.specs.Known.{KnownView, known_entry}
 use Rattle.problem_text.specs.Problems.{performed}
 use Rattle.problem_text.specs.Scripts as spec
-use Rattle.problem_text.specs.Scripts.{Script, Outcome, done, refuse}
+use Rattle.problem_text.specs.Outcomes.{Outcome, done, refuse}
+use Rattle.problem_text.specs.Scripts.{Script}
 use Rattle.smtlib_reader.specs.Sessions.{IsSession, top, Performs}
 use Rattle.term_names.specs.Standing.{IsScript}
 use Rattle.problem_text.specs.Words.{is_among, is_built_in}
@@ -91,7 +92,7 @@ module _ (s : Table) (v : TermsView) (name : List ℕ) (sc : Script) (keeps : Ke
 
 module _ (s : Table) (v : TermsView) (d : Session) (replaces : Bool) (x : Name) (place arity : ℕ) (sc : Script) (is : IsSession s v d sc) where
   -- by whether the name is taken, and whether the sort has no parameters
-  abbrev sort_by : Bool → Bool → Outcome ⊤
+  abbrev sort_by : Bool → Bool → Outcome Script ⊤
   sort_by taken none = if taken then refuse Repeated x.place sc else if none then done tt (spec.with_sort x.name sc) else refuse LeftOut place sc
 
   sort_parts : (taken none : Bool) → (is_built_in x.name || is_among s.sorts x.name) ≡ taken → (arity == 0) ≡ none → performed replaces (declare_sort x place arity) sc ≡ sort_by taken none

@@ -11,7 +11,8 @@ use Rattle.term_reader.specs.Reading.{IsIdle, Reads}
 use Rattle.rule_model.specs.Replacement.{HasNoLet}
 use Rattle.term_names.specs.Scope.{Scoped}
 use Rattle.problem_text.specs.TypedTerms.{Typed}
-use Rattle.problem_text.specs.Scripts.{Macro, Script, Outcome, done}
+use Rattle.problem_text.specs.Outcomes.{Outcome, done}
+use Rattle.problem_text.specs.Scripts.{Macro, Script}
 use Rattle.term_names.specs.Standing.{IsScript, IsMeant, macro_in}
 use Rattle.problem_text.specs.Terms.{read_term}
 use Rattle.term_names.specs.declared.faults.ReadFault.{ReadFault}
@@ -39,14 +40,14 @@ macros_plain s v k sc is name = go (known_entry k name) (is.names name)
 body_plain : (s : Table) (v : TermsView) (k : KnownView) (sc last : Script) (xs : List Var) (i : Item) (t : Typed) → IsScript s v k sc → body_read xs i sc ≡ done t last → HasNoLet t.tree
 body_plain s v k sc last xs i t is e =
     let h = term-free MacrosHaveNoLet (λ sc name p. p name) (λ t sc p. p) (λ n sc p. p) (λ name sc p. p) (form_of i) (within xs) sc (λ _. parameters-free xs) (macros_plain s v k sc is) in
-    subst (λ (o : Outcome Typed). IfOk o.result (IsFreeIn (within xs))) e h.1 refl
+    subst (λ (o : Outcome Script Typed). IfOk o.result (IsFreeIn (within xs))) e h.1 refl
 
 -- the reader is ready for the term that is the body
 pub ready_to_read : (s : Table) (v : TermsView) (r : Reader) (xs : List Var) (sc : Script) → IsReady s v r xs sc → IsIdle s v (record r { replaces_lets = true }) sc (within xs)
 ready_to_read s v r xs sc h = record {
   script = h.script;
   scope = h.scope;
-  replaces = refl;
+  settings = refl;
   no_values = h.no_values;
   no_leaves = h.no_leaves;
   no_frames = h.no_frames;
@@ -71,7 +72,7 @@ body_there s z v w r q xs i sc c scope ready h none =
         record {
           script = idle.script;
           scope = rw none tt;
-          replaces = refl;
+          settings = refl;
           no_values = idle.no_values;
           no_leaves = idle.no_leaves;
           no_frames = idle.no_frames;

@@ -16,7 +16,8 @@ use Rattle.problem_text.specs.Forms.{form_of}
 use Rattle.term_names.specs.Known.{KnownView}
 use Rattle.term_reader.specs.Reading.{IsReadTerm}
 use Rattle.problem_text.specs.TypedTerms.{Typed}
-use Rattle.problem_text.specs.Scripts.{Macro, Script, Outcome, done, refuse, goes_on, with_macro}
+use Rattle.problem_text.specs.Outcomes.{Outcome, done, refuse, goes_on}
+use Rattle.problem_text.specs.Scripts.{Macro, Script, with_macro}
 use Rattle.smtlib_reader.specs.Sessions.{IsReadBy}
 use Rattle.term_names.specs.Standing.{IsReservedName, AddsNoSymbols}
 use Rattle.smtlib_reader.specs.declared.defining.Listed.{Listed}
@@ -36,7 +37,7 @@ checked b place = if b then Ok tt else refused SortMismatch place
 
 module _ (name : List ℕ) (xs : List Var) (target : Sort) (i : Item) (sc : Script) where
   -- once the body is this term
-  abbrev judged : Typed → Script → Bool → Outcome ⊤
+  abbrev judged : Typed → Script → Bool → Outcome Script ⊤
   judged t last same =
       if same then done tt (with_macro (record { name = name; parameters = xs; target = target; body = t.tree }) last) else refuse SortMismatch (place_of i) last
 
@@ -50,7 +51,7 @@ module _ (name : List ℕ) (xs : List Var) (target : Sort) (i : Item) (sc : Scri
   module _ (s : Table) (v w : TermsView) (r : Reader) where
     pub body_fails : (o : Reader) (fault : ReadFault) → ReadsBody s v w r (body_read xs i sc) (Err fault) → Defines s v w o (macro_defined name xs target i sc) (Err fault)
     body_fails o (ReadFault.Text refusal) h = record {
-      outcome = ap (λ (q : Result Typed Refusal). (goes_on q (body_read xs i sc).script (λ t last. judged t last (sort_eq t.sort target))).result) h.outcome;
+      outcome = ap (λ (q : Result Typed Refusal). (goes_on q (body_read xs i sc).state (λ t last. judged t last (sort_eq t.sort target))).result) h.outcome;
       placed = places_more s v.pass w.pass _ _ read_more h.placed;
     }
     body_fails o ReadFault.PoolFull h = record { outcome = lacks_more s w.pass _ _ read_more h.outcome; placed = places_more s v.pass w.pass _ _ read_more h.placed }
@@ -63,7 +64,7 @@ module _ (name : List ℕ) (xs : List Var) (target : Sort) (i : Item) (sc : Scri
       -- with the sort of the body
       comes_to : (b : Bool) → sort_eq c.sort target ≡ b → macro_defined name xs target i sc ≡ judged h.outcome.0 h.outcome.1 b
       comes_to b e =
-          ap (λ (q : Outcome Typed). goes_on q.result q.script (λ t last. judged t last (sort_eq t.sort target))) h.outcome.2
+          ap (λ (q : Outcome Script Typed). goes_on q.result q.state (λ t last. judged t last (sort_eq t.sort target))) h.outcome.2
           ∙ ap (judged h.outcome.0 h.outcome.1) (ap (λ sort. sort_eq sort target) (sym h.outcome.3.sort) ∙ e)
 
       pub other_sort : (o : Reader) (refusal : Refusal) → Err refusal ≡ checked (sort_eq c.sort target) (place_of i)
@@ -72,7 +73,7 @@ module _ (name : List ℕ) (xs : List Var) (target : Sort) (i : Item) (sc : Scri
         where
           go : (b : Bool) → sort_eq c.sort target ≡ b → Err refusal ≡ checked b (place_of i) → (macro_defined name xs target i sc).result ≡ Err refusal
           go true f g = absurd cc
-          go false f g = ap (λ (q : Outcome ⊤). q.result) (comes_to false f) ∙ sym g
+          go false f g = ap (λ (q : Outcome Script ⊤). q.result) (comes_to false f) ∙ sym g
 
       same_sort : checked true (place_of i) ≡ checked (sort_eq c.sort target) (place_of i) → sort_eq c.sort target ≡ true
       same_sort e = go (sort_eq c.sort target) e
@@ -84,7 +85,7 @@ module _ (name : List ℕ) (xs : List Var) (target : Sort) (i : Item) (sc : Scri
       module _ (a : Table) (reserved : IsReservedName a sc name) where
         in_script : IsReservedIn h.outcome.1 name
         in_script =
-            subst (λ (q : Outcome Typed). IsReservedIn q.script name) h.outcome.2
+            subst (λ (q : Outcome Script Typed). IsReservedIn q.state name) h.outcome.2
             (still_reserved (form_of i) (within xs) sc name (record {
               taken = reserved.taken;
               no_named = reserved.no_entry.no_named;
@@ -117,7 +118,7 @@ module _ (name : List ℕ) (xs : List Var) (target : Sort) (i : Item) (sc : Scri
                     plain = h.outcome.4;
                   }) (reserved_name s w r.known h.outcome.1 name idle.script in_script).1;
                   scope = idle.scope;
-                  replaces = refl;
+                  settings = refl;
                   no_values = idle.no_values;
                   no_leaves = idle.no_leaves;
                   no_frames = idle.no_frames;

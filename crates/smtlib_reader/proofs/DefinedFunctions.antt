@@ -17,7 +17,8 @@ use Rattle.problem_text.specs.Forms.{form_of}
 use Rattle.term_names.specs.Known.{KnownView}
 use Rattle.problem_text.specs.Problems.{performed}
 use Rattle.problem_text.specs.TypedTerms.{Typed}
-use Rattle.problem_text.specs.Scripts.{Script, Outcome, done, refuse, given, goes_on, and_then, is_taken, with_name, with_macro}
+use Rattle.problem_text.specs.Outcomes.{Outcome, done, refuse, given, goes_on, and_then}
+use Rattle.problem_text.specs.Scripts.{Script, is_taken, with_name, with_macro}
 use Rattle.smtlib_reader.specs.Sessions.{IsSession, Performs}
 use Rattle.problem_text.specs.Sorts.{chained, sort_from, parameters_from}
 use Rattle.term_names.specs.Standing.{AddsNoSymbols}
@@ -48,14 +49,14 @@ whatever : {A : Type 0} (r : Result A Refusal) → IfOk r Whatever
 whatever (Ok a) = tt
 whatever (Err refusal) = tt
 
-still_there : (name : List ℕ) (xs : List Var) (target : Sort) (body : Item) (s : Script) → IsStill s (macro_defined name xs target body s).script
+still_there : (name : List ℕ) (xs : List Var) (target : Sort) (body : Item) (s : Script) → IsStill s (macro_defined name xs target body s).state
 still_there name xs target body s =
     (ends-and_then (IsStill s) Whatever Whatever (body_read xs body s) (λ t last. next t last (sort_eq t.sort target)) (read, whatever (body_read xs body s).result) (λ t last _ p. go t last p (sort_eq t.sort target))).0
   where
-    next : Typed → Script → Bool → Outcome ⊤
+    next : Typed → Script → Bool → Outcome Script ⊤
     next t last b = if b then done tt (with_macro (record { name = name; parameters = xs; target = target; body = t.tree }) last) else refuse SortMismatch (place_of body) last
 
-    read : IsStill s (body_read xs body s).script
+    read : IsStill s (body_read xs body s).state
     read = let h = same_declared (form_of body) (within xs) s in record { functions = h.functions; assertions = h.assertions; has_logic = h.has_logic; is_checked = h.is_checked }
 
     go : (t : Typed) (last : Script) → IsStill s last → (b : Bool) → Ends (IsStill s) Whatever (next t last b)
@@ -67,15 +68,15 @@ module _ (replaces : Bool) (n : Name) (parameters : Items) (target body : Item) 
   command = define_fun n parameters target body
 
   -- once the signature is read
-  abbrev signed : Result Signature Refusal → Outcome ⊤
+  abbrev signed : Result Signature Refusal → Outcome Script ⊤
   signed r = goes_on r (with_name n.name sc) (λ q named. macro_defined n.name q.parameters q.target body named)
 
-  abbrev by_name : Bool → Result Signature Refusal → Outcome ⊤
+  abbrev by_name : Bool → Result Signature Refusal → Outcome Script ⊤
   by_name b r = if b then refuse Repeated n.place sc else signed r
 
   comes_to : performed replaces command sc ≡ by_name (is_taken sc n.name) (signature_from sc.sorts parameters target)
   unfolding performed
-  comes_to = ap (λ (o : Outcome ⊤). if is_taken sc n.name then refuse Repeated n.place sc else o) (go (parameters_from sc.sorts [] parameters) (sort_from sc.sorts target))
+  comes_to = ap (λ (o : Outcome Script ⊤). if is_taken sc n.name then refuse Repeated n.place sc else o) (go (parameters_from sc.sorts [] parameters) (sort_from sc.sorts target))
     where
       go : (a : Result (List Var) Refusal) (b : Result Sort Refusal)
           → and_then (given a (with_name n.name sc)) (λ xs named. and_then (given b named) (λ sort sorted. macro_defined n.name xs sort body sorted))
@@ -87,7 +88,7 @@ module _ (replaces : Bool) (n : Name) (parameters : Items) (target body : Item) 
   module _ (s : Table) (v : TermsView) (d : Session) where
     pub name_taken : (e : Session) (refusal : Refusal) → is_taken sc n.name ≡ true → refusal ≡ record { cause = Repeated; at = n.place } → Performs s v v e (performed replaces command sc) (Err (ReadFault.Text refusal))
     name_taken e refusal taken is = record {
-      outcome = ap (λ (o : Outcome ⊤). o.result) (comes_to ∙ ap (λ b. by_name b (signature_from sc.sorts parameters target)) taken) ∙ ap Err (sym is);
+      outcome = ap (λ (o : Outcome Script ⊤). o.result) (comes_to ∙ ap (λ b. by_name b (signature_from sc.sorts parameters target)) taken) ∙ ap Err (sym is);
       placed = places_none s v.pass v.pass _ refl;
     }
 
@@ -100,7 +101,7 @@ module _ (replaces : Bool) (n : Name) (parameters : Items) (target body : Item) 
       pub signature_fails : (source : List ℕ) (nodes : List Node) (first last : ℕ) (ps : List Parameter) (e : Session) (fault : ReadFault)
           → IsSignatureRead source nodes first last ps (signature_from s.sorts parameters target) (Err fault) → Performs s v v e (performed replaces command sc) (Err fault)
       signature_fails source nodes first last ps e (ReadFault.Text refusal) h = record {
-        outcome = ap (λ (o : Outcome ⊤). o.result) (named_so (Err refusal) h);
+        outcome = ap (λ (o : Outcome Script ⊤). o.result) (named_so (Err refusal) h);
         placed = places_none s v.pass v.pass _ refl;
       }
       signature_fails source nodes first last ps e ReadFault.PoolFull h = absurd h
@@ -116,7 +117,7 @@ module _ (replaces : Bool) (n : Name) (parameters : Items) (target body : Item) 
             idle = record {
               script = reserved_script s v d.reader.known k sc n.name here session.idle.script untaken none;
               scope = session.idle.scope;
-              replaces = refl;
+              settings = refl;
               no_values = session.idle.no_values;
               no_leaves = session.idle.no_leaves;
               no_frames = session.idle.no_frames;
@@ -140,7 +141,7 @@ module _ (replaces : Bool) (n : Name) (parameters : Items) (target body : Item) 
           go (Ok done) h =
               let last = h.outcome.0 in
               let still : IsStill sc last =
-              subst (λ (o : Outcome ⊤). IsStill sc o.script) h.outcome.1
+              subst (λ (o : Outcome Script ⊤). IsStill sc o.state) h.outcome.1
               (let p = still_there n.name xs sort body (with_name n.name sc) in record { functions = p.functions; assertions = p.assertions; has_logic = p.has_logic; is_checked = p.is_checked }) in
               record {
                 outcome = (

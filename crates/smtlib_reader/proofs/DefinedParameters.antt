@@ -156,7 +156,7 @@ inside_themselves (x ∷ xs) = ap (λ bs. itself x ∷ bs) (inside_themselves xs
 -- the parameters are in scope, and listed
 pub is_entered : (s z : Table) (v : TermsView) (r : Reader) (l : Listed) (scope : List Scoped) (values none : List Value) (xs : List Var) (sc : Script)
     → AddsNoSymbols s z → IsIdle s v r sc (top r.replaces_lets) → AreBound z v l.leaves.items values (map itself xs) → l.sorts.items ≡ map (λ (c : Value). c.sort) values
-    → ((p : Place) → IsScope z v r.scope p.scope → p.replaces_lets ≡ false → IsScope z v scope (inside (map itself xs) p).scope) → none ≡ []
+    → ((p : Place) → IsScope z v r.scope p.scope → p.settings.replaces_lets ≡ false → IsScope z v scope (inside (map itself xs) p).scope) → none ≡ []
     → AreListed z l xs × IsReady z v (record r { scope = scope; values = none }) xs sc
 is_entered s z v r l scope values none xs sc adds idle bound sorts put no_values = (
   record { leaves = leaves_bound z v l.leaves.items values xs bound; sorts = sorts ∙ sorts_bound z v l.leaves.items values xs bound },

@@ -13,7 +13,8 @@ use Rattle.problem_text.specs.Commands.{declare_fun}
 use Rattle.term_names.specs.Faults.{IsFaultOf}
 use Rattle.text_items.specs.ItemShapes.{Name}
 use Rattle.problem_text.specs.Problems.{performed}
-use Rattle.problem_text.specs.Scripts.{Script, is_taken, with_name, with_function, Outcome, done, refuse, given, and_then}
+use Rattle.problem_text.specs.Outcomes.{Outcome, done, refuse, given, and_then}
+use Rattle.problem_text.specs.Scripts.{Script, is_taken, with_name, with_function}
 use Rattle.smtlib_reader.specs.Sessions.{IsSession, Performs}
 use Rattle.problem_text.specs.Sorts.{sort_from, sorts_from}
 use Rattle.problem_text.specs.Words.{is_among, is_built_in}
@@ -35,20 +36,20 @@ module _ (s : Table) (v : TermsView) (d : Session) (sc : Script) (name : List �
   has_no_number = rw is.functions (no_position sc.functions name (free_name s v d.reader.known sc name is.idle.script untaken).1.no_function.script)
 
 module _ (s : Table) (v : TermsView) (d e : Session) (replaces : Bool) (x : Name) (arguments : Items) (target : Item) (sc : Script) (is : IsSession s v d sc) where
-  abbrev asked : Outcome ⊤
+  abbrev asked : Outcome Script ⊤
   asked = performed replaces (declare_fun x arguments target) sc
 
   -- by the target sort, and before that by the arguments' sorts
-  abbrev by_target : List Sort → Result Sort Refusal → Outcome ⊤
+  abbrev by_target : List Sort → Result Sort Refusal → Outcome Script ⊤
   by_target ss o = and_then (given o sc) (λ t last. done tt (with_function (record { name = x.name; arguments = ss; target = t }) (with_name x.name last)))
 
-  abbrev by_arguments : Result (List Sort) Refusal → Outcome ⊤
+  abbrev by_arguments : Result (List Sort) Refusal → Outcome Script ⊤
   by_arguments o =
       and_then (given o sc) (λ ss after.
       and_then (given (sort_from sc.sorts target) after) (λ t last.
       done tt (with_function (record { name = x.name; arguments = ss; target = t }) (with_name x.name last))))
 
-  abbrev by_name : Bool → Outcome ⊤
+  abbrev by_name : Bool → Outcome Script ⊤
   by_name taken = if taken then refuse Repeated x.place sc else by_arguments (sorts_from sc.sorts arguments)
 
   name_step : (taken : Bool) → is_taken sc x.name ≡ taken → asked ≡ by_name taken

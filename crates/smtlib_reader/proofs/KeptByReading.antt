@@ -1,6 +1,6 @@
 -- What the reading of a term keeps of a script.
 use Rattle.std.proofs.Common.{◌≡◌, ℕ, List, [], ◌∷◌, Bool, true, false, ◌||◌, Option, Some, None, Result, Ok, Err, IfOk, if◌then◌else◌, refl, sym, ◌∙◌, ap, bytes_eq}
-use Rattle.std.specs.Prelude.{⊤, nat_le}
+use Rattle.std.specs.Prelude.{⊤}
 use Rattle.std.proofs.lemmas.Slice.Eq.{bytes_eq-Decides}
 use Rattle.sexpr.specs.declared.causes.Cause.{Cause}
 use Rattle.sexpr.specs.declared.causes.Cause.TheVariants.{Repeated, TooHigh}
@@ -11,9 +11,10 @@ use Rattle.problem_text.specs.Words.{is_among, is_built_in}
 use Rattle.text_items.specs.ItemShapes.{Name}
 use Rattle.problem_text.specs.Forms.{Form, faulty, number, symbol, application, let_form, annotated, Forms, no_forms, form, Binds, no_binds, bind}
 use Rattle.rule_model.specs.Heights.{height}
-use Rattle.problem_text.specs.Limits.{most_height}
+use Rattle.problem_text.specs.Limits.{is_low}
 use Rattle.problem_text.specs.TypedTerms.{Typed}
-use Rattle.problem_text.specs.Scripts.{Named, Script, is_taken, with_named, with_term, with_let_name, Outcome, done, refuse, and_then}
+use Rattle.problem_text.specs.Outcomes.{Outcome, done, refuse, and_then}
+use Rattle.problem_text.specs.Scripts.{Named, Script, is_taken, with_named, with_term, with_let_name}
 use Rattle.problem_text.specs.Names.{Place, Meaning, meaning_of, applied, inside, let_term}
 use Rattle.term_names.specs.Standing.{named_in, macro_in, function_in}
 use Rattle.problem_text.specs.Terms.{settled, with_meaning, with_names, term_from, terms_from, bounds_from}
@@ -30,21 +31,21 @@ anything (Err refusal) = tt
 -- what stays as a term is read, the name of a variable is noted, and a name that is not taken is given
 module _ (P : Script → Type 0) (after_term : (t : Term) (s : Script) → P s → P (with_term t s)) (after_let_name : (name : List ℕ) (s : Script) → P s → P (with_let_name name s))
     (after_naming : (n : Named) (s : Script) → is_taken s n.name ≡ false → P s → P (with_named n s)) where
-  abbrev Keeps : {A : Type 0} → Outcome A → Type 0
+  abbrev Keeps : {A : Type 0} → Outcome Script A → Type 0
   Keeps o = Ends P Anything o
 
-  and_kept : {A B : Type 0} (o : Outcome A) (next : A → Script → Outcome B) → Keeps o → ((a : A) (s : Script) → P s → Keeps (next a s)) → Keeps (and_then o next)
+  and_kept : {A B : Type 0} (o : Outcome Script A) (next : A → Script → Outcome Script B) → Keeps o → ((a : A) (s : Script) → P s → Keeps (next a s)) → Keeps (and_then o next)
   and_kept o next h k = ends-and_then P Anything Anything o next h (λ a s _ p. k a s p)
 
-  in_settled : (place : ℕ) (o : Option Typed) (s : Script) → P s → Keeps (settled place o s)
-  in_settled place None s h = (h, tt)
-  in_settled place (Some t) s h = go (nat_le (height t.tree) most_height)
+  in_settled : (limit : Option ℕ) (place : ℕ) (o : Option Typed) (s : Script) → P s → Keeps (settled limit place o s)
+  in_settled limit place None s h = (h, tt)
+  in_settled limit place (Some t) s h = go (is_low limit (height t.tree))
     where
       go : (b : Bool) → Keeps (if b then done t (with_term t.tree s) else refuse TooHigh place (with_term t.tree s))
       go true = (after_term t.tree s h, tt)
       go false = (after_term t.tree s h, tt)
 
-  in_meaning : (place : ℕ) (o : Option Meaning) (s : Script) (next : Meaning → Outcome Typed) → P s → ((m : Meaning) → Keeps (next m)) → Keeps (with_meaning place o s next)
+  in_meaning : (place : ℕ) (o : Option Meaning) (s : Script) (next : Meaning → Outcome Script Typed) → P s → ((m : Meaning) → Keeps (next m)) → Keeps (with_meaning place o s next)
   in_meaning place None s next h k = (h, tt)
   in_meaning place (Some m) s next h k = k m
 
@@ -52,14 +53,14 @@ module _ (P : Script → Type 0) (after_term : (t : Term) (s : Script) → P s �
   in_names t [] s h = (h, tt)
   in_names t (n ∷ ns) s h = go (is_taken s n.name) refl (λ e. in_names t ns (with_named (record { name = n.name; meant = t }) s) (after_naming (record { name = n.name; meant = t }) s e h))
     where
-      after : Outcome Typed
+      after : Outcome Script Typed
       after = with_names t ns (with_named (record { name = n.name; meant = t }) s)
 
       go : (b : Bool) → is_taken s n.name ≡ b → (is_taken s n.name ≡ false → Keeps after) → Keeps (if b then refuse Repeated n.place s else after)
       go true e k = (h, tt)
       go false e k = k e
 
-  unless : {A : Type 0} (b : Bool) (cause : Cause) (place : ℕ) (s : Script) (o : Outcome A) → P s → Keeps o → Keeps (if b then refuse cause place s else o)
+  unless : {A : Type 0} (b : Bool) (cause : Cause) (place : ℕ) (s : Script) (o : Outcome Script A) → P s → Keeps o → Keeps (if b then refuse cause place s else o)
   unless true cause place s o h k = (h, tt)
   unless false cause place s o h k = k
 
@@ -68,14 +69,14 @@ module _ (P : Script → Type 0) (after_term : (t : Term) (s : Script) → P s �
 
     pub in_term : (f : Form) (p : Place) (s : Script) → P s → Keeps (term_from f p s)
     in_term (faulty cause place) p s h = (h, tt)
-    in_term (number place n) p s h = in_settled place (Some (record { tree = numeral n; sort = Sort.Int })) s h
-    in_term (symbol n) p s h = in_meaning n.place (meaning_of p s n.name) s _ h (λ m. in_settled n.place (applied m []) s h)
+    in_term (number place n) p s h = in_settled p.settings.limit place (Some (record { tree = numeral n; sort = Sort.Int })) s h
+    in_term (symbol n) p s h = in_meaning n.place (meaning_of p s n.name) s _ h (λ m. in_settled p.settings.limit n.place (applied m []) s h)
     in_term (application place head fs) p s h =
-        in_meaning head.place (meaning_of p s head.name) s _ h (λ m. and_kept (terms_from fs p s) _ (in_terms fs p s h) (λ ts end k. in_settled place (applied m ts) end k))
+        in_meaning head.place (meaning_of p s head.name) s _ h (λ m. and_kept (terms_from fs p s) _ (in_terms fs p s h) (λ ts end k. in_settled p.settings.limit place (applied m ts) end k))
     in_term (let_form place bs body) p s h =
         and_kept (bounds_from bs [] p s) _ (in_bounds bs [] p s h)
         (λ bound end k. and_kept (term_from body (inside bound p) end) _ (in_term body (inside bound p) end k)
-        (λ t last l. in_settled place (Some (let_term p bound t)) last l))
+        (λ t last l. in_settled p.settings.limit place (Some (let_term p bound t)) last l))
     in_term (annotated place f names) p s h = and_kept (term_from f p s) _ (in_term f p s h) (λ t end k. in_names t names end k)
 
     in_terms : (fs : Forms) (p : Place) (s : Script) → P s → Keeps (terms_from fs p s)
@@ -111,7 +112,7 @@ same_for old s after a b c d e f h = record {
 }
 
 -- nothing is declared in a term
-pub same_declared : (f : Form) (p : Place) (s : Script) → DeclaresSame s (term_from f p s).script
+pub same_declared : (f : Form) (p : Place) (s : Script) → DeclaresSame s (term_from f p s).state
 same_declared f p s =
     (in_term (λ after. DeclaresSame s after) (λ t sc h. same_for s sc (with_term t sc) refl refl refl refl refl refl h) (λ name sc h. same_for s sc (with_let_name name sc) refl refl refl refl refl refl h)
     (λ n sc e h. same_for s sc (with_named n sc) refl refl refl refl refl refl h) f p s (record { sorts = refl; functions = refl; macros = refl; assertions = refl; has_logic = refl; is_checked = refl })).0
@@ -136,7 +137,7 @@ other_name sc name other taken untaken = go (bytes_eq name other) refl
     go true e = absurd (both (is_built_in other) (is_among sc.taken other) untaken (ap (is_among sc.taken) (sym ((bytes_eq-Decides name other).0 e)) ∙ taken))
 
 -- a term is given no name that is taken
-pub still_reserved : (f : Form) (p : Place) (s : Script) (name : List ℕ) → IsReservedIn s name → IsReservedIn (term_from f p s).script name
+pub still_reserved : (f : Form) (p : Place) (s : Script) (name : List ℕ) → IsReservedIn s name → IsReservedIn (term_from f p s).state name
 still_reserved f p s name h = (in_term (λ sc. IsReservedIn sc name) (λ t sc k. same sc (with_term t sc) refl refl refl refl k) (λ x sc k. same sc (with_let_name x sc) refl refl refl refl k) given f p s h).0
   where
     same : (sc after : Script) → after.taken ≡ sc.taken → after.named ≡ sc.named → after.macros ≡ sc.macros → after.functions ≡ sc.functions → IsReservedIn sc name → IsReservedIn after name

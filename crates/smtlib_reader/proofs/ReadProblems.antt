@@ -15,7 +15,8 @@ use Rattle.smtlib_reader.specs.ProblemReading.{AreLeft, ReadsAll}
 use Rattle.term_reader.specs.ProblemViews.{IsCounted}
 use Rattle.problem_text.specs.Problems.{problem, StandsForProblem, IsFirstFault}
 use Rattle.term_reader.specs.Reading.{EndsWith}
-use Rattle.problem_text.specs.Scripts.{Script, Outcome, empty_script, done}
+use Rattle.problem_text.specs.Outcomes.{Outcome, done}
+use Rattle.problem_text.specs.Scripts.{Script, empty_script}
 use Rattle.smtlib_reader.specs.Sessions.{IsSession, IsReadBy}
 use Rattle.term_names.specs.declared.faults.ReadFault.{ReadFault}
 use Rattle.smtlib_reader.specs.declared.session.Session.{Session}
@@ -38,7 +39,7 @@ module _ (text : List ℕ) (replaces : Bool) (l : Lexer) (d : Session) where
       (subst (λ (b : Bool). AreLeft text b 0 empty_script (problem replaces items)) (sym same) (starts text replaces items h)))
 
   pub some_start : (s : Table) (v : TermsView) → source l ≡ text → position l ≡ 0 → d.reader.replaces_lets ≡ replaces → HasForm text → IsSession s v d empty_script
-      → (sc : Script) × (whole : Outcome ⊤) × AreLeft (source l) d.reader.replaces_lets (position l) sc whole × IsSession s v d sc
+      → (sc : Script) × (whole : Outcome Script ⊤) × AreLeft (source l) d.reader.replaces_lets (position l) sc whole × IsSession s v d sc
   some_start s v e at same (items, h) session = (empty_script, problem replaces items, starts_here e at same items h, session)
 
 counted : (text : List ℕ) (replaces : Bool) (items : Items) → StandsForItems text items → (t : Term) → IsReadBy (problem replaces items) t → IsCounted text replaces t

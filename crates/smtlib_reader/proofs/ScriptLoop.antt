@@ -7,7 +7,8 @@ use Rattle.sym_table.specs.Table.{Table, Keeps}
 use Rattle.term_pool.specs.Views.{TermsView, KeepsTerms}
 use Rattle.term_names.specs.Making.{PlacesCellsOf}
 use Rattle.smtlib_reader.specs.ProblemReading.{AreLeft, ReadsCommand, ReadsAll, most_after}
-use Rattle.problem_text.specs.Scripts.{Script, Outcome}
+use Rattle.problem_text.specs.Outcomes.{Outcome}
+use Rattle.problem_text.specs.Scripts.{Script}
 use Rattle.smtlib_reader.specs.Sessions.{IsSession, IsReadBy}
 use Rattle.term_names.specs.declared.faults.ReadFault.{ReadFault}
 use Rattle.smtlib_reader.specs.declared.session.Session.{Session}
@@ -15,9 +16,9 @@ use Rattle.term_reader.proofs.Staying.{table_keeps_none, table_keeps_then, keeps
 
 -- The reading began with these, and is here now.
 pub record IsUnderWay (l : Lexer) (s : Table) (v : TermsView) (d : Session) (m : Lexer) (z : Table) (w : TermsView) (e : Session) : Type 0 where
-  pub left : (sc : Script) (whole : Outcome ⊤) → AreLeft (source l) d.reader.replaces_lets (position l) sc whole → IsSession s v d sc
+  pub left : (sc : Script) (whole : Outcome Script ⊤) → AreLeft (source l) d.reader.replaces_lets (position l) sc whole → IsSession s v d sc
       → (now : Script) × AreLeft (source m) e.reader.replaces_lets (position m) now whole × IsSession z w e now
-  pub placed : (sc : Script) (whole : Outcome ⊤) → AreLeft (source l) d.reader.replaces_lets (position l) sc whole → IsSession s v d sc
+  pub placed : (sc : Script) (whole : Outcome Script ⊤) → AreLeft (source l) d.reader.replaces_lets (position l) sc whole → IsSession s v d sc
       → PlacesCellsOf z v.pass w.pass (IsReadBy whole)
   pub symbols : Keeps s z
   pub keeps : KeepsTerms v w
@@ -42,9 +43,9 @@ begins l s v d inside = record {
 
 -- the commands that are left are those of some outcome
 pub some_left : (l : Lexer) (s : Table) (v : TermsView) (d : Session) (m : Lexer) (z : Table) (w : TermsView) (e : Session)
-    → (sc : Script) × (whole : Outcome ⊤) × AreLeft (source l) d.reader.replaces_lets (position l) sc whole × IsSession s v d sc
+    → (sc : Script) × (whole : Outcome Script ⊤) × AreLeft (source l) d.reader.replaces_lets (position l) sc whole × IsSession s v d sc
     → IsUnderWay l s v d m z w e
-    → (sc : Script) × (whole : Outcome ⊤) × AreLeft (source m) e.reader.replaces_lets (position m) sc whole × IsSession z w e sc
+    → (sc : Script) × (whole : Outcome Script ⊤) × AreLeft (source m) e.reader.replaces_lets (position m) sc whole × IsSession z w e sc
 some_left l s v d m z w e (sc, whole, left, session) h =
     let (now, more, stands) = h.left sc whole left session in (now, whole, more, stands)
 
@@ -56,13 +57,13 @@ pub record Steps (m : Lexer) (z : Table) (w : TermsView) (e : Session) (o : Lexe
   pub base : f.reader.known.base ≡ e.reader.known.base
 
 module _ (l : Lexer) (s : Table) (v : TermsView) (d : Session) (m : Lexer) (z : Table) (w : TermsView) (e : Session) (o : Lexer) (y : Table) (x : TermsView) (f : Session) where
-  placed_so_far : IsUnderWay l s v d m z w e → Steps m z w e o y x f → (sc : Script) (whole : Outcome ⊤) → AreLeft (source l) d.reader.replaces_lets (position l) sc whole → IsSession s v d sc
+  placed_so_far : IsUnderWay l s v d m z w e → Steps m z w e o y x f → (sc : Script) (whole : Outcome Script ⊤) → AreLeft (source l) d.reader.replaces_lets (position l) sc whole → IsSession s v d sc
       → PlacesCellsOf y w.pass x.pass (IsReadBy whole) → PlacesCellsOf y v.pass x.pass (IsReadBy whole)
   placed_so_far h step sc whole left session placed =
       places_then z y v.pass w.pass x.pass (IsReadBy whole) step.symbols step.keeps.pass (h.placed sc whole left session) placed
 
   pub goes_on : IsUnderWay l s v d m z w e
-      → ((sc : Script) (whole : Outcome ⊤) → AreLeft (source m) e.reader.replaces_lets (position m) sc whole → IsSession z w e sc → ReadsCommand (source o) y w x f (position o) whole (Ok true))
+      → ((sc : Script) (whole : Outcome Script ⊤) → AreLeft (source m) e.reader.replaces_lets (position m) sc whole → IsSession z w e sc → ReadsCommand (source o) y w x f (position o) whole (Ok true))
       → Steps m z w e o y x f → position o ≤ length (source m)
       → most_after (length y.leaves) (source o) (position o) ≤ most_after (length z.leaves) (source m) (position m)
       → most_after (length y.sorts) (source o) (position o) ≤ most_after (length z.sorts) (source m) (position m)
@@ -80,18 +81,18 @@ module _ (l : Lexer) (s : Table) (v : TermsView) (d : Session) (m : Lexer) (z : 
   }
 
   pub fails : (fault : ReadFault) → IsUnderWay l s v d m z w e
-      → ((sc : Script) (whole : Outcome ⊤) → AreLeft (source m) e.reader.replaces_lets (position m) sc whole → IsSession z w e sc → ReadsCommand (source o) y w x f (position o) whole (Err fault))
+      → ((sc : Script) (whole : Outcome Script ⊤) → AreLeft (source m) e.reader.replaces_lets (position m) sc whole → IsSession z w e sc → ReadsCommand (source o) y w x f (position o) whole (Err fault))
       → Steps m z w e o y x f
-      → (sc : Script) (whole : Outcome ⊤) → AreLeft (source l) d.reader.replaces_lets (position l) sc whole → IsSession s v d sc → ReadsAll y v x f whole (Err fault)
+      → (sc : Script) (whole : Outcome Script ⊤) → AreLeft (source l) d.reader.replaces_lets (position l) sc whole → IsSession s v d sc → ReadsAll y v x f whole (Err fault)
   fails fault h reads step sc whole left session =
       let (now, more, stands) = h.left sc whole left session in
       let r = reads now whole more stands in
       record { outcome = r.outcome; placed = placed_so_far h step sc whole left session r.placed }
 
   pub ends : IsUnderWay l s v d m z w e
-      → ((sc : Script) (whole : Outcome ⊤) → AreLeft (source m) e.reader.replaces_lets (position m) sc whole → IsSession z w e sc → ReadsCommand (source o) y w x f (position o) whole (Ok false))
+      → ((sc : Script) (whole : Outcome Script ⊤) → AreLeft (source m) e.reader.replaces_lets (position m) sc whole → IsSession z w e sc → ReadsCommand (source o) y w x f (position o) whole (Ok false))
       → Steps m z w e o y x f
-      → (sc : Script) (whole : Outcome ⊤) → AreLeft (source l) d.reader.replaces_lets (position l) sc whole → IsSession s v d sc → ReadsAll y v x f whole (Ok tt)
+      → (sc : Script) (whole : Outcome Script ⊤) → AreLeft (source l) d.reader.replaces_lets (position l) sc whole → IsSession s v d sc → ReadsAll y v x f whole (Ok tt)
   ends h reads step sc whole left session =
       let (now, more, stands) = h.left sc whole left session in
       let r = reads now whole more stands in

@@ -11,11 +11,13 @@ use Rattle.term_pool.specs.Views.{TermsView}
 use Rattle.term_names.specs.Entries.{lookup}
 use Rattle.term_names.specs.InScope.{IsScope}
 use Rattle.term_names.specs.Making.{PlacesCellsOf}
+use Rattle.problem_text.specs.Limits.{limited}
 use Rattle.problem_text.specs.Names.{Place, itself}
 use Rattle.smtlib_reader.specs.Parameters.{AreParameters}
 use Rattle.term_reader.specs.Reading.{IsReadTerm, EndsWith, IsIdle}
 use Rattle.problem_text.specs.TypedTerms.{Typed}
-use Rattle.problem_text.specs.Scripts.{Script, Outcome, done, refuse, and_then, with_macro}
+use Rattle.problem_text.specs.Outcomes.{Outcome, done, refuse, and_then}
+use Rattle.problem_text.specs.Scripts.{Script, with_macro}
 use Rattle.smtlib_reader.specs.Sessions.{IsReadBy, top}
 use Rattle.problem_text.specs.Sorts.{chained, sort_from, parameters_from}
 use Rattle.term_names.specs.Standing.{AreLeavesOf, IsScript, IsReservedName}
@@ -48,13 +50,13 @@ IsSignatureRead source nodes first last ps expected (Err ReadFault.Memory) = Uni
 
 -- where the body stands: only the parameters are in scope, and lets are replaced
 abbrev pub within : List Var → Place
-within xs = record { scope = map itself xs; replaces_lets = true }
+within xs = record { scope = map itself xs; settings = limited true }
 
-abbrev pub body_read : List Var → Item → Script → Outcome Typed
+abbrev pub body_read : List Var → Item → Script → Outcome Script Typed
 body_read xs body s = read_term body (within xs) s
 
 -- what comes of the command once its signature is read
-abbrev pub macro_defined : List ℕ → List Var → Sort → Item → Script → Outcome ⊤
+abbrev pub macro_defined : List ℕ → List Var → Sort → Item → Script → Outcome Script ⊤
 macro_defined name xs target body s =
     and_then (body_read xs body s) (λ t last.
     if sort_eq t.sort target then done tt (with_macro (record { name = name; parameters = xs; target = target; body = t.tree }) last)
@@ -81,12 +83,12 @@ pub record IsReady (s : Table) (v : TermsView) (r : Reader) (xs : List Var) (sc 
   pub no_frames : r.frames ≡ []
 
 -- What a body came to: a value without a let, and the reader outside the definition again; or a fault.
-abbrev pub IsBody : Table → TermsView → Reader → Outcome Typed → Result Value ReadFault → Type 0
+abbrev pub IsBody : Table → TermsView → Reader → Outcome Script Typed → Result Value ReadFault → Type 0
 IsBody s v r whole (Ok c) =
     (t : Typed) × (sc : Script) × (whole ≡ done t sc) × IsValue s v c t × (c.plain ≡ true) × IsIdle s v r sc (top r.replaces_lets)
 IsBody s v r whole (Err fault) = EndsWith s v.pass whole.result (IsReadTerm whole) fault
 
-pub record ReadsBody (s : Table) (old new : TermsView) (r : Reader) (whole : Outcome Typed) (result : Result Value ReadFault) : Type 0 where
+pub record ReadsBody (s : Table) (old new : TermsView) (r : Reader) (whole : Outcome Script Typed) (result : Result Value ReadFault) : Type 0 where
   pub outcome : IsBody s new r whole result
   pub placed : PlacesCellsOf s old.pass new.pass (IsReadTerm whole)
 
@@ -97,10 +99,10 @@ pub record IsDefining (s : Table) (v : TermsView) (r : Reader) (name : List ℕ)
   pub no_base : lookup r.known.base.names name ≡ None
 
 -- The macro is defined, or the command has its fault.
-abbrev pub IsDefined : Table → TermsView → Reader → Outcome ⊤ → Result Unit ReadFault → Type 0
+abbrev pub IsDefined : Table → TermsView → Reader → Outcome Script ⊤ → Result Unit ReadFault → Type 0
 IsDefined s v r o (Ok _) = (sc : Script) × (o ≡ done tt sc) × IsIdle s v r sc (top r.replaces_lets)
 IsDefined s v r o (Err fault) = EndsWith s v.pass o.result (IsReadBy o) fault
 
-pub record Defines (s : Table) (old new : TermsView) (r : Reader) (o : Outcome ⊤) (result : Result Unit ReadFault) : Type 0 where
+pub record Defines (s : Table) (old new : TermsView) (r : Reader) (o : Outcome Script ⊤) (result : Result Unit ReadFault) : Type 0 where
   pub outcome : IsDefined s new r o result
   pub placed : PlacesCellsOf s old.pass new.pass (IsReadBy o)

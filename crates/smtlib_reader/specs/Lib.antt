@@ -6,6 +6,7 @@ pub mod ProblemReading
 pub use Rattle.text_items.specs.Lexers
 pub use Rattle.problem_text.specs.Limits
 pub use Rattle.problem_text.specs.Names
+pub use Rattle.problem_text.specs.Outcomes
 pub use Rattle.problem_text.specs.Problems
 pub use Rattle.problem_text.specs.Scripts
 pub use Rattle.problem_text.specs.Sorts

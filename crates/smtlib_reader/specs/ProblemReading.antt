@@ -9,7 +9,8 @@ use Rattle.term_names.specs.Making.{PlacesCellsOf}
 use Rattle.text_items.specs.Nodes.{IsNode}
 use Rattle.problem_text.specs.Problems.{commands}
 use Rattle.term_reader.specs.Reading.{EndsWith}
-use Rattle.problem_text.specs.Scripts.{Script, Outcome, done}
+use Rattle.problem_text.specs.Outcomes.{Outcome, done}
+use Rattle.problem_text.specs.Scripts.{Script}
 use Rattle.smtlib_reader.specs.Sessions.{IsSession, IsReadBy}
 use Rattle.term_names.specs.declared.faults.ReadFault.{ReadFault}
 use Rattle.text_items.specs.declared.nodes.Node.{Node}
@@ -35,27 +36,27 @@ IsItemFound source nodes at items true = IsFirstItem source nodes at items
 IsItemFound source nodes at items false = items ≡ no_items
 
 -- The commands that are left of a text come to this outcome.
-pub record AreLeft (source : List ℕ) (replaces_lets : Bool) (at : ℕ) (sc : Script) (whole : Outcome ⊤) : Type 0 where
+pub record AreLeft (source : List ℕ) (replaces_lets : Bool) (at : ℕ) (sc : Script) (whole : Outcome Script ⊤) : Type 0 where
   pub items : Items
   pub here : HasItems source at items
   pub comes : commands replaces_lets items sc ≡ whole
 
 -- A command was read, and others may be left; or the text is at its end or at an exit; or it has a fault.
-abbrev pub IsCommandRead : List ℕ → Table → TermsView → Session → ℕ → Outcome ⊤ → Result Bool ReadFault → Type 0
+abbrev pub IsCommandRead : List ℕ → Table → TermsView → Session → ℕ → Outcome Script ⊤ → Result Bool ReadFault → Type 0
 IsCommandRead source s v d at whole (Ok true) = (sc : Script) × AreLeft source d.reader.replaces_lets at sc whole × IsSession s v d sc
 IsCommandRead source s v d at whole (Ok false) = (sc : Script) × (whole ≡ done tt sc) × IsSession s v d sc
 IsCommandRead source s v d at whole (Err fault) = EndsWith s v.pass whole.result (IsReadBy whole) fault
 
-pub record ReadsCommand (source : List ℕ) (s : Table) (old new : TermsView) (d : Session) (at : ℕ) (whole : Outcome ⊤) (result : Result Bool ReadFault) : Type 0 where
+pub record ReadsCommand (source : List ℕ) (s : Table) (old new : TermsView) (d : Session) (at : ℕ) (whole : Outcome Script ⊤) (result : Result Bool ReadFault) : Type 0 where
   pub outcome : IsCommandRead source s new d at whole result
   pub placed : PlacesCellsOf s old.pass new.pass (IsReadBy whole)
 
 -- The commands of a text were read by the end, or it has a fault.
-abbrev pub AreRead : Table → TermsView → Session → Outcome ⊤ → Result Unit ReadFault → Type 0
+abbrev pub AreRead : Table → TermsView → Session → Outcome Script ⊤ → Result Unit ReadFault → Type 0
 AreRead s v d whole (Ok _) = (sc : Script) × (whole ≡ done tt sc) × IsSession s v d sc
 AreRead s v d whole (Err fault) = EndsWith s v.pass whole.result (IsReadBy whole) fault
 
-pub record ReadsAll (s : Table) (old new : TermsView) (d : Session) (whole : Outcome ⊤) (result : Result Unit ReadFault) : Type 0 where
+pub record ReadsAll (s : Table) (old new : TermsView) (d : Session) (whole : Outcome Script ⊤) (result : Result Unit ReadFault) : Type 0 where
   pub outcome : AreRead s new d whole result
   pub placed : PlacesCellsOf s old.pass new.pass (IsReadBy whole)
 

@@ -30,5 +30,6 @@ mod sorts_at;
 pub use problem_reading::read_problem;
 pub use problem_text::examples;
 pub use sorts::read_sort;
+pub use sorts_at::sort_at;
 pub use term_names::ReadFault;
 pub use term_reader::{Flags, Problem, TermReader};

@@ -6,7 +6,8 @@ ghost use Rattle.sexpr.specs.Source as at;
 ghost use Rattle.sym_table.specs.Table.{Keeps};
 ghost use Rattle.term_pool.specs.Views.{KeepsTerms};
 ghost use Rattle.smtlib_reader.specs.ProblemReading.{HasItems, IsItemFound, AreLeft, ReadsCommand, ReadsAll, most_after};
-ghost use Rattle.problem_text.specs.Scripts.{Script, Outcome};
+ghost use Rattle.problem_text.specs.Outcomes.{Outcome};
+ghost use Rattle.problem_text.specs.Scripts.{Script};
 ghost use Rattle.smtlib_reader.specs.Sessions.{IsSession};
 ghost use Rattle.term_names.specs.declared.faults.ReadFault.TheVariants as fault;
 
@@ -55,10 +56,10 @@ fn read_command(
     terms: &mut Terms<'_>,
     session: &mut Session<'_>,
 ) -> Result<bool, ReadFault>
-    requires left { (sc : Script) × (whole : Outcome ⊤) × AreLeft (at.source lexer.old) session.old.reader.replaces_lets (at.position lexer.old) sc whole × IsSession symbols.old terms.old session.old sc }
+    requires left { (sc : Script) × (whole : Outcome Script ⊤) × AreLeft (at.source lexer.old) session.old.reader.replaces_lets (at.position lexer.old) sc whole × IsSession symbols.old terms.old session.old sc }
     requires room { most_after (length symbols.old.leaves) (at.source lexer.old) (at.position lexer.old) ≤ 2 ^ 30 }
     requires room_for_sorts { most_after (length symbols.old.sorts) (at.source lexer.old) (at.position lexer.old) ≤ 2 ^ 30 }
-    ensures reads { (sc : Script) (whole : Outcome ⊤) → AreLeft (at.source lexer.old) session.old.reader.replaces_lets (at.position lexer.old) sc whole → IsSession symbols.old terms.old session.old sc → ReadsCommand (at.source lexer.new) symbols.new terms.old terms.new session.new (at.position lexer.new) whole result }
+    ensures reads { (sc : Script) (whole : Outcome Script ⊤) → AreLeft (at.source lexer.old) session.old.reader.replaces_lets (at.position lexer.old) sc whole → IsSession symbols.old terms.old session.old sc → ReadsCommand (at.source lexer.new) symbols.new terms.old terms.new session.new (at.position lexer.new) whole result }
     ensures source { at.source lexer.new ≡ at.source lexer.old }
     ensures progress { IfOk result (λ found. IsTrue found → at.position lexer.old < at.position lexer.new) }
     ensures inside { IfOk result (λ found. IsTrue found → at.position lexer.new ≤ length (at.source lexer.old)) }
@@ -89,11 +90,11 @@ pub(crate) fn read_commands(
     terms: &mut Terms<'_>,
     session: &mut Session<'_>,
 ) -> Result<(), ReadFault>
-    requires left { (sc : Script) × (whole : Outcome ⊤) × AreLeft (at.source lexer.old) session.old.reader.replaces_lets (at.position lexer.old) sc whole × IsSession symbols.old terms.old session.old sc }
+    requires left { (sc : Script) × (whole : Outcome Script ⊤) × AreLeft (at.source lexer.old) session.old.reader.replaces_lets (at.position lexer.old) sc whole × IsSession symbols.old terms.old session.old sc }
     requires inside { at.position lexer.old ≤ length (at.source lexer.old) }
     requires room { most_after (length symbols.old.leaves) (at.source lexer.old) (at.position lexer.old) ≤ 2 ^ 30 }
     requires room_for_sorts { most_after (length symbols.old.sorts) (at.source lexer.old) (at.position lexer.old) ≤ 2 ^ 30 }
-    ensures reads { (sc : Script) (whole : Outcome ⊤) → AreLeft (at.source lexer.old) session.old.reader.replaces_lets (at.position lexer.old) sc whole → IsSession symbols.old terms.old session.old sc → ReadsAll symbols.new terms.old terms.new session.new whole result }
+    ensures reads { (sc : Script) (whole : Outcome Script ⊤) → AreLeft (at.source lexer.old) session.old.reader.replaces_lets (at.position lexer.old) sc whole → IsSession symbols.old terms.old session.old sc → ReadsAll symbols.new terms.old terms.new session.new whole result }
     ensures few { length symbols.new.leaves ≤ most_after (length symbols.old.leaves) (at.source lexer.old) (at.position lexer.old) }
     ensures symbols { Keeps symbols.old symbols.new }
     ensures base { session.new.reader.known.base ≡ session.old.reader.known.base }

@@ -14,8 +14,8 @@ use term_names::faults::ReadFault;
 use text_items::nodes::{Node, node_at};
 use text_items::refusals::refused;
 
-/// The sort that the item at node `k` stands for. No memory is taken.
-pub(crate) fn sort_at(
+/// The sort that the item at node `k` stands for, as `read_sort` answers it. No memory is taken.
+pub fn sort_at(
     text: &Lexer<'_>,
     nodes: &[Node],
     k: usize,

@@ -81,12 +81,12 @@ let-height : (bs : Bindings) (t : Term) → height (let_in bs t) ≡ 1 + max (hi
 unfolding height
 let-height bs t = refl
 
-let-kept : (p : Place) (bs : List Bound) (t : Typed) (replaces : Bool) → p.replaces_lets ≡ replaces → replaces ≡ false → let_term p bs t ≡ record { tree = let_in (bindings_of bs) t.tree; sort = t.sort }
+let-kept : (p : Place) (bs : List Bound) (t : Typed) (replaces : Bool) → p.settings.replaces_lets ≡ replaces → replaces ≡ false → let_term p bs t ≡ record { tree = let_in (bindings_of bs) t.tree; sort = t.sort }
 let-kept p bs t replaces e f = ap (λ b. if b then t else record { tree = let_in (bindings_of bs) t.tree; sort = t.sort }) (e ∙ f)
 
 module _ (s : Table) (old new : TermsView) (ks : List ℕ) (cs : List Value) (bs : List Bound) (p : Place) (t : Typed) (body : Value) (replaces : Bool)
     (law : (s : Table) (vars : List ℕ) (trees : List Tree) (body : Tree) (bs : Bindings) (u : Term) → StandForValues s vars trees bs → StandsFor s body u → StandsFor s (let_term_tree vars trees body) (let_in bs u))
-    (bound : AreBound s old ks cs bs) (is : IsValue s old body t) (same : p.replaces_lets ≡ replaces) (kept : replaces ≡ false) where
+    (bound : AreBound s old ks cs bs) (is : IsValue s old body t) (same : p.settings.replaces_lets ≡ replaces) (kept : replaces ≡ false) where
   stands : (h : AreTreesOf s old ks cs bs) → StandsFor s (let_term_tree ks h.trees is.refers.tree) (let_in (bindings_of bs) t.tree)
   stands h = law s ks h.trees is.refers.tree (bindings_of bs) t.tree h.stand is.refers.stands
 

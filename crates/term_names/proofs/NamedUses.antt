@@ -32,7 +32,7 @@ pub answers : (s : Table) (v : TermsView) (o : Option Typed) (r : Result (Option
 answers s v o r h = record { answer = h; placed = λ q a b g. inl g }
 
 -- where lets stay the named term stays as it is
-pub named_stays : (s : Table) (v : TermsView) (p : Place) (n : held.Named) (m : Meaning) → p.replaces_lets ≡ false → IsNamedMeant s v p (Some n) m → IsMade s v (applied m []) (Ok (Some n.value))
+pub named_stays : (s : Table) (v : TermsView) (p : Place) (n : held.Named) (m : Meaning) → p.settings.replaces_lets ≡ false → IsNamedMeant s v p (Some n) m → IsMade s v (applied m []) (Ok (Some n.value))
 named_stays s v p n m lets (h, d, same, is, meant, bound) = (
   d.meant,
   applied_value m (used p d.meant) meant
@@ -53,7 +53,7 @@ pub record IsPutIn (s : Table) (v : TermsView) (c : Value) (list : List holds.Bo
   pub is : IsReplacement s v list means
   pub made : o ≡ Some (record { tree = replaced means term.tree; sort = term.sort })
 
-pub named_put_in : (s : Table) (v : TermsView) (p : Place) (n : held.Named) (m : Meaning) (list : List holds.Bound) → p.replaces_lets ≡ true → IsNamedMeant s v p (Some n) m → PutsInFree s v n list p → IsPutIn s v n.value list (applied m [])
+pub named_put_in : (s : Table) (v : TermsView) (p : Place) (n : held.Named) (m : Meaning) (list : List holds.Bound) → p.settings.replaces_lets ≡ true → IsNamedMeant s v p (Some n) m → PutsInFree s v n list p → IsPutIn s v n.value list (applied m [])
 named_put_in s v p n m list lets (h, d, same, is, meant, bound) puts =
     let free = subst (λ (c : held.Named). AreFreeLeaves s c.free.items (free_variables d.meant.tree)) (sym (same_Some _ _ same)) is.free in
     let put = puts (free_variables d.meant.tree) free bound in

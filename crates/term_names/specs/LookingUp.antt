@@ -18,7 +18,7 @@ use Rattle.term_names.specs.declared.looking_up.Found.{Found}
 
 -- what a use of a named term stands for at a place
 abbrev pub used : Place → Typed → Typed
-used p t = if p.replaces_lets then record { tree = replaced (replacement p.scope) t.tree; sort = t.sort } else t
+used p t = if p.settings.replaces_lets then record { tree = replaced (replacement p.scope) t.tree; sort = t.sort } else t
 
 -- every free variable of the term is bound here
 abbrev pub IsBoundHere : Place → Typed → Type 0

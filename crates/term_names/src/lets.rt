@@ -33,7 +33,7 @@ pub fn bind(
 ) -> Result<(), Memory>
     requires within { from ≤ length values.now }
     requires bound { (v : TermsView) × (bs : List Bound) × AreBound symbols.now v leaves.now (drop from values.now) bs }
-    ensures bound { (v : TermsView) (bs : List Bound) (p : Place) → AreBound symbols.now v leaves.now (drop from values.now) bs → IsScope symbols.now v scope.old p.scope → p.replaces_lets ≡ replaces_lets → OnOk result (IsScope symbols.now v scope.new (inside bs p).scope) }
+    ensures bound { (v : TermsView) (bs : List Bound) (p : Place) → AreBound symbols.now v leaves.now (drop from values.now) bs → IsScope symbols.now v scope.old p.scope → p.settings.replaces_lets ≡ replaces_lets → OnOk result (IsScope symbols.now v scope.new (inside bs p).scope) }
     ensures inner { OnOk result ((inner : List Scoped) × (scope.new ≡ inner ++ scope.old) × (length inner ≡ length leaves.now)) }
 {
     let _values = values.len();
@@ -118,7 +118,7 @@ pub fn close(
     requires low { AreLow values.now }
     requires body_low { body.height ≤ most_height }
     requires bound { (bs : List Bound) × (t : Typed) × AreBound symbols.now terms.old leaves.now (drop from values.now) bs × IsValue symbols.now terms.old body t }
-    ensures makes { (p : Place) (bs : List Bound) (t : Typed) → AreBound symbols.now terms.old leaves.now (drop from values.now) bs → IsValue symbols.now terms.old body t → p.replaces_lets ≡ replaces_lets → Makes symbols.now terms.old terms.new (Some (let_term p bs t)) result }
+    ensures makes { (p : Place) (bs : List Bound) (t : Typed) → AreBound symbols.now terms.old leaves.now (drop from values.now) bs → IsValue symbols.now terms.old body t → p.settings.replaces_lets ≡ replaces_lets → Makes symbols.now terms.old terms.new (Some (let_term p bs t)) result }
     ensures keeps { KeepsTerms terms.old terms.new }
 {
     if replaces_lets {

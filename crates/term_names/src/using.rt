@@ -42,8 +42,8 @@ pub fn use_alone(
     replaces_lets: bool,
     found: Found,
 ) -> Result<Option<Value>, ReadFault>
-    requires found { (p : Place) × (m : Meaning) × IsScope symbols.now terms.old scope.now p.scope × (p.replaces_lets ≡ replaces_lets) × IsFound symbols.now terms.old known.now p found (Some m) }
-    ensures makes { (p : Place) (m : Meaning) → IsScope symbols.now terms.old scope.now p.scope → p.replaces_lets ≡ replaces_lets → IsFound symbols.now terms.old known.now p found (Some m) → Makes symbols.now terms.old terms.new (applied m []) result }
+    requires found { (p : Place) × (m : Meaning) × IsScope symbols.now terms.old scope.now p.scope × (p.settings.replaces_lets ≡ replaces_lets) × IsFound symbols.now terms.old known.now p found (Some m) }
+    ensures makes { (p : Place) (m : Meaning) → IsScope symbols.now terms.old scope.now p.scope → p.settings.replaces_lets ≡ replaces_lets → IsFound symbols.now terms.old known.now p found (Some m) → Makes symbols.now terms.old terms.new (applied m []) result }
     ensures keeps { KeepsTerms terms.old terms.new }
 {
     match found {
@@ -94,8 +94,8 @@ fn use_named(
     replaces_lets: bool,
     named: &Named,
 ) -> Result<Option<Value>, ReadFault>
-    requires named { (p : Place) × (m : Meaning) × IsScope symbols.now terms.old scope.now p.scope × (p.replaces_lets ≡ replaces_lets) × IsNamedMeant symbols.now terms.old p (Some named.now) m }
-    ensures makes { (p : Place) (m : Meaning) → IsScope symbols.now terms.old scope.now p.scope → p.replaces_lets ≡ replaces_lets → IsNamedMeant symbols.now terms.old p (Some named.now) m → Makes symbols.now terms.old terms.new (applied m []) result }
+    requires named { (p : Place) × (m : Meaning) × IsScope symbols.now terms.old scope.now p.scope × (p.settings.replaces_lets ≡ replaces_lets) × IsNamedMeant symbols.now terms.old p (Some named.now) m }
+    ensures makes { (p : Place) (m : Meaning) → IsScope symbols.now terms.old scope.now p.scope → p.settings.replaces_lets ≡ replaces_lets → IsNamedMeant symbols.now terms.old p (Some named.now) m → Makes symbols.now terms.old terms.new (applied m []) result }
     ensures keeps { KeepsTerms terms.old terms.new }
 {
     if !replaces_lets {

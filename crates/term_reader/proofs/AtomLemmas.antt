@@ -19,10 +19,12 @@ use Rattle.term_names.specs.Known.{KnownView}
 use Rattle.text_items.specs.NameNodes.{BeginsAt, IsNameNode}
 use Rattle.term_names.specs.LookingUp.{IsFound}
 use Rattle.term_names.specs.Making.{PlacesCellsOf, IsExpected, IsMade, Makes}
+use Rattle.problem_text.specs.Limits.{most_height}
 use Rattle.problem_text.specs.Names.{Place, Meaning, meaning_of, applied}
 use Rattle.term_reader.specs.Reading.{IsReadTerm}
 use Rattle.problem_text.specs.TypedTerms.{Typed}
-use Rattle.problem_text.specs.Scripts.{Script, Outcome}
+use Rattle.problem_text.specs.Outcomes.{Outcome}
+use Rattle.problem_text.specs.Scripts.{Script}
 use Rattle.term_reader.specs.Settling.{IsSettled}
 use Rattle.problem_text.specs.Terms.{settled, term_from}
 use Rattle.term_names.specs.declared.faults.ReadFault.{ReadFault}
@@ -77,30 +79,30 @@ head_found s v k p found o head known is applies =
     subst (λ a. IsHeadFound s v k a o) (sym same) (m, e, of)
 
 -- a term that is expected is read, whether it is settled or too high
-expected_read : (place : ℕ) (o : Option Typed) (sc : Script) (t : Term) → IsExpected o t → IsReadTerm (settled place o sc) t
+expected_read : (place : ℕ) (o : Option Typed) (sc : Script) (t : Term) → IsExpected o t → IsReadTerm (settled (Some most_height) place o sc) t
 expected_read place o sc t (d, is, same) =
-    subst (λ (e : Option Typed). IsReadTerm (settled place e sc) t) (sym is)
-    (subst (λ (u : Term). IsReadTerm (settled place (Some d) sc) u) same (settled_is_read [] place d sc))
+    subst (λ (e : Option Typed). IsReadTerm (settled (Some most_height) place e sc) t) (sym is)
+    (subst (λ (u : Term). IsReadTerm (settled (Some most_height) place (Some d) sc) u) same (settled_is_read [] (Some most_height) place d sc))
 
-settled_alone : (s : Table) (v : TermsView) (place : ℕ) (o : Option Typed) (sc : Script) (result : Result Value ReadFault) → IsSettled s v place o sc result → IsReadAlone s v (settled place o sc) sc result
+settled_alone : (s : Table) (v : TermsView) (place : ℕ) (o : Option Typed) (sc : Script) (result : Result Value ReadFault) → IsSettled s v place o sc result → IsReadAlone s v (settled (Some most_height) place o sc) sc result
 settled_alone s v place o sc (Ok c) (t, is, comes, value, low) = (t, comes, value, low)
 settled_alone s v place o sc (Err (ReadFault.Text r)) h = h
 settled_alone s v place o sc (Err ReadFault.PoolFull) h = absurd h
 settled_alone s v place o sc (Err ReadFault.Memory) h = absurd h
 
-made_fault : (s : Table) (v : TermsView) (place : ℕ) (o : Option Typed) (sc : Script) (f : ReadFault) → IsMade s v o (Err f) → IsReadAlone s v (settled place o sc) sc (Err f)
+made_fault : (s : Table) (v : TermsView) (place : ℕ) (o : Option Typed) (sc : Script) (f : ReadFault) → IsMade s v o (Err f) → IsReadAlone s v (settled (Some most_height) place o sc) sc (Err f)
 made_fault s v place o sc (ReadFault.Text r) h = absurd h
-made_fault s v place o sc ReadFault.PoolFull h = lacks_more s v.pass (IsExpected o) (IsReadTerm (settled place o sc)) (expected_read place o sc) h
+made_fault s v place o sc ReadFault.PoolFull h = lacks_more s v.pass (IsExpected o) (IsReadTerm (settled (Some most_height) place o sc)) (expected_read place o sc) h
 made_fault s v place o sc ReadFault.Memory h = tt
 
 -- a symbol of this meaning stands alone
-module _ (s : Table) (old new : TermsView) (x : Name) (p : Place) (sc : Script) (m : Meaning) (known : meaning_of p sc x.name ≡ Some m) where
-  as_settled : (result : Result Value ReadFault) → IsReadAlone s new (settled x.place (applied m []) sc) sc result → PlacesCellsOf s old.pass new.pass (IsExpected (applied m [])) → ReadsAlone s old new (term_from (symbol x) p sc) sc result
+module _ (s : Table) (old new : TermsView) (x : Name) (p : Place) (sc : Script) (m : Meaning) (known : meaning_of p sc x.name ≡ Some m) (limited : p.settings.limit ≡ Some most_height) where
+  as_settled : (result : Result Value ReadFault) → IsReadAlone s new (settled (Some most_height) x.place (applied m []) sc) sc result → PlacesCellsOf s old.pass new.pass (IsExpected (applied m [])) → ReadsAlone s old new (term_from (symbol x) p sc) sc result
   as_settled result answer placed =
-      subst (λ (o : Outcome Typed). ReadsAlone s old new o sc result) (sym (known_symbol x m p sc known))
+      subst (λ (o : Outcome Script Typed). ReadsAlone s old new o sc result) (sym (known_symbol x m p sc known ∙ ap (λ (limit : Option ℕ). settled limit x.place (applied m []) sc) limited))
       (record {
         answer = answer;
-        placed = places_more s old.pass new.pass (IsExpected (applied m [])) (IsReadTerm (settled x.place (applied m []) sc)) (expected_read x.place (applied m []) sc) placed;
+        placed = places_more s old.pass new.pass (IsExpected (applied m [])) (IsReadTerm (settled (Some most_height) x.place (applied m []) sc)) (expected_read x.place (applied m []) sc) placed;
       })
 
   pub symbol_settles : (place : ℕ) (made : Option Value) (result : Result Value ReadFault) → place ≡ x.place → Makes s old new (applied m []) (Ok made)
@@ -115,7 +117,7 @@ module _ (s : Table) (old new : TermsView) (x : Name) (p : Place) (sc : Script) 
 pub symbol_unknown : (s : Table) (v : TermsView) (x : Name) (p : Place) (sc : Script) (r : Refusal) (place : ℕ) → meaning_of p sc x.name ≡ None → r ≡ record { cause = UnknownName; at = place } → place ≡ x.place
     → ReadsAlone s v v (term_from (symbol x) p sc) sc (Err (ReadFault.Text r))
 symbol_unknown s v x p sc r place none is same =
-    subst (λ (o : Outcome Typed). ReadsAlone s v v o sc (Err (ReadFault.Text r))) (sym (unknown_symbol x p sc none))
+    subst (λ (o : Outcome Script Typed). ReadsAlone s v v o sc (Err (ReadFault.Text r))) (sym (unknown_symbol x p sc none))
     (record {
       answer = sym (ap Err (is ∙ ap (λ n. record { cause = UnknownName; at = n }) same));
       placed = places_none s v.pass v.pass _ refl;

@@ -1,8 +1,8 @@
 -- Attributes by the nodes of their items.
-use Rattle.std.proofs.Common.{◌≡◌, ℕ, ◌<◌, ◌≤◌, ◌≢◌, arith, List, [], ◌∷◌, Some, None, Option, cond, refl, sym, ap, ◌∙◌, subst, Bool, true, false}
-use Rattle.sexpr.specs.Items.{Item, Items, no_items, item, place_of}
+use Rattle.std.proofs.Common.{◌≡◌, ℕ, ◌<◌, ◌≤◌, ◌≢◌, arith, List, [], ◌∷◌, cond, refl, sym, ap, ◌∙◌, subst, Bool, true, false}
+use Rattle.sexpr.specs.Items.{Item, Items, no_items, item}
 use Rattle.text_items.specs.ItemShapes.{Name, name_at}
-use Rattle.problem_text.specs.Forms.{is_misplaced, misplaced_after, lacks_name, names_after}
+use Rattle.problem_text.specs.Forms.{names_after}
 use Rattle.problem_text.specs.NamedItems.{is_named_item}
 use Rattle.text_items.specs.declared.nodes.Node.{Node}
 use Rattle.text_items.specs.Nodes.{IsNode, AreNodes}
@@ -14,13 +14,6 @@ use Rattle.text_items.proofs.NodeSteps.{AreMore, more_nodes, no_nodes, node_behi
 -- the node is that of the item at k
 abbrev pub IsReadAt : List ℕ → List Node → ℕ → Node → Type 0
 IsReadAt s ns k node = (i : Item) (n : ℕ) → IsNode s ns k i n → IsItemNode s i n node
-
--- what the items from k on, up to m, come to
-pub record ComesTo {A : Type 0} (value : Item → Items → A) (s : List ℕ) (ns : List Node) (k m : ℕ) (whole : A) : Type 0 where
-  pub first : Item
-  pub others : Items
-  pub there : AreNodes s ns k (item first others) m
-  pub same : whole ≡ value first others
 
 pub behind_first : (s : List ℕ) (ns : List Node) (k : ℕ) (i : Item) (others : Items) (m : ℕ) (node : Node) → AreNodes s ns k (item i others) m → IsReadAt s ns k node → AreNodes s ns node.next others m
 behind_first s ns k i others m node (n, is, are) read = subst (λ (v : ℕ). AreNodes s ns v others m) (sym (read i n is).next) are
@@ -41,51 +34,6 @@ some_on s ns k m node (i, others, are) read differs =
 pub goes_up : (s : List ℕ) (ns : List Node) (k m : ℕ) (node : Node) → AreSomeFrom s ns k m → IsReadAt s ns k node → (k < node.next) × (node.next ≤ m)
 goes_up s ns k m node (i, others, (n, is, are)) read =
     let e = (read i n is).next in (omega (arith, node_behind s ns k i n is), omega (arith, nodes_ordered s ns n others m are))
-
-pub starts : {A : Type 0} (value : Item → Items → A) (s : List ℕ) (ns : List Node) (k m : ℕ) (i : Item) (others : Items) → AreNodes s ns k (item i others) m → ComesTo value s ns k m (value i others)
-starts value s ns k m i others are = record { first = i; others = others; there = are; same = refl }
-
--- `:named` at the end
-pub lacks_end : (s : List ℕ) (ns : List Node) (k m : ℕ) (node : Node) (named whole : Bool) → ComesTo lacks_name s ns k m whole → IsReadAt s ns k node → node.next ≡ m
-    → ((i : Item) (n : ℕ) → IsNode s ns k i n → named ≡ is_named_item i) → named ≡ whole
-lacks_end s ns k m node named whole t read last judged =
-    let none = last_there s ns k t.first t.others m node t.there read last in
-    judged t.first t.there.0 t.there.1 ∙ ap (lacks_name t.first) (sym none) ∙ sym t.same
-
-pub lacks_on : (s : List ℕ) (ns : List Node) (k m : ℕ) (node : Node) (whole : Bool) → ComesTo lacks_name s ns k m whole → IsReadAt s ns k node → node.next ≢ m → ComesTo lacks_name s ns node.next m whole
-lacks_on s ns k m node whole t read differs =
-    let a = more_there s ns k t.first t.others m node t.there read differs in
-    record { first = a.first; others = a.others; there = (a.behind, a.here, a.there); same = t.same ∙ ap (lacks_name t.first) a.split }
-
--- an item out of place
-pub misplaced_end : (s : List ℕ) (ns : List Node) (k m : ℕ) (node : Node) (whole : Option ℕ) → ComesTo misplaced_after s ns k m whole → IsReadAt s ns k node → node.next ≡ m → None ≡ whole
-misplaced_end s ns k m node whole t read last =
-    ap (misplaced_after t.first) (sym (last_there s ns k t.first t.others m node t.there read last)) ∙ sym t.same
-
--- whether the item at the next node is out of place
-abbrev pub IsJudged : List ℕ → List Node → ℕ → ℕ → Bool → Type 0
-IsJudged s ns before next misplaced = (b i : Item) (m n : ℕ) → IsNode s ns before b m → IsNode s ns next i n → misplaced ≡ is_misplaced b i
-
-pub misplaced_stop : (s : List ℕ) (ns : List Node) (k m : ℕ) (node other : Node) (misplaced : Bool) (whole : Option ℕ) → ComesTo misplaced_after s ns k m whole → IsReadAt s ns k node → node.next ≢ m
-    → IsJudged s ns k node.next misplaced → misplaced ≡ true → IsReadAt s ns node.next other → Some other.token.start ≡ whole
-misplaced_stop s ns k m node other misplaced whole t read differs judged holds found =
-    let a = more_there s ns k t.first t.others m node t.there read differs in
-    let e = judged t.first a.first t.there.0 a.behind t.there.1 a.here in
-    ap Some (found a.first a.behind a.here).start
-    ∙ ap (λ b. cond b (Some (place_of a.first)) (misplaced_after a.first a.others)) (sym holds ∙ e)
-    ∙ ap (misplaced_after t.first) (sym a.split) ∙ sym t.same
-
-pub misplaced_on : (s : List ℕ) (ns : List Node) (k m : ℕ) (node : Node) (misplaced : Bool) (whole : Option ℕ) → ComesTo misplaced_after s ns k m whole → IsReadAt s ns k node → node.next ≢ m
-    → IsJudged s ns k node.next misplaced → misplaced ≡ false → ComesTo misplaced_after s ns node.next m whole
-misplaced_on s ns k m node misplaced whole t read differs judged fails =
-    let a = more_there s ns k t.first t.others m node t.there read differs in
-    let e = judged t.first a.first t.there.0 a.behind t.there.1 a.here in
-    record {
-      first = a.first;
-      others = a.others;
-      there = (a.behind, a.here, a.there);
-      same = t.same ∙ ap (misplaced_after t.first) a.split ∙ ap (λ b. cond b (Some (place_of a.first)) (misplaced_after a.first a.others)) (sym e ∙ fails);
-    }
 
 -- names that attributes give
 pub attributes_some : (s : List ℕ) (ns : List Node) (k : ℕ) (names : List Name) (m : ℕ) → AreAttributes s ns k names m → AreSomeFrom s ns k m

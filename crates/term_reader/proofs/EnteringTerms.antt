@@ -24,10 +24,11 @@ use Rattle.text_items.specs.Nodes.{IsNode}
 use Rattle.term_reader.specs.Reading.{Stands, IsAt, IsReadTerm, EndsWith, Goes}
 use Rattle.term_reader.specs.Resuming.{Waiting, arguments, bindings, naming, resumed}
 use Rattle.problem_text.specs.TypedTerms.{Typed}
-use Rattle.problem_text.specs.Scripts.{Script, with_term, with_let_name, Outcome, done}
+use Rattle.problem_text.specs.Outcomes.{Outcome, done}
+use Rattle.problem_text.specs.Scripts.{Script, with_term, with_let_name}
 use Rattle.term_reader.specs.Shapes.{IsFirstRepeat}
 use Rattle.term_names.specs.Standing.{HasNoEntry, IsNoFunction, IsMeant, AddsNoSymbols}
-use Rattle.problem_text.specs.Terms.{term_from}
+use Rattle.problem_text.specs.Terms.{settled, term_from}
 use Rattle.term_names.specs.InScope.{AreBound}
 use Rattle.term_expansion.specs.Values.{IsValue, AreValues}
 use Rattle.term_names.specs.declared.faults.ReadFault.{ReadFault}
@@ -43,6 +44,7 @@ use Rattle.term_reader.proofs.AtomLemmas.{name_begins}
 use Rattle.term_reader.proofs.FormSteps.{form_layer, form_behind, form_inside, forms_after, binds_more}
 use Rattle.term_reader.proofs.StillRead.{by_resumed}
 use Rattle.term_reader.proofs.RepeatLemmas.{repeat_here, repeat_on}
+use Rattle.term_reader.proofs.Limited.{limit_so}
 use Rattle.term_reader.proofs.Resuming.{refused_whole, first_argument, unknown_head, first_binding, first_binding_refused, annotation_begins}
 use Rattle.term_reader.proofs.Staying.{adds_none, keeps_none, frames_stay, stands_stays, places_none, places_more, lacks_more}
 
@@ -88,23 +90,23 @@ module _ (s : Table) (v : TermsView) (sc : Script) (terms : List Term) (names : 
   stands_alike r p h = record {
     script = record { sorts = h.script.sorts; names = λ name. meant_alike r.known name (known_entry r.known name) (h.script.names name) };
     scope = h.scope;
-    replaces = h.replaces;
+    settings = h.settings;
     low = h.low;
   }
 
 -- one form more that is open changes nothing of what the tables stand for
 stands_opened : (s : Table) (v : TermsView) (r : Reader) (f : Frame) (sc : Script) (p : Place) → Stands s v r sc p → Stands s v (opened r f) sc p
-stands_opened s v r f sc p h = record { script = h.script; scope = h.scope; replaces = h.replaces; low = h.low }
+stands_opened s v r f sc p h = record { script = h.script; scope = h.scope; settings = h.settings; low = h.low }
 
 -- a fault is that of the whole, and a term that is read is read by the end
-module _ (s : Table) (pass : PassView) (ws : List Waiting) (o whole : Outcome Typed) (comes : resumed ws o ≡ whole) where
+module _ (s : Table) (pass : PassView) (ws : List Waiting) (o whole : Outcome Script Typed) (comes : resumed ws o ≡ whole) where
   read_by_end : (t : Term) → IsReadTerm o t → IsReadTerm whole t
-  read_by_end t h = subst (λ (q : Outcome Typed). IsReadTerm q t) comes (by_resumed t ws o h)
+  read_by_end t h = subst (λ (q : Outcome Script Typed). IsReadTerm q t) comes (by_resumed t ws o h)
 
   ends_whole : (f : ReadFault) → EndsWith s pass o.result (IsReadTerm o) f → EndsWith s pass whole.result (IsReadTerm whole) f
   ends_whole (ReadFault.Text r) h =
-      ap (λ (q : Outcome Typed). q.result)
-      (sym comes ∙ ap (λ (e : Result Typed Refusal). resumed ws (record { result = e; script = o.script })) h ∙ refused_whole ws r o.script)
+      ap (λ (q : Outcome Script Typed). q.result)
+      (sym comes ∙ ap (λ (e : Result Typed Refusal). resumed ws (record { result = e; state = o.state })) h ∙ refused_whole ws r o.state)
   ends_whole ReadFault.PoolFull h = lacks_more s pass (IsReadTerm o) (IsReadTerm whole) read_by_end h
   ends_whole ReadFault.Memory h = tt
 
@@ -112,7 +114,7 @@ module _ (source : List ℕ) (nodes : List Node) (g : Reading) (s : Table) (v : 
   abbrev Top : Layer → Type 0
   Top layer = HasTop source nodes g s v r k layer
 
-  abbrev comes_of : IsAt source nodes g s v r k → Outcome Typed
+  abbrev comes_of : IsAt source nodes g s v r k → Outcome Script Typed
   comes_of a = term_from a.spelled a.place a.script
 
   -- the top of the term's form, as it is told of each item
@@ -162,15 +164,15 @@ module _ (source : List ℕ) (nodes : List Node) (g : Reading) (s : Table) (v : 
     placed = places_more z v.pass w.pass (IsReadTerm (comes_of a)) (IsReadTerm g.whole) (read_by_end z w.pass a.waiting (comes_of a) g.whole a.comes) placed;
   }
 
-  number_comes : (place n : ℕ) (p : Place) (sc : Script) → term_from (number place n) p sc ≡ done (record { tree = numeral n; sort = Sort.Int }) (with_term (numeral n) sc)
+  number_comes : (place n : ℕ) (p : Place) (sc : Script) → p.settings.limit ≡ Some most_height → term_from (number place n) p sc ≡ done (record { tree = numeral n; sort = Sort.Int }) (with_term (numeral n) sc)
   unfolding term_from height
-  number_comes place n p sc = refl
+  number_comes place n p sc limited = ap (λ (limit : Option ℕ). settled limit place (Some (record { tree = numeral n; sort = Sort.Int })) sc) limited
 
   pub number_goes : (z : Table) (c : Value) (n : ℤ) → Top (Layer.Number n) → AddsNoSymbols s z → IsNumber z c n → Goes source nodes g z v v r (Ok (Turn.Use c (k + 1)))
   number_goes z c n h adds is =
       let (place, m, e, begins, same, alone) = h.top in
       value_goes z v c (record { tree = numeral m; sort = Sort.Int }) h.at adds (keeps_none v) alone
-      (ap (λ (f : Form). term_from f h.at.place h.at.script) e ∙ number_comes place m h.at.place h.at.script) (is.is v m same) is.low
+      (ap (λ (f : Form). term_from f h.at.place h.at.script) e ∙ number_comes place m h.at.place h.at.script (limit_so h.at.place.settings r.replaces_lets h.at.stands.settings)) (is.is v m same) is.low
       (places_none z v.pass v.pass (IsReadTerm (comes_of h.at)) refl)
 
   -- what a call says that reads a symbol alone
@@ -248,7 +250,7 @@ module _ (source : List ℕ) (nodes : List Node) (g : Reading) (s : Table) (v : 
       let none = found v a.script a.place x a.stands named in
       let same : refusal ≡ record { cause = UnknownName; at = x.place } = is ∙ ap (λ (n : ℕ). record { cause = UnknownName; at = n }) (starts x.place (name_begins source nodes head x named)) in
       refusal_goes r refusal a
-      (ap (λ (q : Form). (term_from q a.place a.script).result) e ∙ ap (λ (o : Outcome Typed). o.result) (unknown_head at x (form f fs) a.place a.script none) ∙ ap Err (sym same))
+      (ap (λ (q : Form). (term_from q a.place a.script).result) e ∙ ap (λ (o : Outcome Script Typed). o.result) (unknown_head at x (form f fs) a.place a.script none) ∙ ap Err (sym same))
 
   -- the term of a let's first binding is read, or its variable may not be bound
   pub let_goes : (first body repeat place from leaf : ℕ) → Top (Layer.Let first body) → IsStart k place → from ≡ length r.values → leaf ≡ length r.leaves.items → repeat ≢ first
@@ -315,7 +317,7 @@ module _ (source : List ℕ) (nodes : List Node) (g : Reading) (s : Table) (v : 
       refusal_goes r refusal a
       (ap (λ (q : Form). (term_from q a.place a.script).result) e
       ∙ ap (λ (q : Binds). (term_from (let_form at q f) a.place a.script).result) b.split
-      ∙ ap (λ (o : Outcome Typed). o.result) (first_binding_refused [] at b.name b.first b.others f a.place a.script taken) ∙ ap Err (sym same))
+      ∙ ap (λ (o : Outcome Script Typed). o.result) (first_binding_refused [] at b.name b.first b.others f a.place a.script taken) ∙ ap Err (sym same))
 
   -- the term of an annotation is read
   pub annotation_goes : (t first end : ℕ) → Top (Layer.Annotated t first end) → Goes source nodes g s v v (opened r (Frame.Names end)) (Ok (Turn.Read t))

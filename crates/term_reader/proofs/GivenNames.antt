@@ -12,7 +12,8 @@ use Rattle.text_items.specs.ItemShapes.{Name}
 use Rattle.term_names.specs.Known.{KnownView, known_entry, PutsKnown, macro_of, named_of}
 use Rattle.text_items.specs.NameNodes.{IsNameNode}
 use Rattle.problem_text.specs.TypedTerms.{Typed}
-use Rattle.problem_text.specs.Scripts.{Named, Script, is_taken, with_named, Outcome, done, refuse}
+use Rattle.problem_text.specs.Outcomes.{Outcome, done, refuse}
+use Rattle.problem_text.specs.Scripts.{Named, Script, is_taken, with_named}
 use Rattle.term_names.specs.Standing.{IsScript, IsMeant, IsNamedOf, HasNoEntry, IsFunctionAt, IsFreeName, IsNoFunction, named_in}
 use Rattle.problem_text.specs.Terms.{with_names}
 use Rattle.problem_text.specs.Words.{is_among, is_built_in}
@@ -186,7 +187,7 @@ name_place s ns k x node is e =
     cc
 
 -- one name, which is taken or not, and what comes after it
-abbrev pub one_name : Typed → Name → Script → (Script → Outcome Typed) → Bool → Outcome Typed
+abbrev pub one_name : Typed → Name → Script → (Script → Outcome Script Typed) → Bool → Outcome Script Typed
 one_name t x sc next taken = if taken then refuse Repeated x.place sc else next (with_named (record { name = x.name; meant = t }) sc)
 
 pub name_refused : (t : Typed) (x : Name) (sc : Script) (r : Refusal) → is_taken sc x.name ≡ true → r ≡ record { cause = Repeated; at = x.place } → (with_names t (x ∷ []) sc).result ≡ Err r

@@ -1,17 +1,21 @@
 -- The tops of forms by the nodes of items.
 use Rattle.std.proofs.Common.{◌≡◌, ℕ, ◌+◌, ◌<◌, ◌≢◌, arith, List, [], ◌∷◌, Some, None, Option, is_some, unwrap_or, cond, not, ◌&&◌, ◌||◌, ◌==◌, codes, refl, sym, ap, ◌∙◌, subst, Bool, true, false}
-use Rattle.std.specs.Prelude.{bytes_eq}
+use Rattle.std.specs.Prelude.{bytes_eq, nat_le, if◌then◌else◌}
+use Rattle.std.proofs.lemmas.Slice.Eq.{bytes_eq-Decides}
 use Rattle.std.specs.Option.{option_or}
 use Rattle.std.specs.Char.{is_ascii_digit}
 use Rattle.sexpr.specs.declared.causes.Cause.TheVariants.{BadCommand, LeftOut}
 use Rattle.sexpr.specs.declared.lexing.TokenKind.{TokenKind}
 use Rattle.sexpr.specs.declared.lexing.TokenKind.TheVariants.{Word}
-use Rattle.sexpr.specs.Words.{is_symbol, between_bars}
+use Rattle.sexpr.specs.Words.{is_symbol, is_keyword, between_bars}
 use Rattle.sexpr.specs.Items.{Item, word, quoted, string, list, Items, no_items, item, place_of, name_spelled, symbol_name}
 use Rattle.text_items.specs.ItemShapes.{Name, name_at, symbol_fault, pairs_fault}
-use Rattle.problem_text.specs.Forms.{Form, faulty, application, let_form, annotated, Forms, form, first_form, Binds, form_of, forms_of, binds_of, binds_in, word_form, number_form, symbol_form, list_form, symbol_list_form, unless_faulty, bindings_fault, let_fault, is_misplaced, misplaced_after, lacks_name, attributes_fault, annotation_fault, names_given}
+use Rattle.problem_text.specs.Forms.{Form, faulty, application, let_form, annotated, Forms, form, first_form, Binds, form_of, forms_of, binds_of, binds_in, word_form, number_form, symbol_form, list_form, symbol_list_form, unless_faulty, bindings_fault, let_fault, naming_keyword, annotation_fault, names_given}
+use Rattle.text_items.specs.Keywords.{Known, after_item, after_keyword, next_fault, misplaced, at_end, is_value, lacks_keyword, earlier, repeated, word_next, attributes_fault}
+use Rattle.text_items.specs.declared.keywords.Next.{Next}
+use Rattle.text_items.specs.declared.keywords.Wanted.TheVariants as Wanted
 use Rattle.problem_text.specs.NamedItems.{is_named_item}
-use Rattle.text_items.specs.Spelling.{is_list_item, is_keyword_item}
+use Rattle.text_items.specs.Spelling.{is_list_item}
 use Rattle.problem_text.specs.Words.{is_among, left_out_words}
 use Rattle.term_reader.specs.declared.layers.Layer.{Layer}
 use Rattle.text_items.specs.declared.nodes.Node.{Node}
@@ -282,26 +286,50 @@ let_top s ns k first m body a none same =
     )
 
 -- Attributes without fault of shape: after each `:named` stands a symbol.
-placed : (named symbolic keyword also : Bool) → (named && not symbolic || not keyword && not also) ≡ false → named ≡ true → symbolic ≡ true
-placed true true keyword also e h = refl
-placed true false keyword also e h = absurd cc
-placed false symbolic keyword also e h = absurd cc
+abbrev naming : List Known
+naming = naming_keyword ∷ []
 
-names_symbols : (before : Item) (others : Items) → misplaced_after before others ≡ None → NamesAreSymbols before others
+name_wanted : (i : Item) → is_named_item i ≡ true → after_item naming i ≡ Next.Value Wanted.Name
+name_wanted (word place spelling) e = ap (λ (s : List ℕ). after_keyword naming (if is_keyword s then Some s else None)) ((bytes_eq-Decides spelling (codes ":named")).0 e)
+name_wanted (quoted place spelling) e = absurd cc
+name_wanted (string place spelling) e = absurd cc
+name_wanted (list place items) e = absurd cc
+
+no_fault : (a b : Option ℕ) → option_or a b ≡ None → (a ≡ None) × (b ≡ None)
+no_fault None b e = (refl, e)
+no_fault (Some n) b e = absurd cc
+
+is_a_symbol : (i : Item) → symbol_fault i ≡ None → is_some (symbol_name i) ≡ true
+is_a_symbol i e = go (is_some (symbol_name i)) e
+  where
+    go : (b : Bool) → (if b then None else Some (place_of i)) ≡ None → b ≡ true
+    go true f = refl
+    go false f = absurd cc
+
+names_symbols : (before : Item) (others : Items) → misplaced naming (after_item naming before) others ≡ None → NamesAreSymbols before others
 names_symbols before no_items e = tt
-names_symbols before (item i rest) e = go (is_misplaced before i) refl e (names_symbols i rest)
-  where
-    go : (b : Bool) → is_misplaced before i ≡ b → cond b (Some (place_of i)) (misplaced_after i rest) ≡ None → (misplaced_after i rest ≡ None → NamesAreSymbols i rest) → NamesAreSymbols before (item i rest)
-    go true h e others = absurd cc
-    go false h e others = (placed (is_named_item before) (is_some (symbol_name i)) (is_keyword_item before) (is_keyword_item i) h, others e)
+names_symbols before (item i rest) e =
+    let (none, later) = no_fault (next_fault (after_item naming before) i) (misplaced naming (after_item naming i) rest) e in (
+      λ named. is_a_symbol i (ap (λ (n : Next). next_fault n i) (sym (name_wanted before named)) ∙ none),
+      names_symbols i rest later,
+    )
 
-attributes_fit : (place : ℕ) (first : Item) (rest : Items) → attributes_fault place first rest ≡ None → misplaced_after first rest ≡ None
-attributes_fit place first rest e = go (lacks_name first rest) (is_keyword_item first) e
+attributes_fit : (place : ℕ) (first : Item) (rest : Items) → attributes_fault naming place (item first rest) ≡ None → misplaced naming (after_item naming first) rest ≡ None
+attributes_fit place first rest e =
+    (no_fault (next_fault word_next first) (misplaced naming (after_item naming first) rest) (go (is_value (at_end naming word_next (item first rest)) || lacks_keyword naming (item first rest)) e)).1
   where
-    go : (lacks keyword : Bool) → cond lacks (Some place) (cond keyword (misplaced_after first rest) (Some (place_of first))) ≡ None → misplaced_after first rest ≡ None
-    go true keyword e = absurd cc
-    go false true e = e
-    go false false e = absurd cc
+    earliest : (a b : Option ℕ) → earlier a b ≡ None → a ≡ None
+    earliest None b e = refl
+    earliest (Some n) None e = absurd cc
+    earliest (Some n) (Some m) e = some (nat_le n m) e
+      where
+        some : (b : Bool) → (if b then Some n else Some m) ≡ None → Some n ≡ None
+        some true f = absurd cc
+        some false f = absurd cc
+
+    go : (b : Bool) → (if b then Some place else earlier (misplaced naming word_next (item first rest)) (repeated naming (item first rest))) ≡ None → misplaced naming word_next (item first rest) ≡ None
+    go true f = absurd cc
+    go false f = earliest (misplaced naming word_next (item first rest)) (repeated naming (item first rest)) f
 
 attributes_there : (s : List ℕ) (ns : List Node) (place behind end m : ℕ) (arg : Item) (rest : Items) → AreNodes s ns behind rest m → annotation_fault place (item arg rest) ≡ None → end ≡ m
     → AreAttributes s ns behind (names_given (item arg rest)) end

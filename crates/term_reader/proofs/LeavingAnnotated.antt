@@ -13,7 +13,8 @@ use Rattle.term_reader.specs.Naming.{AreGiven}
 use Rattle.term_reader.specs.Reading.{HasRead, EndsWith, IsReadTerm}
 use Rattle.term_reader.specs.Resuming.{Waiting, resumed}
 use Rattle.problem_text.specs.TypedTerms.{Typed}
-use Rattle.problem_text.specs.Scripts.{Script, done}
+use Rattle.problem_text.specs.Outcomes.{done}
+use Rattle.problem_text.specs.Scripts.{Script}
 use Rattle.term_names.specs.Standing.{IsScript}
 use Rattle.problem_text.specs.Terms.{with_names}
 use Rattle.term_expansion.specs.Values.{IsValue}
@@ -57,7 +58,7 @@ module _ (source : List ℕ) (nodes : List Node) (g : Reading) (s : Table) (v : 
             stands = record {
               script = script;
               scope = scope_stays s s v w (table_keeps_none s) keeps r.scope h.place.scope h.stands.scope;
-              replaces = h.stands.replaces;
+              settings = h.stands.settings;
               low = h.stands.low;
             };
             is = value_stays s s v w (table_keeps_none s) keeps c h.term h.is;

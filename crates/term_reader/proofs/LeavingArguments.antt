@@ -13,7 +13,9 @@ use Rattle.problem_text.specs.Names.{Meaning, applied}
 use Rattle.term_reader.specs.Reading.{HasRead, IsAt, Goes}
 use Rattle.term_reader.specs.Resuming.{Waiting, arguments, resumed}
 use Rattle.problem_text.specs.TypedTerms.{Typed}
-use Rattle.problem_text.specs.Scripts.{Script, done}
+use Rattle.problem_text.specs.Outcomes.{done}
+use Rattle.problem_text.specs.Scripts.{Script}
+use Rattle.problem_text.specs.Terms.{settled}
 use Rattle.term_reader.specs.Settling.{IsSettled}
 use Rattle.term_expansion.specs.Values.{AreValues}
 use Rattle.term_names.specs.declared.faults.ReadFault.{ReadFault}
@@ -24,6 +26,7 @@ use Rattle.term_reader.specs.declared.reader.Reader.{Reader}
 use Rattle.term_reader.specs.declared.reader.Turn.{Turn}
 use Rattle.term_expansion.specs.declared.values.Value.{Value}
 use Rattle.term_reader.proofs.FormSteps.{forms_done, forms_more, forms_ordered, forms_inside}
+use Rattle.term_reader.proofs.Limited.{limit_so}
 use Rattle.term_reader.proofs.MoreRead.{low_below, values_pushed}
 use Rattle.problem_text.proofs.Outcomes.{all_at_end}
 use Rattle.term_reader.proofs.Resuming.{next_argument_read, last_argument_read}
@@ -63,7 +66,8 @@ module _ (source : List ℕ) (nodes : List Node) (g : Reading) (s : Table) (v : 
         script = h.script;
         expected = applied m (read ++ h.term ∷ []);
         waiting = rest;
-        comes = sym (last_argument_read rest place m read h.term h.place h.script)
+        comes = ap (λ (limit : Option ℕ). resumed rest (settled limit place (applied m (read ++ h.term ∷ [])) h.script)) (sym (limit_so h.place.settings r.replaces_lets h.stands.settings))
+            ∙ sym (last_argument_read rest place m read h.term h.place h.script)
             ∙ ap (λ (fs : Forms). resumed (arguments place m read fs h.place ∷ rest) (done h.term h.script)) (sym none)
             ∙ ap (λ (ws : List Waiting). resumed ws (done h.term h.script)) (sym is) ∙ h.comes;
         makes = makes m (read ++ h.term ∷ []) here.applies (values_pushed s v from r.values read c h.term here.within here.read_values h.is);
@@ -81,7 +85,7 @@ module _ (source : List ℕ) (nodes : List Node) (g : Reading) (s : Table) (v : 
         stands = record {
           script = script_stays s s v w (adds_none s) keeps r.known h.script h.stands.script;
           scope = scope_stays s s v w (table_keeps_none s) keeps r.scope h.place.scope h.stands.scope;
-          replaces = h.stands.replaces;
+          settings = h.stands.settings;
           low = low_below from (pushed r c) low_pushed;
         };
         frames = frames_stay s s v w (table_keeps_none s) keeps source nodes g r.known r.known (λ _. refl) r.frames (take from (pushed r c)) r.leaves.items r.scope h.place end rest
@@ -99,7 +103,7 @@ module _ (source : List ℕ) (nodes : List Node) (g : Reading) (s : Table) (v : 
         spelled = a.first;
         behind = a.next;
         waiting = arguments place m (read ++ h.term ∷ []) a.others h.place ∷ rest;
-        stands = record { script = h.stands.script; scope = h.stands.scope; replaces = h.stands.replaces; low = low_pushed };
+        stands = record { script = h.stands.script; scope = h.stands.scope; settings = h.stands.settings; low = low_pushed };
         here = a.here;
         frames = (
           m,

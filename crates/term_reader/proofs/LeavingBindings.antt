@@ -19,7 +19,8 @@ use Rattle.term_reader.specs.Reading.{HasRead, IsAt}
 use Rattle.term_reader.specs.Resuming.{Waiting, bindings, body_of, bound_to, resumed}
 use Rattle.term_names.specs.Scope.{Scoped}
 use Rattle.problem_text.specs.TypedTerms.{Typed}
-use Rattle.problem_text.specs.Scripts.{Outcome, done, refuse, with_let_name}
+use Rattle.problem_text.specs.Outcomes.{Outcome, done, refuse}
+use Rattle.problem_text.specs.Scripts.{Script, with_let_name}
 use Rattle.term_reader.specs.Shapes.{IsFirstRepeat}
 use Rattle.term_names.specs.Standing.{AddsNoSymbols}
 use Rattle.term_names.specs.declared.faults.ReadFault.{ReadFault}
@@ -29,6 +30,7 @@ use Rattle.term_reader.specs.declared.reader.Reader.{Reader}
 use Rattle.term_reader.specs.declared.reader.Turn.{Turn}
 use Rattle.term_expansion.specs.declared.values.Value.{Value}
 use Rattle.term_reader.proofs.FormSteps.{binds_done, binds_more, form_behind, form_inside}
+use Rattle.term_reader.proofs.Limited.{replaces_so}
 use Rattle.term_reader.proofs.MoreRead.{bound_pushed, same_script}
 use Rattle.problem_text.proofs.Outcomes.{all_at_end}
 use Rattle.term_reader.proofs.RepeatLemmas.{repeat_here, repeat_on}
@@ -88,7 +90,7 @@ module _ (source : List ℕ) (nodes : List Node) (g : Reading) (s : Table) (v : 
 
     -- The last one was read: the body comes.
     pub body_begins : n ≡ body → (scope inner : List Scoped) (ks : List ℕ) → ks ≡ drop first leaves
-        → ((w : TermsView) (bs : List Bound) (p : Place) → AreBound t w ks (drop from values) bs → IsScope t w r.scope p.scope → p.replaces_lets ≡ r.replaces_lets → IsScope t w scope (inside bs p).scope)
+        → ((w : TermsView) (bs : List Bound) (p : Place) → AreBound t w ks (drop from values) bs → IsScope t w r.scope p.scope → p.settings.replaces_lets ≡ r.replaces_lets → IsScope t w scope (inside bs p).scope)
         → scope ≡ inner ++ r.scope → length inner ≡ length ks → (q : Reader) → q.leaves.items ≡ leaves
         → IsAt source nodes g t v (record r { scope = scope; values = values; leaves = q.leaves; frames = Frame.Body place from first ∷ r.frames }) body
     body_begins last scope inner ks are binds split each q leaves_are =
@@ -104,8 +106,8 @@ module _ (source : List ℕ) (nodes : List Node) (g : Reading) (s : Table) (v : 
           waiting = body_of place all_read h.place ∷ rest;
           stands = record {
             script = script_stays s t v v added.adds (keeps_none v) r.known h.script h.stands.script;
-            scope = binds v all_read h.place (rw are bound_now) around h.stands.replaces;
-            replaces = h.stands.replaces;
+            scope = binds v all_read h.place (rw are bound_now) around (replaces_so h.place.settings r.replaces_lets h.stands.settings);
+            settings = h.stands.settings;
             low = low_now;
           };
           here = here.body_here;
@@ -149,7 +151,7 @@ module _ (source : List ℕ) (nodes : List Node) (g : Reading) (s : Table) (v : 
           stands = record {
             script = same_script t v r.known h.script.terms (h.script.let_names ++ a.name.name ∷ []) h.script (script_stays s t v v added.adds (keeps_none v) r.known h.script h.stands.script);
             scope = scope_stays s t v v added.adds.keeps (keeps_none v) r.scope h.place.scope h.stands.scope;
-            replaces = h.stands.replaces;
+            settings = h.stands.settings;
             low = low_now;
           };
           here = a.here;
@@ -202,11 +204,11 @@ module _ (source : List ℕ) (nodes : List Node) (g : Reading) (s : Table) (v : 
       ∙ next_binding_refused rest place read x earlier a.name a.first a.others f h.place h.term h.script taken in
       let same_node : a.named.node ≡ node = cc (a.named.here, there) in
       let at : a.name.place ≡ node.token.start = sym a.named.same_place ∙ ap (λ (k : Node). k.token.start) same_node in
-      ap (λ (o : Outcome Typed). o.result) whole ∙ ap (λ (p : ℕ). Err (record { cause = Repeated; at = p })) at
+      ap (λ (o : Outcome Script Typed). o.result) whole ∙ ap (λ (p : ℕ). Err (record { cause = Repeated; at = p })) at
 
   -- What is done, by the stacks as the code has them.
   pub body_next : (t : Table) (q : Reader) → IsAdded t q.leaves.items q.values → length t.leaves ≤ length s.leaves + 1 → n ≡ body → (inner : List Scoped) (ks : List ℕ) → ks ≡ drop first q.leaves.items
-      → ((w : TermsView) (bs : List Bound) (p : Place) → AreBound t w ks (drop from q.values) bs → IsScope t w r.scope p.scope → p.replaces_lets ≡ r.replaces_lets → IsScope t w q.scope (inside bs p).scope)
+      → ((w : TermsView) (bs : List Bound) (p : Place) → AreBound t w ks (drop from q.values) bs → IsScope t w r.scope p.scope → p.settings.replaces_lets ≡ r.replaces_lets → IsScope t w q.scope (inside bs p).scope)
       → q.scope ≡ inner ++ r.scope → length inner ≡ length ks → q.frames ≡ Frame.Body place from first ∷ r.frames
       → Leaves source nodes g s v (opened r (Frame.Bindings place from first name repeat body)) c n t v (record r { scope = q.scope; values = q.values; leaves = q.leaves; frames = q.frames }) (Ok (Turn.Read body))
   body_next t q added one_more last inner ks are binds split each frames_are = record {

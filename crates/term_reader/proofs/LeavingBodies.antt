@@ -12,7 +12,10 @@ use Rattle.term_reader.specs.Reading.{HasRead}
 use Rattle.term_reader.specs.Resuming.{Waiting, resumed}
 use Rattle.term_names.specs.Scope.{Scoped}
 use Rattle.problem_text.specs.TypedTerms.{Typed}
-use Rattle.problem_text.specs.Scripts.{Script, done}
+use Rattle.problem_text.specs.Outcomes.{done}
+use Rattle.problem_text.specs.Scripts.{Script}
+use Rattle.problem_text.specs.Limits.{limited}
+use Rattle.problem_text.specs.Terms.{settled}
 use Rattle.term_reader.specs.Settling.{IsSettled}
 use Rattle.term_expansion.specs.Values.{IsValue}
 use Rattle.term_names.specs.declared.faults.ReadFault.{ReadFault}
@@ -21,6 +24,7 @@ use Rattle.text_items.specs.declared.nodes.Node.{Node}
 use Rattle.term_reader.specs.declared.reader.Reader.{Reader}
 use Rattle.term_reader.specs.declared.reader.Turn.{Turn}
 use Rattle.term_expansion.specs.declared.values.Value.{Value}
+use Rattle.term_reader.proofs.Limited.{replaces_so, limit_so}
 use Rattle.term_reader.proofs.MoreRead.{low_below}
 use Rattle.term_reader.proofs.Resuming.{body_read}
 use Rattle.term_reader.proofs.Settled.{IsWhole, Closes, unmade_ends, unsettled_ends, settled_goes_on}
@@ -43,10 +47,10 @@ module _ (source : List ℕ) (nodes : List Node) (g : Reading) (s : Table) (v : 
   abbrev pub Closed : TermsView → Result (Option Value) ReadFault → Type 0
   Closed w made =
       (ks : List ℕ) × (ks ≡ drop first r.leaves.items)
-      × ((p : Place) (bs : List Bound) (t : Typed) → AreBound s v ks (drop from r.values) bs → IsValue s v c t → p.replaces_lets ≡ r.replaces_lets → Makes s v w (Some (let_term p bs t)) made)
+      × ((p : Place) (bs : List Bound) (t : Typed) → AreBound s v ks (drop from r.values) bs → IsValue s v c t → p.settings.replaces_lets ≡ r.replaces_lets → Makes s v w (Some (let_term p bs t)) made)
 
-  outer_replaces : (outer : Place) (bound : List Bound) → h.place ≡ inside bound outer → outer.replaces_lets ≡ r.replaces_lets
-  outer_replaces outer bound same = sym (ap (λ (p : Place). p.replaces_lets) same) ∙ h.stands.replaces
+  outer_settings : (outer : Place) (bound : List Bound) → h.place ≡ inside bound outer → outer.settings ≡ limited r.replaces_lets
+  outer_settings outer bound same = sym (ap (λ (p : Place). p.settings) same) ∙ h.stands.settings
 
   body_whole : (w : TermsView) (made : Result (Option Value) ReadFault) → Closed w made → IsWhole g s v w place made
   body_whole w made (ks, are, makes) =
@@ -55,8 +59,9 @@ module _ (source : List ℕ) (nodes : List Node) (g : Reading) (s : Table) (v : 
         script = h.script;
         expected = Some (let_term outer bound h.term);
         waiting = rest;
-        comes = sym (body_read rest place bound outer h.term h.script) ∙ ap (λ (ws : List Waiting). resumed ws (done h.term h.script)) (sym is) ∙ h.comes;
-        makes = makes outer bound h.term (rw are here.bound_here) h.is (outer_replaces outer bound here.same_place);
+        comes = ap (λ (limit : Option ℕ). resumed rest (settled limit place (Some (let_term outer bound h.term)) h.script)) (sym (limit_so outer.settings r.replaces_lets (outer_settings outer bound here.same_place)))
+            ∙ sym (body_read rest place bound outer h.term h.script) ∙ ap (λ (ws : List Waiting). resumed ws (done h.term h.script)) (sym is) ∙ h.comes;
+        makes = makes outer bound h.term (rw are here.bound_here) h.is (replaces_so outer.settings r.replaces_lets (outer_settings outer bound here.same_place));
       }
 
   body_closes : (q : Reader) → Without q → (w : TermsView) → KeepsTerms v w → (made : Result (Option Value) ReadFault) → Closed w made → Closes source nodes g s v w (without q) place n made
@@ -70,7 +75,7 @@ module _ (source : List ℕ) (nodes : List Node) (g : Reading) (s : Table) (v : 
         stands = record {
           script = script_stays s s v w (adds_none s) keeps r.known h.script h.stands.script;
           scope = subst (λ es. IsScope s w es outer.scope) (sym scope_same) (scope_stays s s v w (table_keeps_none s) keeps around outer.scope here.around_here);
-          replaces = outer_replaces outer bound here.same_place;
+          settings = outer_settings outer bound here.same_place;
           low = rw values_are (low_below from r.values h.stands.low);
         };
         frames = rw (values_are, leaves_are, scope_same)

@@ -12,6 +12,7 @@ pub mod Staying
 pub mod AtomLemmas
 pub mod EnteringTerms
 pub mod ReadingTurns
+pub mod Limited
 pub mod MoreRead
 pub mod Settled
 pub mod LeavingArguments

@@ -8,7 +8,8 @@ use Rattle.text_items.specs.NameNodes.{IsNameNode}
 use Rattle.term_reader.specs.Layers.{AreAttributes}
 use Rattle.term_reader.specs.Naming.{AreGiven, IsFreeIn}
 use Rattle.problem_text.specs.TypedTerms.{Typed}
-use Rattle.problem_text.specs.Scripts.{Script, is_taken, Outcome, done}
+use Rattle.problem_text.specs.Outcomes.{Outcome, done}
+use Rattle.problem_text.specs.Scripts.{Script, is_taken}
 use Rattle.term_reader.specs.Shapes.{IsFirstName}
 use Rattle.term_names.specs.Standing.{IsScript}
 use Rattle.problem_text.specs.Terms.{with_names}
@@ -19,7 +20,7 @@ use Rattle.term_reader.proofs.GivenNames.{one_name}
 use Rattle.text_items.proofs.NodeSteps.{node_behind, nodes_ordered}
 
 -- The names from node k on are left, and the term with them comes to the whole.
-pub record IsLeft (s : Table) (v : TermsView) (text : List ℕ) (ns : List Node) (k m : ℕ) (known : KnownView) (t : Typed) (whole : Outcome Typed) : Type 0 where
+pub record IsLeft (s : Table) (v : TermsView) (text : List ℕ) (ns : List Node) (k m : ℕ) (known : KnownView) (t : Typed) (whole : Outcome Script Typed) : Type 0 where
   pub names : List Name
   pub script : Script
   pub there : AreAttributes text ns k names m
@@ -39,7 +40,7 @@ attributes_before text ns k names m a =
 pub left_start : (s : Table) (text : List ℕ) (ns : List Node) (c : Value) (free : List ℕ) (first m : ℕ) (known : KnownView) → AreLeft s text ns c free first first m known known
 left_start s text ns c free first m known = λ v names t sc are has is. record { names = names; script = sc; there = are; is = is; same = refl }
 
-module _ (s : Table) (v : TermsView) (text : List ℕ) (ns : List Node) (k m : ℕ) (known : KnownView) (t : Typed) (whole : Outcome Typed) (left : IsLeft s v text ns k m known t whole) where
+module _ (s : Table) (v : TermsView) (text : List ℕ) (ns : List Node) (k m : ℕ) (known : KnownView) (t : Typed) (whole : Outcome Script Typed) (left : IsLeft s v text ns k m known t whole) where
   pub left_end : ((names : List Name) → AreAttributes text ns k names m → names ≡ []) → AreGiven s v known t whole (Ok tt)
   left_end none = (left.script, left.same ∙ ap (λ names. with_names t names left.script) (none left.names left.there), left.is)
 
@@ -52,7 +53,7 @@ module _ (s : Table) (v : TermsView) (text : List ℕ) (ns : List Node) (k m : �
     split = left.same ∙ ap (λ names. with_names t names left.script) next.split
 
     pub left_stop : (fault : ReadFault) → ((x : Name) (sc : Script) → IsNameNode text ns at x → IsScript s v known sc → AreGiven s v new t (with_names t (x ∷ []) sc) (Err fault)) → AreGiven s v new t whole (Err fault)
-    left_stop (ReadFault.Text r) one = ap (λ (o : Outcome Typed). o.result) split ∙ go (is_taken left.script next.name.name) (one next.name left.script next.here left.is)
+    left_stop (ReadFault.Text r) one = ap (λ (o : Outcome Script Typed). o.result) split ∙ go (is_taken left.script next.name.name) (one next.name left.script next.here left.is)
       where
         go : (b : Bool) → (one_name t next.name left.script (λ after. done t after) b).result ≡ Err r → (one_name t next.name left.script (with_names t next.others) b).result ≡ Err r
         go true e = e
@@ -66,8 +67,8 @@ module _ (s : Table) (v : TermsView) (text : List ℕ) (ns : List Node) (k m : �
         record { names = next.others; script = after; there = next.there; is = is; same = split ∙ go (is_taken left.script next.name.name) after e }
       where
         go : (b : Bool) (after : Script) → one_name t next.name left.script (λ after. done t after) b ≡ done t after → one_name t next.name left.script (with_names t next.others) b ≡ with_names t next.others after
-        go true after e = absurd (let h = ap (λ (o : Outcome Typed). o.result) e in cc)
-        go false after e = ap (λ (o : Outcome Typed). with_names t next.others o.script) e
+        go true after e = absurd (let h = ap (λ (o : Outcome Script Typed). o.result) e in cc)
+        go false after e = ap (λ (o : Outcome Script Typed). with_names t next.others o.state) e
 
 -- what holds where nothing is found
 pub where_none : {X : Type 0} (o : Option X) (P : Type 0) → is_some o ≡ false → IfNone o P → P

@@ -7,11 +7,12 @@ use Rattle.term_pool.specs.StandsFor.{variable_leaf}
 use Rattle.term_pool.specs.Views.{TermsView}
 use Rattle.term_names.specs.InScope.{IsScope}
 use Rattle.problem_text.specs.Names.{Bound, Place, itself}
-use Rattle.term_reader.specs.ProblemViews.{ReaderView, IsReaderOf, ReadsTerm}
-use Rattle.term_reader.specs.Reading.{IsIdle, Reads}
+use Rattle.term_reader.specs.ProblemViews.{ReaderView, IsReaderOf, ReadsTerm, IsValueRead, ReadsValue}
+use Rattle.term_reader.specs.Reading.{IsIdle, IsOutcome, Reads}
 use Rattle.term_names.specs.Scope.{Scoped}
 use Rattle.problem_text.specs.TypedTerms.{Typed}
-use Rattle.problem_text.specs.Scripts.{Script, Outcome}
+use Rattle.problem_text.specs.Outcomes.{Outcome}
+use Rattle.problem_text.specs.Scripts.{Script}
 use Rattle.term_names.specs.Standing.{AreLeavesOf}
 use Rattle.term_names.specs.declared.faults.ReadFault.{ReadFault}
 use Rattle.term_reader.specs.declared.reader.Reader.{Reader}
@@ -64,18 +65,36 @@ pub all_entered : (s : Table) (v : TermsView) (r : ReaderView) (ks : List ℕ) (
 all_entered s v r ks scope sc p e entered h = record {
   script = h.idle.script;
   scope = subst (IsScope s v scope) (sym h.scope) (entered h.variables h.around (subst (λ js. AreLeavesOf s js h.variables) (sym e) h.pushed) h.idle.scope);
-  replaces = h.idle.replaces;
+  settings = h.idle.settings;
   no_values = h.idle.no_values;
   no_leaves = h.idle.no_leaves;
   no_frames = h.idle.no_frames;
 }
 
 -- the term of a value that was read, or the fault that none was read for
-pub term_read : (s : Table) (old new : TermsView) (r : Reader) (pushed : List ℕ) (p : Place) (whole : Outcome Typed) (c : Value) → pushed ≡ [] → Reads s old new r p whole (Ok c)
+pub term_read : (s : Table) (old new : TermsView) (r : Reader) (pushed : List ℕ) (p : Place) (whole : Outcome Script Typed) (c : Value) → pushed ≡ [] → Reads s old new r p whole (Ok c)
     → ReadsTerm s old new (record { reader = r; pushed = pushed }) p whole (Ok c.term)
 term_read s old new r pushed p whole c e h =
     let (t, sc, is, value, low, idle) = h.outcome in
     record { outcome = (t, sc, is, value.refers, reader_settled s new r pushed sc p e idle); placed = h.placed }
 
-pub term_refused : (s : Table) (old new : TermsView) (r : Reader) (view : ReaderView) (p : Place) (whole : Outcome Typed) (fault : ReadFault) → Reads s old new r p whole (Err fault) → ReadsTerm s old new view p whole (Err fault)
+pub term_refused : (s : Table) (old new : TermsView) (r : Reader) (view : ReaderView) (p : Place) (whole : Outcome Script Typed) (fault : ReadFault) → Reads s old new r p whole (Err fault) → ReadsTerm s old new view p whole (Err fault)
 term_refused s old new r view p whole fault h = record { outcome = h.outcome; placed = h.placed }
+
+-- the value that was read, or the fault that none was read for
+pub value_read : (s : Table) (old new : TermsView) (r : Reader) (pushed : List ℕ) (p : Place) (whole : Outcome Script Typed) (result : Result Value ReadFault) → pushed ≡ [] → Reads s old new r p whole result
+    → ReadsValue s old new (record { reader = r; pushed = pushed }) p whole result
+value_read s old new r pushed p whole result e h = record { outcome = go result h.outcome; placed = h.placed }
+  where
+    go : (x : Result Value ReadFault) → IsOutcome s new r p whole x → IsValueRead s new (record { reader = r; pushed = pushed }) p whole x
+    go (Ok c) (t, sc, is, value, low, idle) = (t, sc, is, value, low, reader_settled s new r pushed sc p e idle)
+    go (Err fault) h = h
+
+-- the term of the value
+pub term_of_value : (s : Table) (old new : TermsView) (r : ReaderView) (p : Place) (whole : Outcome Script Typed) (c : Value) → ReadsValue s old new r p whole (Ok c) → ReadsTerm s old new r p whole (Ok c.term)
+term_of_value s old new r p whole c h =
+    let (t, sc, is, value, low, reader) = h.outcome in
+    record { outcome = (t, sc, is, value.refers, reader); placed = h.placed }
+
+pub no_value : (s : Table) (old new : TermsView) (r : ReaderView) (p : Place) (whole : Outcome Script Typed) (fault : ReadFault) → ReadsValue s old new r p whole (Err fault) → ReadsTerm s old new r p whole (Err fault)
+no_value s old new r p whole fault h = record { outcome = h.outcome; placed = h.placed }

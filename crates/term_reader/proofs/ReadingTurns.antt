@@ -12,7 +12,8 @@ use Rattle.text_items.specs.Nodes.{IsNode}
 use Rattle.term_reader.specs.Reading.{IsAt, HasRead, IsTurn, IsReadTerm, Goes, node_of, bound_of, IsIdle, IsOutcome, Reads}
 use Rattle.term_reader.specs.Resuming.{resumed}
 use Rattle.term_names.specs.Scope.{Scoped}
-use Rattle.problem_text.specs.Scripts.{Script, done}
+use Rattle.problem_text.specs.Outcomes.{done}
+use Rattle.problem_text.specs.Scripts.{Script}
 use Rattle.term_names.specs.Standing.{AddsNoSymbols}
 use Rattle.problem_text.specs.Terms.{read_term}
 use Rattle.term_names.specs.declared.faults.ReadFault.{ReadFault}
@@ -57,7 +58,7 @@ at_start source nodes k s v r i m sc p node idle = record {
   stands = record {
     script = idle.script;
     scope = idle.scope;
-    replaces = idle.replaces;
+    settings = idle.settings;
     low = subst (λ (vs : List Value). AreLow vs) (sym idle.no_values) tt;
   };
   here = record { what = i; there = node; spells = refl };
@@ -133,7 +134,7 @@ came_to source nodes g z w q c n none h =
       record {
         script = h.stands.script;
         scope = scope;
-        replaces = sym (ap (λ (p : Place). p.replaces_lets) closed.4) ∙ h.stands.replaces;
+        settings = sym (ap (λ (p : Place). p.settings) closed.4) ∙ h.stands.settings;
         no_values = closed.1;
         no_leaves = closed.2;
         no_frames = none;
@@ -147,6 +148,16 @@ ends source nodes k s v r z w q c n none h i m sc p node idle = record {
   outcome = came_to source nodes (reading r.scope i m sc p) z w q c n none (h.at i m sc p node idle);
   placed = h.placed i m sc p node idle;
 }
+
+-- each leaf that was added has a node of the item
+pub spent : (source : List ℕ) (nodes : List Node) (k : ℕ) (s : Table) (v : TermsView) (r : Reader) (z : Table) (w : TermsView) (q : Reader) (c : Value) (n : ℕ)
+    → q.frames ≡ [] → IsUnderWay source nodes k s v r z w q (Turn.Use c n) → (sc : Script) × (p : Place) × IsIdle s v r sc p
+    → (i : Item) (m : ℕ) → IsNode source nodes k i m → length z.leaves ≤ length s.leaves + (m - k)
+spent source nodes k s v r z w q c n none h (sc, p, idle) i m node =
+    let read = h.at i m sc p node idle in
+    let closed : AreFrames source nodes (reading r.scope i m sc p) z w q.known [] q.values q.leaves.items q.scope read.place n read.waiting = rw none at read.frames in
+    let last : n ≡ m = closed.5 in
+    omega (arith, h.few, last, node_behind source nodes k i m node, node_inside source nodes k i m node)
 
 pub none_open : (fs : List Frame) → length fs ≡ 0 → fs ≡ []
 none_open [] e = refl

@@ -6,46 +6,47 @@ use Rattle.problem_text.specs.Words.{is_among, is_built_in}
 use Rattle.text_items.specs.ItemShapes.{Name}
 use Rattle.problem_text.specs.Forms.{Form, symbol, application, let_form, annotated, Forms, no_forms, form, Binds, no_binds, bind}
 use Rattle.problem_text.specs.TypedTerms.{Typed}
-use Rattle.problem_text.specs.Scripts.{Script, with_let_name, Outcome, done, refuse, goes_on, and_then}
+use Rattle.problem_text.specs.Outcomes.{Outcome, done, refuse, goes_on, and_then}
+use Rattle.problem_text.specs.Scripts.{Script, with_let_name}
 use Rattle.problem_text.specs.Names.{Bound, Place, Meaning, meaning_of, applied, inside, let_term}
 use Rattle.problem_text.specs.Terms.{settled, with_names, with_meaning, term_from, terms_from, bounds_from}
 use Rattle.term_reader.specs.Resuming.{Waiting, arguments, bindings, body_of, naming, bound_to, body_from, after, resumed}
 
 -- readings one after another
-pub same_next : {A B : Type 0} (o : Outcome A) (f g : A → Script → Outcome B) → ((a : A) (s : Script) → f a s ≡ g a s) → and_then o f ≡ and_then o g
+pub same_next : {A B : Type 0} (o : Outcome Script A) (f g : A → Script → Outcome Script B) → ((a : A) (s : Script) → f a s ≡ g a s) → and_then o f ≡ and_then o g
 same_next {A = A} {B = B} o f g h = go o.result
   where
-    go : (r : Result A Refusal) → goes_on r o.script f ≡ goes_on r o.script g
-    go (Ok a) = h a o.script
+    go : (r : Result A Refusal) → goes_on r o.state f ≡ goes_on r o.state g
+    go (Ok a) = h a o.state
     go (Err refusal) = refl
 
-pub joined : {A B C : Type 0} (o : Outcome A) (f : A → Script → Outcome B) (g : B → Script → Outcome C) → and_then (and_then o f) g ≡ and_then o (λ a s. and_then (f a s) g)
+pub joined : {A B C : Type 0} (o : Outcome Script A) (f : A → Script → Outcome Script B) (g : B → Script → Outcome Script C) → and_then (and_then o f) g ≡ and_then o (λ a s. and_then (f a s) g)
 joined {A = A} o f g = go o.result
   where
-    go : (r : Result A Refusal) → and_then (goes_on r o.script f) g ≡ goes_on r o.script (λ a s. and_then (f a s) g)
+    go : (r : Result A Refusal) → and_then (goes_on r o.state f) g ≡ goes_on r o.state (λ a s. and_then (f a s) g)
     go (Ok a) = refl
     go (Err refusal) = refl
 
 -- a fault is the fault of the whole
-pub refused_whole : (ws : List Waiting) (r : Refusal) (s : Script) → resumed ws (record { result = Err r; script = s }) ≡ record { result = Err r; script = s }
+pub refused_whole : (ws : List Waiting) (r : Refusal) (s : Script) → resumed ws (record { result = Err r; state = s }) ≡ record { result = Err r; state = s }
 refused_whole [] r s = refl
 refused_whole (w ∷ ws) r s = refused_whole ws r s
 
 -- The arguments of an application: the first one, the next one, and the last one.
-abbrev pub applies : ℕ → Meaning → List Typed → List Typed → Script → Outcome Typed
-applies place m read ts last = settled place (applied m (read ++ ts)) last
+abbrev pub applies : Option ℕ → ℕ → Meaning → List Typed → List Typed → Script → Outcome Script Typed
+applies limit place m read ts last = settled limit place (applied m (read ++ ts)) last
 
 next_argument : (ws : List Waiting) (place : ℕ) (m : Meaning) (read : List Typed) (f : Form) (fs : Forms) (p : Place) (s : Script)
-    → resumed ws (and_then (terms_from (form f fs) p s) (applies place m read)) ≡ resumed (arguments place m read fs p ∷ ws) (term_from f p s)
+    → resumed ws (and_then (terms_from (form f fs) p s) (applies p.settings.limit place m read)) ≡ resumed (arguments place m read fs p ∷ ws) (term_from f p s)
 unfolding terms_from
 next_argument ws place m read f fs p s =
     ap (resumed ws)
-    (joined (term_from f p s) (λ t last. and_then (terms_from fs p last) (λ ts end. done (t ∷ ts) end)) (applies place m read)
-    ∙ same_next (term_from f p s) (λ t last. and_then (and_then (terms_from fs p last) (λ ts end. done (t ∷ ts) end)) (applies place m read)) (after (arguments place m read fs p))
-    (λ t last. joined (terms_from fs p last) (λ ts end. done (t ∷ ts) end) (applies place m read)))
+    (joined (term_from f p s) (λ t last. and_then (terms_from fs p last) (λ ts end. done (t ∷ ts) end)) (applies p.settings.limit place m read)
+    ∙ same_next (term_from f p s) (λ t last. and_then (and_then (terms_from fs p last) (λ ts end. done (t ∷ ts) end)) (applies p.settings.limit place m read)) (after (arguments place m read fs p))
+    (λ t last. joined (terms_from fs p last) (λ ts end. done (t ∷ ts) end) (applies p.settings.limit place m read)))
 
-abbrev headed : ℕ → Name → Forms → Place → Script → Option Meaning → Outcome Typed
-headed place head fs p s o = with_meaning head.place o s (λ m. and_then (terms_from fs p s) (λ ts last. settled place (applied m ts) last))
+abbrev headed : ℕ → Name → Forms → Place → Script → Option Meaning → Outcome Script Typed
+headed place head fs p s o = with_meaning head.place o s (λ m. and_then (terms_from fs p s) (λ ts last. settled p.settings.limit place (applied m ts) last))
 
 application_begins : (place : ℕ) (head : Name) (fs : Forms) (p : Place) (s : Script) → term_from (application place head fs) p s ≡ headed place head fs p s (meaning_of p s head.name)
 unfolding term_from
@@ -60,33 +61,33 @@ first_argument ws place head m f fs p s known =
 pub unknown_head : (place : ℕ) (head : Name) (fs : Forms) (p : Place) (s : Script)
     → meaning_of p s head.name ≡ None → term_from (application place head fs) p s ≡ refuse UnknownName head.place s
 unfolding term_from
-unknown_head place head fs p s none = ap (λ o. with_meaning head.place o s (λ n. and_then (terms_from fs p s) (λ ts last. settled place (applied n ts) last))) none
+unknown_head place head fs p s none = ap (λ o. with_meaning head.place o s (λ n. and_then (terms_from fs p s) (λ ts last. settled p.settings.limit place (applied n ts) last))) none
 
 pub next_argument_read : (ws : List Waiting) (place : ℕ) (m : Meaning) (read : List Typed) (t : Typed) (f : Form) (fs : Forms) (p : Place) (s : Script)
     → resumed (arguments place m read (form f fs) p ∷ ws) (done t s) ≡ resumed (arguments place m (read ++ t ∷ []) fs p ∷ ws) (term_from f p s)
 next_argument_read ws place m read t f fs p s =
-    ap (resumed ws) (same_next (terms_from (form f fs) p s) (λ ts last. applies place m read (t ∷ ts) last) (applies place m (read ++ t ∷ [])) (λ ts last. ap (λ us. settled place (applied m us) last) (sym (append_assoc read (t ∷ []) ts))))
+    ap (resumed ws) (same_next (terms_from (form f fs) p s) (λ ts last. applies p.settings.limit place m read (t ∷ ts) last) (applies p.settings.limit place m (read ++ t ∷ [])) (λ ts last. ap (λ us. settled p.settings.limit place (applied m us) last) (sym (append_assoc read (t ∷ []) ts))))
     ∙ next_argument ws place m (read ++ t ∷ []) f fs p s
 
 pub last_argument_read : (ws : List Waiting) (place : ℕ) (m : Meaning) (read : List Typed) (t : Typed) (p : Place) (s : Script)
-    → resumed (arguments place m read no_forms p ∷ ws) (done t s) ≡ resumed ws (settled place (applied m (read ++ t ∷ [])) s)
+    → resumed (arguments place m read no_forms p ∷ ws) (done t s) ≡ resumed ws (settled p.settings.limit place (applied m (read ++ t ∷ [])) s)
 unfolding terms_from
 last_argument_read ws place m read t p s = refl
 
 -- A symbol alone.
-pub known_symbol : (n : Name) (m : Meaning) (p : Place) (s : Script) → meaning_of p s n.name ≡ Some m → term_from (symbol n) p s ≡ settled n.place (applied m []) s
+pub known_symbol : (n : Name) (m : Meaning) (p : Place) (s : Script) → meaning_of p s n.name ≡ Some m → term_from (symbol n) p s ≡ settled p.settings.limit n.place (applied m []) s
 unfolding term_from
-known_symbol n m p s known = ap (λ o. with_meaning n.place o s (λ k. settled n.place (applied k []) s)) known
+known_symbol n m p s known = ap (λ o. with_meaning n.place o s (λ k. settled p.settings.limit n.place (applied k []) s)) known
 
 pub unknown_symbol : (n : Name) (p : Place) (s : Script) → meaning_of p s n.name ≡ None → term_from (symbol n) p s ≡ refuse UnknownName n.place s
 unfolding term_from
-unknown_symbol n p s none = ap (λ o. with_meaning n.place o s (λ k. settled n.place (applied k []) s)) none
+unknown_symbol n p s none = ap (λ o. with_meaning n.place o s (λ k. settled p.settings.limit n.place (applied k []) s)) none
 
 -- The bindings of a let, the first or the next, whose variable is no built-in word and is not bound twice.
 abbrev pub is_refused_name : List (List ℕ) → Name → Bool
 is_refused_name earlier n = is_built_in n.name || is_among earlier n.name
 
-abbrev bindings_left : Name → Form → Binds → List (List ℕ) → Place → Script → Bool → Outcome (List Bound)
+abbrev bindings_left : Name → Form → Binds → List (List ℕ) → Place → Script → Bool → Outcome Script (List Bound)
 bindings_left n f bs earlier p s b =
     cond b (refuse Repeated n.place s)
     (and_then (term_from f p (with_let_name n.name s)) (λ t last.
@@ -97,7 +98,7 @@ bindings_begin : (n : Name) (f : Form) (bs : Binds) (earlier : List (List ℕ)) 
 unfolding bounds_from
 bindings_begin n f bs earlier p s = refl
 
-abbrev pub binds_all : ℕ → Form → Place → List Bound → List Bound → Script → Outcome Typed
+abbrev pub binds_all : ℕ → Form → Place → List Bound → List Bound → Script → Outcome Script Typed
 binds_all place body p read bound s = body_from place body p (read ++ bound) s
 
 next_binding : (ws : List Waiting) (place : ℕ) (read : List Bound) (earlier : List (List ℕ)) (n : Name) (f : Form) (bs : Binds) (body : Form) (p : Place) (s : Script)
@@ -165,7 +166,7 @@ unfolding bounds_from
 last_binding_read ws place read m earlier body p t s = refl
 
 pub body_read : (ws : List Waiting) (place : ℕ) (bound : List Bound) (p : Place) (t : Typed) (s : Script)
-    → resumed (body_of place bound p ∷ ws) (done t s) ≡ resumed ws (settled place (Some (let_term p bound t)) s)
+    → resumed (body_of place bound p ∷ ws) (done t s) ≡ resumed ws (settled p.settings.limit place (Some (let_term p bound t)) s)
 body_read ws place bound p t s = refl
 
 -- An annotated term.

@@ -1,5 +1,5 @@
 -- A form whose terms are all read: the term that is made of it is settled, or the reading ends.
-use Rattle.std.proofs.Common.{◌≡◌, ◌∙◌, refl, ap, sym, subst, ℕ, List, ◌++◌, ◌∷◌, [], Option, Result, Ok, Err}
+use Rattle.std.proofs.Common.{◌≡◌, ◌∙◌, refl, ap, sym, subst, ℕ, List, ◌++◌, ◌∷◌, [], Option, Some, Result, Ok, Err}
 use Rattle.sexpr.specs.declared.causes.Refusal.{Refusal}
 use Rattle.sym_table.specs.Table.{Table}
 use Rattle.term_model.specs.Terms.{Term}
@@ -9,8 +9,10 @@ use Rattle.term_names.specs.Making.{IsExpected, IsMade, Makes, PlacesCellsOf}
 use Rattle.problem_text.specs.Names.{Place}
 use Rattle.term_reader.specs.Reading.{Stands, HasRead, EndsWith, IsReadTerm, GoesOn, Goes}
 use Rattle.term_reader.specs.Resuming.{Waiting, resumed}
+use Rattle.problem_text.specs.Limits.{most_height}
 use Rattle.problem_text.specs.TypedTerms.{Typed}
-use Rattle.problem_text.specs.Scripts.{Script, Outcome, with_term}
+use Rattle.problem_text.specs.Outcomes.{Outcome}
+use Rattle.problem_text.specs.Scripts.{Script, with_term}
 use Rattle.term_reader.specs.Settling.{IsSettled}
 use Rattle.problem_text.specs.Terms.{settled}
 use Rattle.term_names.specs.declared.faults.ReadFault.{ReadFault}
@@ -28,7 +30,7 @@ pub record IsWhole (g : Reading) (s : Table) (v w : TermsView) (place : ℕ) (ma
   pub script : Script
   pub expected : Option Typed
   pub waiting : List Waiting
-  pub comes : resumed waiting (settled place expected script) ≡ g.whole
+  pub comes : resumed waiting (settled (Some most_height) place expected script) ≡ g.whole
   pub makes : Makes s v w expected made
 
 -- and the reader is at what waits
@@ -39,9 +41,9 @@ pub record Closes (source : List ℕ) (nodes : List Node) (g : Reading) (s : Tab
   pub frames : AreFrames source nodes g s w r.known r.frames r.values r.leaves.items r.scope around n whole.waiting
 
 -- a fault of what is read now is the fault of the whole
-pub fault_of_whole : (ws : List Waiting) (o : Outcome Typed) (r : Refusal) (whole : Outcome Typed) → o.result ≡ Err r → resumed ws o ≡ whole → whole.result ≡ Err r
+pub fault_of_whole : (ws : List Waiting) (o : Outcome Script Typed) (r : Refusal) (whole : Outcome Script Typed) → o.result ≡ Err r → resumed ws o ≡ whole → whole.result ≡ Err r
 fault_of_whole ws o r whole fails comes =
-    ap (λ (x : Outcome Typed). x.result) (sym comes ∙ ap (λ x. resumed ws (record { result = x; script = o.script })) fails ∙ refused_whole ws r o.script)
+    ap (λ (x : Outcome Script Typed). x.result) (sym comes ∙ ap (λ x. resumed ws (record { result = x; state = o.state })) fails ∙ refused_whole ws r o.state)
 
 -- memory ran out, or nothing was placed
 pub nothing_made : (source : List ℕ) (nodes : List Node) (g : Reading) (s : Table) (v : TermsView) (r : Reader) (result : Result Turn ReadFault) → GoesOn source nodes g s v r result → Goes source nodes g s v v r result
@@ -51,7 +53,7 @@ module _ (source : List ℕ) (nodes : List Node) (g : Reading) (s : Table) (v w 
   expected_read : (made : Result (Option Value) ReadFault) (h : IsWhole g s v w place made) (t : Term) → IsExpected h.expected t → IsReadTerm g.whole t
   expected_read made h t (d, is, same) =
       subst (IsReadTerm g.whole) same
-      (subst (λ (o : Outcome Typed). IsReadTerm o d.tree) (ap (λ o. resumed h.waiting (settled place o h.script)) (sym is) ∙ h.comes) (settled_is_read h.waiting place d h.script))
+      (subst (λ (o : Outcome Script Typed). IsReadTerm o d.tree) (ap (λ o. resumed h.waiting (settled (Some most_height) place o h.script)) (sym is) ∙ h.comes) (settled_is_read h.waiting (Some most_height) place d h.script))
 
   whole_places : (made : Result (Option Value) ReadFault) (h : IsWhole g s v w place made) → PlacesCellsOf s v.pass w.pass (IsReadTerm g.whole)
   whole_places made h = places_more s v.pass w.pass (IsExpected h.expected) (IsReadTerm g.whole) (expected_read made h) h.makes.placed
@@ -71,7 +73,7 @@ module _ (source : List ℕ) (nodes : List Node) (g : Reading) (s : Table) (v w 
   unsettled_ends made fault q h settles = record { step = ends fault (settles s w h.expected h.script h.makes.answer); placed = whole_places (Ok made) h }
     where
       ends : (f : ReadFault) → IsSettled s w place h.expected h.script (Err f) → EndsWith s w.pass g.whole.result (IsReadTerm g.whole) f
-      ends (ReadFault.Text x) is = fault_of_whole h.waiting (settled place h.expected h.script) x g.whole is h.comes
+      ends (ReadFault.Text x) is = fault_of_whole h.waiting (settled (Some most_height) place h.expected h.script) x g.whole is h.comes
       ends ReadFault.PoolFull is = absurd is
       ends ReadFault.Memory is = absurd is
 
@@ -89,7 +91,7 @@ module _ (source : List ℕ) (nodes : List Node) (g : Reading) (s : Table) (v w 
         stands = record {
           script = same_script s w r.known (h.whole.script.terms ++ t.tree ∷ []) h.whole.script.let_names h.whole.script h.stands.script;
           scope = h.stands.scope;
-          replaces = h.stands.replaces;
+          settings = h.stands.settings;
           low = h.stands.low;
         };
         is = value;

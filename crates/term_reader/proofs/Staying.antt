@@ -358,7 +358,7 @@ module _ (s z : Table) (v w : TermsView) (adds : AddsNoSymbols s z) (terms : Kee
   stands_stays r sc p h = record {
     script = script_stays r.known sc h.script;
     scope = scope_stays s z v w adds.keeps terms r.scope p.scope h.scope;
-    replaces = h.replaces;
+    settings = h.settings;
     low = h.low;
   }
 

@@ -23,7 +23,7 @@ module _ (s z : Table) (v w : TermsView) (adds : AddsNoSymbols s z) (terms : Kee
   idle_stays r sc p h = record {
     script = script_stays s z v w adds terms r.known sc h.script;
     scope = scope_stays s z v w adds.keeps terms r.scope p.scope h.scope;
-    replaces = h.replaces;
+    settings = h.settings;
     no_values = h.no_values;
     no_leaves = h.no_leaves;
     no_frames = h.no_frames;

@@ -13,7 +13,8 @@ use Rattle.term_names.specs.Making.{PlacesCellsOf}
 use Rattle.problem_text.specs.Names.{Meaning}
 use Rattle.term_reader.specs.Reading.{IsAt, EndsWith, IsReadTerm}
 use Rattle.problem_text.specs.TypedTerms.{Typed}
-use Rattle.problem_text.specs.Scripts.{Script, with_term, Outcome, done}
+use Rattle.problem_text.specs.Outcomes.{Outcome, done}
+use Rattle.problem_text.specs.Scripts.{Script, with_term}
 use Rattle.term_expansion.specs.Values.{IsValue}
 use Rattle.term_names.specs.declared.faults.ReadFault.{ReadFault}
 use Rattle.term_reader.specs.declared.frames.Frame.{Frame}
@@ -52,10 +53,10 @@ IsHeadFound s v k None o = o ≡ None
 IsHeadFound s v k (Some h) o = (m : Meaning) × (o ≡ Some m) × IsHeadOf s v k h m
 
 -- What comes of a term without parts: its value, with no change of the script but that it was read; or a fault.
-abbrev pub IsReadAlone : Table → TermsView → Outcome Typed → Script → Result Value ReadFault → Type 0
+abbrev pub IsReadAlone : Table → TermsView → Outcome Script Typed → Script → Result Value ReadFault → Type 0
 IsReadAlone s v o sc (Ok c) = (t : Typed) × (o ≡ done t (with_term t.tree sc)) × IsValue s v c t × (c.height ≤ most_height)
 IsReadAlone s v o sc (Err fault) = EndsWith s v.pass o.result (IsReadTerm o) fault
 
-pub record ReadsAlone (s : Table) (old new : TermsView) (o : Outcome Typed) (sc : Script) (result : Result Value ReadFault) : Type 0 where
+pub record ReadsAlone (s : Table) (old new : TermsView) (o : Outcome Script Typed) (sc : Script) (result : Result Value ReadFault) : Type 0 where
   pub answer : IsReadAlone s new o sc result
   pub placed : PlacesCellsOf s old.pass new.pass (IsReadTerm o)

@@ -12,7 +12,8 @@ use Rattle.problem_text.specs.Names.{Bound, Place, Meaning, inside}
 use Rattle.term_reader.specs.Resuming.{Waiting, arguments, bindings, body_of, naming}
 use Rattle.term_names.specs.Scope.{Scoped}
 use Rattle.problem_text.specs.TypedTerms.{Typed}
-use Rattle.problem_text.specs.Scripts.{Outcome}
+use Rattle.problem_text.specs.Scripts.{Script}
+use Rattle.problem_text.specs.Outcomes.{Outcome}
 use Rattle.term_reader.specs.Shapes.{IsFirstRepeat}
 use Rattle.term_expansion.specs.Values.{AreValues}
 use Rattle.term_reader.specs.declared.frames.Frame.{Frame}
@@ -55,7 +56,7 @@ pub record Reading : Type 0 where
   pub last : ℕ
   pub around : List Scoped
   pub place : Place
-  pub whole : Outcome Typed
+  pub whole : Outcome Script Typed
 
 -- By recursion from the innermost: the open forms, with the values and leaves that each owns, are these that wait. The term
 -- that is read now stands at place p and ends before node n.

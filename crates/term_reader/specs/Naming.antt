@@ -7,14 +7,15 @@ use Rattle.problem_text.specs.Limits.{most_height}
 use Rattle.term_names.specs.Known.{KnownView}
 use Rattle.rule_model.specs.Replacement.{free_variables}
 use Rattle.problem_text.specs.TypedTerms.{Typed}
-use Rattle.problem_text.specs.Scripts.{Script, Outcome, done}
+use Rattle.problem_text.specs.Outcomes.{Outcome, done}
+use Rattle.problem_text.specs.Scripts.{Script}
 use Rattle.term_names.specs.Standing.{IsScript}
 use Rattle.term_expansion.specs.Values.{IsValue}
 use Rattle.term_names.specs.declared.faults.ReadFault.{ReadFault}
 use Rattle.term_expansion.specs.declared.values.Value.{Value}
 
 -- The term has the names now, or the first that is taken is refused.
-abbrev pub AreGiven : Table → TermsView → KnownView → Typed → Outcome Typed → Result Unit ReadFault → Type 0
+abbrev pub AreGiven : Table → TermsView → KnownView → Typed → Outcome Script Typed → Result Unit ReadFault → Type 0
 AreGiven s v k t whole (Ok _) = (sc : Script) × (whole ≡ done t sc) × IsScript s v k sc
 AreGiven s v k t whole (Err (ReadFault.Text r)) = whole.result ≡ Err r
 AreGiven s v k t whole (Err ReadFault.PoolFull) = ⊥

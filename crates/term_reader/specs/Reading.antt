@@ -7,14 +7,15 @@ use Rattle.term_model.specs.Terms.{Term}
 use Rattle.term_pool.specs.Views.{TermsView}
 use Rattle.problem_text.specs.Forms.{Form}
 use Rattle.term_reader.specs.Frames.{Reading, AreFrames, credit}
-use Rattle.problem_text.specs.Limits.{most_height}
+use Rattle.problem_text.specs.Limits.{limited, most_height}
 use Rattle.term_names.specs.InScope.{IsScope, AreLow}
 use Rattle.term_reader.specs.Layers.{IsForm}
 use Rattle.term_names.specs.Making.{PlacesCellsOf, LacksCellOf}
 use Rattle.problem_text.specs.Names.{Place}
 use Rattle.term_reader.specs.Resuming.{Waiting, resumed}
 use Rattle.problem_text.specs.TypedTerms.{Typed}
-use Rattle.problem_text.specs.Scripts.{Script, Outcome, done}
+use Rattle.problem_text.specs.Outcomes.{Outcome, done}
+use Rattle.problem_text.specs.Scripts.{Script}
 use Rattle.term_names.specs.Standing.{IsScript}
 use Rattle.problem_text.specs.Terms.{term_from}
 use Rattle.term_expansion.specs.Values.{IsValue}
@@ -28,7 +29,7 @@ use Rattle.term_expansion.specs.declared.values.Value.{Value}
 pub record Stands (s : Table) (v : TermsView) (r : Reader) (sc : Script) (p : Place) : Type 0 where
   pub script : IsScript s v r.known sc
   pub scope : IsScope s v r.scope p.scope
-  pub replaces : p.replaces_lets ≡ r.replaces_lets
+  pub settings : p.settings ≡ limited r.replaces_lets
   pub low : AreLow r.values
 
 -- The term that is read now is that of node k: what comes of it for all that wait is what comes of the whole term.
@@ -60,8 +61,8 @@ IsTurn source nodes g s v r (Turn.Read k) = IsAt source nodes g s v r k
 IsTurn source nodes g s v r (Turn.Use c n) = HasRead source nodes g s v r c n
 
 -- a term that was read by the end
-abbrev pub IsReadTerm : Outcome Typed → Term → Type 0
-IsReadTerm whole t = Contains whole.script.terms t
+abbrev pub IsReadTerm : Outcome Script Typed → Term → Type 0
+IsReadTerm whole t = Contains whole.state.terms t
 
 -- The reading ends with this fault: one of the text, or for want of room for a cell of a term that is read.
 abbrev pub EndsWith : {A : Type 0} → Table → PassView → Result A Refusal → (Term → Type 0) → ReadFault → Type 0
@@ -97,17 +98,17 @@ effort nodes r (Turn.Use c n) = 3 * (length nodes - n) + 2 * length r.frames + 1
 pub record IsIdle (s : Table) (v : TermsView) (r : Reader) (sc : Script) (p : Place) : Type 0 where
   pub script : IsScript s v r.known sc
   pub scope : IsScope s v r.scope p.scope
-  pub replaces : p.replaces_lets ≡ r.replaces_lets
+  pub settings : p.settings ≡ limited r.replaces_lets
   pub no_values : r.values ≡ []
   pub no_leaves : r.leaves.items ≡ []
   pub no_frames : r.frames ≡ []
 
 -- What a term came to: its value, and the reader ready for the next one; or a fault.
-abbrev pub IsOutcome : Table → TermsView → Reader → Place → Outcome Typed → Result Value ReadFault → Type 0
+abbrev pub IsOutcome : Table → TermsView → Reader → Place → Outcome Script Typed → Result Value ReadFault → Type 0
 IsOutcome s v r p whole (Ok c) =
     (t : Typed) × (sc : Script) × (whole ≡ done t sc) × IsValue s v c t × (c.height ≤ most_height) × IsIdle s v r sc p
 IsOutcome s v r p whole (Err fault) = EndsWith s v.pass whole.result (IsReadTerm whole) fault
 
-pub record Reads (s : Table) (old new : TermsView) (r : Reader) (p : Place) (whole : Outcome Typed) (result : Result Value ReadFault) : Type 0 where
+pub record Reads (s : Table) (old new : TermsView) (r : Reader) (p : Place) (whole : Outcome Script Typed) (result : Result Value ReadFault) : Type 0 where
   pub outcome : IsOutcome s new r p whole result
   pub placed : PlacesCellsOf s old.pass new.pass (IsReadTerm whole)

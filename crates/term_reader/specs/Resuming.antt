@@ -3,7 +3,8 @@ use Rattle.std.specs.Prelude.{ℕ, List, [], ◌∷◌, ◌++◌, Some}
 use Rattle.text_items.specs.ItemShapes.{Name}
 use Rattle.problem_text.specs.Forms.{Form, Forms, Binds}
 use Rattle.problem_text.specs.TypedTerms.{Typed}
-use Rattle.problem_text.specs.Scripts.{Script, Outcome, and_then}
+use Rattle.problem_text.specs.Outcomes.{Outcome, and_then}
+use Rattle.problem_text.specs.Scripts.{Script}
 use Rattle.problem_text.specs.Names.{Bound, Place, Meaning, applied, inside, let_term}
 use Rattle.problem_text.specs.Terms.{settled, with_names, term_from, terms_from, bounds_from}
 
@@ -21,20 +22,20 @@ abbrev pub bound_to : Name → Typed → Bound
 bound_to n t = record { variable = record { name = n.name; sort = t.sort }; stands_for = t.tree }
 
 -- a let once its bindings are read
-abbrev pub body_from : ℕ → Form → Place → List Bound → Script → Outcome Typed
+abbrev pub body_from : ℕ → Form → Place → List Bound → Script → Outcome Script Typed
 body_from place body p bound s =
-    and_then (term_from body (inside bound p) s) (λ t last. settled place (Some (let_term p bound t)) last)
+    and_then (term_from body (inside bound p) s) (λ t last. settled p.settings.limit place (Some (let_term p bound t)) last)
 
 -- what comes of the term that was waited for
-abbrev pub after : Waiting → Typed → Script → Outcome Typed
+abbrev pub after : Waiting → Typed → Script → Outcome Script Typed
 after (arguments place m read left p) t s =
-    and_then (terms_from left p s) (λ ts last. settled place (applied m (read ++ t ∷ ts)) last)
+    and_then (terms_from left p s) (λ ts last. settled p.settings.limit place (applied m (read ++ t ∷ ts)) last)
 after (bindings place read n earlier left body p) t s =
     and_then (bounds_from left (n.name ∷ earlier) p s) (λ bound last. body_from place body p (read ++ bound_to n t ∷ bound) last)
-after (body_of place bound p) t s = settled place (Some (let_term p bound t)) s
+after (body_of place bound p) t s = settled p.settings.limit place (Some (let_term p bound t)) s
 after (naming names) t s = with_names t names s
 
 -- what comes of a reading for all that wait, the innermost first
-abbrev pub resumed : List Waiting → Outcome Typed → Outcome Typed
+abbrev pub resumed : List Waiting → Outcome Script Typed → Outcome Script Typed
 resumed [] o = o
 resumed (w ∷ ws) o = resumed ws (and_then o (after w))

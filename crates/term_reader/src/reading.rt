@@ -1,5 +1,5 @@
 //! Reading a term, whatever stands in it.
-ghost use Rattle.std.specs.Prelude.{◌≡◌, ◌≤◌, ◌^◌, ◌+◌, ◌-◌, ℕ, length};
+ghost use Rattle.std.specs.Prelude.{◌≡◌, ◌≤◌, ◌^◌, ◌+◌, ◌-◌, ℕ, length, OnOk};
 ghost use Rattle.sexpr.specs.Items.{Item};
 ghost use Rattle.sexpr.specs.Source.{source};
 ghost use Rattle.term_pool.specs.Views.{KeepsTerms};
@@ -38,6 +38,8 @@ pub fn read(
     ensures reads { (i : Item) (m : ℕ) (sc : Script) (p : Place) → IsNode (source text.now) nodes.now k i m → IsIdle symbols.old terms.old reader.old sc p → Reads symbols.new terms.old terms.new reader.new p (read_term i p sc) result }
     ensures symbols { AddsNoSymbols symbols.old symbols.new }
     ensures few { length symbols.new.leaves ≤ length symbols.old.leaves + (length nodes.now - k) }
+    // Each leaf that is added has a node of the item.
+    ensures spent { (i : Item) (m : ℕ) → IsNode (source text.now) nodes.now k i m → OnOk result (length symbols.new.leaves ≤ length symbols.old.leaves + (m - k)) }
     ensures replaces { reader.new.replaces_lets ≡ reader.old.replaces_lets }
     ensures base { reader.new.known.base ≡ reader.old.known.base }
     ensures keeps { KeepsTerms terms.old terms.new }

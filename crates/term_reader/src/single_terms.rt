@@ -1,5 +1,5 @@
 //! Reading single terms behind a problem.
-ghost use Rattle.std.specs.Prelude.{◌≡◌, ◌≤◌, ◌^◌, ◌+◌, ◌-◌, ◌∷◌, ◌++◌, [], List, map, reverse, length, OnOk, OnErr};
+ghost use Rattle.std.specs.Prelude.{◌≡◌, ◌≤◌, ◌^◌, ◌+◌, ◌-◌, ◌∷◌, ◌++◌, [], ℕ, List, map, reverse, length, OnOk, OnErr};
 ghost use Rattle.sexpr.specs.Form.{HasForm};
 ghost use Rattle.sexpr.specs.Items.{Item};
 ghost use Rattle.sexpr.specs.Source as at;
@@ -10,9 +10,12 @@ ghost use Rattle.term_model.specs.Terms.{Var};
 ghost use Rattle.term_pool.specs.StandsFor.{variable_leaf};
 ghost use Rattle.term_pool.specs.Views.{TermsView, KeepsTerms};
 ghost use Rattle.term_names.specs.InScope.{IsScope};
+ghost use Rattle.text_items.specs.Nodes.{IsNode};
+ghost use Rattle.text_items.specs.Stepping.{IsItemAt};
 ghost use Rattle.text_items.specs.Lexers.{IsFirstOfItem, GoesOnWith};
+ghost use Rattle.problem_text.specs.Limits.{limited};
 ghost use Rattle.problem_text.specs.Names.{Bound, Place, itself};
-ghost use Rattle.term_reader.specs.ProblemViews.{IsProblemOf, IsReaderOf, ReadsTerm};
+ghost use Rattle.term_reader.specs.ProblemViews.{IsProblemOf, IsReaderOf, ReadsTerm, ReadsValue};
 ghost use Rattle.term_reader.specs.Reading.{IsIdle, Reads};
 ghost use Rattle.problem_text.specs.Scripts.{Script};
 ghost use Rattle.term_names.specs.Standing.{AddsNoSymbols, AreLeavesOf};
@@ -60,7 +63,7 @@ impl<'a> Model for TermReader<'a> {
 impl<'a> TermReader<'a> {
     /// A reader that knows what the problem names, with no variable in scope.
     pub fn new(alloc: Global, problem: &'a Problem, flags: Flags) -> TermReader<'a>
-        ensures { (s : Table) (v : TermsView) (sc : Script) → IsProblemOf s v problem.now sc → IsReaderOf s v result sc (record { scope = []; replaces_lets = flags.expand_lets }) }
+        ensures { (s : Table) (v : TermsView) (sc : Script) → IsProblemOf s v problem.now sc → IsReaderOf s v result sc (record { scope = []; settings = limited flags.expand_lets }) }
     {
         TermReader {
             reader: Reader {
@@ -136,6 +139,55 @@ impl<'a> TermReader<'a> {
             &mut self.reader,
         )?;
         Ok(value.term)
+    }
+
+    /// Reads the term at node `k`, as `term` does, from an item of the text that was read into nodes already. Refusals and
+    /// what the reader is after them are those of `term`. Costs as much as the term has nodes, and for each use of a macro
+    /// the distinct cells of its body.
+    pub fn term_at(
+        &mut self,
+        text: &Lexer<'_>,
+        nodes: &[Node],
+        k: usize,
+        symbols: &mut Symbols,
+        terms: &mut Terms<'_>,
+    ) -> Result<Ref, ReadFault>
+        requires item { IsItemAt (at.source text.now) nodes.now k }
+        requires reader { (sc : Script) × (p : Place) × IsReaderOf symbols.old terms.old self.old sc p }
+        requires room { length symbols.old.leaves + (length nodes.now - k) ≤ 2 ^ 30 }
+        ensures read { (i : Item) (m : ℕ) (sc : Script) (p : Place) → IsNode (at.source text.now) nodes.now k i m → IsReaderOf symbols.old terms.old self.old sc p → ReadsTerm symbols.new terms.old terms.new self.new p (read_term i p sc) result }
+        // Each leaf that is added has a node of the item.
+        ensures spent { (i : Item) (m : ℕ) → IsNode (at.source text.now) nodes.now k i m → OnOk result (length symbols.new.leaves ≤ length symbols.old.leaves + (m - k)) }
+        ensures few { length symbols.new.leaves ≤ length symbols.old.leaves + (length nodes.now - k) }
+        ensures symbols { AddsNoSymbols symbols.old symbols.new }
+        ensures keeps { KeepsTerms terms.old terms.new }
+    {
+        let value = self.value_at(text, nodes, k, symbols, terms)?;
+        Ok(value.term)
+    }
+
+    /// Reads the term at node `k`, as `term_at` does, and answers its sort and its height besides.
+    pub fn value_at(
+        &mut self,
+        text: &Lexer<'_>,
+        nodes: &[Node],
+        k: usize,
+        symbols: &mut Symbols,
+        terms: &mut Terms<'_>,
+    ) -> Result<Value, ReadFault>
+        requires item { IsItemAt (at.source text.now) nodes.now k }
+        requires reader { (sc : Script) × (p : Place) × IsReaderOf symbols.old terms.old self.old sc p }
+        requires room { length symbols.old.leaves + (length nodes.now - k) ≤ 2 ^ 30 }
+        ensures read { (i : Item) (m : ℕ) (sc : Script) (p : Place) → IsNode (at.source text.now) nodes.now k i m → IsReaderOf symbols.old terms.old self.old sc p → ReadsValue symbols.new terms.old terms.new self.new p (read_term i p sc) result }
+        // Each leaf that is added has a node of the item.
+        ensures spent { (i : Item) (m : ℕ) → IsNode (at.source text.now) nodes.now k i m → OnOk result (length symbols.new.leaves ≤ length symbols.old.leaves + (m - k)) }
+        ensures few { length symbols.new.leaves ≤ length symbols.old.leaves + (length nodes.now - k) }
+        ensures symbols { AddsNoSymbols symbols.old symbols.new }
+        ensures keeps { KeepsTerms terms.old terms.new }
+    {
+        enter_each(symbols, &mut self.reader.scope, &self.pushed)?;
+        self.pushed.clear();
+        read(text, nodes, symbols, terms, &mut self.reader, k)
     }
 }
 

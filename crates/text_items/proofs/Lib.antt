@@ -7,3 +7,5 @@ pub mod NodeSteps
 pub mod ShapeLemmas
 pub mod NumeralValues
 pub mod NodeItems
+pub mod ItemLoops
+pub mod KeywordLemmas

@@ -18,11 +18,11 @@ pub record PairsFrom (s : List ℕ) (ns : List Node) (k m : ℕ) (fault : Option
 abbrev pub PairsGoOn : List ℕ → List Node → ℕ → ℕ → ℕ → Type 0
 PairsGoOn s ns first k m = (items : Items) → AreNodes s ns first items m → PairsFrom s ns k m (pairs_fault items)
 
-passed : (o : Option ℕ) → is_some o ≡ false → (others : Option ℕ) → option_or o others ≡ others
+pub passed : (o : Option ℕ) → is_some o ≡ false → (others : Option ℕ) → option_or o others ≡ others
 passed None h others = refl
 passed (Some n) h others = cc
 
-stays : (o : Option ℕ) → is_some o ≡ true → (others : Option ℕ) → o ≡ option_or o others
+pub stays : (o : Option ℕ) → is_some o ≡ true → (others : Option ℕ) → o ≡ option_or o others
 stays None h others = cc
 stays (Some n) h others = refl
 

@@ -5,3 +5,4 @@ pub mod Nodes
 pub mod Stepping
 pub mod NameNodes
 pub mod Children
+pub mod Keywords

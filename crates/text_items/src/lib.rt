@@ -5,16 +5,19 @@
 //! range of nodes, the items of a list are walked without what is in them, and no depth of a text takes stack.
 //!
 //! - `nodes`: reading an item into nodes. `children`: taking the items of a list one by one. `shapes`: what an item is,
-//!   and the first fault of lists of pairs. `numerals`: the values of numerals. `refusals`: a cause with its place.
+//!   and the first fault of lists of pairs. `keywords`: the first fault of a list of attributes. `numerals`: the values of
+//!   numerals. `refusals`: a cause with its place.
 //! - `item_laws`: where a token stands, an item begins.
 //!
 //! What a contract sees: `specs/Nodes` (`IsNode` and `AreNodes`, which nodes are those of an item and of items),
 //! `Stepping` (items one after another), `NameNodes` (nodes of names), `Children`, and `Lexers` (where a lexer stands
-//! among the items of a text). `Spelling` and `ItemShapes` are definitions that other definitions are built on.
+//! among the items of a text). `Spelling`, `ItemShapes` and `Keywords` are definitions that other definitions are built
+//! on.
 #![tactic(auto)]
 
 pub mod children;
 pub mod item_laws;
+pub mod keywords;
 pub mod nodes;
 pub mod numerals;
 pub mod refusals;

@@ -2,7 +2,7 @@ use Rattle.std.proofs.Common.{◌≡◌, length, arith}
 use Rattle.std.proofs.lemmas.Bool.Decides.{nat_tests}
 use Rattle.std.proofs.lemmas.Result.{err_from_is_err_and}
 use Rattle.term_reader.specs.declared.reader.Turn.{Turn}
-use Rattle.term_reader.proofs.ReadingTurns.{begins, some_turn, goes_on, fails, ends, none_open}
+use Rattle.term_reader.proofs.ReadingTurns.{begins, some_turn, goes_on, fails, ends, spent, none_open}
 use Rattle.term_reader.proofs.Staying.{adds_then}
 use Rattle.term_reader.proofs.reading.read.Goals as goal
 
@@ -27,6 +27,11 @@ pub returns-then-len-eq0-clause-reads : goal.returns-then-len-eq0-clause-reads
 returns-then-len-eq0-clause-reads c =
     let none : length c.turns.reader.frames ≡ 0 = grind (arith, nat_tests, c.len.ensures, c.if-len-eq0.true) in
     ends _ _ _ _ _ _ _ _ _ c.in-Use.value c.in-Use.n (none_open c.turns.reader.frames none) (rw c.in-Use.is at c.turns.invariant)
+
+pub returns-then-len-eq0-clause-spent : goal.returns-then-len-eq0-clause-spent
+returns-then-len-eq0-clause-spent c =
+    let none : length c.turns.reader.frames ≡ 0 = grind (arith, nat_tests, c.len.ensures, c.if-len-eq0.true) in
+    spent _ _ _ _ _ _ _ _ _ c.in-Use.value c.in-Use.n (none_open c.turns.reader.frames none) (rw c.in-Use.is at c.turns.invariant) c.requires.idle
 
 pub leave-requires-clause-read : goal.leave-requires-clause-read
 leave-requires-clause-read c =

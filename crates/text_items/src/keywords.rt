@@ -1,0 +1,342 @@
+//! Lists of attributes: keywords, and what has to stand after each.
+ghost use Rattle.std.specs.Prelude.{◌≡◌, ℕ, List, map, find, bytes_eq, option_copied, Some, None, if◌then◌else◌};
+ghost use Rattle.sexpr.specs.Words.{is_keyword};
+ghost use Rattle.sexpr.specs.Items.{Item, Items};
+ghost use Rattle.sexpr.specs.Source.{source};
+ghost use Rattle.text_items.specs.Keywords as shape;
+ghost use Rattle.text_items.specs.Nodes.{IsNode, AreNodes};
+ghost use Rattle.text_items.specs.Stepping.{IsItemAt, AreItemsFrom};
+
+use crate::nodes::Node;
+use crate::shapes::{excess, is_list, node_at, symbol_fault};
+use sexpr::{Lexer, TokenKind};
+
+/// What has to stand after a keyword.
+#[derive(Clone, Copy)]
+pub enum Wanted {
+    /// A symbol.
+    Name,
+    /// A list of symbols.
+    Names,
+    /// A list of any items.
+    AnyList,
+}
+
+/// A keyword that a list of attributes knows.
+#[derive(Clone, Copy)]
+pub struct Keyword<'a> {
+    pub spelling: &'a [u8],
+    pub wants: Wanted,
+    /// It stands once at most.
+    pub once: bool,
+    /// The list has to have it.
+    pub needed: bool,
+}
+
+/// What may stand next in a list of attributes.
+#[derive(Clone, Copy)]
+pub enum Next {
+    /// A keyword.
+    Word,
+    /// A keyword, or one item that is none.
+    Anything,
+    /// What the keyword before it wants.
+    Value(Wanted),
+}
+
+/// The first fault of the attributes that stand from `first` to before `end`, in a list that begins at `place`.
+///
+/// Costs as much as these items are, for each keyword that is known, and what stands in the lists that have to be lists of
+/// symbols.
+pub fn attributes_fault(
+    text: &Lexer<'_>,
+    nodes: &[Node],
+    known: &[Keyword<'_>],
+    place: u64,
+    first: usize,
+    end: usize,
+) -> Option<u64>
+    requires { AreItemsFrom (source text.now) nodes.now first end }
+    ensures { (items : Items) → AreNodes (source text.now) nodes.now first items end → result ≡ shape.attributes_fault (map shape.known_of known.now) place items }
+{
+    if is_value(at_end(text, nodes, known, first, end))
+        || lacks_keyword(text, nodes, known, first, end)
+    {
+        return Some(place);
+    }
+    let misplaced = misplaced(text, nodes, known, first, end);
+    earlier(misplaced, repeated(text, nodes, known, first, end))
+}
+
+/// The spelling of the keyword at a node, and None of what is none.
+pub fn keyword_at<'a>(text: &Lexer<'a>, nodes: &[Node], k: usize) -> Option<&'a [u8]>
+    requires { IsItemAt (source text.now) nodes.now k }
+    ensures { (i : Item) (m : ℕ) → IsNode (source text.now) nodes.now k i m → option_copied result ≡ shape.keyword_of i }
+{
+    let token = node_at(nodes, k).token;
+    match token.kind {
+        TokenKind::Word => word_of(text.text(&token)),
+        _ => None,
+    }
+}
+
+/// The word, where it is a keyword.
+fn word_of(word: &[u8]) -> Option<&[u8]>
+    ensures { option_copied result ≡ (if is_keyword word.now then Some word.now else None) }
+{
+    match word {
+        [b':', ..] => Some(word),
+        _ => None,
+    }
+}
+
+/// What may stand behind the item at a node.
+fn after_item(text: &Lexer<'_>, nodes: &[Node], known: &[Keyword<'_>], k: usize) -> Next
+    requires { IsItemAt (source text.now) nodes.now k }
+    ensures { (i : Item) (m : ℕ) → IsNode (source text.now) nodes.now k i m → result ≡ shape.after_item (map shape.known_of known.now) i }
+{
+    match keyword_at(text, nodes, k) {
+        Some(word) => after_word(known, word),
+        None => Next::Word,
+    }
+}
+
+/// What may stand behind a keyword.
+fn after_word(known: &[Keyword<'_>], word: &[u8]) -> Next
+    ensures { result ≡ shape.after_known (find (λ k. bytes_eq k.spelling word.now) (map shape.known_of known.now)) }
+{
+    match known {
+        [] => Next::Anything,
+        [keyword, others @ ..] => {
+            if keyword.spelling == word {
+                Next::Value(keyword.wants)
+            } else {
+                after_word(others, word)
+            }
+        }
+    }
+}
+
+/// The place of the first item that may not stand behind those before it.
+fn misplaced(
+    text: &Lexer<'_>,
+    nodes: &[Node],
+    known: &[Keyword<'_>],
+    first: usize,
+    end: usize,
+) -> Option<u64>
+    requires { AreItemsFrom (source text.now) nodes.now first end }
+    ensures { (items : Items) → AreNodes (source text.now) nodes.now first items end → result ≡ shape.misplaced (map shape.known_of known.now) shape.word_next items }
+{
+    let mut k = first;
+    let mut next = Next::Word;
+    'items: while k != end {
+        let fault = next_fault(text, nodes, next, k);
+        if fault.is_some() {
+            return fault;
+        }
+        next = after_item(text, nodes, known, k);
+        k = node_at(nodes, k).next;
+    }
+    None
+}
+
+/// What may stand behind the last item.
+fn at_end(text: &Lexer<'_>, nodes: &[Node], known: &[Keyword<'_>], first: usize, end: usize) -> Next
+    requires { AreItemsFrom (source text.now) nodes.now first end }
+    ensures { (items : Items) → AreNodes (source text.now) nodes.now first items end → result ≡ shape.at_end (map shape.known_of known.now) shape.word_next items }
+{
+    let mut k = first;
+    let mut next = Next::Word;
+    'items: while k != end {
+        next = after_item(text, nodes, known, k);
+        k = node_at(nodes, k).next;
+    }
+    next
+}
+
+/// Whether a value has to stand next.
+fn is_value(next: Next) -> bool
+    ensures { result ≡ shape.is_value next }
+{
+    matches!(next, Next::Value(_))
+}
+
+/// The first fault of an item, where this may stand.
+fn next_fault(text: &Lexer<'_>, nodes: &[Node], next: Next, k: usize) -> Option<u64>
+    requires { IsItemAt (source text.now) nodes.now k }
+    ensures { (i : Item) (m : ℕ) → IsNode (source text.now) nodes.now k i m → result ≡ shape.next_fault next i }
+{
+    match next {
+        Next::Word => word_fault(text, nodes, k),
+        Next::Anything => None,
+        Next::Value(wants) => wanted_fault(text, nodes, wants, k),
+    }
+}
+
+/// Where a keyword has to stand: the place of what is none.
+fn word_fault(text: &Lexer<'_>, nodes: &[Node], k: usize) -> Option<u64>
+    requires { IsItemAt (source text.now) nodes.now k }
+    ensures { (i : Item) (m : ℕ) → IsNode (source text.now) nodes.now k i m → result ≡ shape.next_fault shape.word_next i }
+{
+    match keyword_at(text, nodes, k) {
+        Some(_) => None,
+        None => Some(node_at(nodes, k).token.start),
+    }
+}
+
+/// The first fault of an item where a value has to stand.
+fn wanted_fault(text: &Lexer<'_>, nodes: &[Node], wants: Wanted, k: usize) -> Option<u64>
+    requires { IsItemAt (source text.now) nodes.now k }
+    ensures { (i : Item) (m : ℕ) → IsNode (source text.now) nodes.now k i m → result ≡ shape.wanted_fault wants i }
+{
+    match wants {
+        Wanted::Name => symbol_fault(text, nodes, k),
+        Wanted::Names => symbol_list_fault(text, nodes, k),
+        Wanted::AnyList => list_fault(nodes, k),
+    }
+}
+
+/// Where a list has to stand: the place of what is none.
+pub fn list_fault(nodes: &[Node], k: usize) -> Option<u64>
+    requires { (text : List ℕ) × IsItemAt text nodes.now k }
+    ensures { (text : List ℕ) (i : Item) (m : ℕ) → IsNode text nodes.now k i m → result ≡ shape.list_fault i }
+{
+    if is_list(nodes, k) {
+        None
+    } else {
+        Some(node_at(nodes, k).token.start)
+    }
+}
+
+/// Where a list of symbols has to stand: the place of what is no list, or of the first item that is no symbol.
+pub fn symbol_list_fault(text: &Lexer<'_>, nodes: &[Node], k: usize) -> Option<u64>
+    requires { IsItemAt (source text.now) nodes.now k }
+    ensures { (i : Item) (m : ℕ) → IsNode (source text.now) nodes.now k i m → result ≡ shape.symbol_list_fault i }
+{
+    let list = node_at(nodes, k);
+    if is_list(nodes, k) {
+        symbols_fault(text, nodes, k + 1, list.next)
+    } else {
+        Some(list.token.start)
+    }
+}
+
+/// The place of the first of these items that is no symbol.
+pub fn symbols_fault(text: &Lexer<'_>, nodes: &[Node], first: usize, end: usize) -> Option<u64>
+    requires { AreItemsFrom (source text.now) nodes.now first end }
+    ensures { (items : Items) → AreNodes (source text.now) nodes.now first items end → result ≡ shape.symbols_fault items }
+{
+    let mut k = first;
+    'items: while k != end {
+        let fault = symbol_fault(text, nodes, k);
+        if fault.is_some() {
+            return fault;
+        }
+        k = node_at(nodes, k).next;
+    }
+    None
+}
+
+/// Whether a keyword that is needed does not stand among these items.
+fn lacks_keyword(
+    text: &Lexer<'_>,
+    nodes: &[Node],
+    known: &[Keyword<'_>],
+    first: usize,
+    end: usize,
+) -> bool
+    requires { AreItemsFrom (source text.now) nodes.now first end }
+    ensures { (items : Items) → AreNodes (source text.now) nodes.now first items end → result ≡ shape.lacks_keyword (map shape.known_of known.now) items }
+{
+    match known {
+        [] => false,
+        [keyword, others @ ..] => {
+            keyword.needed && first_of(text, nodes, keyword.spelling, first, end).is_none()
+                || lacks_keyword(text, nodes, others, first, end)
+        }
+    }
+}
+
+/// The place of the first keyword that stands again though it stands once at most.
+fn repeated(
+    text: &Lexer<'_>,
+    nodes: &[Node],
+    known: &[Keyword<'_>],
+    first: usize,
+    end: usize,
+) -> Option<u64>
+    requires { AreItemsFrom (source text.now) nodes.now first end }
+    ensures { (items : Items) → AreNodes (source text.now) nodes.now first items end → result ≡ shape.repeated (map shape.known_of known.now) items }
+{
+    match known {
+        [] => None,
+        [keyword, others @ ..] => {
+            let again = if keyword.once {
+                second_of(text, nodes, keyword.spelling, first, end)
+            } else {
+                None
+            };
+            earlier(again, repeated(text, nodes, others, first, end))
+        }
+    }
+}
+
+/// The one of two places that comes first in the text.
+fn earlier(a: Option<u64>, b: Option<u64>) -> Option<u64>
+    ensures { result ≡ shape.earlier a b }
+{
+    match (a, b) {
+        (None, b) => b,
+        (Some(a), None) => Some(a),
+        (Some(a), Some(b)) => Some(if a <= b { a } else { b }),
+    }
+}
+
+/// Whether the item at a node is this keyword.
+fn is_spelled(text: &Lexer<'_>, nodes: &[Node], word: &[u8], k: usize) -> bool
+    requires { IsItemAt (source text.now) nodes.now k }
+    ensures { (i : Item) (m : ℕ) → IsNode (source text.now) nodes.now k i m → result ≡ shape.is_spelled word.now i }
+{
+    match keyword_at(text, nodes, k) {
+        Some(other) => word == other,
+        None => false,
+    }
+}
+
+/// The node of the first of these items that is this keyword, and `end` where there is none.
+pub fn find_word(text: &Lexer<'_>, nodes: &[Node], word: &[u8], first: usize, end: usize) -> usize
+    requires { AreItemsFrom (source text.now) nodes.now first end }
+    ensures { (items : Items) → AreNodes (source text.now) nodes.now first items end → AreNodes (source text.now) nodes.now result (shape.from_word word.now items) end }
+{
+    let mut k = first;
+    'items: while k != end {
+        if is_spelled(text, nodes, word, k) {
+            return k;
+        }
+        k = node_at(nodes, k).next;
+    }
+    k
+}
+
+/// The place of a keyword that stands among these items the first time.
+fn first_of(text: &Lexer<'_>, nodes: &[Node], word: &[u8], first: usize, end: usize) -> Option<u64>
+    requires { AreItemsFrom (source text.now) nodes.now first end }
+    ensures { (items : Items) → AreNodes (source text.now) nodes.now first items end → result ≡ shape.first_of word.now items }
+{
+    let found = find_word(text, nodes, word, first, end);
+    excess(nodes, found, end)
+}
+
+/// The place of a keyword that stands among these items the second time.
+fn second_of(text: &Lexer<'_>, nodes: &[Node], word: &[u8], first: usize, end: usize) -> Option<u64>
+    requires { AreItemsFrom (source text.now) nodes.now first end }
+    ensures { (items : Items) → AreNodes (source text.now) nodes.now first items end → result ≡ shape.second_of word.now items }
+{
+    let found = find_word(text, nodes, word, first, end);
+    if found == end {
+        None
+    } else {
+        first_of(text, nodes, word, node_at(nodes, found).next, end)
+    }
+}
