@@ -6,14 +6,14 @@ use Rattle.term_pool.specs.StandsFor.{function_leaf}
 use Rattle.term_pool.specs.Views.{TermsView, RefersTo}
 
 -- leaf k stands for a declared function
-pub record IsHead (s : Table) (k : ℕ) : Type 0 where
+pub record IsDeclaredLeaf (s : Table) (k : ℕ) : Type 0 where
   pub function : Fun
   pub leaf : IsLeaf s k (function_leaf function)
   pub small : k < 2 ^ 30
 
 -- what stood for a declared function still does
 abbrev pub KeepsHeads : Table → Table → Type 0
-KeepsHeads old new = (k : ℕ) → IsHead old k → IsHead new k
+KeepsHeads old new = (k : ℕ) → IsDeclaredLeaf old k → IsDeclaredLeaf new k
 
 -- what a reference stood for it still stands for
 abbrev pub KeepsReferences : TermsView → TermsView → Type 0

@@ -3,7 +3,7 @@
 
 ghost use Rattle.std.specs.Prelude.{◌≤◌, ◌<◌, All, length, IfOk};
 ghost use Rattle.term_pool.specs.Views.{IsTerm};
-ghost use Rattle.bench_parts.specs.Applications.{IsHead, KeepsHeads, KeepsReferences};
+ghost use Rattle.bench_parts.specs.Applications.{IsDeclaredLeaf, KeepsHeads, KeepsReferences};
 
 use pair_pool::{Memory, Pool, PoolFull, Ref};
 use std::alloc::{AllocFailed, Global};
@@ -88,11 +88,11 @@ fn sum_of_case(
     case: &str,
     count: u32,
 ) -> Result<u64, Stop>
-    requires constant { IsHead symbols.now heads.constant }
-    requires unary { IsHead symbols.now heads.unary }
-    requires binary { IsHead symbols.now heads.binary }
-    requires ternary { IsHead symbols.now heads.ternary }
-    requires quaternary { IsHead symbols.now heads.quaternary }
+    requires constant { IsDeclaredLeaf symbols.now heads.constant }
+    requires unary { IsDeclaredLeaf symbols.now heads.unary }
+    requires binary { IsDeclaredLeaf symbols.now heads.binary }
+    requires ternary { IsDeclaredLeaf symbols.now heads.ternary }
+    requires quaternary { IsDeclaredLeaf symbols.now heads.quaternary }
 {
     let first = apply(symbols, terms, heads.constant, &[])?;
     let mut built = vec![in alloc; first]?;
@@ -114,7 +114,7 @@ fn sum_of_case(
 // Declares a function, and answers its leaf.
 #[tactic(auto, using(crate::proofs::TermLemmas::declared_head, crate::proofs::TermLemmas::keeps_heads))]
 fn declare(symbols: &mut Symbols, name: &[u8], args: &[Sort]) -> Result<u32, Stop>
-    ensures head { IfOk result (IsHead symbols.new) }
+    ensures head { IfOk result (IsDeclaredLeaf symbols.new) }
     ensures keeps { KeepsHeads symbols.old symbols.new }
 {
     if symbols.count() >= LIMIT {
@@ -125,11 +125,11 @@ fn declare(symbols: &mut Symbols, name: &[u8], args: &[Sort]) -> Result<u32, Sto
 
 // Declares a constant, and the functions of 1 to 4 arguments.
 fn declare_functions(symbols: &mut Symbols) -> Result<Heads, Stop>
-    ensures constant { IfOk result (λ h. IsHead symbols.new h.constant) }
-    ensures unary { IfOk result (λ h. IsHead symbols.new h.unary) }
-    ensures binary { IfOk result (λ h. IsHead symbols.new h.binary) }
-    ensures ternary { IfOk result (λ h. IsHead symbols.new h.ternary) }
-    ensures quaternary { IfOk result (λ h. IsHead symbols.new h.quaternary) }
+    ensures constant { IfOk result (λ h. IsDeclaredLeaf symbols.new h.constant) }
+    ensures unary { IfOk result (λ h. IsDeclaredLeaf symbols.new h.unary) }
+    ensures binary { IfOk result (λ h. IsDeclaredLeaf symbols.new h.binary) }
+    ensures ternary { IfOk result (λ h. IsDeclaredLeaf symbols.new h.ternary) }
+    ensures quaternary { IfOk result (λ h. IsDeclaredLeaf symbols.new h.quaternary) }
 {
     let unary = declare(symbols, b"f1", &[Sort::Int])?;
     let binary = declare(symbols, b"f2", &[Sort::Int, Sort::Int])?;
@@ -152,7 +152,7 @@ fn declare_functions(symbols: &mut Symbols) -> Result<Heads, Stop>
 // The application of a declared function to terms.
 #[tactic(auto, using(crate::proofs::TermLemmas::keeps_references, crate::proofs::TermLemmas::application_is_term, crate::proofs::TermLemmas::all_known))]
 fn apply(symbols: &Symbols, terms: &mut Terms, head: u32, args: &[Ref]) -> Result<Ref, PoolFull>
-    requires head { IsHead symbols.now head }
+    requires head { IsDeclaredLeaf symbols.now head }
     requires args { All (IsTerm symbols.now terms.old) args.now }
     ensures term { IfOk result (IsTerm symbols.now terms.new) }
     ensures keeps { KeepsReferences terms.old terms.new }
@@ -169,10 +169,10 @@ fn build(
     built: &mut Vec<Ref>,
     count: u32,
 ) -> Result<u64, Stop>
-    requires unary { IsHead symbols.now heads.unary }
-    requires binary { IsHead symbols.now heads.binary }
-    requires ternary { IsHead symbols.now heads.ternary }
-    requires quaternary { IsHead symbols.now heads.quaternary }
+    requires unary { IsDeclaredLeaf symbols.now heads.unary }
+    requires binary { IsDeclaredLeaf symbols.now heads.binary }
+    requires ternary { IsDeclaredLeaf symbols.now heads.ternary }
+    requires quaternary { IsDeclaredLeaf symbols.now heads.quaternary }
     requires some { 1 ≤ length built.old.items }
     requires terms { All (IsTerm symbols.now terms.old) built.old.items }
     ensures terms { IfOk result (λ _. All (IsTerm symbols.now terms.new) built.new.items) }
@@ -194,10 +194,10 @@ fn application(
     earlier: &[Ref],
     k: u32,
 ) -> Result<Ref, PoolFull>
-    requires unary { IsHead symbols.now heads.unary }
-    requires binary { IsHead symbols.now heads.binary }
-    requires ternary { IsHead symbols.now heads.ternary }
-    requires quaternary { IsHead symbols.now heads.quaternary }
+    requires unary { IsDeclaredLeaf symbols.now heads.unary }
+    requires binary { IsDeclaredLeaf symbols.now heads.binary }
+    requires ternary { IsDeclaredLeaf symbols.now heads.ternary }
+    requires quaternary { IsDeclaredLeaf symbols.now heads.quaternary }
     requires some { 1 ≤ length earlier.now }
     requires terms { All (IsTerm symbols.now terms.old) earlier.now }
     ensures term { IfOk result (IsTerm symbols.now terms.new) }

@@ -8,6 +8,8 @@ use std::process::ExitCode;
 use std::{env, io};
 
 #[cfg(test)]
+mod pool_tests;
+#[cfg(test)]
 mod term_tests;
 
 /// The status of want of memory.

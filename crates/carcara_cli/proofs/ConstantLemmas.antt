@@ -16,9 +16,11 @@ use Rattle.term_pool.specs.Views.{TermsView}
 use Rattle.smtlib_reader.specs.Known.{KnownView, known_entry}
 use Rattle.smtlib_reader.specs.Scripts.{Script}
 use Rattle.smtlib_reader.specs.Standing.{IsScript, IsMeant, IsFunctionAt, IsNoFunction, function_in}
-use Rattle.carcara_cli.specs.Names.{Word, name_at, IsNoName, IsPlaceOf, MayDeclare}
-use Rattle.carcara_cli.specs.Problem.{IsConstantLeaf, AreConstants, AreConstantsBelow}
-use Rattle.carcara_cli.proofs.NameLemmas.{AreApart-push}
+use Rattle.carcara_cli.specs.Names.{Word, nth_word, MayDeclare}
+use Rattle.carcara_cli.specs.NamePlaces.{IsNoName, IsPlaceOf}
+use Rattle.carcara_cli.specs.Constants.{IsConstantLeaf, AreConstantsBelow}
+use Rattle.carcara_cli.specs.Problem.{AreConstants}
+use Rattle.carcara_cli.proofs.NameLemmas.{AreAllDifferent-push}
 
 -- the Boolean constant of a name
 abbrev pub constant_of : Word → Fun
@@ -82,7 +84,7 @@ module _ (s : Table) (v : TermsView) (known : KnownView) (sc : Script) (table : 
   -- the constants of the table are those of the script
   pub are_constants : (names : List Word) (n : ℕ) → length s.leaves ≡ n → AreConstantsBelow s n names → AreConstants sc names
   are_constants names n count below = record {
-    each = λ k within. let leaf = below.each k within in in_script leaf.0 (constant_of (name_at names k)) leaf.1;
+    each = λ k within. let leaf = below.each k within in in_script leaf.0 (constant_of (nth_word names k)) leaf.1;
     plain = below.plain;
     all = λ name may found.
         let leaf = in_table name (constant_of name) found in
@@ -134,7 +136,7 @@ module _ (s : Table) (n : ℕ) (names : List Word) (below : AreConstantsBelow s 
           let same : Some (function name [] Sort.Bool) ≡ Some (function other [] Sort.Bool) = sym is ∙ is'' in
           (length names, omega (arith, length-append names (name ∷ [])), get_or-append_seam names name [] [] ∙ cc)
     ];
-    apart = AreApart-push names name below.apart none;
+    apart = AreAllDifferent-push names name below.apart none;
   }
 
   -- a constant whose name is new, or there

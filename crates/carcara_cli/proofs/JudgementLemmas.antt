@@ -16,28 +16,29 @@ use Rattle.carcara_cli.specs.declared.answer.Answer.TheVariants.{Usage, ReadFaul
 use Rattle.carcara_cli.specs.declared.check.Verdict.{Verdict}
 use Rattle.carcara_cli.specs.declared.check.Verdict.TheVariants as verdict
 use Rattle.carcara_cli.specs.Names.{Word}
-use Rattle.carcara_cli.specs.Texts.{IsTerm, term_of}
+use Rattle.carcara_cli.specs.Texts.{IsLiteralOver, literal_term}
 use Rattle.carcara_cli.specs.Problem.{AreLiterals, IsProblemText}
-use Rattle.carcara_cli.specs.Proof.{ProofCommand, HaveEarlierPremises}
+use Rattle.carcara_cli.specs.Proof.{ProofCommand}
+use Rattle.carcara_cli.specs.Commands.{HaveEarlierPremises}
 use Rattle.carcara_cli.specs.Verdict.{IsVerdict}
 use Rattle.carcara_cli.specs.CommandLine.{Asked}
-use Rattle.carcara_cli.specs.Judgement.{IsProofText, IsJudgedAs, IsJudged}
+use Rattle.carcara_cli.specs.Judgement.{IsProofText, IsJudgedAs, IsJudgement}
 use Rattle.carcara_cli.specs.Printed.{status_of}
-use Rattle.carcara_cli.specs.TopCall.{most_bytes, most_bits, IsWithinLimit, IsTooLong, IsJudgedIfTold, IsJudgedOfFiles, IsAnswer, IsUnsatisfiableIfTold, ShowsUnsatisfiable}
-use Rattle.carcara_cli.specs.Answering.{IsUnread, IsWithin, IsNamed}
+use Rattle.carcara_cli.specs.TopCall.{most_bytes, most_bits, IsWithinLimit, IsTooLong, IsJudgedIfTold, IsJudgedOfFiles, IsAnswerTo, IsUnsatisfiableIfTold, ShowsUnsatisfiable}
+use Rattle.carcara_cli.specs.Answering.{IsUnread, NamesOneOf, IsNamed}
 
 module _ (problem : List ℕ) (replaces_lets : Bool) (proof : List ℕ) (bits : ℕ) (script : Script) (names ids : List Word) (assertions : List Literal) (commands : List ProofCommand)
     (problem_text : IsProblemText problem replaces_lets script names assertions) (proof_text : IsProofText proof names ids commands) where
   judged_as : (v : Verdict) → IsVerdict assertions commands v → IsJudgedAs problem replaces_lets proof v ids
   judged_as v h = record { script = script; names = names; assertions = assertions; commands = commands; problem_text = problem_text; proof_text = proof_text; verdict = h }
 
-  pub verdict_within : (v : Verdict) → IsVerdict assertions commands v → IsWithin (length ids) v
+  pub verdict_within : (v : Verdict) → IsVerdict assertions commands v → NamesOneOf (length ids) v
   verdict_within verdict.Valid h = tt
   verdict_within verdict.NoEmptyClause h = tt
   verdict_within (verdict.NotMet k) h = omega (arith, h.0.within, proof_text.proof.each_id)
   verdict_within (verdict.NotAsserted k) h = omega (arith, h.0.within, proof_text.proof.each_id)
 
-  pub named_is_judged : (v : Verdict) (j : Judgement) → IsVerdict assertions commands v → IsNamed ids v j → IsJudged problem replaces_lets proof bits j
+  pub named_is_judged : (v : Verdict) (j : Judgement) → IsVerdict assertions commands v → IsNamed ids v j → IsJudgement problem replaces_lets proof bits j
   named_is_judged v Valid h n = (ids, judged_as verdict.Valid (rw n at h))
   named_is_judged v NoEmptyClause h n = (ids, judged_as verdict.NoEmptyClause (rw n at h))
   named_is_judged v (NotMet id) h n = (ids, n.0, judged_as (verdict.NotMet n.0) (rw n.1 at h), n.2)
@@ -51,14 +52,14 @@ pub within_told : (told : Option (List ℕ)) (bytes : List ℕ) → AreTold told
 within_told None bytes is within = tt
 within_told (Some told) bytes is within = rw is at within
 
-if_told : (replaces_lets : Bool) (x y : Option (List ℕ)) (problem proof : List ℕ) (j : Judgement) → AreTold x problem → AreTold y proof → IsJudged problem replaces_lets proof most_bits j → IsJudgedIfTold replaces_lets x y j
+if_told : (replaces_lets : Bool) (x y : Option (List ℕ)) (problem proof : List ℕ) (j : Judgement) → AreTold x problem → AreTold y proof → IsJudgement problem replaces_lets proof most_bits j → IsJudgedIfTold replaces_lets x y j
 if_told replaces_lets None y problem proof j told told' h = tt
 if_told replaces_lets (Some t) None problem proof j told told' h = tt
 if_told replaces_lets (Some t) (Some u) problem proof j told told' h = rw (told, told') at h
 
 pub judged_of_files : (replaces_lets : Bool) (x y : Option (List ℕ)) (problem proof : List ℕ) (j : Judgement)
     → AreTold x problem → AreTold y proof → length problem ≤ most_bytes → length proof ≤ most_bytes
-    → IsJudged problem replaces_lets proof most_bits j → IsJudgedOfFiles replaces_lets x y j
+    → IsJudgement problem replaces_lets proof most_bits j → IsJudgedOfFiles replaces_lets x y j
 judged_of_files replaces_lets x y problem proof j told told' within within' h = record {
   problem_within = within_told x problem told within;
   proof_within = within_told y proof told' within';
@@ -66,13 +67,13 @@ judged_of_files replaces_lets x y problem proof j told told' within within' h = 
 }
 
 pub answer_is : (content : List ℕ → Option (List ℕ)) (before after : ℕ) (p : Asked) (asked : Option Asked) (j : Judgement)
-    → Some p ≡ asked → IsJudgedOfFiles p.replaces_lets (content p.problem) (content p.proof) j → IsAnswer content before after asked (Judged j)
+    → Some p ≡ asked → IsJudgedOfFiles p.replaces_lets (content p.problem) (content p.proof) j → IsAnswerTo content before after asked (Judged j)
 answer_is content before after p asked j e h = rw (← e) h
 
 -- the answer where a file was not read
 pub unread_is : (content : List ℕ → Option (List ℕ)) (before after : ℕ) (p : Asked) (asked : Option Asked) (stop : ReadStop) (a : Answer)
     → Some p ≡ asked → (stop ≡ stops.TooLong → IsTooLong (content p.problem) (content p.proof)) → (stop ≡ stops.Fault → HasRisen before after)
-    → IsUnread stop a → IsAnswer content before after asked a
+    → IsUnread stop a → IsAnswerTo content before after asked a
 unread_is content before after p asked stops.Fault a e too_long fault h = rw (← e, h) (fault refl)
 unread_is content before after p asked stops.TooLong a e too_long fault h = rw (← e, h) (too_long refl)
 unread_is content before after p asked stops.Memory a e too_long fault h = absurd h
@@ -93,14 +94,14 @@ more_assertions all some within none I true_all = none I (by some (λ t there. f
   by (u ∷ ts) each = (each u (0, omega arith, refl), by ts (λ t there. each t (suc there.0, omega (arith, there.1), there.2)))
 
 -- the terms of a problem's literals are among its assertions
-literals_are_assertions : (sc : Script) (names : List Word) (ls : List Literal) → AreLiterals sc names ls → (t : Term) → Contains (map (term_of names) ls) t → Contains sc.assertions t
+literals_are_assertions : (sc : Script) (names : List Word) (ls : List Literal) → AreLiterals sc names ls → (t : Term) → Contains (map (literal_term names) ls) t → Contains sc.assertions t
 literals_are_assertions sc names ls are t there = by ls (λ l h. (are l).0 h) there.0 there.1 there.2 where
-  by : (ms : List Literal) → ((l : Literal) → Contains ms l → IsTerm names l × Contains sc.assertions (term_of names l)) → (k : ℕ) → k < length (map (term_of names) ms) → get_or (map (term_of names) ms) k t ≡ t → Contains sc.assertions t
+  by : (ms : List Literal) → ((l : Literal) → Contains ms l → IsLiteralOver names l × Contains sc.assertions (literal_term names l)) → (k : ℕ) → k < length (map (literal_term names) ms) → get_or (map (literal_term names) ms) k t ≡ t → Contains sc.assertions t
   by [] each k inside is = absurd (omega (arith, inside))
   by (m ∷ ms) each zero inside is = rw is at (each m (0, omega arith, refl)).1
   by (m ∷ ms) each (suc k) inside is = by ms (λ l h. each l (suc h.0, omega (arith, h.1), h.2)) k (omega (arith, inside)) is
 
-module _ (sound : (names : List Word) (assertions : List Literal) (commands : List ProofCommand) → HaveEarlierPremises commands → IsVerdict assertions commands verdict.Valid → Unsatisfiable (map (term_of names) assertions)) where
+module _ (sound : (names : List Word) (assertions : List Literal) (commands : List ProofCommand) → HaveEarlierPremises commands → IsVerdict assertions commands verdict.Valid → Unsatisfiable (map (literal_term names) assertions)) where
   valid_told : (replaces_lets : Bool) (x y : Option (List ℕ)) → IsJudgedIfTold replaces_lets x y Valid → IsUnsatisfiableIfTold replaces_lets x y
   valid_told replaces_lets None y h = tt
   valid_told replaces_lets (Some problem) None h = tt
@@ -108,7 +109,7 @@ module _ (sound : (names : List Word) (assertions : List Literal) (commands : Li
       let j = h.1 in (
         j.script,
         j.problem_text.stands,
-        more_assertions j.script.assertions (map (term_of j.names) j.assertions)
+        more_assertions j.script.assertions (map (literal_term j.names) j.assertions)
             (literals_are_assertions j.script j.names j.assertions j.problem_text.literals)
             (sound j.names j.assertions j.commands (λ k within. (j.proof_text.proof.each k within).earlier) j.verdict),
       )
@@ -122,7 +123,7 @@ module _ (sound : (names : List Word) (assertions : List Literal) (commands : Li
   valid_shows_told replaces_lets x y (RefusedProof r) h e = absurd (omega (arith, e))
   valid_shows_told replaces_lets x y PoolFull h e = absurd (omega (arith, e))
 
-  pub valid_shows : (content : List ℕ → Option (List ℕ)) (before after : ℕ) (asked : Option Asked) (a : Answer) → IsAnswer content before after asked a → status_of a ≡ 0 → ShowsUnsatisfiable content asked
+  pub valid_shows : (content : List ℕ → Option (List ℕ)) (before after : ℕ) (asked : Option Asked) (a : Answer) → IsAnswerTo content before after asked a → status_of a ≡ 0 → ShowsUnsatisfiable content asked
   valid_shows content before after None (Judged j) h e = absurd h
   valid_shows content before after (Some p) (Judged j) h e = valid_shows_told p.replaces_lets (content p.problem) (content p.proof) j h.judged e
   valid_shows content before after asked Usage h e = absurd (omega (arith, e))

@@ -8,35 +8,29 @@ use Rattle.pair_pool.specs.Views.{PassView, Knows, IsOneToOne}
 use Rattle.sym_table.specs.Table.{Table, Keeps}
 use Rattle.term_model.specs.Terms.{Term, no_terms, term, numeral, variable, operation, call, let_in, not_of}
 use Rattle.term_pool.specs.Heights.{height_of}
-use Rattle.term_pool.specs.Nots as Nots
-use Rattle.term_pool.specs.Nots.{IsStripped}
 use Rattle.term_pool.specs.StandsFor.{StandsFor, function_leaf}
 use Rattle.term_pool.specs.Views.{TermsView, RefersTo, ReferToAll, KeepsTerms}
 use Rattle.rule_model.specs.Heights.{height}
 use Rattle.smtlib_reader.specs.Limits.{most_height}
 use Rattle.carcara_cli.specs.declared.literal.Literal.{Literal}
-use Rattle.carcara_cli.specs.Names.{Word, name_at, AreApart}
-use Rattle.carcara_cli.specs.Problem.{IsConstantLeaf, AddsLiteral, AreLiteralsBelow}
-use Rattle.carcara_cli.specs.Texts.{IsTerm, constant, negated, term_of}
+use Rattle.carcara_cli.specs.Names.{Word, nth_word, AreAllDifferent}
+use Rattle.carcara_cli.specs.Constants.{IsConstantLeaf, AddsLiteral, AreLiteralsBelow}
+use Rattle.carcara_cli.specs.Texts.{IsLiteralOver, constant_named, literal_term}
+use Rattle.term_pool.specs.Nots.{negated, IsStripped}
 use Rattle.carcara_cli.proofs.ConstantLemmas.{constant_of, same_leaf, same_function}
 
--- the two words for negations are one
-pub same_negations : (n : ℕ) (t : Term) → Nots.negated n t ≡ negated n t
-same_negations zero t = refl
-same_negations (suc n) t = ap not_of (same_negations n t)
-
 -- below so many negations of a constant is, without its own negations, the constant
-pub below_negations : (m n : ℕ) (name : Word) (u : Term) → negated m (constant name) ≡ negated n u → ((v : Term) → u ≡ not_of v → ⊥) → constant name ≡ u
+pub below_negations : (m n : ℕ) (name : Word) (u : Term) → negated m (constant_named name) ≡ negated n u → ((v : Term) → u ≡ not_of v → ⊥) → constant_named name ≡ u
 below_negations zero zero name u e bare = e
-below_negations (suc m) zero name u e bare = absurd (bare (negated m (constant name)) (sym e))
-below_negations zero (suc n) name u e bare = absurd (let clash : constant name ≡ not_of (negated n u) = e in cc)
-below_negations (suc m) (suc n) name u e bare = below_negations m n name u (let whole : not_of (negated m (constant name)) ≡ not_of (negated n u) = e in cc) bare
+below_negations (suc m) zero name u e bare = absurd (bare (negated m (constant_named name)) (sym e))
+below_negations zero (suc n) name u e bare = absurd (let clash : constant_named name ≡ not_of (negated n u) = e in cc)
+below_negations (suc m) (suc n) name u e bare = below_negations m n name u (let whole : not_of (negated m (constant_named name)) ≡ not_of (negated n u) = e in cc) bare
 
-pub height_of-negated : (n : ℕ) (name : Word) → height_of (negated n (constant name)) ≡ n + 1
+pub height_of-negated : (n : ℕ) (name : Word) → height_of (negated n (constant_named name)) ≡ n + 1
 height_of-negated zero name = refl
 height_of-negated (suc n) name = omega (arith, height_of-negated n name)
 
-pub height-negated : (n : ℕ) (name : Word) → height (negated n (constant name)) ≡ n + 1
+pub height-negated : (n : ℕ) (name : Word) → height (negated n (constant_named name)) ≡ n + 1
 unfolding height
 height-negated zero name = refl
 height-negated (suc n) name = omega (arith, height-negated n name)
@@ -62,7 +56,7 @@ leaf_within s b (call f (term t ts)) h = absurd h
 leaf_within s b (let_in bs t) h = absurd h
 
 -- the leaf of a constant stands for it alone
-constant_alone : (s : Table) (b : ℕ) (name : Word) → IsConstantLeaf s b name → (t : Term) → StandsFor s (leaf b) t → t ≡ constant name
+constant_alone : (s : Table) (b : ℕ) (name : Word) → IsConstantLeaf s b name → (t : Term) → StandsFor s (leaf b) t → t ≡ constant_named name
 constant_alone s b name is (numeral n) h = absurd (let clash = same_leaf s b _ _ is h in cc)
 constant_alone s b name is (variable x) h = absurd (let clash = same_leaf s b _ _ is h in cc)
 constant_alone s b name is (operation op no_terms) h = absurd (let clash = same_leaf s b _ _ is h in cc)
@@ -74,7 +68,7 @@ constant_alone s b name is (call f (term t ts)) h = absurd h
 constant_alone s b name is (let_in bs t) h = absurd h
 
 -- a constant's tree is its leaf
-constant_tree : (s : Table) (name : Word) (t : Tree) → StandsFor s t (constant name) → (b : ℕ) × (t ≡ leaf b) × IsConstantLeaf s b name
+constant_tree : (s : Table) (name : Word) (t : Tree) → StandsFor s t (constant_named name) → (b : ℕ) × (t ≡ leaf b) × IsConstantLeaf s b name
 constant_tree s name (leaf b) h = (b, refl, h)
 constant_tree s name (cell x y) h = absurd h
 
@@ -90,34 +84,34 @@ module _ (s : Table) (v w : TermsView) (r bare : ℕ) (odd : Bool) (one : IsOneT
   bare_within low t refers = leaf_within s bare _ (leaf_stands low t refers)
 
   -- the term is the constant behind so many negations
-  pub is_negated : bare < 2 ^ 30 → (name : Word) → IsConstantLeaf s bare name → (t : Term) → RefersTo s v r t → (n : ℕ) × (t ≡ negated n (constant name))
+  pub is_negated : bare < 2 ^ 30 → (name : Word) → IsConstantLeaf s bare name → (t : Term) → RefersTo s v r t → (n : ℕ) × (t ≡ negated n (constant_named name))
   is_negated low name is t refers =
       let strips = (stripped t refers).strips in
-      let same : (stripped t refers).inner ≡ constant name = constant_alone s bare name is _ (leaf_stands low t refers) in
-      (strips.nots, strips.whole ∙ same_negations strips.nots _ ∙ ap (negated strips.nots) same)
+      let same : (stripped t refers).inner ≡ constant_named name = constant_alone s bare name is _ (leaf_stands low t refers) in
+      (strips.nots, strips.whole ∙ ap (negated strips.nots) same)
 
   -- below the negations of a literal is its constant
-  pub literal_below : (names : List Word) (l : Literal) → RefersTo s v r (term_of names l) → (bare < 2 ^ 30) × IsConstantLeaf s bare (name_at names l.name)
+  pub literal_below : (names : List Word) (l : Literal) → RefersTo s v r (literal_term names l) → (bare < 2 ^ 30) × IsConstantLeaf s bare (nth_word names l.name)
   literal_below names l refers =
-      let below = stripped (term_of names l) refers in
-      let name = name_at names l.name in
-      let same : constant name ≡ below.inner = below_negations l.nots below.strips.nots name below.inner (below.strips.whole ∙ same_negations below.strips.nots below.inner) below.strips.bare in
-      let stands : StandsFor s below.refers.tree (constant name) = rw (sym same) at below.refers.stands in
+      let below = stripped (literal_term names l) refers in
+      let name = nth_word names l.name in
+      let same : constant_named name ≡ below.inner = below_negations l.nots below.strips.nots name below.inner below.strips.whole below.strips.bare in
+      let stands : StandsFor s below.refers.tree (constant_named name) = rw (sym same) at below.refers.stands in
       let tree = constant_tree s name below.refers.tree stands in
       let number = leaf_number w.pass bare tree.0 (rw tree.1 at below.refers.known) in
       (omega (arith, number.0, number.1), rw (sym number.0) at tree.2)
 
 -- the literal of a term that is a constant behind so many negations, by its height
-module _ (names : List Word) (k n h : ℕ) (t : Term) (is : t ≡ negated n (constant (name_at names k))) (high : h ≡ height_of t) where
+module _ (names : List Word) (k n h : ℕ) (t : Term) (is : t ≡ negated n (constant_named (nth_word names k))) (high : h ≡ height_of t) where
   pub nots_are : h ≡ n + 1
-  nots_are = high ∙ ap height_of is ∙ height_of-negated n (name_at names k)
+  nots_are = high ∙ ap height_of is ∙ height_of-negated n (nth_word names k)
 
-  pub literal_is : t ≡ term_of names (record { name = k; nots = h - 1 })
+  pub literal_is : t ≡ literal_term names (record { name = k; nots = h - 1 })
   literal_is = let same : h - 1 ≡ n = omega (arith, nots_are) in rw same is
 
-  pub literal_low : k < length names → height t ≤ most_height → IsTerm names (record { name = k; nots = h - 1 })
+  pub literal_low : k < length names → height t ≤ most_height → IsLiteralOver names (record { name = k; nots = h - 1 })
   literal_low within low =
-      let whole : height t ≡ n + 1 = ap height is ∙ height-negated n (name_at names k) in
+      let whole : height t ≡ n + 1 = ap height is ∙ height-negated n (nth_word names k) in
       record { declared = within; height = omega (arith, nots_are, whole, low) }
 
 abbrev name_of_call : Term → Word
@@ -128,12 +122,12 @@ name_of_call (operation op ts) = []
 name_of_call (let_in bs t) = []
 
 -- a term is one literal
-one_literal : (names : List Word) → AreApart names → (l m : Literal) → IsTerm names l → IsTerm names m → term_of names l ≡ term_of names m → l ≡ m
+one_literal : (names : List Word) → AreAllDifferent names → (l m : Literal) → IsLiteralOver names l → IsLiteralOver names m → literal_term names l ≡ literal_term names m → l ≡ m
 one_literal names apart l m here there same =
-    let nots : l.nots ≡ m.nots = omega (arith, ap height_of same, height_of-negated l.nots (name_at names l.name), height_of-negated m.nots (name_at names m.name)) in
-    let inner : constant (name_at names l.name) ≡ constant (name_at names m.name) =
-    below_negations l.nots m.nots (name_at names l.name) (constant (name_at names m.name)) same (λ v e. let clash : constant (name_at names m.name) ≡ not_of v = e in cc) in
-    let name : name_at names l.name ≡ name_at names m.name = ap name_of_call inner in
+    let nots : l.nots ≡ m.nots = omega (arith, ap height_of same, height_of-negated l.nots (nth_word names l.name), height_of-negated m.nots (nth_word names m.name)) in
+    let inner : constant_named (nth_word names l.name) ≡ constant_named (nth_word names m.name) =
+    below_negations l.nots m.nots (nth_word names l.name) (constant_named (nth_word names m.name)) same (λ v e. let clash : constant_named (nth_word names m.name) ≡ not_of v = e in cc) in
+    let name : nth_word names l.name ≡ nth_word names m.name = ap name_of_call inner in
     let place : l.name ≡ m.name = elim (cases_lt l.name m.name) [
       | inl before ↦ absurd (apart l.name m.name before there.declared name)
       | inr past ↦ elim (cases_lt m.name l.name) [
@@ -149,7 +143,7 @@ pub no_literals : (names : List Word) (ts : List Term) → AreLiteralsBelow name
 no_literals names ts = record { each = λ l there. absurd (omega (arith, there.1)); all = λ l k is_term within. absurd (omega (arith, within)) }
 
 -- one term more
-pub literals_more : (names : List Word) → AreApart names → (ts : List Term) (n : ℕ) (t : Term) (old new : List Literal) →
+pub literals_more : (names : List Word) → AreAllDifferent names → (ts : List Term) (n : ℕ) (t : Term) (old new : List Literal) →
     AreLiteralsBelow names ts n old → slice_get ts n ≡ Some t → AddsLiteral names t old new → AreLiteralsBelow names ts (n + 1) new
 literals_more names apart ts n t old new below here (inl (same, none)) = rw same (record {
   each = λ l there. let at = below.each l there in (at.0, (at.1.0, omega (arith, at.1.1), at.1.2));
@@ -157,7 +151,7 @@ literals_more names apart ts n t old new below here (inl (same, none)) = rw same
     | inl earlier ↦ below.all l k is_term earlier is
     | inr past ↦
         let last : k ≡ n = omega arith in
-        let both : Some t ≡ Some (term_of names l) = sym here ∙ rw last at is in
+        let both : Some t ≡ Some (literal_term names l) = sym here ∙ rw last at is in
         absurd (none l is_term cc)
   ];
 })
@@ -170,8 +164,8 @@ literals_more names apart ts n t old new below here (inr (l, is_term, whole, add
     | inl earlier ↦ Contains-append_left old (l ∷ []) m (below.all m k is_term' earlier is)
     | inr past ↦
         let last : k ≡ n = omega arith in
-        let both : Some t ≡ Some (term_of names m) = sym here ∙ rw last at is in
-        let whole' : t ≡ term_of names m = cc in
+        let both : Some t ≡ Some (literal_term names m) = sym here ∙ rw last at is in
+        let whole' : t ≡ literal_term names m = cc in
         let same : m ≡ l = one_literal names apart m l is_term' is_term (sym whole' ∙ whole) in
         rw same (Contains-push old l)
   ];

@@ -11,8 +11,9 @@ use Rattle.smtlib_reader.specs.ProblemViews.{ProblemView}
 use Rattle.smtlib_reader.specs.Soundness.{IsRead, IsSound}
 use Rattle.carcara_cli.specs.declared.literal.Literal.{Literal}
 use Rattle.carcara_cli.specs.Names.{Word}
-use Rattle.carcara_cli.specs.Problem.{AreConstantsBelow, AreLiterals, AreLiteralsBelow, AreLowTerms, IsProblemText, IsReadProblem}
-use Rattle.carcara_cli.specs.Texts.{term_of}
+use Rattle.carcara_cli.specs.Constants.{AreConstantsBelow, AreLiteralsBelow, AreLowTerms, IsReadProblem}
+use Rattle.carcara_cli.specs.Problem.{AreLiterals, IsProblemText}
+use Rattle.carcara_cli.specs.Texts.{literal_term}
 use Rattle.carcara_cli.proofs.ConstantLemmas.{are_constants}
 use Rattle.carcara_cli.proofs.LiteralLemmas.{term_at}
 
@@ -33,8 +34,8 @@ module _ (text : List ℕ) (replaces_lets : Bool) (s : Table) (v : TermsView) (p
   are_literals names ls below l = (
     λ there.
         let at = below.each l there in
-        (at.0, (at.1.0, at.1.1, get_or_from_slice_get read.script.assertions at.1.0 (term_of names l) (term_of names l) at.1.2)),
-    λ there. below.all l there.1.0 there.0 there.1.1 (slice_get-get_or read.script.assertions there.1.0 (term_of names l) there.1.1 ∙ ap Some there.1.2),
+        (at.0, (at.1.0, at.1.1, get_or_from_slice_get read.script.assertions at.1.0 (literal_term names l) (literal_term names l) at.1.2)),
+    λ there. below.all l there.1.0 there.0 there.1.1 (slice_get-get_or read.script.assertions there.1.0 (literal_term names l) there.1.1 ∙ ap Some there.1.2),
   )
 
   pub problem_text : IsTable s → (names : List Word) (ls : List Literal) → AreConstantsBelow s (length s.leaves) names →

@@ -4,7 +4,8 @@ use Rattle.std.proofs.lemmas.List.{map-append}
 use Rattle.sexpr.specs.declared.lexing.Token.{Token}
 use Rattle.sexpr.specs.Tokens.{next_token, token_text}
 use Rattle.carcara_cli.specs.Names.{Word}
-use Rattle.carcara_cli.specs.TextWords.{AreWords, AreWordsUpTo}
+use Rattle.carcara_cli.specs.TextWords.{AreWords}
+use Rattle.carcara_cli.specs.Reading.{AreWordsUpTo}
 
 pub no_words : (text : List ℕ) → AreWordsUpTo text [] 0
 no_words text = record { tokens = []; read = λ rest r. r; spelled = refl; few = omega arith }

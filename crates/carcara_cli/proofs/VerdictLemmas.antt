@@ -15,9 +15,10 @@ use Rattle.carcara_cli.specs.declared.literal.Literal.{Literal}
 use Rattle.std.proofs.lemmas.List.{get_or-map}
 use Rattle.carcara_cli.specs.declared.command.Command.{Command}
 use Rattle.carcara_cli.specs.declared.check.Status.TheVariants as status
-use Rattle.carcara_cli.specs.Proof.{ProofCommand, assume, step, command_at}
-use Rattle.carcara_cli.specs.Commands.{command_of, commands_of}
-use Rattle.carcara_cli.specs.Verdict.{is_odd, same_literal, IsSetOf, DecidesStep, IsStatus, IsMet, AreMetBelow, ReachesEmptyBelow, IsEmptyStep}
+use Rattle.carcara_cli.specs.Proof.{ProofCommand, assume_command, step_command, command_at}
+use Rattle.carcara_cli.specs.Commands.{stated_command, stated_commands}
+use Rattle.carcara_cli.specs.Verdict.{is_odd, MeetsCondition, AreMetBelow, ReachesEmptyBelow, IsEmptyStep}
+use Rattle.carcara_cli.specs.Statuses.{equal_literals, IsSetOf, DecidesStep, IsStatus}
 
 other_parity : (n : ℕ) → nat_eq (suc n % 2) 1 ≡ not (nat_eq (n % 2) 1)
 other_parity n = grind (arith, nat_tests)
@@ -33,8 +34,8 @@ shown_follows premises goal trail = by trail.last where
   by None h = inl h.1
   by (Some n) h = inr (trail.units, n, h.1)
 
-same_literal-true : (a b : Literal) → same_literal a b ≡ true → a ≡ b
-same_literal-true a b h =
+equal_literals-true : (a b : Literal) → equal_literals a b ≡ true → a ≡ b
+equal_literals-true a b h =
     let parts = and_parts (nat_eq a.name b.name) (nat_eq a.nots b.nots) h in
     let name : a.name ≡ b.name = eqb-true a.name b.name parts.0 in
     let nots : a.nots ≡ b.nots = eqb-true a.nots b.nots parts.1 in
@@ -42,34 +43,34 @@ same_literal-true a b h =
     let with_nots : ℕ → Literal = λ n. record { name = b.name; nots = n } in
     ap with_name name ∙ ap with_nots nots
 
-same_literal-itself : (l : Literal) → same_literal l l ≡ true
-same_literal-itself l = and_from (nat_eq l.name l.name) (nat_eq l.nots l.nots) (eq-eqb l.name l.name refl) (eq-eqb l.nots l.nots refl)
+equal_literals-itself : (l : Literal) → equal_literals l l ≡ true
+equal_literals-itself l = and_from (nat_eq l.name l.name) (nat_eq l.nots l.nots) (eq-eqb l.name l.name refl) (eq-eqb l.nots l.nots refl)
 
-pub asserted_is : (assertions keys : List Literal) (l : Literal) → IsSetOf assertions keys → list_any (same_literal l) keys ≡ true → Contains assertions l
-asserted_is assertions keys l s h = Contains-from_any {eq = same_literal} same_literal-true l assertions (sym (s l) ∙ h)
+pub asserted_is : (assertions keys : List Literal) (l : Literal) → IsSetOf assertions keys → list_any (equal_literals l) keys ≡ true → Contains assertions l
+asserted_is assertions keys l s h = Contains-from_any {eq = equal_literals} equal_literals-true l assertions (sym (s l) ∙ h)
 
-pub not_asserted : (assertions keys : List Literal) (l : Literal) → IsSetOf assertions keys → list_any (same_literal l) keys ≡ false → Contains assertions l → ⊥
+pub not_asserted : (assertions keys : List Literal) (l : Literal) → IsSetOf assertions keys → list_any (equal_literals l) keys ≡ false → Contains assertions l → ⊥
 not_asserted assertions keys l s h there =
-    let passes : same_literal l (get_or assertions there.0 l) ≡ true = ap (same_literal l) there.2 ∙ same_literal-itself l in
-    let found = list_any_at (same_literal l) assertions there.0 l there.1 passes in
+    let passes : equal_literals l (get_or assertions there.0 l) ≡ true = ap (equal_literals l) there.2 ∙ equal_literals-itself l in
+    let found = list_any_at (equal_literals l) assertions there.0 l there.1 passes in
     let clash : true ≡ false = sym found ∙ sym (s l) ∙ h in
     cc
 
 -- the command at a place of the code's commands
-pub command_at-commands_of : (commands : List Command) (k : ℕ) (c : Command) → k < length commands → get_or commands k c ≡ c → command_at (commands_of commands) k ≡ command_of c
-command_at-commands_of commands k c within is = get_or-map command_of commands k c (step [] []) within ∙ ap command_of is
+pub command_at-stated_commands : (commands : List Command) (k : ℕ) (c : Command) → k < length commands → get_or commands k c ≡ c → command_at (stated_commands commands) k ≡ stated_command c
+command_at-stated_commands commands k c within is = get_or-map stated_command commands k c (step_command [] []) within ∙ ap stated_command is
 
 module _ (assertions : List Literal) (keys : List Literal) (commands : List ProofCommand) (c : ProofCommand) (same : IsSetOf assertions keys) where
-  pub assume_met : (l : Literal) → c ≡ assume l → list_any (same_literal l) keys ≡ true → IsStatus assertions commands c status.Met
+  pub assume_met : (l : Literal) → c ≡ assume_command l → list_any (equal_literals l) keys ≡ true → IsStatus assertions commands c status.Met
   assume_met l e h = rw e (asserted_is assertions keys l same h)
 
-  pub assume_faulty : (l : Literal) → c ≡ assume l → list_any (same_literal l) keys ≡ false → IsStatus assertions commands c status.NotAsserted
+  pub assume_faulty : (l : Literal) → c ≡ assume_command l → list_any (equal_literals l) keys ≡ false → IsStatus assertions commands c status.NotAsserted
   assume_faulty l e h = rw e (not_asserted assertions keys l same h, tt)
 
-pub step_met : (assertions : List Literal) (commands : List ProofCommand) (c : ProofCommand) (clause : List Literal) (premises : List ℕ) → c ≡ step clause premises → DecidesStep commands clause premises true → IsStatus assertions commands c status.Met
+pub step_met : (assertions : List Literal) (commands : List ProofCommand) (c : ProofCommand) (clause : List Literal) (premises : List ℕ) → c ≡ step_command clause premises → DecidesStep commands clause premises true → IsStatus assertions commands c status.Met
 step_met assertions commands c clause premises e h = rw e h
 
-pub step_faulty : (assertions : List Literal) (commands : List ProofCommand) (c : ProofCommand) (clause : List Literal) (premises : List ℕ) → c ≡ step clause premises → DecidesStep commands clause premises false → IsStatus assertions commands c status.NotMet
+pub step_faulty : (assertions : List Literal) (commands : List ProofCommand) (c : ProofCommand) (clause : List Literal) (premises : List ℕ) → c ≡ step_command clause premises → DecidesStep commands clause premises false → IsStatus assertions commands c status.NotMet
 step_faulty assertions commands c clause premises e h = rw e (h, tt)
 
 -- what was seen of the commands before a place
@@ -83,10 +84,10 @@ none_seen assertions commands = record { met = λ k h. absurd (omega arith); emp
 reaches_earlier : (commands : List ProofCommand) (n : ℕ) → ReachesEmptyBelow commands n → ReachesEmptyBelow commands (n + 1)
 reaches_earlier commands n e = (e.0, omega (arith, e.1), e.2)
 
-pub one_seen_more : (assertions : List Literal) (commands : List ProofCommand) (n : ℕ) (reached empty : Bool) → SeenBelow assertions commands n reached → IsMet assertions commands (command_at commands n) →
+pub one_seen_more : (assertions : List Literal) (commands : List ProofCommand) (n : ℕ) (reached empty : Bool) → SeenBelow assertions commands n reached → MeetsCondition assertions commands (command_at commands n) →
     MatchBool empty (IsEmptyStep (command_at commands n)) (IsEmptyStep (command_at commands n) → ⊥) → SeenBelow assertions commands (n + 1) (reached || empty)
 one_seen_more assertions commands n reached empty s met here = record {
-  met = below_more (λ k. IsMet assertions commands (command_at commands k)) n s.met met;
+  met = below_more (λ k. MeetsCondition assertions commands (command_at commands k)) n s.met met;
   empty = by reached empty s.empty here;
 }
   where

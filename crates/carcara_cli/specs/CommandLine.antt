@@ -3,7 +3,6 @@
 -- every word behind it is an operand.
 use Rattle.std.specs.Prelude.{ℕ, List, [], ◌∷◌, ◌++◌, Bool, true, false, not, if◌then◌else◌, Option, None, Some, nat_eq, bytes_eq, codes, drop, filter, take_while}
 use Rattle.std.specs.List.{prefix_len}
-use Rattle.carcara_cli.specs.declared.command_line.Request.{Request}
 use Rattle.carcara_cli.specs.Names.{Word}
 
 -- a check of the proof at one path against the problem at another, and whether each let of the problem is replaced by
@@ -60,8 +59,3 @@ abbrev pub asked_of : List Word → Option Asked
 asked_of [] = None
 asked_of (command ∷ words) =
     if bytes_eq command (codes "check") then asked_with (operands_of words) (replaces_lets_by (options_of words)) else None
-
--- what a request of the code asks for
-abbrev pub told_of : Option Request → Option Asked
-told_of None = None
-told_of (Some r) = Some (record { proof = r.proof.now; problem = r.problem.now; replaces_lets = r.replaces_lets })

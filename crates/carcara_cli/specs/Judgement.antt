@@ -10,7 +10,7 @@ use Rattle.carcara_cli.specs.declared.judgement.Judgement.{Judgement}
 use Rattle.carcara_cli.specs.declared.judgement.Judgement.TheVariants.{Valid, NoEmptyClause, NotMet, NotAsserted, RefusedProblem, RefusedProof, PoolFull}
 use Rattle.carcara_cli.specs.declared.check.Verdict.{Verdict}
 use Rattle.carcara_cli.specs.declared.check.Verdict.TheVariants as verdict
-use Rattle.carcara_cli.specs.Names.{Word, name_at}
+use Rattle.carcara_cli.specs.Names.{Word, nth_word}
 use Rattle.carcara_cli.specs.TextWords.{AreWords}
 use Rattle.carcara_cli.specs.Problem.{IsProblemText}
 use Rattle.carcara_cli.specs.Cells.{HasMoreCells}
@@ -42,7 +42,7 @@ pub record IsJudgedAs (problem : List ℕ) (replaces_lets : Bool) (proof : List 
 
 -- a faulty command is named by its id
 abbrev pub NamesFaulty : List ℕ → Bool → List ℕ → (ℕ → Verdict) → Word → Type 0
-NamesFaulty problem replaces_lets proof v id = (ids : List Word) × (k : ℕ) × IsJudgedAs problem replaces_lets proof (v k) ids × (id ≡ name_at ids k)
+NamesFaulty problem replaces_lets proof v id = (ids : List Word) × (k : ℕ) × IsJudgedAs problem replaces_lets proof (v k) ids × (id ≡ nth_word ids k)
 
 -- the problem was read, and the proof is refused
 pub record IsRefusedProof (problem : List ℕ) (replaces_lets : Bool) (proof : List ℕ) (r : Refusal) : Type 0 where
@@ -53,11 +53,11 @@ pub record IsRefusedProof (problem : List ℕ) (replaces_lets : Bool) (proof : L
   pub refusal : IsRefusalOf proof r
 
 -- What is said of the two texts, where the largest pool has 2^bits places. The problem's refusal goes first.
-abbrev pub IsJudged : List ℕ → Bool → List ℕ → ℕ → Judgement → Type 0
-IsJudged problem replaces_lets proof bits Valid = (ids : List Word) × IsJudgedAs problem replaces_lets proof verdict.Valid ids
-IsJudged problem replaces_lets proof bits NoEmptyClause = (ids : List Word) × IsJudgedAs problem replaces_lets proof verdict.NoEmptyClause ids
-IsJudged problem replaces_lets proof bits (NotMet id) = NamesFaulty problem replaces_lets proof verdict.NotMet id.items
-IsJudged problem replaces_lets proof bits (NotAsserted id) = NamesFaulty problem replaces_lets proof verdict.NotAsserted id.items
-IsJudged problem replaces_lets proof bits (RefusedProblem r) = IsFirstFault problem replaces_lets r
-IsJudged problem replaces_lets proof bits (RefusedProof r) = IsRefusedProof problem replaces_lets proof r
-IsJudged problem replaces_lets proof bits PoolFull = HasMoreCells problem replaces_lets (2 ^ bits)
+abbrev pub IsJudgement : List ℕ → Bool → List ℕ → ℕ → Judgement → Type 0
+IsJudgement problem replaces_lets proof bits Valid = (ids : List Word) × IsJudgedAs problem replaces_lets proof verdict.Valid ids
+IsJudgement problem replaces_lets proof bits NoEmptyClause = (ids : List Word) × IsJudgedAs problem replaces_lets proof verdict.NoEmptyClause ids
+IsJudgement problem replaces_lets proof bits (NotMet id) = NamesFaulty problem replaces_lets proof verdict.NotMet id.items
+IsJudgement problem replaces_lets proof bits (NotAsserted id) = NamesFaulty problem replaces_lets proof verdict.NotAsserted id.items
+IsJudgement problem replaces_lets proof bits (RefusedProblem r) = IsFirstFault problem replaces_lets r
+IsJudgement problem replaces_lets proof bits (RefusedProof r) = IsRefusedProof problem replaces_lets proof r
+IsJudgement problem replaces_lets proof bits PoolFull = HasMoreCells problem replaces_lets (2 ^ bits)

@@ -1,13 +1,16 @@
 pub mod Names
+pub mod NamePlaces
 pub mod Reading
 pub mod TextWords
 pub mod Texts
 pub mod Problem
+pub mod Constants
 pub mod Cells
 pub mod CellSums
 pub mod Proof
 pub mod Commands
 pub mod Verdict
+pub mod Statuses
 pub mod Judgement
 pub mod Printed
 pub mod CommandLine

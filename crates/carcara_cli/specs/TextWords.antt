@@ -1,5 +1,5 @@
 -- Public. The words of a text: what its tokens are spelled by.
-use Rattle.std.specs.Prelude.{◌≡◌, ℕ, ◌≤◌, ◌++◌, List, length, map}
+use Rattle.std.specs.Prelude.{◌≡◌, ℕ, List, map}
 use Rattle.sexpr.specs.declared.lexing.Token.{Token}
 use Rattle.sexpr.specs.Tokens.{AreTokens, token_text}
 use Rattle.carcara_cli.specs.Names.{Word}
@@ -9,10 +9,3 @@ pub record AreWords (text : List ℕ) (words : List Word) : Type 0 where
   pub tokens : List Token
   pub read : AreTokens text 0 tokens
   pub spelled : words ≡ map (token_text text) tokens
-
--- these are the words of the text up to a place: whatever tokens follow there, they follow these
-pub record AreWordsUpTo (text : List ℕ) (words : List Word) (at : ℕ) : Type 0 where
-  pub tokens : List Token
-  pub read : (rest : List Token) → AreTokens text at rest → AreTokens text 0 (tokens ++ rest)
-  pub spelled : words ≡ map (token_text text) tokens
-  pub few : length tokens ≤ at

@@ -11,7 +11,7 @@ use Rattle.carcara_cli.specs.declared.judgement.Judgement.{Judgement}
 use Rattle.carcara_cli.specs.declared.answer.Answer.{Answer}
 use Rattle.carcara_cli.specs.declared.answer.Answer.TheVariants.{Usage, ReadFault, TooLong, Judged}
 use Rattle.carcara_cli.specs.CommandLine.{Asked}
-use Rattle.carcara_cli.specs.Judgement.{IsJudged}
+use Rattle.carcara_cli.specs.Judgement.{IsJudgement}
 use Rattle.carcara_cli.specs.Printed.{status_of, text_of}
 
 -- the most bytes that a file may have
@@ -38,7 +38,7 @@ IsTooLong problem proof = IsLongerThan most_bytes problem ⊎ (IsWithinLimit pro
 
 -- where both files are told, this is what their texts come to
 abbrev pub IsJudgedIfTold : Bool → Option (List ℕ) → Option (List ℕ) → Judgement → Type 0
-IsJudgedIfTold replaces_lets (Some problem) (Some proof) j = IsJudged problem replaces_lets proof most_bits j
+IsJudgedIfTold replaces_lets (Some problem) (Some proof) j = IsJudgement problem replaces_lets proof most_bits j
 IsJudgedIfTold replaces_lets (Some problem) None j = ⊤
 IsJudgedIfTold replaces_lets None proof j = ⊤
 
@@ -50,15 +50,15 @@ pub record IsJudgedOfFiles (replaces_lets : Bool) (problem proof : Option (List 
 
 -- What an answer says: over what a folder tells of its files and its count of faults before and after, and over what
 -- the words ask for.
-abbrev pub IsAnswer : (List ℕ → Option (List ℕ)) → ℕ → ℕ → Option Asked → Answer → Type 0
-IsAnswer content before after None Usage = ⊤
-IsAnswer content before after None ReadFault = ⊥
-IsAnswer content before after None TooLong = ⊥
-IsAnswer content before after None (Judged j) = ⊥
-IsAnswer content before after (Some p) Usage = ⊥
-IsAnswer content before after (Some p) ReadFault = HasRisen before after
-IsAnswer content before after (Some p) TooLong = IsTooLong (content p.problem) (content p.proof)
-IsAnswer content before after (Some p) (Judged j) = IsJudgedOfFiles p.replaces_lets (content p.problem) (content p.proof) j
+abbrev pub IsAnswerTo : (List ℕ → Option (List ℕ)) → ℕ → ℕ → Option Asked → Answer → Type 0
+IsAnswerTo content before after None Usage = ⊤
+IsAnswerTo content before after None ReadFault = ⊥
+IsAnswerTo content before after None TooLong = ⊥
+IsAnswerTo content before after None (Judged j) = ⊥
+IsAnswerTo content before after (Some p) Usage = ⊥
+IsAnswerTo content before after (Some p) ReadFault = HasRisen before after
+IsAnswerTo content before after (Some p) TooLong = IsTooLong (content p.problem) (content p.proof)
+IsAnswerTo content before after (Some p) (Judged j) = IsJudgedOfFiles p.replaces_lets (content p.problem) (content p.proof) j
 
 -- the whole text of an answer was printed, and the status is the answer's
 pub record PrintsWhole (MayAnswer : Answer → Type 0) (old new : Option (List ℕ)) (status : ℕ) : Type 0 where

@@ -5,10 +5,12 @@ ghost use Rattle.rules_resolution.specs.Clause.{clauses_of};
 ghost use Rattle.term_model.specs.Unsatisfiable.{Unsatisfiable};
 ghost use Rattle.carcara_cli.specs.declared.literal.Literal.{Literal};
 ghost use Rattle.carcara_cli.specs.Names.{Word};
-ghost use Rattle.carcara_cli.specs.Texts.{term_of};
-ghost use Rattle.carcara_cli.specs.Proof.{ProofCommand, AreCommands, HaveEarlierPremises, clause_of, premises_of, command_at};
-ghost use Rattle.carcara_cli.specs.Commands.{command_of, commands_of, IsShort};
-ghost use Rattle.carcara_cli.specs.Verdict.{lit_of, lits_at, same_literal, DecidesStep, IsSetOf, IsEmptyStep, IsStatus, IsVerdict};
+ghost use Rattle.carcara_cli.specs.Texts.{literal_term};
+ghost use Rattle.carcara_cli.specs.Proof.{ProofCommand, AreCommands, stated_clause, premise_places, command_at};
+ghost use Rattle.carcara_cli.specs.Commands.{HaveEarlierPremises};
+ghost use Rattle.carcara_cli.specs.Commands.{stated_command, stated_commands, IsShort};
+ghost use Rattle.carcara_cli.specs.Verdict.{lit_of, lits_at, IsEmptyStep, IsVerdict};
+ghost use Rattle.carcara_cli.specs.Statuses.{equal_literals, DecidesStep, IsSetOf, IsStatus};
 
 use crate::command::Command;
 use crate::literal::Literal;
@@ -42,7 +44,7 @@ fn asserted_of(alloc: Global, assertions: &[Literal]) -> Result<IndexSet<Literal
 
 /// Whether a term is one of the assertions.
 fn is_asserted(asserted: &IndexSet<Literal>, term: Literal) -> bool
-    ensures { result ≡ list_any (same_literal term) asserted.now.keys }
+    ensures { result ≡ list_any (equal_literals term) asserted.now.keys }
 {
     asserted.contains(&term)
 }
@@ -66,7 +68,7 @@ fn lits(alloc: Global, clause: &[Literal]) -> Result<Vec<Lit>, AllocError>
 
 /// The literals of the clause that a command states.
 fn clause_lits(alloc: Global, command: &Command) -> Result<Vec<Lit>, AllocError>
-    ensures { IfOk result (λ v. v.items ≡ map lit_of (clause_of (command_of command.now))) }
+    ensures { IfOk result (λ v. v.items ≡ map lit_of (stated_clause (stated_command command.now))) }
 {
     match command {
         Command::Assume(term) => Ok(vec![in alloc; lit(*term)]?),
@@ -85,7 +87,7 @@ fn premise_lits(
 ) -> Result<Vec<Vec<Lit>>, AllocError>
     requires places { All (λ p. p < length commands.now) premises.now }
     requires short { All IsShort commands.now }
-    ensures clauses { IfOk result (λ v. clauses_of v.items ≡ map (lits_at (commands_of commands.now)) premises.now) }
+    ensures clauses { IfOk result (λ v. clauses_of v.items ≡ map (lits_at (stated_commands commands.now)) premises.now) }
     ensures count { IfOk result (λ v. vec_len v ≡ length premises.now) }
     ensures short { IfOk result (λ v. All (λ clause. vec_len clause < 2 ^ 32) v.items) }
 {
@@ -106,7 +108,7 @@ fn step_follows(
     requires places { All (λ p. p < length commands.now) premises.now }
     requires count { length premises.now < 2 ^ 32 }
     requires short { All IsShort commands.now }
-    ensures { IfOk result (λ met. DecidesStep (commands_of commands.now) clause.now premises.now met) }
+    ensures { IfOk result (λ met. DecidesStep (stated_commands commands.now) clause.now premises.now met) }
 {
     let goal = lits(alloc, clause)?;
     let clauses = premise_lits(alloc, commands, premises)?;
@@ -124,9 +126,9 @@ fn status_of(
     place: usize,
 ) -> Result<Status, Memory>
     requires within { place < length commands.now }
-    requires earlier { All (λ p. p < place) (premises_of (command_at (commands_of commands.now) place)) }
+    requires earlier { All (λ p. p < place) (premise_places (command_at (stated_commands commands.now) place)) }
     requires short { All IsShort commands.now }
-    ensures { IfOk result (λ s. (assertions : List Literal) → IsSetOf assertions asserted.now.keys → IsStatus assertions (commands_of commands.now) (command_at (commands_of commands.now) place) s) }
+    ensures { IfOk result (λ s. (assertions : List Literal) → IsSetOf assertions asserted.now.keys → IsStatus assertions (stated_commands commands.now) (command_at (stated_commands commands.now) place) s) }
 {
     match &commands[place] {
         Command::Assume(term) => {
@@ -148,7 +150,7 @@ fn status_of(
 
 /// Whether a command is a step with the empty clause.
 fn is_empty_step(command: &Command) -> bool
-    ensures { MatchBool result (IsEmptyStep (command_of command.now)) (IsEmptyStep (command_of command.now) → ⊥) }
+    ensures { MatchBool result (IsEmptyStep (stated_command command.now)) (IsEmptyStep (stated_command command.now) → ⊥) }
 {
     match command {
         Command::Assume(_) => false,
@@ -162,9 +164,9 @@ fn is_empty_step(command: &Command) -> bool
 /// The verdict on the commands of a proof.
 #[tactic(auto, using(crate::proofs::VerdictLemmas::none_seen, crate::proofs::VerdictLemmas::one_seen_more))]
 pub fn check(alloc: Global, assertions: &[Literal], commands: &[Command]) -> Result<Verdict, Memory>
-    requires earlier { HaveEarlierPremises (commands_of commands.now) }
+    requires earlier { HaveEarlierPremises (stated_commands commands.now) }
     requires short { All IsShort commands.now }
-    ensures { IfOk result (IsVerdict assertions.now (commands_of commands.now)) }
+    ensures { IfOk result (IsVerdict assertions.now (stated_commands commands.now)) }
 {
     let asserted = asserted_of(alloc, assertions)?;
     let mut reached = false;
@@ -185,7 +187,7 @@ pub fn check(alloc: Global, assertions: &[Literal], commands: &[Command]) -> Res
 /// Law: where every command of a proof is met and the empty clause is reached, no interpretation makes every
 /// assertion true.
 pub fn valid_proofs_are_sound()
-    ensures { (names : List Word) (assertions : List Literal) (commands : List ProofCommand) → HaveEarlierPremises commands → IsVerdict assertions commands Verdict.Valid → Unsatisfiable (map (term_of names) assertions) }
+    ensures { (names : List Word) (assertions : List Literal) (commands : List ProofCommand) → HaveEarlierPremises commands → IsVerdict assertions commands Verdict.Valid → Unsatisfiable (map (literal_term names) assertions) }
 {
     rules_resolution::consequence_is_sound();
 }

@@ -1,6 +1,7 @@
 //! What the words of the command line ask for.
 ghost use Rattle.std.specs.Prelude.{◌≡◌, map, string_bytes, IfOk};
-ghost use Rattle.carcara_cli.specs.CommandLine.{is_no_end, is_operand, expands_lets, operands_of, options_of, replaces_lets_by, asked_with, asked_of, told_of};
+ghost use Rattle.carcara_cli.specs.CommandLine.{is_no_end, is_operand, expands_lets, operands_of, options_of, replaces_lets_by, asked_with, asked_of};
+ghost use Rattle.carcara_cli.specs.Answering.{told_of};
 
 use std::alloc::{AllocError, Global};
 

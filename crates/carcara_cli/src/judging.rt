@@ -1,9 +1,9 @@
 //! The judgement of the two texts.
 ghost use Rattle.std.specs.Prelude.{◌≡◌, ◌<◌, ◌≤◌, length, All, IfOk, IfErr};
-ghost use Rattle.carcara_cli.specs.Names.{name_at};
-ghost use Rattle.carcara_cli.specs.Commands.{commands_of, IsShort};
-ghost use Rattle.carcara_cli.specs.Judgement.{left_out, IsProofText, IsRefusalOf, IsJudged};
-ghost use Rattle.carcara_cli.specs.Answering.{IsWithin, IsNamed};
+ghost use Rattle.carcara_cli.specs.Names.{nth_word};
+ghost use Rattle.carcara_cli.specs.Commands.{stated_commands, IsShort};
+ghost use Rattle.carcara_cli.specs.Judgement.{left_out, IsProofText, IsRefusalOf, IsJudgement};
+ghost use Rattle.carcara_cli.specs.Answering.{NamesOneOf, IsNamed};
 ghost use Rattle.carcara_cli.specs.TopCall.{most_bytes};
 
 use crate::check::{Verdict, check};
@@ -33,7 +33,7 @@ fn proof_of(
     names: &NameTable,
 ) -> Result<Result<Proof, Refusal>, AllocError>
     requires { length text.now ≤ most_bytes }
-    ensures read { IfOk result (λ r. IfOk r (λ p. IsProofText text.now names.now p.ids (commands_of p.commands.items))) }
+    ensures read { IfOk result (λ r. IfOk r (λ p. IsProofText text.now names.now p.ids (stated_commands p.commands.items))) }
     ensures short { IfOk result (λ r. IfOk r (λ p. All IsShort p.commands.items)) }
     ensures refused { IfOk result (λ r. IfErr r (IsRefusalOf text.now)) }
 {
@@ -52,14 +52,14 @@ fn proof_of(
 /// The id at a place, as an owned name.
 fn owned_id(alloc: Global, ids: &NameTable, place: usize) -> Result<Vec<u8>, AllocError>
     requires { place < length ids.now }
-    ensures { IfOk result (λ v. v.items ≡ name_at ids.now place) }
+    ensures { IfOk result (λ v. v.items ≡ nth_word ids.now place) }
 {
     Vec::from_slice(alloc, ids.at(place))
 }
 
 /// The judgement that a verdict is, with the id of its faulty command.
 fn named(alloc: Global, verdict: Verdict, ids: &NameTable) -> Result<Judgement, AllocError>
-    requires { IsWithin (length ids.now) verdict }
+    requires { NamesOneOf (length ids.now) verdict }
     ensures { IfOk result (IsNamed ids.now verdict) }
 {
     match verdict {
@@ -85,7 +85,7 @@ pub fn judge(
     requires proof { length proof.now ≤ most_bytes }
     requires least { LEAST_BITS ≤ most_bits }
     requires most { most_bits ≤ MOST_BITS }
-    ensures { IfOk result (IsJudged problem.now replaces_lets proof.now most_bits) }
+    ensures { IfOk result (IsJudgement problem.now replaces_lets proof.now most_bits) }
 {
     let bytes = problem.len() + proof.len();
     let problem = match read(alloc, problem, replaces_lets, bytes, most_bits)? {

@@ -1,5 +1,6 @@
 ghost use Rattle.std.specs.Prelude.{◌≡◌, ℕ, ◌<◌, ◌≤◌, ◌^◌, List, [], ◌∷◌, ◌++◌, length, false, IfSome, IfNone, IfOk, IsTrue};
-ghost use Rattle.carcara_cli.specs.Names.{name_at, IsPlaceOf, IsNoName, names_of};
+ghost use Rattle.carcara_cli.specs.Names.{nth_word};
+ghost use Rattle.carcara_cli.specs.NamePlaces.{IsPlaceOf, IsNoName, bytes_of_names};
 
 use indexmap::IndexSet;
 use std::alloc::{AllocError, Global};
@@ -14,7 +15,7 @@ pub struct NameTable {
 impl Model for NameTable {
     ghost Value = { List (List ℕ) };
 
-    ghost view = { λ t. names_of t.names.keys };
+    ghost view = { λ t. bytes_of_names t.names.keys };
 
     ghost invariant = { λ t. length t.names.keys ≤ 2 ^ 29 };
 }
@@ -46,7 +47,7 @@ impl NameTable {
     /// The name at a place.
     pub fn at(&self, place: usize) -> &[u8]
         requires { place < length self.now }
-        ensures { result.now ≡ name_at self.now place }
+        ensures { result.now ≡ nth_word self.now place }
     {
         match self.names.get_index(place) {
             Some(name) => name.as_slice(),

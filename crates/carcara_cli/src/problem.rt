@@ -1,12 +1,14 @@
 //! The Boolean constants of a problem, and those of its assertions that are one of them behind `not`s.
 ghost use Rattle.std.specs.Prelude.{◌≡◌, ℕ, ◌+◌, ◌<◌, ◌≤◌, ◌^◌, List, Bool, length, All, IfSome, IfNone, IfOk, OnOk, MatchBool};
 ghost use Rattle.term_model.specs.Terms.{Term};
-ghost use Rattle.term_pool.specs.Views.{RefersTo, ReferToAll, IsTerm as IsSomeTerm, KeepsTerms};
+ghost use Rattle.term_pool.specs.Views.{RefersTo, ReferToAll, IsTerm, KeepsTerms};
 ghost use Rattle.smtlib_reader.specs.Scripts.{Script};
 ghost use Rattle.carcara_cli.specs.declared.literal.Literal.{Literal};
-ghost use Rattle.carcara_cli.specs.Names.{Word, name_at, AreApart, MayDeclare};
-ghost use Rattle.carcara_cli.specs.Problem.{IsConstantLeaf, AreConstantsBelow, IsLowTerm, AreLowTerms, AddsLiteral, AreLiteralsBelow, IsReadProblem, IsProblemText};
-ghost use Rattle.carcara_cli.specs.Texts.{IsTerm, constant, negated, term_of};
+ghost use Rattle.carcara_cli.specs.Names.{Word, nth_word, AreAllDifferent, MayDeclare};
+ghost use Rattle.carcara_cli.specs.Constants.{IsConstantLeaf, AreConstantsBelow, IsLowTerm, AreLowTerms, AddsLiteral, AreLiteralsBelow, IsReadProblem};
+ghost use Rattle.carcara_cli.specs.Problem.{IsProblemText};
+ghost use Rattle.carcara_cli.specs.Texts.{IsLiteralOver, constant_named, literal_term};
+ghost use Rattle.term_pool.specs.Nots.{negated};
 
 use crate::literal::Literal;
 use crate::names::NameTable;
@@ -87,11 +89,11 @@ fn names_of_constants(alloc: Global, symbols: &Symbols) -> Result<NameTable, All
 
 /// The place of the constant that a term is behind its leading `not`s.
 fn constant_of(symbols: &Symbols, terms: &mut Terms<'_>, names: &NameTable, r: Ref) -> Option<u32>
-    requires term { IsSomeTerm symbols.now terms.old r }
+    requires term { IsTerm symbols.now terms.old r }
     requires plain { All MayDeclare names.now }
     ensures within { IfSome result (λ k. k < length names.now) }
-    ensures found { IfSome result (λ k. (t : Term) → RefersTo symbols.now terms.old r t → (n : ℕ) × (t ≡ negated n (constant (name_at names.now k)))) }
-    ensures none { IfNone result ((l : Literal) → IsTerm names.now l → RefersTo symbols.now terms.old r (term_of names.now l) → ⊥) }
+    ensures found { IfSome result (λ k. (t : Term) → RefersTo symbols.now terms.old r t → (n : ℕ) × (t ≡ negated n (constant_named (nth_word names.now k)))) }
+    ensures none { IfNone result ((l : Literal) → IsLiteralOver names.now l → RefersTo symbols.now terms.old r (literal_term names.now l) → ⊥) }
     ensures keeps { KeepsTerms terms.old terms.new }
 {
     let (bare, _odd) = terms.strip_not(symbols, r);
@@ -113,9 +115,9 @@ fn literal_of(
 ) -> Result<Option<Literal>, Memory>
     requires low { IsLowTerm symbols.now terms.old r }
     requires plain { All MayDeclare names.now }
-    ensures term { IfOk result (λ o. IfSome o (IsTerm names.now)) }
-    ensures found { IfOk result (λ o. IfSome o (λ l. (t : Term) → RefersTo symbols.now terms.old r t → t ≡ term_of names.now l)) }
-    ensures none { IfOk result (λ o. IfNone o ((l : Literal) → IsTerm names.now l → RefersTo symbols.now terms.old r (term_of names.now l) → ⊥)) }
+    ensures term { IfOk result (λ o. IfSome o (IsLiteralOver names.now)) }
+    ensures found { IfOk result (λ o. IfSome o (λ l. (t : Term) → RefersTo symbols.now terms.old r t → t ≡ literal_term names.now l)) }
+    ensures none { IfOk result (λ o. IfNone o ((l : Literal) → IsLiteralOver names.now l → RefersTo symbols.now terms.old r (literal_term names.now l) → ⊥)) }
     ensures keeps { KeepsTerms terms.old terms.new }
 {
     let _leaves = symbols.count();
@@ -164,7 +166,7 @@ fn literals_of(
 ) -> Result<Vec<Literal>, Memory>
     requires low { AreLowTerms symbols.now terms.old problem.now.assertions }
     requires plain { All MayDeclare names.now }
-    requires apart { AreApart names.now }
+    requires apart { AreAllDifferent names.now }
     ensures { IfOk result (λ v. (ts : List Term) → ReferToAll symbols.now terms.old problem.now.assertions ts → AreLiteralsBelow names.now ts (length ts) v.items) }
 {
     let _leaves = symbols.count();

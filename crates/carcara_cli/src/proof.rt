@@ -1,9 +1,10 @@
 //! Reading a proof of the first forms: assumes, and resolution steps with premises.
 ghost use Rattle.std.specs.Prelude.{◌≡◌, ℕ, ◌+◌, ◌<◌, ◌≤◌, ◌^◌, length, vec_len, All, IfSome, IfOk};
-ghost use Rattle.carcara_cli.specs.Names.{name_at};
-ghost use Rattle.carcara_cli.specs.Reading.{Reads};
-ghost use Rattle.carcara_cli.specs.Proof.{IsReadAssume, IsReadClause, AreReadTerms, AreReadIds, IsReadPremises, IsReadCommand, IsProof};
-ghost use Rattle.carcara_cli.specs.Commands.{command_of, commands_of, IsShort};
+ghost use Rattle.carcara_cli.specs.Names.{nth_word};
+ghost use Rattle.carcara_cli.specs.Reading.{ReadsWords};
+ghost use Rattle.carcara_cli.specs.Reading.{IsReadAssume, IsReadClause, AreReadTerms, AreReadIds, IsReadPremises, IsReadCommand};
+ghost use Rattle.carcara_cli.specs.Proof.{IsProof};
+ghost use Rattle.carcara_cli.specs.Commands.{stated_command, stated_commands, IsShort};
 
 use crate::command::Command;
 use crate::literal::Literal;
@@ -129,7 +130,7 @@ fn read_step(
     from: usize,
 ) -> Result<Option<(Command, usize)>, AllocError>
     requires { length words.now ≤ 2 ^ 28 }
-    ensures read { IfOk result (λ o. IfSome o (λ r. IsReadCommand words.now names.now ids.now from (command_of r.0) r.1)) }
+    ensures read { IfOk result (λ o. IfSome o (λ r. IsReadCommand words.now names.now ids.now from (stated_command r.0) r.1)) }
     ensures short { IfOk result (λ o. IfSome o (λ r. IsShort r.0)) }
 {
     let Some(at) = words.after_two(from, b"(", b"step") else {
@@ -163,7 +164,7 @@ fn read_command(
     from: usize,
 ) -> Result<Option<(Command, usize)>, AllocError>
     requires { length words.now ≤ 2 ^ 28 }
-    ensures read { IfOk result (λ o. IfSome o (λ r. IsReadCommand words.now names.now ids.now from (command_of r.0) r.1)) }
+    ensures read { IfOk result (λ o. IfSome o (λ r. IsReadCommand words.now names.now ids.now from (stated_command r.0) r.1)) }
     ensures short { IfOk result (λ o. IfSome o (λ r. IsShort r.0)) }
 {
     if let Some((term, to)) = read_assume(words, names, from) {
@@ -187,7 +188,7 @@ pub fn read_proof(
     names: &NameTable,
 ) -> Result<Option<Proof>, AllocError>
     requires { length words.now ≤ 2 ^ 28 }
-    ensures spelled { IfOk result (λ o. IfSome o (λ p. IsProof words.now names.now p.ids (commands_of p.commands.items))) }
+    ensures spelled { IfOk result (λ o. IfSome o (λ p. IsProof words.now names.now p.ids (stated_commands p.commands.items))) }
     ensures short { IfOk result (λ o. IfSome o (λ p. All IsShort p.commands.items)) }
 {
     let mut ids = NameTable::new(alloc);

@@ -1,5 +1,8 @@
 //! Reading a problem into a pool that is large enough for its terms.
-ghost use Rattle.std.specs.Prelude.{◌≤◌, ◌^◌, length, IfOk};
+ghost use Rattle.std.specs.Prelude.{◌≡◌, ◌≤◌, ◌^◌, ℕ, [], length, IfOk};
+ghost use Rattle.pair_pool.specs.Views.{IsOneToOne, HasListsInOrder};
+ghost use Rattle.sym_table.specs.Table.{IsTable};
+ghost use Rattle.smtlib_reader.specs.ProblemViews.{IsNewTable};
 ghost use Rattle.carcara_cli.specs.Reads.{IsPoolSize, IsReading};
 ghost use Rattle.carcara_cli.specs.TopCall.{most_bytes};
 
@@ -41,6 +44,50 @@ fn pool_bits(bytes: usize, most_bits: u32) -> u32
     bits
 }
 
+/// A problem that had no room in its pool.
+fn pool_full(symbols: &Symbols, terms: Terms<'_>) -> Reading
+    ensures full { result ≡ Reading.PoolFull }
+    ensures table { IsTable symbols.now }
+    ensures one_reference { IsOneToOne terms.entry.pass }
+    ensures in_order { HasListsInOrder terms.entry.pass }
+{
+    let _leaves = symbols.count();
+    let pass = terms.into_pass();
+    pass.one_to_one();
+    pass.lists_in_order();
+    Reading::PoolFull
+}
+
+/// Reads a problem by a new table of symbols and terms of a pool in which nothing stands.
+fn read_with(
+    alloc: Global,
+    text: &[u8],
+    replaces_lets: bool,
+    symbols: &mut Symbols,
+    mut terms: Terms<'_>,
+) -> Result<Reading, Memory>
+    requires size { length text.now ≤ most_bytes }
+    requires new_symbols { IsNewTable symbols.old }
+    requires nothing { terms.pass.placed ≡ [] }
+    requires shares { terms.pass.shares ≡ 65 }
+    ensures { (bits : ℕ) → terms.entry.pass.places ≡ 2 ^ bits → IfOk result (IsReading text.now replaces_lets bits) }
+{
+    let flags = Flags {
+        expand_lets: replaces_lets,
+        strict: false,
+        ignore_unknown: false,
+    };
+    match read_problem(alloc, text, flags, symbols, &mut terms) {
+        Ok(problem) => {
+            let read = literals_of_problem(alloc, symbols, &mut terms, &problem)?;
+            Ok(Reading::Read(read))
+        }
+        Err(ReadFault::Text(refusal)) => Ok(Reading::Refused(refusal)),
+        Err(ReadFault::PoolFull) => Ok(pool_full(symbols, terms)),
+        Err(ReadFault::Memory) => Err(Memory),
+    }
+}
+
 /// Reads a problem into a new pool with so many bits.
 fn read_into(alloc: Global, bits: u32, text: &[u8], replaces_lets: bool) -> Result<Reading, Memory>
     requires least { LEAST_BITS ≤ bits }
@@ -54,26 +101,8 @@ fn read_into(alloc: Global, bits: u32, text: &[u8], replaces_lets: bool) -> Resu
     let Ok((pool, pass)) = Pool::new(alloc, bits) else {
         return Err(Memory);
     };
-    let mut terms = Terms::new(&pool, pass);
-    let flags = Flags {
-        expand_lets: replaces_lets,
-        strict: false,
-        ignore_unknown: false,
-    };
-    match read_problem(alloc, text, flags, &mut symbols, &mut terms) {
-        Ok(problem) => Ok(Reading::Read(literals_of_problem(
-            alloc, &symbols, &mut terms, &problem,
-        )?)),
-        Err(ReadFault::Text(refusal)) => Ok(Reading::Refused(refusal)),
-        Err(ReadFault::PoolFull) => {
-            let _leaves = symbols.count();
-            let pass = terms.into_pass();
-            pass.one_to_one();
-            pass.lists_in_order();
-            Ok(Reading::PoolFull)
-        }
-        Err(ReadFault::Memory) => Err(Memory),
-    }
+    let terms = Terms::new(&pool, pass);
+    read_with(alloc, text, replaces_lets, &mut symbols, terms)
 }
 
 /// Reads a problem, of whose text and its proof's there are so many bytes, with its lets or with their bodies in their

@@ -1,7 +1,8 @@
 //! Reading a term: a declared name behind `not`s.
 ghost use Rattle.std.specs.Prelude.{◌≡◌, ◌≤◌, length, IfSome};
-ghost use Rattle.carcara_cli.specs.Reading.{Reads};
-ghost use Rattle.carcara_cli.specs.Texts.{opened, closed, not_word, spelled_term, IsReadTerm};
+ghost use Rattle.carcara_cli.specs.Reading.{ReadsWords};
+ghost use Rattle.carcara_cli.specs.Texts.{opening_nots, closing_brackets, not_word, spelled_term};
+ghost use Rattle.carcara_cli.specs.Reading.{IsReadLiteral};
 
 use crate::literal::Literal;
 use crate::names::NameTable;
@@ -15,7 +16,7 @@ pub const MOST_NOTS: u32 = 1999;
 fn read_opened(words: &Words<'_>, from: usize) -> (u32, usize)
     requires { from ≤ length words.now }
     ensures few { result.0 ≤ MOST_NOTS }
-    ensures read { Reads words.now from (opened result.0) result.1 }
+    ensures read { ReadsWords words.now from (opening_nots result.0) result.1 }
 {
     let mut nots = 0;
     let mut at = from;
@@ -33,7 +34,7 @@ fn read_opened(words: &Words<'_>, from: usize) -> (u32, usize)
 #[tactic(auto, using(crate::proofs::TermLemmas::closed_more))]
 fn read_closed(words: &Words<'_>, from: usize, count: u32) -> Option<usize>
     requires { from ≤ length words.now }
-    ensures { IfSome result (Reads words.now from (closed count)) }
+    ensures { IfSome result (ReadsWords words.now from (closing_brackets count)) }
 {
     let mut at = from;
     for _read in 0..count {
@@ -46,7 +47,7 @@ fn read_closed(words: &Words<'_>, from: usize, count: u32) -> Option<usize>
 #[tactic(auto, using(crate::proofs::TermLemmas::read_term_is))]
 pub fn read_term(words: &Words<'_>, names: &NameTable, from: usize) -> Option<(Literal, usize)>
     requires { from ≤ length words.now }
-    ensures { IfSome result (λ r. IsReadTerm words.now names.now from r.0 r.1) }
+    ensures { IfSome result (λ r. IsReadLiteral words.now names.now from r.0 r.1) }
 {
     let (nots, at) = read_opened(words, from);
     if at >= words.len() {

@@ -5,7 +5,7 @@ ghost use Rattle.file_ports.specs.Faults.{HasRisen};
 ghost use Rattle.file_ports.specs.Texts.{AreTold, AppendsFront};
 ghost use Rattle.carcara_cli.specs.Printed as spec;
 ghost use Rattle.carcara_cli.specs.CommandLine.{asked_of};
-ghost use Rattle.carcara_cli.specs.TopCall.{most_bytes, IsTooLong, IsAnswer, IsPrinted, MayAskBoth, ShowsUnsatisfiable};
+ghost use Rattle.carcara_cli.specs.TopCall.{most_bytes, IsTooLong, IsAnswerTo, IsPrinted, MayAskBoth, ShowsUnsatisfiable};
 ghost use Rattle.carcara_cli.specs.Answering.{IsUnread};
 
 use crate::answer::{Answer, status_of, text_of};
@@ -58,7 +58,7 @@ fn unread(stop: ReadStop) -> Result<Answer, Memory>
 /// The answer to the words of the command line, over the files of a folder.
 fn answer_to<F: Folder>(alloc: Global, words: &[String], folder: &mut F) -> Result<Answer, Memory>
     requires { MayAskBoth (F.may_ask folder.old) (asked_of (map string_bytes words.now)) }
-    ensures { IfOk result (IsAnswer (F.content folder.old) (F.faults folder.old) (F.faults folder.new) (asked_of (map string_bytes words.now))) }
+    ensures { IfOk result (IsAnswerTo (F.content folder.old) (F.faults folder.old) (F.faults folder.new) (asked_of (map string_bytes words.now))) }
 {
     let Some(asked) = asked_of(alloc, words)? else {
         return Ok(Answer::Usage);
@@ -115,7 +115,7 @@ pub fn carcara<R: AllocGlobal, F: Folder, S: Sink, G: Gate>(
     requires { MayAskBoth (F.may_ask folder.old) (asked_of (map string_bytes words.now)) }
 
     // What was printed is the whole text of an answer of the status, and after a failed write or want of memory a front.
-    ensures printed { IsPrinted (IsAnswer (F.content folder.old) (F.faults folder.old) (F.faults folder.new) (asked_of (map string_bytes words.now))) (S.written out.old) (S.written out.new) result }
+    ensures printed { IsPrinted (IsAnswerTo (F.content folder.old) (F.faults folder.old) (F.faults folder.new) (asked_of (map string_bytes words.now))) (S.written out.old) (S.written out.new) result }
 
     // `valid` shows that no interpretation makes every assertion of the problem true.
     ensures unsatisfiable { result ≡ 0 → ShowsUnsatisfiable (F.content folder.old) (asked_of (map string_bytes words.now)) }

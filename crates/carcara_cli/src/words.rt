@@ -1,7 +1,7 @@
 //! The words of a text, brackets among them, and how they are read one after another.
 ghost use Rattle.std.specs.Prelude.{◌≡◌, ℕ, ◌+◌, ◌<◌, ◌≤◌, List, [], ◌∷◌, length, IfSome, IfOk, IsTrue, bytes_eq};
-ghost use Rattle.carcara_cli.specs.Names.{Word, name_at};
-ghost use Rattle.carcara_cli.specs.Reading.{Reads, words_of};
+ghost use Rattle.carcara_cli.specs.Names.{Word, nth_word};
+ghost use Rattle.carcara_cli.specs.Reading.{ReadsWords, words_of};
 ghost use Rattle.carcara_cli.specs.TextWords.{AreWords};
 
 use sexpr::{Lexer, Refusal};
@@ -53,7 +53,7 @@ impl<'a> Words<'a> {
     /// The word at a place.
     pub fn at(&self, place: usize) -> &'a [u8]
         requires { place < length self.now }
-        ensures { result.now ≡ name_at self.now place }
+        ensures { result.now ≡ nth_word self.now place }
     {
         self.words[place]
     }
@@ -61,7 +61,7 @@ impl<'a> Words<'a> {
     /// Whether this word stands at the place.
     pub fn is(&self, place: usize, word: &[u8]) -> bool
         ensures within { IsTrue result → place < length self.now }
-        ensures same { IsTrue result → name_at self.now place ≡ word.now }
+        ensures same { IsTrue result → nth_word self.now place ≡ word.now }
     {
         place < self.len() && self.at(place) == word
     }
@@ -69,7 +69,7 @@ impl<'a> Words<'a> {
     /// The place after this word, where it stands at the place.
     #[tactic(auto, using(crate::proofs::ReadingLemmas::reads_one))]
     pub fn after(&self, place: usize, word: &[u8]) -> Option<usize>
-        ensures { IfSome result (Reads self.now place (word.now ∷ [])) }
+        ensures { IfSome result (ReadsWords self.now place (word.now ∷ [])) }
     {
         if place < self.len() && self.is(place, word) {
             Some(place + 1)
@@ -81,7 +81,7 @@ impl<'a> Words<'a> {
     /// The place after these two words, where they stand at the place.
     #[tactic(auto, using(crate::proofs::ReadingLemmas::reads_two))]
     pub fn after_two(&self, place: usize, first: &[u8], second: &[u8]) -> Option<usize>
-        ensures { IfSome result (Reads self.now place (first.now ∷ second.now ∷ [])) }
+        ensures { IfSome result (ReadsWords self.now place (first.now ∷ second.now ∷ [])) }
     {
         self.after(self.after(place, first)?, second)
     }

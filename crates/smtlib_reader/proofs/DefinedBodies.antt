@@ -4,7 +4,7 @@ use Rattle.sexpr.specs.Items.{Item}
 use Rattle.sym_table.specs.Table.{Table}
 use Rattle.term_model.specs.Terms.{Var}
 use Rattle.term_pool.specs.Views.{TermsView}
-use Rattle.smtlib_reader.specs.Defining.{within, body_read, IsReady, ReadsBody}
+use Rattle.smtlib_reader.specs.Defining.{within, body_read, IsReadyForBody, ReadsBody}
 use Rattle.problem_text.specs.Forms.{form_of}
 use Rattle.term_names.specs.Known.{KnownView, known_entry}
 use Rattle.term_reader.specs.Reading.{IsIdle, Reads}
@@ -43,7 +43,7 @@ body_plain s v k sc last xs i t is e =
     subst (λ (o : Outcome Script Typed). IfOk o.result (IsFreeIn (within xs))) e h.1 refl
 
 -- the reader is ready for the term that is the body
-pub ready_to_read : (s : Table) (v : TermsView) (r : Reader) (xs : List Var) (sc : Script) → IsReady s v r xs sc → IsIdle s v (record r { replaces_lets = true }) sc (within xs)
+pub ready_to_read : (s : Table) (v : TermsView) (r : Reader) (xs : List Var) (sc : Script) → IsReadyForBody s v r xs sc → IsIdle s v (record r { replaces_lets = true }) sc (within xs)
 ready_to_read s v r xs sc h = record {
   script = h.script;
   scope = h.scope;
@@ -59,7 +59,7 @@ none_in_scope (x ∷ xs) = none_in_scope xs
 
 -- the body was read
 pub body_there : (s z : Table) (v w : TermsView) (r q : Reader) (xs : List Var) (i : Item) (sc : Script) (c : Value) (scope : List Scoped)
-    → IsReady s v r xs sc → Reads z v w q (within xs) (read_term i (within xs) sc) (Ok c) → scope ≡ []
+    → IsReadyForBody s v r xs sc → Reads z v w q (within xs) (read_term i (within xs) sc) (Ok c) → scope ≡ []
     → ReadsBody z v w (record q { replaces_lets = r.replaces_lets; scope = scope }) (body_read xs i sc) (Ok (record c { plain = true }))
 body_there s z v w r q xs i sc c scope ready h none =
     let (t, last, e, is, low, idle) = h.outcome in record {

@@ -8,7 +8,7 @@ use Rattle.term_model.specs.declared.symbols.Sort.{Sort}
 use Rattle.term_model.specs.Terms.{Var}
 use Rattle.term_pool.specs.StandsFor.{variable_leaf}
 use Rattle.term_pool.specs.Views.{TermsView}
-use Rattle.smtlib_reader.specs.Defining.{IsAdded, AreListed, IsReady}
+use Rattle.smtlib_reader.specs.Defining.{AddsParameter, AreListed, IsReadyForBody}
 use Rattle.rule_model.specs.Heights.{height}
 use Rattle.term_names.specs.InScope.{IsScope, AreBound}
 use Rattle.problem_text.specs.Names.{Bound, Place, itself, inside}
@@ -29,7 +29,7 @@ use Rattle.term_reader.proofs.Staying.{bound_stays, keeps_none, scope_stays, scr
 -- a leaf, as a term
 pub is_added : (s : Table) (v : TermsView) (old new : List Value) (k : ℕ) (name : List ℕ) (sort : Sort) (x : Var) (c : Value)
     → IsLeaf s k (symbol.variable name sort) → name ≡ x.name → sort ≡ x.sort → ((pass : PassView) → Knows pass c.term (leaf k)) → c.sort ≡ sort → c.height ≡ 1
-    → new ≡ old ++ c ∷ [] → IsAdded s v old new k x
+    → new ≡ old ++ c ∷ [] → AddsParameter s v old new k x
 unfolding height
 is_added s v old new k name sort x c here same same_sort known is high pushed = record {
   leaf = there;
@@ -101,7 +101,7 @@ parameter_there source nodes (p ∷ ps) (x ∷ xs) zero d are less = (x, are.0)
 parameter_there source nodes (p ∷ ps) (x ∷ xs) (suc i) d are less = parameter_there source nodes ps xs i d are.1 (omega arith)
 
 pub one_listed : (source : List ℕ) (nodes : List Node) (s z : Table) (v : TermsView) (p : Parameter) (left ps : List Parameter) (leaves more : List ℕ) (values new : List Value) (k : ℕ) (xs : List Var)
-    → ps ≡ p ∷ left → AreListedUpTo source nodes s v ps leaves values xs → Keeps s z → ((x : Var) → IsParameter source nodes p x → IsAdded z v values new k x) → more ≡ leaves ++ k ∷ []
+    → ps ≡ p ∷ left → AreListedUpTo source nodes s v ps leaves values xs → Keeps s z → ((x : Var) → IsParameter source nodes p x → AddsParameter z v values new k x) → more ≡ leaves ++ k ∷ []
     → AreListedUpTo source nodes z v left more new xs
 one_listed source nodes s z v p left ps leaves more values new k xs e h keeps added pushed = go h.back h.split (rw e at h.others)
   where
@@ -157,7 +157,7 @@ inside_themselves (x ∷ xs) = ap (λ bs. itself x ∷ bs) (inside_themselves xs
 pub is_entered : (s z : Table) (v : TermsView) (r : Reader) (l : Listed) (scope : List Scoped) (values none : List Value) (xs : List Var) (sc : Script)
     → AddsNoSymbols s z → IsIdle s v r sc (top r.replaces_lets) → AreBound z v l.leaves.items values (map itself xs) → l.sorts.items ≡ map (λ (c : Value). c.sort) values
     → ((p : Place) → IsScope z v r.scope p.scope → p.settings.replaces_lets ≡ false → IsScope z v scope (inside (map itself xs) p).scope) → none ≡ []
-    → AreListed z l xs × IsReady z v (record r { scope = scope; values = none }) xs sc
+    → AreListed z l xs × IsReadyForBody z v (record r { scope = scope; values = none }) xs sc
 is_entered s z v r l scope values none xs sc adds idle bound sorts put no_values = (
   record { leaves = leaves_bound z v l.leaves.items values xs bound; sorts = sorts ∙ sorts_bound z v l.leaves.items values xs bound },
   record {

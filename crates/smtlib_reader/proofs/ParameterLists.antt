@@ -24,7 +24,7 @@ use Rattle.problem_text.specs.Commands.{refused}
 use Rattle.problem_text.specs.Sorts.{chained, sort_from, parameter_from, parameters_from}
 use Rattle.text_items.specs.Nodes.{IsNode, AreNodes}
 use Rattle.text_items.specs.NameNodes.{IsNameNode}
-use Rattle.smtlib_reader.specs.Parameters.{IsParameter, AreParameters, AreNames, IsParameterRead, AreParametersRead}
+use Rattle.smtlib_reader.specs.Parameters.{IsParameter, AreParameters, AreKeysOf, IsParameterRead, AreParametersRead}
 use Rattle.text_items.proofs.NodeItems.{has_first, same_node, next_told, name_here, begin_with, none_left}
 
 -- a pair without fault is a symbol at the node after the bracket, and an item at the node after that
@@ -77,8 +77,8 @@ either false true = refl
 either false false = refl
 
 -- a name that was not among the keys is added at their end
-pub with_key : (keys new : List (Bor (List ℕ))) (key : Bor (List ℕ)) (names : List (List ℕ)) → AreNames keys names
-    → new ≡ (if list_any (λ k. bytes_eq key.now k.now) keys then keys else keys ++ key ∷ []) → list_any (λ k. bytes_eq key.now k.now) keys ≡ false → AreNames new (key.now ∷ names)
+pub with_key : (keys new : List (Bor (List ℕ))) (key : Bor (List ℕ)) (names : List (List ℕ)) → AreKeysOf keys names
+    → new ≡ (if list_any (λ k. bytes_eq key.now k.now) keys then keys else keys ++ key ∷ []) → list_any (λ k. bytes_eq key.now k.now) keys ≡ false → AreKeysOf new (key.now ∷ names)
 with_key keys new key names are is none = λ name.
     ap (list_any (λ k. bytes_eq name k.now)) (is ∙ ap (λ b. if b then keys else keys ++ key ∷ []) none)
     ∙ list_any-append (λ k. bytes_eq name k.now) keys (key ∷ [])
@@ -136,7 +136,7 @@ pub record IsReadUpTo (source : List ℕ) (nodes : List Node) (sorts : List (Lis
   pub there : AreNodes source nodes k rest last
   pub pairs : pairs_fault rest ≡ None
   pub names : List (List ℕ)
-  pub are : AreNames keys names
+  pub are : AreKeysOf keys names
   pub variables : List Var
   pub says : AreParameters source nodes read variables
   pub comes : parameters_from sorts [] items ≡ chained (parameters_from sorts names rest) (λ xs. Ok (variables ++ xs))
@@ -152,7 +152,7 @@ none_read source nodes sorts k items last there pairs keys no_keys read none = r
   there = there;
   pairs = pairs;
   names = [];
-  are = subst (λ ks. AreNames ks []) (sym no_keys) (λ name. refl);
+  are = subst (λ ks. AreKeysOf ks []) (sym no_keys) (λ name. refl);
   variables = [];
   says = subst (λ ps. AreParameters source nodes ps []) (sym none) tt;
   comes = right_unit (parameters_from sorts [] items);

@@ -6,7 +6,7 @@ use Rattle.sexpr.specs.Items.{Item, Items, no_items, item}
 use Rattle.sym_table.specs.Table.{Table}
 use Rattle.term_model.specs.Terms.{Term}
 use Rattle.term_pool.specs.Views.{TermsView}
-use Rattle.smtlib_reader.specs.CommandShapes.{IsCommand, Says}
+use Rattle.smtlib_reader.specs.CommandShapes.{IsCommand, SaysCommand}
 use Rattle.problem_text.specs.Commands.{Command, command_of}
 use Rattle.text_items.specs.Nodes.{IsNode}
 use Rattle.smtlib_reader.specs.ProblemReading.{HasItems, IsFirstItem, AreLeft, ReadsCommand}
@@ -64,7 +64,7 @@ done_goes_on : (replaces : Bool) (rest : Items) (sc : Script) (o : Outcome Scrip
 done_goes_on replaces rest sc o e = ap (then_rest replaces rest) e
 
 -- No command but an exit ends the text.
-goes_further : (source : List ℕ) (nodes : List Node) (c : code.Command) (d : Command) → (c ≡ Exit → ⊥) → Says source nodes c d → ends d ≡ false
+goes_further : (source : List ℕ) (nodes : List Node) (c : code.Command) (d : Command) → (c ≡ Exit → ⊥) → SaysCommand source nodes c d → ends d ≡ false
 goes_further source nodes (SetLogic name) d other (n, e, _) = ap ends e
 goes_further source nodes WithoutEffect d other e = ap ends e
 goes_further source nodes (DeclareSort name arity zero) d other says = ap ends says.same
@@ -74,8 +74,8 @@ goes_further source nodes (Assert t) d other (i, m, e, _) = ap ends e
 goes_further source nodes CheckSat d other e = ap ends e
 goes_further source nodes Exit d other e = absurd (other refl)
 
-is_end : (source : List ℕ) (nodes : List Node) (c : code.Command) (d : Command) → c ≡ Exit → Says source nodes c d → ends d ≡ true
-is_end source nodes c d is says = ap ends (subst (λ (x : code.Command). Says source nodes x d) is says)
+is_end : (source : List ℕ) (nodes : List Node) (c : code.Command) (d : Command) → c ≡ Exit → SaysCommand source nodes c d → ends d ≡ true
+is_end source nodes c d is says = ap ends (subst (λ (x : code.Command). SaysCommand source nodes x d) is says)
 
 -- the nodes are those of the first command that is left, and the others stand from this place on
 pub record HasFirst (source : List ℕ) (nodes : List Node) (at : ℕ) (replaces : Bool) (sc : Script) (whole : Outcome Script ⊤) : Type 0 where
@@ -111,7 +111,7 @@ command_fault source nodes at replaces sc whole checked r same h found =
 -- the shape of the first command, and what comes of it and of the others
 pub record IsShaped (source : List ℕ) (nodes : List Node) (replaces : Bool) (sc : Script) (whole : Outcome Script ⊤) (others : Items) (c : code.Command) : Type 0 where
   pub shape : Command
-  pub says : Says source nodes c shape
+  pub says : SaysCommand source nodes c shape
   pub comes : comes_of replaces sc others (Ok shape) ≡ whole
 
 pub command_read : (source : List ℕ) (nodes : List Node) (at : ℕ) (replaces : Bool) (sc : Script) (whole : Outcome Script ⊤) (checked : Bool) (c : code.Command)
@@ -198,8 +198,8 @@ pub some_shape : (old new : List ℕ) (nodes slice more : List Node) (from at : 
     → ((items : Items) → HasItems old from items → IsFirstItem new nodes at items)
     → ((i : Item) → IsNode new slice 0 i (length slice) → IsCommand new slice (Ok c) (command_of d.is_checked i))
     → (sc : Script) × (whole : Outcome Script ⊤) × AreLeft old replaces from sc whole × IsSession s v d sc
-    → (x : Command) × Says new more c x
+    → (x : Command) × SaysCommand new more c x
 some_shape old new nodes slice more from at replaces s v d c same also found read (sc, whole, left, session) =
     let h = has_first old new nodes from at replaces sc whole found left in
     let shaped = command_read new nodes at replaces sc whole d.is_checked c session.is_checked h (found_in new nodes slice d.is_checked (Ok c) same read) in
-    (shaped.shape, subst (λ (x : List Node). Says new x c shaped.shape) (sym also) shaped.says)
+    (shaped.shape, subst (λ (x : List Node). SaysCommand new x c shaped.shape) (sym also) shaped.says)

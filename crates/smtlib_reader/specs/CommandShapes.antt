@@ -48,20 +48,20 @@ pub record SaysDefinition (source : List ℕ) (nodes : List Node) (name first la
   pub value_here : IsNode source nodes body value behind
   pub in_order : last ≤ body
 
-abbrev pub Says : List ℕ → List Node → Command → Shape → Type 0
-Says source nodes (Command.SetLogic name) d = (n : Name) × (d ≡ set_logic n) × IsNameNode source nodes name n
-Says source nodes Command.WithoutEffect d = d ≡ without_effect
-Says source nodes (Command.DeclareSort name arity is_zero) d = SaysSort source nodes name arity is_zero d
-Says source nodes (Command.DeclareFun name first last target) d = SaysFun source nodes name first last target d
-Says source nodes (Command.DefineFun name first last target body) d = SaysDefinition source nodes name first last target body d
-Says source nodes (Command.Assert t) d = (i : Item) × (m : ℕ) × (d ≡ assert_term i) × IsNode source nodes t i m
-Says source nodes Command.CheckSat d = d ≡ check_sat
-Says source nodes Command.Exit d = d ≡ exit
+abbrev pub SaysCommand : List ℕ → List Node → Command → Shape → Type 0
+SaysCommand source nodes (Command.SetLogic name) d = (n : Name) × (d ≡ set_logic n) × IsNameNode source nodes name n
+SaysCommand source nodes Command.WithoutEffect d = d ≡ without_effect
+SaysCommand source nodes (Command.DeclareSort name arity is_zero) d = SaysSort source nodes name arity is_zero d
+SaysCommand source nodes (Command.DeclareFun name first last target) d = SaysFun source nodes name first last target d
+SaysCommand source nodes (Command.DefineFun name first last target body) d = SaysDefinition source nodes name first last target body d
+SaysCommand source nodes (Command.Assert t) d = (i : Item) × (m : ℕ) × (d ≡ assert_term i) × IsNode source nodes t i m
+SaysCommand source nodes Command.CheckSat d = d ≡ check_sat
+SaysCommand source nodes Command.Exit d = d ≡ exit
 
 -- the result is the command or the refusal that is expected
 abbrev pub IsCommand : List ℕ → List Node → Result Command Refusal → Result Shape Refusal → Type 0
 IsCommand source nodes (Err r) expected = expected ≡ Err r
-IsCommand source nodes (Ok c) expected = (d : Shape) × (expected ≡ Ok d) × Says source nodes c d
+IsCommand source nodes (Ok c) expected = (d : Shape) × (expected ≡ Ok d) × SaysCommand source nodes c d
 
 -- the word of a command, where the item is one
 abbrev pub head_word : Item → Option (List ℕ)

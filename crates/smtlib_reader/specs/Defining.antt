@@ -63,7 +63,7 @@ macro_defined name xs target body s =
     else refuse SortMismatch (place_of body) last)
 
 -- The leaf is that of the variable, and its term was put on the values.
-pub record IsAdded (s : Table) (v : TermsView) (old new : List Value) (k : ℕ) (x : Var) : Type 0 where
+pub record AddsParameter (s : Table) (v : TermsView) (old new : List Value) (k : ℕ) (x : Var) : Type 0 where
   pub leaf : IsLeaf s k (variable_leaf x)
   pub value : Value
   pub pushed : new ≡ old ++ value ∷ []
@@ -75,7 +75,7 @@ pub record AreListed (s : Table) (l : Listed) (xs : List Var) : Type 0 where
   pub sorts : l.sorts.items ≡ map (λ x. x.sort) xs
 
 -- The reader is ready for a body with these parameters.
-pub record IsReady (s : Table) (v : TermsView) (r : Reader) (xs : List Var) (sc : Script) : Type 0 where
+pub record IsReadyForBody (s : Table) (v : TermsView) (r : Reader) (xs : List Var) (sc : Script) : Type 0 where
   pub script : IsScript s v r.known sc
   pub scope : IsScope s v r.scope (map itself xs)
   pub no_values : r.values ≡ []

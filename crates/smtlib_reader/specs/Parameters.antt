@@ -23,13 +23,13 @@ AreParameters source nodes (p ∷ ps) [] = ⊥
 AreParameters source nodes (p ∷ ps) (x ∷ xs) = IsParameter source nodes p x × AreParameters source nodes ps xs
 
 -- The keys of the set are these names.
-abbrev pub AreNames : List (Bor (List ℕ)) → List (List ℕ) → Type 0
-AreNames keys names = (name : List ℕ) → list_any (λ key. bytes_eq name key.now) keys ≡ is_among names name
+abbrev pub AreKeysOf : List (Bor (List ℕ)) → List (List ℕ) → Type 0
+AreKeysOf keys names = (name : List ℕ) → list_any (λ key. bytes_eq name key.now) keys ≡ is_among names name
 
 -- The reading of a parameter, where those before it have these names, comes to what is expected, unless memory was
 -- refused. Where one was read the keys have its name too.
 abbrev pub IsParameterRead : List ℕ → List Node → List (List ℕ) → List (Bor (List ℕ)) → Result Parameter ReadFault → Result Var Refusal → Type 0
-IsParameterRead source nodes names keys (Ok p) expected = (x : Var) × (expected ≡ Ok x) × IsParameter source nodes p x × AreNames keys (x.name ∷ names)
+IsParameterRead source nodes names keys (Ok p) expected = (x : Var) × (expected ≡ Ok x) × IsParameter source nodes p x × AreKeysOf keys (x.name ∷ names)
 IsParameterRead source nodes names keys (Err (ReadFault.Text r)) expected = expected ≡ Err r
 IsParameterRead source nodes names keys (Err ReadFault.PoolFull) expected = ⊥
 IsParameterRead source nodes names keys (Err ReadFault.Memory) expected = Unit {0}

@@ -5,9 +5,9 @@ ghost use Rattle.sexpr.specs.Source.{source};
 ghost use Rattle.sym_table.specs.Table.{Keeps};
 ghost use Rattle.term_model.specs.Terms.{Var};
 ghost use Rattle.term_pool.specs.Views.{TermsView, KeepsTerms};
-ghost use Rattle.smtlib_reader.specs.CommandShapes.{Says};
+ghost use Rattle.smtlib_reader.specs.CommandShapes.{SaysCommand};
 ghost use Rattle.problem_text.specs.Commands as shape;
-ghost use Rattle.smtlib_reader.specs.Defining.{IsSignatureRead, signature_from, IsDefining, Defines, macro_defined, AreListed, IsReady, IsAdded, ReadsBody, body_read};
+ghost use Rattle.smtlib_reader.specs.Defining.{IsSignatureRead, signature_from, IsDefining, Defines, macro_defined, AreListed, IsReadyForBody, AddsParameter, ReadsBody, body_read};
 ghost use Rattle.text_items.specs.ItemShapes.{pairs_fault};
 ghost use Rattle.term_names.specs.InScope.{AreBound};
 ghost use Rattle.problem_text.specs.Names.{itself};
@@ -56,11 +56,11 @@ pub(crate) fn define_fun(
     target: usize,
     body: usize,
 ) -> Result<(), ReadFault>
-    requires says { (c : shape.Command) × Says (source text.now) nodes.now (command.DefineFun name first end target body) c }
+    requires says { (c : shape.Command) × SaysCommand (source text.now) nodes.now (command.DefineFun name first end target body) c }
     requires session { (sc : Script) × IsSession symbols.old terms.old session.old sc }
     requires room { length symbols.old.leaves + length nodes.now ≤ 2 ^ 30 }
     requires room_for_sorts { length symbols.old.sorts + length nodes.now ≤ 2 ^ 30 }
-    ensures performs { (c : shape.Command) (sc : Script) → Says (source text.now) nodes.now (command.DefineFun name first end target body) c → IsSession symbols.old terms.old session.old sc → Performs symbols.new terms.old terms.new session.new (performed session.old.reader.replaces_lets c sc) result }
+    ensures performs { (c : shape.Command) (sc : Script) → SaysCommand (source text.now) nodes.now (command.DefineFun name first end target body) c → IsSession symbols.old terms.old session.old sc → Performs symbols.new terms.old terms.new session.new (performed session.old.reader.replaces_lets c sc) result }
     ensures symbols { Keeps symbols.old symbols.new }
     ensures few { length symbols.new.leaves ≤ length symbols.old.leaves + length nodes.now }
     ensures few_sorts { length symbols.new.sorts ≤ length symbols.old.sorts + length nodes.now }
@@ -169,7 +169,7 @@ fn enter_parameters(
     requires parameters { (xs : List Var) × AreParameters (source text.now) nodes.now parameters.now xs }
     requires idle { (v : TermsView) × (sc : Script) × IsIdle symbols.old v reader.old sc (top reader.old.replaces_lets) }
     requires room { length symbols.old.leaves + length parameters.now ≤ 2 ^ 30 }
-    ensures entered { (v : TermsView) (xs : List Var) (sc : Script) → AreParameters (source text.now) nodes.now parameters.now xs → IsIdle symbols.old v reader.old sc (top reader.old.replaces_lets) → IfOk result (λ l. AreListed symbols.new l xs × IsReady symbols.new v reader.new xs sc) }
+    ensures entered { (v : TermsView) (xs : List Var) (sc : Script) → AreParameters (source text.now) nodes.now parameters.now xs → IsIdle symbols.old v reader.old sc (top reader.old.replaces_lets) → IfOk result (λ l. AreListed symbols.new l xs × IsReadyForBody symbols.new v reader.new xs sc) }
     ensures memory { IfErr result (λ fault. fault ≡ ReadFault.Memory) }
     ensures symbols { AddsNoSymbols symbols.old symbols.new }
     ensures few { length symbols.new.leaves ≤ length symbols.old.leaves + length parameters.now }
@@ -232,7 +232,7 @@ fn add_parameter(
 ) -> Result<u32, ReadFault>
     requires parameter { (x : Var) × IsParameter (source text.now) nodes.now parameter.now x }
     requires room { length symbols.old.leaves < 2 ^ 30 }
-    ensures added { (v : TermsView) (x : Var) → IsParameter (source text.now) nodes.now parameter.now x → IfOk result (λ leaf. IsAdded symbols.new v values.old values.new leaf x) }
+    ensures added { (v : TermsView) (x : Var) → IsParameter (source text.now) nodes.now parameter.now x → IfOk result (λ leaf. AddsParameter symbols.new v values.old values.new leaf x) }
     ensures memory { IfErr result (λ fault. fault ≡ ReadFault.Memory) }
     ensures symbols { AddsNoSymbols symbols.old symbols.new }
     ensures few { length symbols.new.leaves ≤ length symbols.old.leaves + 1 }
@@ -261,9 +261,9 @@ fn read_body(
     body: usize,
 ) -> Result<Value, ReadFault>
     requires body { (i : Item) × (m : ℕ) × IsNode (source text.now) nodes.now body i m }
-    requires ready { (xs : List Var) × (sc : Script) × IsReady symbols.old terms.old reader.old xs sc }
+    requires ready { (xs : List Var) × (sc : Script) × IsReadyForBody symbols.old terms.old reader.old xs sc }
     requires room { length symbols.old.leaves + (length nodes.now - body) ≤ 2 ^ 30 }
-    ensures reads { (xs : List Var) (i : Item) (m : ℕ) (sc : Script) → IsNode (source text.now) nodes.now body i m → IsReady symbols.old terms.old reader.old xs sc → ReadsBody symbols.new terms.old terms.new reader.new (body_read xs i sc) result }
+    ensures reads { (xs : List Var) (i : Item) (m : ℕ) (sc : Script) → IsNode (source text.now) nodes.now body i m → IsReadyForBody symbols.old terms.old reader.old xs sc → ReadsBody symbols.new terms.old terms.new reader.new (body_read xs i sc) result }
     ensures symbols { AddsNoSymbols symbols.old symbols.new }
     ensures few { length symbols.new.leaves ≤ length symbols.old.leaves + (length nodes.now - body) }
     ensures replaces { reader.new.replaces_lets ≡ reader.old.replaces_lets }

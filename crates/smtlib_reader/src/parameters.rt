@@ -6,7 +6,7 @@ ghost use Rattle.problem_text.specs.Words.{is_among, is_built_in};
 ghost use Rattle.text_items.specs.ItemShapes.{pair_fault, pairs_fault};
 ghost use Rattle.text_items.specs.Nodes.{IsNode, AreNodes};
 ghost use Rattle.problem_text.specs.Sorts.{parameter_from, parameters_from};
-ghost use Rattle.smtlib_reader.specs.Parameters.{AreNames, IsParameterRead, AreParametersRead};
+ghost use Rattle.smtlib_reader.specs.Parameters.{AreKeysOf, IsParameterRead, AreParametersRead};
 
 use crate::sorts_at::sort_at;
 use indexmap::IndexSet;
@@ -82,7 +82,7 @@ fn parameter_at<'a>(
     earlier: &mut IndexSet<&'a [u8]>,
 ) -> Result<Parameter, ReadFault>
     requires { (i : Item) × (m : ℕ) × IsNode (source text.now) nodes.now k i m × (pair_fault i ≡ None) }
-    ensures { (i : Item) (m : ℕ) (names : List (List ℕ)) → IsNode (source text.now) nodes.now k i m → pair_fault i ≡ None → AreNames earlier.old.keys names → IsParameterRead (source text.now) nodes.now names earlier.new.keys result (parameter_from symbols.now.sorts names i) }
+    ensures { (i : Item) (m : ℕ) (names : List (List ℕ)) → IsNode (source text.now) nodes.now k i m → pair_fault i ≡ None → AreKeysOf earlier.old.keys names → IsParameterRead (source text.now) nodes.now names earlier.new.keys result (parameter_from symbols.now.sorts names i) }
 {
     let name = name_of(text, nodes, k + 1);
     if !add_name(name, earlier)? {
@@ -94,8 +94,8 @@ fn parameter_at<'a>(
 
 /// Adds a name to those before it, and answers whether it may be used: it is no built-in word and none of them.
 fn add_name<'a>(name: &'a [u8], earlier: &mut IndexSet<&'a [u8]>) -> Result<bool, ReadFault>
-    ensures free { IfOk result (λ free. (names : List (List ℕ)) → AreNames earlier.old.keys names → free ≡ not (is_built_in name.now || is_among names name.now)) }
-    ensures added { IfOk result (λ free. (names : List (List ℕ)) → AreNames earlier.old.keys names → IsTrue free → AreNames earlier.new.keys (name.now ∷ names)) }
+    ensures free { IfOk result (λ free. (names : List (List ℕ)) → AreKeysOf earlier.old.keys names → free ≡ not (is_built_in name.now || is_among names name.now)) }
+    ensures added { IfOk result (λ free. (names : List (List ℕ)) → AreKeysOf earlier.old.keys names → IsTrue free → AreKeysOf earlier.new.keys (name.now ∷ names)) }
     ensures memory { IfErr result (λ fault. fault ≡ ReadFault.Memory) }
 {
     if is_built_in(name) {

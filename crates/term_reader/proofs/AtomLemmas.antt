@@ -25,7 +25,7 @@ use Rattle.term_reader.specs.Reading.{IsReadTerm}
 use Rattle.problem_text.specs.TypedTerms.{Typed}
 use Rattle.problem_text.specs.Outcomes.{Outcome}
 use Rattle.problem_text.specs.Scripts.{Script}
-use Rattle.term_reader.specs.Settling.{IsSettled}
+use Rattle.term_reader.specs.Settling.{SettlesTerm}
 use Rattle.problem_text.specs.Terms.{settled, term_from}
 use Rattle.term_names.specs.declared.faults.ReadFault.{ReadFault}
 use Rattle.term_names.specs.declared.heads.Head.{Head}
@@ -84,7 +84,7 @@ expected_read place o sc t (d, is, same) =
     subst (λ (e : Option Typed). IsReadTerm (settled (Some most_height) place e sc) t) (sym is)
     (subst (λ (u : Term). IsReadTerm (settled (Some most_height) place (Some d) sc) u) same (settled_is_read [] (Some most_height) place d sc))
 
-settled_alone : (s : Table) (v : TermsView) (place : ℕ) (o : Option Typed) (sc : Script) (result : Result Value ReadFault) → IsSettled s v place o sc result → IsReadAlone s v (settled (Some most_height) place o sc) sc result
+settled_alone : (s : Table) (v : TermsView) (place : ℕ) (o : Option Typed) (sc : Script) (result : Result Value ReadFault) → SettlesTerm s v place o sc result → IsReadAlone s v (settled (Some most_height) place o sc) sc result
 settled_alone s v place o sc (Ok c) (t, is, comes, value, low) = (t, comes, value, low)
 settled_alone s v place o sc (Err (ReadFault.Text r)) h = h
 settled_alone s v place o sc (Err ReadFault.PoolFull) h = absurd h
@@ -106,10 +106,10 @@ module _ (s : Table) (old new : TermsView) (x : Name) (p : Place) (sc : Script) 
       })
 
   pub symbol_settles : (place : ℕ) (made : Option Value) (result : Result Value ReadFault) → place ≡ x.place → Makes s old new (applied m []) (Ok made)
-      → ((o : Option Typed) → IsMade s new o (Ok made) → IsSettled s new place o sc result) → ReadsAlone s old new (term_from (symbol x) p sc) sc result
+      → ((o : Option Typed) → IsMade s new o (Ok made) → SettlesTerm s new place o sc result) → ReadsAlone s old new (term_from (symbol x) p sc) sc result
   symbol_settles place made result same makes settles =
       as_settled result
-      (settled_alone s new x.place (applied m []) sc result (subst (λ (n : ℕ). IsSettled s new n (applied m []) sc result) same (settles (applied m []) makes.answer))) makes.placed
+      (settled_alone s new x.place (applied m []) sc result (subst (λ (n : ℕ). SettlesTerm s new n (applied m []) sc result) same (settles (applied m []) makes.answer))) makes.placed
 
   pub symbol_fails : (f : ReadFault) → Makes s old new (applied m []) (Err f) → ReadsAlone s old new (term_from (symbol x) p sc) sc (Err f)
   symbol_fails f makes = as_settled (Err f) (made_fault s new x.place (applied m []) sc f makes.answer) makes.placed

@@ -9,7 +9,8 @@ use Rattle.sym_table.specs.Table.{Table}
 use Rattle.term_model.specs.declared.symbols.Sort.{Sort}
 use Rattle.term_model.specs.Terms.{Term, numeral}
 use Rattle.term_pool.specs.Views.{TermsView, KeepsTerms}
-use Rattle.term_reader.specs.Entering.{HasTop, opened, IsNumber, IsHeadFound, ReadsAlone}
+use Rattle.term_reader.specs.Entering.{HasTop, IsNumber, IsHeadFound, ReadsAlone}
+use Rattle.term_reader.specs.Leaving.{with_open}
 use Rattle.text_items.specs.ItemShapes.{Name}
 use Rattle.problem_text.specs.Forms.{Form, number, symbol, application, let_form, form, Binds, bind, form_of}
 use Rattle.term_reader.specs.Frames.{Reading, AreFrames}
@@ -95,7 +96,7 @@ module _ (s : Table) (v : TermsView) (sc : Script) (terms : List Term) (names : 
   }
 
 -- one form more that is open changes nothing of what the tables stand for
-stands_opened : (s : Table) (v : TermsView) (r : Reader) (f : Frame) (sc : Script) (p : Place) → Stands s v r sc p → Stands s v (opened r f) sc p
+stands_opened : (s : Table) (v : TermsView) (r : Reader) (f : Frame) (sc : Script) (p : Place) → Stands s v r sc p → Stands s v (with_open r f) sc p
 stands_opened s v r f sc p h = record { script = h.script; scope = h.scope; settings = h.settings; low = h.low }
 
 -- a fault is that of the whole, and a term that is read is read by the end
@@ -204,7 +205,7 @@ module _ (source : List ℕ) (nodes : List Node) (g : Reading) (s : Table) (v : 
   -- an argument is read, or the first one
   pub application_goes : (head first end place : ℕ) (applied : Head) → Top (Layer.Application head first end) → IsStart k place
       → ((w : TermsView) (sc : Script) (p : Place) (x : Name) → Stands s w r sc p → IsNameNode source nodes head x → IsHeadFound s w r.known (Some applied) (meaning_of p sc x.name))
-      → Goes source nodes g s v v (opened r (Frame.Arguments place applied (length r.values) end)) (Ok (Turn.Read first))
+      → Goes source nodes g s v v (with_open r (Frame.Arguments place applied (length r.values) end)) (Ok (Turn.Read first))
   application_goes head first end place applied h starts found =
       let a = h.at in
       let (at, x, f, fs, e, begins, named, are, same_end, later) = h.top in
@@ -255,7 +256,7 @@ module _ (source : List ℕ) (nodes : List Node) (g : Reading) (s : Table) (v : 
   -- the term of a let's first binding is read, or its variable may not be bound
   pub let_goes : (first body repeat place from leaf : ℕ) → Top (Layer.Let first body) → IsStart k place → from ≡ length r.values → leaf ≡ length r.leaves.items → repeat ≢ first
       → ((bs : Binds) → AreBinds source nodes first bs body → IsFirstRepeat source nodes first [] bs repeat body)
-      → Goes source nodes g s v v (opened r (Frame.Bindings place from leaf (first + 1) repeat body)) (Ok (Turn.Read (first + 2)))
+      → Goes source nodes g s v v (with_open r (Frame.Bindings place from leaf (first + 1) repeat body)) (Ok (Turn.Read (first + 2)))
   let_goes first body repeat place from leaf h starts from_is leaf_is differs repeats =
       let a = h.at in
       let (at, bs, f, e, begins, are, some, body_here, later) = h.top in
@@ -320,7 +321,7 @@ module _ (source : List ℕ) (nodes : List Node) (g : Reading) (s : Table) (v : 
       ∙ ap (λ (o : Outcome Script Typed). o.result) (first_binding_refused [] at b.name b.first b.others f a.place a.script taken) ∙ ap Err (sym same))
 
   -- the term of an annotation is read
-  pub annotation_goes : (t first end : ℕ) → Top (Layer.Annotated t first end) → Goes source nodes g s v v (opened r (Frame.Names end)) (Ok (Turn.Read t))
+  pub annotation_goes : (t first end : ℕ) → Top (Layer.Annotated t first end) → Goes source nodes g s v v (with_open r (Frame.Names end)) (Ok (Turn.Read t))
   annotation_goes t first end h =
       let a = h.at in
       let (at, names, f, e, begins, here, attributes, same_end, later) = h.top in
@@ -374,18 +375,18 @@ module _ (source : List ℕ) (nodes : List Node) (g : Reading) (s : Table) (v : 
   node_within a = omega (arith, form_behind source nodes k a.spelled a.behind a.here, form_inside source nodes k a.spelled a.behind a.here)
 
 -- what comes of opening a form, at what it answers
-module _ (r new : Reader) (frame : Frame) (next : ℕ) (result : Result Turn ReadFault) (is : IfOk result (λ (t : Turn). (t ≡ Turn.Read next) × (new ≡ opened r frame))) where
-  pub at_opened : (P : Reader → Turn → Type 0) → P (opened r frame) (Turn.Read next) → IfOk result (λ (t : Turn). P new t)
+module _ (r new : Reader) (frame : Frame) (next : ℕ) (result : Result Turn ReadFault) (is : IfOk result (λ (t : Turn). (t ≡ Turn.Read next) × (new ≡ with_open r frame))) where
+  pub at_opened : (P : Reader → Turn → Type 0) → P (with_open r frame) (Turn.Read next) → IfOk result (λ (t : Turn). P new t)
   at_opened P h = go result is
     where
-      go : (a : Result Turn ReadFault) → IfOk a (λ (t : Turn). (t ≡ Turn.Read next) × (new ≡ opened r frame)) → IfOk a (λ (t : Turn). P new t)
-      go (Ok t) (e, same) = subst (λ (q : Reader). P q t) (sym same) (subst (P (opened r frame)) (sym e) h)
+      go : (a : Result Turn ReadFault) → IfOk a (λ (t : Turn). (t ≡ Turn.Read next) × (new ≡ with_open r frame)) → IfOk a (λ (t : Turn). P new t)
+      go (Ok t) (e, same) = subst (λ (q : Reader). P q t) (sym same) (subst (P (with_open r frame)) (sym e) h)
       go (Err f) e = tt
 
   pub opened_goes : (source : List ℕ) (nodes : List Node) (g : Reading) (s : Table) (v : TermsView) → IfErr result (λ (f : ReadFault). f ≡ ReadFault.Memory)
-      → Goes source nodes g s v v (opened r frame) (Ok (Turn.Read next)) → Goes source nodes g s v v new result
+      → Goes source nodes g s v v (with_open r frame) (Ok (Turn.Read next)) → Goes source nodes g s v v new result
   opened_goes source nodes g s v fault h = go result is fault
     where
-      go : (a : Result Turn ReadFault) → IfOk a (λ (t : Turn). (t ≡ Turn.Read next) × (new ≡ opened r frame)) → IfErr a (λ (f : ReadFault). f ≡ ReadFault.Memory) → Goes source nodes g s v v new a
-      go (Ok t) (e, same) none = subst (λ (q : Reader). Goes source nodes g s v v q (Ok t)) (sym same) (subst (λ (u : Turn). Goes source nodes g s v v (opened r frame) (Ok u)) (sym e) h)
+      go : (a : Result Turn ReadFault) → IfOk a (λ (t : Turn). (t ≡ Turn.Read next) × (new ≡ with_open r frame)) → IfErr a (λ (f : ReadFault). f ≡ ReadFault.Memory) → Goes source nodes g s v v new a
+      go (Ok t) (e, same) none = subst (λ (q : Reader). Goes source nodes g s v v q (Ok t)) (sym same) (subst (λ (u : Turn). Goes source nodes g s v v (with_open r frame) (Ok u)) (sym e) h)
       go (Err f) e same = subst (λ (u : ReadFault). Goes source nodes g s v v new (Err u)) (sym same) (memory_goes source nodes g s v r next s new)

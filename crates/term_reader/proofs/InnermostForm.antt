@@ -3,7 +3,7 @@ use Rattle.std.proofs.Common.{◌≡◌, ◌≤◌, ◌<◌, ap, sym, subst, ℕ
 use Rattle.sym_table.specs.Table.{Table}
 use Rattle.term_pool.specs.Views.{TermsView}
 use Rattle.term_reader.specs.Frames.{Reading}
-use Rattle.term_reader.specs.Leaving.{opened, Spends, Leaves}
+use Rattle.term_reader.specs.Leaving.{with_open, Spends, Leaves}
 use Rattle.term_reader.specs.Reading.{HasRead, Goes, node_of, bound_of, effort}
 use Rattle.term_names.specs.declared.faults.ReadFault.{ReadFault}
 use Rattle.term_reader.specs.declared.frames.Frame.{Frame}
@@ -17,15 +17,15 @@ abbrev pub around : Reader → List Frame → Reader
 around r frames = record r { frames = frames }
 
 module _ (source : List ℕ) (nodes : List Node) (s : Table) (v : TermsView) (r : Reader) (c : Value) (n : ℕ) (frame : Frame) (frames : List Frame) (is : r.frames ≡ frame ∷ frames) where
-  same_reader : r ≡ opened (around r frames) frame
+  same_reader : r ≡ with_open (around r frames) frame
   same_reader = ap (around r) is
 
   module _ (t : Table) (w : TermsView) (q : Reader) (result : Result Turn ReadFault) where
     -- what is done with the form
     abbrev pub Done : Type 0
     Done =
-        (g : Reading) → HasRead source nodes g s v (opened (around r frames) frame) c n
-        → Leaves source nodes g s v (opened (around r frames) frame) c n t w q result
+        (g : Reading) → HasRead source nodes g s v (with_open (around r frames) frame) c n
+        → Leaves source nodes g s v (with_open (around r frames) frame) c n t w q result
 
     pub done_goes : Done → (g : Reading) → HasRead source nodes g s v r c n → Goes source nodes g t v w q result
     done_goes leaves g h = (leaves g (subst (λ (x : Reader). HasRead source nodes g s v x c n) same_reader h)).goes

@@ -8,8 +8,8 @@ use Rattle.text_items.specs.ItemShapes.{Name}
 use Rattle.term_reader.specs.Frames.{Reading}
 use Rattle.term_names.specs.Known.{KnownView, macro_of}
 use Rattle.term_reader.specs.Layers.{AreAttributes}
-use Rattle.term_reader.specs.Leaving.{opened, Leaves}
-use Rattle.term_reader.specs.Naming.{AreGiven}
+use Rattle.term_reader.specs.Leaving.{with_open, Leaves}
+use Rattle.term_reader.specs.Naming.{GivesNames}
 use Rattle.term_reader.specs.Reading.{HasRead, EndsWith, IsReadTerm}
 use Rattle.term_reader.specs.Resuming.{Waiting, resumed}
 use Rattle.problem_text.specs.TypedTerms.{Typed}
@@ -31,7 +31,7 @@ use Rattle.term_reader.proofs.Resuming.{annotated_read}
 use Rattle.term_reader.proofs.Settled.{fault_of_whole}
 use Rattle.term_reader.proofs.Staying.{table_keeps_none, value_stays, scope_stays, frames_stay, places_none}
 
-module _ (source : List ℕ) (nodes : List Node) (g : Reading) (s : Table) (v : TermsView) (r : Reader) (c : Value) (n end : ℕ) (h : HasRead source nodes g s v (opened r (Frame.Names end)) c n) where
+module _ (source : List ℕ) (nodes : List Node) (g : Reading) (s : Table) (v : TermsView) (r : Reader) (c : Value) (n end : ℕ) (h : HasRead source nodes g s v (with_open r (Frame.Names end)) c n) where
   -- what comes of the names, for what waits around the annotation
   names_come : resumed h.frames.1 (with_names h.term h.frames.0 h.script) ≡ g.whole
   names_come =
@@ -40,10 +40,10 @@ module _ (source : List ℕ) (nodes : List Node) (g : Reading) (s : Table) (v : 
 
   abbrev pub Given : TermsView → KnownView → Result Unit ReadFault → Type 0
   Given w known result =
-      (names : List Name) (t : Typed) (sc : Script) → AreAttributes source nodes n names end → IsValue s v c t → IsScript s v r.known sc → AreGiven s w known t (with_names t names sc) result
+      (names : List Name) (t : Typed) (sc : Script) → AreAttributes source nodes n names end → IsValue s v c t → IsScript s v r.known sc → GivesNames s w known t (with_names t names sc) result
 
   pub names_given : (w : TermsView) → KeepsTerms v w → IsUnchanged v.pass w.pass → (known : KnownView) → ((m : Which) → macro_of known m ≡ macro_of r.known m) → Given w known (Ok tt)
-      → Leaves source nodes g s v (opened r (Frame.Names end)) c n s w (record r { known = known }) (Ok (Turn.Use c end))
+      → Leaves source nodes g s v (with_open r (Frame.Names end)) c n s w (record r { known = known }) (Ok (Turn.Use c end))
   names_given w keeps same known macros given =
       let (names, rest, is, here, outer) = h.frames in
       let (sc, whole, script) = given names h.term h.script here h.is h.stands.script in
@@ -76,7 +76,7 @@ module _ (source : List ℕ) (nodes : List Node) (g : Reading) (s : Table) (v : 
       }
 
   pub names_refused : (w : TermsView) → IsUnchanged v.pass w.pass → (known : KnownView) (fault : ReadFault) → Given w known (Err fault) → (q : Reader)
-      → Leaves source nodes g s v (opened r (Frame.Names end)) c n s w q (Err fault)
+      → Leaves source nodes g s v (with_open r (Frame.Names end)) c n s w q (Err fault)
   names_refused w same known fault given q =
       let (names, rest, is, here, outer) = h.frames in
       record {
@@ -87,7 +87,7 @@ module _ (source : List ℕ) (nodes : List Node) (g : Reading) (s : Table) (v : 
         spends = λ _. tt;
       }
     where
-      ends : (f : ReadFault) → AreGiven s w known h.term (with_names h.term h.frames.0 h.script) (Err f) → EndsWith s w.pass g.whole.result (IsReadTerm g.whole) f
+      ends : (f : ReadFault) → GivesNames s w known h.term (with_names h.term h.frames.0 h.script) (Err f) → EndsWith s w.pass g.whole.result (IsReadTerm g.whole) f
       ends (ReadFault.Text x) is = fault_of_whole h.frames.1 (with_names h.term h.frames.0 h.script) x g.whole is names_come
       ends ReadFault.PoolFull is = absurd is
       ends ReadFault.Memory is = tt

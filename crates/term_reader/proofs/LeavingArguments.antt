@@ -6,7 +6,7 @@ use Rattle.term_pool.specs.Views.{TermsView, KeepsTerms}
 use Rattle.problem_text.specs.Forms.{Forms, no_forms}
 use Rattle.term_names.specs.Heads.{IsHeadOf}
 use Rattle.term_reader.specs.Frames.{Reading, AreFrames}
-use Rattle.term_reader.specs.Leaving.{opened, Spends, Leaves}
+use Rattle.term_reader.specs.Leaving.{with_open, Spends, Leaves}
 use Rattle.term_names.specs.InScope.{AreLow}
 use Rattle.term_names.specs.Making.{IsMade, Makes}
 use Rattle.problem_text.specs.Names.{Meaning, applied}
@@ -16,7 +16,7 @@ use Rattle.problem_text.specs.TypedTerms.{Typed}
 use Rattle.problem_text.specs.Outcomes.{done}
 use Rattle.problem_text.specs.Scripts.{Script}
 use Rattle.problem_text.specs.Terms.{settled}
-use Rattle.term_reader.specs.Settling.{IsSettled}
+use Rattle.term_reader.specs.Settling.{SettlesTerm}
 use Rattle.term_expansion.specs.Values.{AreValues}
 use Rattle.term_names.specs.declared.faults.ReadFault.{ReadFault}
 use Rattle.term_reader.specs.declared.frames.Frame.{Frame}
@@ -36,7 +36,7 @@ use Rattle.term_reader.proofs.Staying.{table_keeps_none, adds_none, script_stays
 abbrev pub pushed : Reader → Value → List Value
 pushed r c = r.values ++ c ∷ []
 
-module _ (source : List ℕ) (nodes : List Node) (g : Reading) (s : Table) (v : TermsView) (r : Reader) (c : Value) (n place : ℕ) (head : Head) (from end : ℕ) (h : HasRead source nodes g s v (opened r (Frame.Arguments place head from end)) c n) where
+module _ (source : List ℕ) (nodes : List Node) (g : Reading) (s : Table) (v : TermsView) (r : Reader) (c : Value) (n place : ℕ) (head : Head) (from end : ℕ) (h : HasRead source nodes g s v (with_open r (Frame.Arguments place head from end)) c n) where
   -- the frames around it stay, over what is left of the stack
   take_pushed : take from (pushed r c) ≡ take from r.values
   take_pushed = let (m, read, left, rest, is, here, outer) = h.frames in take-append-le from r.values (c ∷ []) here.within
@@ -129,19 +129,19 @@ module _ (source : List ℕ) (nodes : List Node) (g : Reading) (s : Table) (v : 
 
   -- what is left to be done
   pub arguments_closed_spend : n ≡ end → (t : Value) (values : List Value) → n ≤ length nodes
-      → Spends nodes s (opened r (Frame.Arguments place head from end)) (Turn.Use c n) s (record r { values = values }) (Turn.Use t end)
+      → Spends nodes s (with_open r (Frame.Arguments place head from end)) (Turn.Use c n) s (record r { values = values }) (Turn.Use t end)
   arguments_closed_spend last t values inside =
       let e = arguments_bounds inside in
       record { inside = e.1; few = omega (arith, last); progress = omega (arith, last) }
 
   pub arguments_go_on_spend : (values : List Value) → n ≤ length nodes
-      → Spends nodes s (opened r (Frame.Arguments place head from end)) (Turn.Use c n) s (record r { values = values; frames = Frame.Arguments place head from end ∷ r.frames }) (Turn.Read n)
+      → Spends nodes s (with_open r (Frame.Arguments place head from end)) (Turn.Use c n) s (record r { values = values; frames = Frame.Arguments place head from end ∷ r.frames }) (Turn.Read n)
   arguments_go_on_spend values inside = record { inside = inside; few = omega arith; progress = omega arith }
 
   -- What is done, by the stacks as the code has them.
   pub arguments_fault : n ≡ end → (w : TermsView) → (values : List Value) → values ≡ pushed r c → (fault : ReadFault)
       → ((m : Meaning) (ts : List Typed) → IsHeadOf s v r.known head m → AreValues s v (drop from values) ts → Makes s v w (applied m ts) (Err fault)) → (q : Reader)
-      → Leaves source nodes g s v (opened r (Frame.Arguments place head from end)) c n s w q (Err fault)
+      → Leaves source nodes g s v (with_open r (Frame.Arguments place head from end)) c n s w q (Err fault)
   arguments_fault last w values are fault makes q = record {
     goes = unmade_ends source nodes g s v w place fault q (arguments_whole last w (Err fault) (rw are at makes));
     spends = λ _. tt;
@@ -149,8 +149,8 @@ module _ (source : List ℕ) (nodes : List Node) (g : Reading) (s : Table) (v : 
 
   pub arguments_refused : n ≡ end → (w : TermsView) → (values : List Value) → values ≡ pushed r c → (made : Option Value)
       → ((m : Meaning) (ts : List Typed) → IsHeadOf s v r.known head m → AreValues s v (drop from values) ts → Makes s v w (applied m ts) (Ok made)) → (fault : ReadFault)
-      → ((s : Table) (v : TermsView) (o : Option Typed) (sc : Script) → IsMade s v o (Ok made) → IsSettled s v place o sc (Err fault)) → (q : Reader)
-      → Leaves source nodes g s v (opened r (Frame.Arguments place head from end)) c n s w q (Err fault)
+      → ((s : Table) (v : TermsView) (o : Option Typed) (sc : Script) → IsMade s v o (Ok made) → SettlesTerm s v place o sc (Err fault)) → (q : Reader)
+      → Leaves source nodes g s v (with_open r (Frame.Arguments place head from end)) c n s w q (Err fault)
   arguments_refused last w values are made makes fault settles q = record {
     goes = unsettled_ends source nodes g s v w place made fault q (arguments_whole last w (Ok made) (rw are at makes)) settles;
     spends = λ _. tt;
@@ -158,8 +158,8 @@ module _ (source : List ℕ) (nodes : List Node) (g : Reading) (s : Table) (v : 
 
   pub arguments_settled : n ≡ end → (w : TermsView) → KeepsTerms v w → (values : List Value) → values ≡ pushed r c → (made : Option Value)
       → ((m : Meaning) (ts : List Typed) → IsHeadOf s v r.known head m → AreValues s v (drop from values) ts → Makes s v w (applied m ts) (Ok made)) → (t : Value)
-      → ((s : Table) (v : TermsView) (o : Option Typed) (sc : Script) → IsMade s v o (Ok made) → IsSettled s v place o sc (Ok t)) → (kept : List Value) → kept ≡ take from values
-      → Leaves source nodes g s v (opened r (Frame.Arguments place head from end)) c n s w (record r { values = kept }) (Ok (Turn.Use t end))
+      → ((s : Table) (v : TermsView) (o : Option Typed) (sc : Script) → IsMade s v o (Ok made) → SettlesTerm s v place o sc (Ok t)) → (kept : List Value) → kept ≡ take from values
+      → Leaves source nodes g s v (with_open r (Frame.Arguments place head from end)) c n s w (record r { values = kept }) (Ok (Turn.Use t end))
   arguments_settled last w keeps values are made makes t settles kept take_is = record {
     goes = subst (λ (vs : List Value). Goes source nodes g s v w (record r { values = vs }) (Ok (Turn.Use t end))) (sym (take_is ∙ ap (take from) are))
         (settled_goes_on source nodes g s v w place _ end made t (arguments_close last w keeps (Ok made) (rw are at makes)) settles);
@@ -167,7 +167,7 @@ module _ (source : List ℕ) (nodes : List Node) (g : Reading) (s : Table) (v : 
   }
 
   pub arguments_next : n ≢ end → (values : List Value) → values ≡ pushed r c → (frames : List Frame) → frames ≡ Frame.Arguments place head from end ∷ r.frames
-      → Leaves source nodes g s v (opened r (Frame.Arguments place head from end)) c n s v (record r { values = values; frames = frames }) (Ok (Turn.Read n))
+      → Leaves source nodes g s v (with_open r (Frame.Arguments place head from end)) c n s v (record r { values = values; frames = frames }) (Ok (Turn.Read n))
   arguments_next more values are frames is = record {
     goes = nothing_made source nodes g s v _ (Ok (Turn.Read n)) (rw (are, is) (arguments_go_on more));
     spends = λ inside. rw is (arguments_go_on_spend values inside);

@@ -13,7 +13,7 @@ use Rattle.term_reader.specs.Frames.{Reading, AreFrames}
 use Rattle.term_names.specs.InScope.{IsScope, AreLow, AreBound}
 use Rattle.text_items.specs.NameNodes.{IsNameNode}
 use Rattle.term_reader.specs.Layers.{AreBinds}
-use Rattle.term_reader.specs.Leaving.{opened, Leaves}
+use Rattle.term_reader.specs.Leaving.{with_open, Leaves}
 use Rattle.problem_text.specs.Names.{Bound, Place, inside}
 use Rattle.term_reader.specs.Reading.{HasRead, IsAt}
 use Rattle.term_reader.specs.Resuming.{Waiting, bindings, body_of, bound_to, resumed}
@@ -38,7 +38,7 @@ use Rattle.term_reader.proofs.Resuming.{next_binding_read, next_binding_refused,
 use Rattle.term_reader.proofs.Settled.{nothing_made}
 use Rattle.term_reader.proofs.Staying.{keeps_none, value_stays, bound_stays, script_stays, scope_stays, frames_stay}
 
-module _ (source : List ℕ) (nodes : List Node) (g : Reading) (s : Table) (v : TermsView) (r : Reader) (c : Value) (n place from first name repeat body : ℕ) (h : HasRead source nodes g s v (opened r (Frame.Bindings place from first name repeat body)) c n) where
+module _ (source : List ℕ) (nodes : List Node) (g : Reading) (s : Table) (v : TermsView) (r : Reader) (c : Value) (n place from first name repeat body : ℕ) (h : HasRead source nodes g s v (with_open r (Frame.Bindings place from first name repeat body)) c n) where
   -- the binding has its leaf and its value on the stacks
   pub record IsAdded (t : Table) (leaves : List ℕ) (values : List Value) : Type 0 where
     pub adds : AddsNoSymbols s t
@@ -210,7 +210,7 @@ module _ (source : List ℕ) (nodes : List Node) (g : Reading) (s : Table) (v : 
   pub body_next : (t : Table) (q : Reader) → IsAdded t q.leaves.items q.values → length t.leaves ≤ length s.leaves + 1 → n ≡ body → (inner : List Scoped) (ks : List ℕ) → ks ≡ drop first q.leaves.items
       → ((w : TermsView) (bs : List Bound) (p : Place) → AreBound t w ks (drop from q.values) bs → IsScope t w r.scope p.scope → p.settings.replaces_lets ≡ r.replaces_lets → IsScope t w q.scope (inside bs p).scope)
       → q.scope ≡ inner ++ r.scope → length inner ≡ length ks → q.frames ≡ Frame.Body place from first ∷ r.frames
-      → Leaves source nodes g s v (opened r (Frame.Bindings place from first name repeat body)) c n t v (record r { scope = q.scope; values = q.values; leaves = q.leaves; frames = q.frames }) (Ok (Turn.Read body))
+      → Leaves source nodes g s v (with_open r (Frame.Bindings place from first name repeat body)) c n t v (record r { scope = q.scope; values = q.values; leaves = q.leaves; frames = q.frames }) (Ok (Turn.Read body))
   body_next t q added one_more last inner ks are binds split each frames_are = record {
     goes = nothing_made source nodes g t v _ (Ok (Turn.Read body)) (rw frames_are (body_begins t q.leaves.items q.values added last q.scope inner ks are binds split each q refl));
     spends = λ within. rw frames_are (record { inside = omega (arith, last, within); few = omega (arith, last, one_more); progress = omega (arith, last) });
@@ -218,14 +218,14 @@ module _ (source : List ℕ) (nodes : List Node) (g : Reading) (s : Table) (v : 
 
   pub binding_next : (t : Table) (q : Reader) → IsAdded t q.leaves.items q.values → length t.leaves ≤ length s.leaves + 1 → n ≢ body → n ≢ repeat
       → q.frames ≡ Frame.Bindings place from first (n + 1) repeat body ∷ r.frames
-      → Leaves source nodes g s v (opened r (Frame.Bindings place from first name repeat body)) c n t v (record r { values = q.values; leaves = q.leaves; frames = q.frames }) (Ok (Turn.Read (n + 2)))
+      → Leaves source nodes g s v (with_open r (Frame.Bindings place from first name repeat body)) c n t v (record r { values = q.values; leaves = q.leaves; frames = q.frames }) (Ok (Turn.Read (n + 2)))
   binding_next t q added one_more more free frames_are = record {
     goes = nothing_made source nodes g t v _ (Ok (Turn.Read (n + 2))) (rw frames_are (binding_goes_on t q.leaves.items q.values added more free q refl));
     spends = λ within. let below = more_nodes_there more in rw frames_are (record { inside = omega (arith, below); few = omega (arith, below, one_more); progress = omega (arith, below) });
   }
 
   pub binding_faulty : (t : Table) (q : Reader) → n ≢ body → n ≡ repeat → (node : Node) → slice_get nodes (n + 1) ≡ Some node → (refusal : Refusal) → refusal ≡ record { cause = Repeated; at = node.token.start }
-      → Leaves source nodes g s v (opened r (Frame.Bindings place from first name repeat body)) c n t v q (Err (ReadFault.Text refusal))
+      → Leaves source nodes g s v (with_open r (Frame.Bindings place from first name repeat body)) c n t v q (Err (ReadFault.Text refusal))
   binding_faulty t q more faulty node there refusal is = record {
     goes = nothing_made source nodes g t v q (Err (ReadFault.Text refusal)) (binding_refused more faulty node there ∙ ap Err (sym is));
     spends = λ _. tt;

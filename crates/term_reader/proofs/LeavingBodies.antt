@@ -5,7 +5,7 @@ use Rattle.sym_table.specs.Table.{Table}
 use Rattle.term_pool.specs.Views.{TermsView, KeepsTerms}
 use Rattle.term_reader.specs.Frames.{Reading}
 use Rattle.term_names.specs.InScope.{IsScope, AreBound}
-use Rattle.term_reader.specs.Leaving.{opened, Leaves}
+use Rattle.term_reader.specs.Leaving.{with_open, Leaves}
 use Rattle.term_names.specs.Making.{IsMade, Makes}
 use Rattle.problem_text.specs.Names.{Bound, Place, inside, let_term}
 use Rattle.term_reader.specs.Reading.{HasRead}
@@ -16,7 +16,7 @@ use Rattle.problem_text.specs.Outcomes.{done}
 use Rattle.problem_text.specs.Scripts.{Script}
 use Rattle.problem_text.specs.Limits.{limited}
 use Rattle.problem_text.specs.Terms.{settled}
-use Rattle.term_reader.specs.Settling.{IsSettled}
+use Rattle.term_reader.specs.Settling.{SettlesTerm}
 use Rattle.term_expansion.specs.Values.{IsValue}
 use Rattle.term_names.specs.declared.faults.ReadFault.{ReadFault}
 use Rattle.term_reader.specs.declared.frames.Frame.{Frame}
@@ -36,7 +36,7 @@ scope_around scope inner around first count split each =
     let k : count - first ≡ length inner = omega (arith, each) in
     rw (k, split) (drop-append_seam inner around)
 
-module _ (source : List ℕ) (nodes : List Node) (g : Reading) (s : Table) (v : TermsView) (r : Reader) (c : Value) (n place from first : ℕ) (h : HasRead source nodes g s v (opened r (Frame.Body place from first)) c n) where
+module _ (source : List ℕ) (nodes : List Node) (g : Reading) (s : Table) (v : TermsView) (r : Reader) (c : Value) (n place from first : ℕ) (h : HasRead source nodes g s v (with_open r (Frame.Body place from first)) c n) where
   -- the reader without what the let owned
   abbrev pub Without : Reader → Type 0
   Without q = (q.scope ≡ drop (length r.leaves.items - first) r.scope) × (q.values ≡ take from r.values) × (q.leaves.items ≡ take first r.leaves.items)
@@ -83,17 +83,17 @@ module _ (source : List ℕ) (nodes : List Node) (g : Reading) (s : Table) (v : 
       }
 
   -- What is done.
-  pub body_fault : (w : TermsView) (fault : ReadFault) → Closed w (Err fault) → (q : Reader) → Leaves source nodes g s v (opened r (Frame.Body place from first)) c n s w q (Err fault)
+  pub body_fault : (w : TermsView) (fault : ReadFault) → Closed w (Err fault) → (q : Reader) → Leaves source nodes g s v (with_open r (Frame.Body place from first)) c n s w q (Err fault)
   body_fault w fault made q = record { goes = unmade_ends source nodes g s v w place fault q (body_whole w (Err fault) made); spends = λ _. tt }
 
   pub body_refused : (w : TermsView) (made : Option Value) → Closed w (Ok made) → (fault : ReadFault)
-      → ((s : Table) (v : TermsView) (o : Option Typed) (sc : Script) → IsMade s v o (Ok made) → IsSettled s v place o sc (Err fault)) → (q : Reader)
-      → Leaves source nodes g s v (opened r (Frame.Body place from first)) c n s w q (Err fault)
+      → ((s : Table) (v : TermsView) (o : Option Typed) (sc : Script) → IsMade s v o (Ok made) → SettlesTerm s v place o sc (Err fault)) → (q : Reader)
+      → Leaves source nodes g s v (with_open r (Frame.Body place from first)) c n s w q (Err fault)
   body_refused w made closed fault settles q = record { goes = unsettled_ends source nodes g s v w place made fault q (body_whole w (Ok made) closed) settles; spends = λ _. tt }
 
   pub body_settled : (q : Reader) → Without q → (w : TermsView) → KeepsTerms v w → (made : Option Value) → Closed w (Ok made) → (t : Value)
-      → ((s : Table) (v : TermsView) (o : Option Typed) (sc : Script) → IsMade s v o (Ok made) → IsSettled s v place o sc (Ok t))
-      → Leaves source nodes g s v (opened r (Frame.Body place from first)) c n s w (without q) (Ok (Turn.Use t n))
+      → ((s : Table) (v : TermsView) (o : Option Typed) (sc : Script) → IsMade s v o (Ok made) → SettlesTerm s v place o sc (Ok t))
+      → Leaves source nodes g s v (with_open r (Frame.Body place from first)) c n s w (without q) (Ok (Turn.Use t n))
   body_settled q is w keeps made closed t settles = record {
     goes = settled_goes_on source nodes g s v w place (without q) n made t (body_closes q is w keeps (Ok made) closed) settles;
     spends = λ within. record { inside = within; few = omega arith; progress = omega arith };

@@ -6,7 +6,7 @@ use Rattle.text_items.specs.ItemShapes.{Name}
 use Rattle.term_names.specs.Known.{KnownView}
 use Rattle.text_items.specs.NameNodes.{IsNameNode}
 use Rattle.term_reader.specs.Layers.{AreAttributes}
-use Rattle.term_reader.specs.Naming.{AreGiven, IsFreeIn}
+use Rattle.term_reader.specs.Naming.{GivesNames, IsFreeIn}
 use Rattle.problem_text.specs.TypedTerms.{Typed}
 use Rattle.problem_text.specs.Outcomes.{Outcome, done}
 use Rattle.problem_text.specs.Scripts.{Script, is_taken}
@@ -41,7 +41,7 @@ pub left_start : (s : Table) (text : List ℕ) (ns : List Node) (c : Value) (fre
 left_start s text ns c free first m known = λ v names t sc are has is. record { names = names; script = sc; there = are; is = is; same = refl }
 
 module _ (s : Table) (v : TermsView) (text : List ℕ) (ns : List Node) (k m : ℕ) (known : KnownView) (t : Typed) (whole : Outcome Script Typed) (left : IsLeft s v text ns k m known t whole) where
-  pub left_end : ((names : List Name) → AreAttributes text ns k names m → names ≡ []) → AreGiven s v known t whole (Ok tt)
+  pub left_end : ((names : List Name) → AreAttributes text ns k names m → names ≡ []) → GivesNames s v known t whole (Ok tt)
   left_end none = (left.script, left.same ∙ ap (λ names. with_names t names left.script) (none left.names left.there), left.is)
 
   -- the next name
@@ -52,7 +52,7 @@ module _ (s : Table) (v : TermsView) (text : List ℕ) (ns : List Node) (k m : �
     split : whole ≡ with_names t (next.name ∷ next.others) left.script
     split = left.same ∙ ap (λ names. with_names t names left.script) next.split
 
-    pub left_stop : (fault : ReadFault) → ((x : Name) (sc : Script) → IsNameNode text ns at x → IsScript s v known sc → AreGiven s v new t (with_names t (x ∷ []) sc) (Err fault)) → AreGiven s v new t whole (Err fault)
+    pub left_stop : (fault : ReadFault) → ((x : Name) (sc : Script) → IsNameNode text ns at x → IsScript s v known sc → GivesNames s v new t (with_names t (x ∷ []) sc) (Err fault)) → GivesNames s v new t whole (Err fault)
     left_stop (ReadFault.Text r) one = ap (λ (o : Outcome Script Typed). o.result) split ∙ go (is_taken left.script next.name.name) (one next.name left.script next.here left.is)
       where
         go : (b : Bool) → (one_name t next.name left.script (λ after. done t after) b).result ≡ Err r → (one_name t next.name left.script (with_names t next.others) b).result ≡ Err r
@@ -61,7 +61,7 @@ module _ (s : Table) (v : TermsView) (text : List ℕ) (ns : List Node) (k m : �
     left_stop ReadFault.PoolFull one = one next.name left.script next.here left.is
     left_stop ReadFault.Memory one = tt
 
-    pub left_on : ((x : Name) (sc : Script) → IsNameNode text ns at x → IsScript s v known sc → AreGiven s v new t (with_names t (x ∷ []) sc) (Ok tt)) → IsLeft s v text ns at m new t whole
+    pub left_on : ((x : Name) (sc : Script) → IsNameNode text ns at x → IsScript s v known sc → GivesNames s v new t (with_names t (x ∷ []) sc) (Ok tt)) → IsLeft s v text ns at m new t whole
     left_on one =
         let (after, e, is) = one next.name left.script next.here left.is in
         record { names = next.others; script = after; there = next.there; is = is; same = split ∙ go (is_taken left.script next.name.name) after e }

@@ -13,7 +13,7 @@ use Rattle.problem_text.specs.Limits.{most_height}
 use Rattle.problem_text.specs.TypedTerms.{Typed}
 use Rattle.problem_text.specs.Outcomes.{Outcome}
 use Rattle.problem_text.specs.Scripts.{Script, with_term}
-use Rattle.term_reader.specs.Settling.{IsSettled}
+use Rattle.term_reader.specs.Settling.{SettlesTerm}
 use Rattle.problem_text.specs.Terms.{settled}
 use Rattle.term_names.specs.declared.faults.ReadFault.{ReadFault}
 use Rattle.text_items.specs.declared.nodes.Node.{Node}
@@ -69,20 +69,20 @@ module _ (source : List ℕ) (nodes : List Node) (g : Reading) (s : Table) (v w 
 
   -- it is not settled
   pub unsettled_ends : (made : Option Value) (fault : ReadFault) (q : Reader) → IsWhole g s v w place (Ok made)
-      → ((s : Table) (v : TermsView) (o : Option Typed) (sc : Script) → IsMade s v o (Ok made) → IsSettled s v place o sc (Err fault)) → Goes source nodes g s v w q (Err fault)
+      → ((s : Table) (v : TermsView) (o : Option Typed) (sc : Script) → IsMade s v o (Ok made) → SettlesTerm s v place o sc (Err fault)) → Goes source nodes g s v w q (Err fault)
   unsettled_ends made fault q h settles = record { step = ends fault (settles s w h.expected h.script h.makes.answer); placed = whole_places (Ok made) h }
     where
-      ends : (f : ReadFault) → IsSettled s w place h.expected h.script (Err f) → EndsWith s w.pass g.whole.result (IsReadTerm g.whole) f
+      ends : (f : ReadFault) → SettlesTerm s w place h.expected h.script (Err f) → EndsWith s w.pass g.whole.result (IsReadTerm g.whole) f
       ends (ReadFault.Text x) is = fault_of_whole h.waiting (settled (Some most_height) place h.expected h.script) x g.whole is h.comes
       ends ReadFault.PoolFull is = absurd is
       ends ReadFault.Memory is = absurd is
 
   -- it is the next term that was read
   pub settled_goes_on : (r : Reader) (n : ℕ) (made : Option Value) (c : Value) → Closes source nodes g s v w r place n (Ok made)
-      → ((s : Table) (v : TermsView) (o : Option Typed) (sc : Script) → IsMade s v o (Ok made) → IsSettled s v place o sc (Ok c)) → Goes source nodes g s v w r (Ok (Turn.Use c n))
+      → ((s : Table) (v : TermsView) (o : Option Typed) (sc : Script) → IsMade s v o (Ok made) → SettlesTerm s v place o sc (Ok c)) → Goes source nodes g s v w r (Ok (Turn.Use c n))
   settled_goes_on r n made c h settles = record { step = read (settles s w h.whole.expected h.whole.script h.whole.makes.answer); placed = whole_places (Ok made) h.whole }
     where
-      read : IsSettled s w place h.whole.expected h.whole.script (Ok c) → HasRead source nodes g s w r c n
+      read : SettlesTerm s w place h.whole.expected h.whole.script (Ok c) → HasRead source nodes g s w r c n
       read (t, is, settles_to, value, low) = record {
         script = with_term t.tree h.whole.script;
         place = h.around;

@@ -1,5 +1,5 @@
 -- Private. The tops of terms as they are met, and what comes of them.
-use Rattle.std.specs.Prelude.{◌≡◌, ◌≤◌, ℕ, ℤ, Bool, true, false, pos, List, ◌∷◌, Option, Some, None, Result, Ok, Err}
+use Rattle.std.specs.Prelude.{◌≡◌, ◌≤◌, ℕ, ℤ, Bool, true, false, pos, List, Option, Some, None, Result, Ok, Err}
 use Rattle.sym_table.specs.Table.{Table}
 use Rattle.term_model.specs.declared.symbols.Sort.{Sort}
 use Rattle.term_model.specs.Terms.{numeral}
@@ -17,7 +17,6 @@ use Rattle.problem_text.specs.Outcomes.{Outcome, done}
 use Rattle.problem_text.specs.Scripts.{Script, with_term}
 use Rattle.term_expansion.specs.Values.{IsValue}
 use Rattle.term_names.specs.declared.faults.ReadFault.{ReadFault}
-use Rattle.term_reader.specs.declared.frames.Frame.{Frame}
 use Rattle.term_names.specs.declared.heads.Head.{Head}
 use Rattle.term_reader.specs.declared.layers.Layer.{Layer}
 use Rattle.term_names.specs.declared.looking_up.Found.{Found}
@@ -29,10 +28,6 @@ use Rattle.term_expansion.specs.declared.values.Value.{Value}
 pub record HasTop (source : List ℕ) (nodes : List Node) (g : Reading) (s : Table) (v : TermsView) (r : Reader) (k : ℕ) (layer : Layer) : Type 0 where
   pub at : IsAt source nodes g s v r k
   pub top : IsLayer source nodes k layer at.spelled at.behind
-
--- the reader with one form more that is open
-abbrev pub opened : Reader → Frame → Reader
-opened r f = record r { frames = f ∷ r.frames }
 
 -- the value is this number, and not too high
 pub record IsNumber (s : Table) (c : Value) (n : ℤ) : Type 0 where

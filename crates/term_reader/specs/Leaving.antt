@@ -13,8 +13,8 @@ use Rattle.term_reader.specs.declared.reader.Turn.{Turn}
 use Rattle.term_expansion.specs.declared.values.Value.{Value}
 
 -- the reader with this form as the innermost open one
-abbrev pub opened : Reader → Frame → Reader
-opened r frame = record r { frames = frame ∷ r.frames }
+abbrev pub with_open : Reader → Frame → Reader
+with_open r frame = record r { frames = frame ∷ r.frames }
 
 -- the form of a let whose bindings are being read
 abbrev pub bindings_frame : OpenBindings → Frame

@@ -15,11 +15,11 @@ use Rattle.term_names.specs.declared.faults.ReadFault.{ReadFault}
 use Rattle.term_expansion.specs.declared.values.Value.{Value}
 
 -- The term has the names now, or the first that is taken is refused.
-abbrev pub AreGiven : Table → TermsView → KnownView → Typed → Outcome Script Typed → Result Unit ReadFault → Type 0
-AreGiven s v k t whole (Ok _) = (sc : Script) × (whole ≡ done t sc) × IsScript s v k sc
-AreGiven s v k t whole (Err (ReadFault.Text r)) = whole.result ≡ Err r
-AreGiven s v k t whole (Err ReadFault.PoolFull) = ⊥
-AreGiven s v k t whole (Err ReadFault.Memory) = Unit {0}
+abbrev pub GivesNames : Table → TermsView → KnownView → Typed → Outcome Script Typed → Result Unit ReadFault → Type 0
+GivesNames s v k t whole (Ok _) = (sc : Script) × (whole ≡ done t sc) × IsScript s v k sc
+GivesNames s v k t whole (Err (ReadFault.Text r)) = whole.result ≡ Err r
+GivesNames s v k t whole (Err ReadFault.PoolFull) = ⊥
+GivesNames s v k t whole (Err ReadFault.Memory) = Unit {0}
 
 -- The value stands for the term, which is low enough for a name, and the leaves are those of its free variables.
 pub record IsFreeIn (s : Table) (v : TermsView) (c : Value) (leaves : List ℕ) (t : Typed) : Type 0 where

@@ -12,9 +12,9 @@ use Rattle.term_names.specs.declared.faults.ReadFault.{ReadFault}
 use Rattle.term_expansion.specs.declared.values.Value.{Value}
 
 -- The value is a term that is read, or the fault of a term that begins at this place.
-abbrev pub IsSettled : Table → TermsView → ℕ → Option Typed → Script → Result Value ReadFault → Type 0
-IsSettled s v place o sc (Ok c) =
+abbrev pub SettlesTerm : Table → TermsView → ℕ → Option Typed → Script → Result Value ReadFault → Type 0
+SettlesTerm s v place o sc (Ok c) =
     (t : Typed) × (o ≡ Some t) × (settled (Some most_height) place o sc ≡ done t (with_term t.tree sc)) × IsValue s v c t × (c.height ≤ most_height)
-IsSettled s v place o sc (Err (ReadFault.Text r)) = (settled (Some most_height) place o sc).result ≡ Err r
-IsSettled s v place o sc (Err ReadFault.PoolFull) = ⊥
-IsSettled s v place o sc (Err ReadFault.Memory) = ⊥
+SettlesTerm s v place o sc (Err (ReadFault.Text r)) = (settled (Some most_height) place o sc).result ≡ Err r
+SettlesTerm s v place o sc (Err ReadFault.PoolFull) = ⊥
+SettlesTerm s v place o sc (Err ReadFault.Memory) = ⊥

@@ -3,7 +3,8 @@ ghost use Rattle.std.specs.Prelude.{◌≡◌, ◌≤◌, ◌<◌, ◌^◌, ◌+
 ghost use Rattle.sexpr.specs.Source.{source};
 ghost use Rattle.sym_table.specs.Table.{Table};
 ghost use Rattle.term_pool.specs.Views.{TermsView, KeepsTerms};
-ghost use Rattle.term_reader.specs.Entering.{HasTop, opened};
+ghost use Rattle.term_reader.specs.Entering.{HasTop};
+ghost use Rattle.term_reader.specs.Leaving.{with_open};
 ghost use Rattle.term_reader.specs.Frames.{Reading};
 ghost use Rattle.term_reader.specs.Reading.{IsAt, Goes, node_of, bound_of, effort};
 ghost use Rattle.term_names.specs.Standing.{AddsNoSymbols};
@@ -126,7 +127,7 @@ fn enter_let(
 
 /// Opens a form, and then reads the term at node `next`. Refused for want of memory alone.
 fn open_form(reader: &mut Reader<'_>, frame: Frame, next: usize) -> Result<Turn, ReadFault>
-    ensures opened { IfOk result (λ t. (t ≡ turn.Read next) × (reader.new ≡ opened reader.old frame)) }
+    ensures opened { IfOk result (λ t. (t ≡ turn.Read next) × (reader.new ≡ with_open reader.old frame)) }
     ensures fault { IfErr result (λ f. f ≡ fault.Memory) }
     ensures replaces { reader.new.replaces_lets ≡ reader.old.replaces_lets }
     ensures base { reader.new.known.base ≡ reader.old.known.base }

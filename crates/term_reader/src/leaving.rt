@@ -3,7 +3,7 @@ ghost use Rattle.std.specs.Prelude.{◌≡◌, ◌≤◌, ◌<◌, ◌^◌, ◌-
 ghost use Rattle.sexpr.specs.Source.{source};
 ghost use Rattle.term_pool.specs.Views.{KeepsTerms};
 ghost use Rattle.term_reader.specs.Frames.{Reading};
-ghost use Rattle.term_reader.specs.Leaving.{opened, Leaves};
+ghost use Rattle.term_reader.specs.Leaving.{with_open, Leaves};
 ghost use Rattle.term_reader.specs.Reading.{HasRead, Goes, node_of, bound_of, effort};
 ghost use Rattle.term_names.specs.Standing.{AddsNoSymbols};
 ghost use Rattle.term_reader.specs.declared.frames.Frame.TheVariants as frame;
@@ -99,8 +99,8 @@ fn leave_argument(
     from: usize,
     end: usize,
 ) -> Result<Turn, ReadFault>
-    requires read { (source : List ℕ) × (nodes : List node.Node) × (g : Reading) × HasRead source nodes g symbols.now terms.old (opened reader.old (frame.Arguments place head from end)) value n }
-    ensures leaves { (source : List ℕ) (nodes : List node.Node) (g : Reading) → HasRead source nodes g symbols.now terms.old (opened reader.old (frame.Arguments place head from end)) value n → Leaves source nodes g symbols.now terms.old (opened reader.old (frame.Arguments place head from end)) value n symbols.now terms.new reader.new result }
+    requires read { (source : List ℕ) × (nodes : List node.Node) × (g : Reading) × HasRead source nodes g symbols.now terms.old (with_open reader.old (frame.Arguments place head from end)) value n }
+    ensures leaves { (source : List ℕ) (nodes : List node.Node) (g : Reading) → HasRead source nodes g symbols.now terms.old (with_open reader.old (frame.Arguments place head from end)) value n → Leaves source nodes g symbols.now terms.old (with_open reader.old (frame.Arguments place head from end)) value n symbols.now terms.new reader.new result }
     ensures replaces { reader.new.replaces_lets ≡ reader.old.replaces_lets }
     ensures base { reader.new.known.base ≡ reader.old.known.base }
     ensures keeps { KeepsTerms terms.old terms.new }
@@ -140,8 +140,8 @@ fn leave_annotated(
     n: usize,
     end: usize,
 ) -> Result<Turn, ReadFault>
-    requires read { (g : Reading) × HasRead (source text.now) nodes.now g symbols.now terms.old (opened reader.old (frame.Names end)) value n }
-    ensures leaves { (g : Reading) → HasRead (source text.now) nodes.now g symbols.now terms.old (opened reader.old (frame.Names end)) value n → Leaves (source text.now) nodes.now g symbols.now terms.old (opened reader.old (frame.Names end)) value n symbols.now terms.new reader.new result }
+    requires read { (g : Reading) × HasRead (source text.now) nodes.now g symbols.now terms.old (with_open reader.old (frame.Names end)) value n }
+    ensures leaves { (g : Reading) → HasRead (source text.now) nodes.now g symbols.now terms.old (with_open reader.old (frame.Names end)) value n → Leaves (source text.now) nodes.now g symbols.now terms.old (with_open reader.old (frame.Names end)) value n symbols.now terms.new reader.new result }
     ensures replaces { reader.new.replaces_lets ≡ reader.old.replaces_lets }
     ensures base { reader.new.known.base ≡ reader.old.known.base }
     ensures keeps { KeepsTerms terms.old terms.new }

@@ -1,5 +1,5 @@
 use Rattle.std.proofs.Common.{◌≤◌, length}
-use Rattle.carcara_cli.specs.Problem.{AreConstantsBelow}
+use Rattle.carcara_cli.specs.Constants.{AreConstantsBelow}
 use Rattle.carcara_cli.proofs.problem.names_of_constants.Given as goal
 
 abbrev pub invariant-loop-leaf : goal.invariant-loop-leaf

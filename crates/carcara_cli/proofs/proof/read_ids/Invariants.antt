@@ -1,5 +1,5 @@
 use Rattle.std.proofs.Common.{◌-◌, ◌+◌, ◌≤◌, length, vec_len}
-use Rattle.carcara_cli.specs.Proof.{AreReadIds}
+use Rattle.carcara_cli.specs.Reading.{AreReadIds}
 use Rattle.carcara_cli.proofs.proof.read_ids.Given as goal
 
 abbrev pub invariant-loop-at : goal.invariant-loop-at

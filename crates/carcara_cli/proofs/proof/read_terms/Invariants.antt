@@ -1,5 +1,5 @@
 use Rattle.std.proofs.Common.{◌-◌, ◌+◌, ◌≤◌, length, vec_len}
-use Rattle.carcara_cli.specs.Proof.{AreReadTerms}
+use Rattle.carcara_cli.specs.Reading.{AreReadTerms}
 use Rattle.carcara_cli.proofs.proof.read_terms.Given as goal
 
 abbrev pub invariant-loop-at : goal.invariant-loop-at

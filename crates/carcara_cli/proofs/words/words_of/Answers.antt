@@ -3,7 +3,7 @@ use Rattle.std.proofs.lemmas.List.{map-append}
 use Rattle.sexpr.specs.Source.{source, position}
 use Rattle.sexpr.specs.Tokens.{next_token, token_text, place_after, IsSpanFrom}
 use Rattle.carcara_cli.specs.Reading.{words_of}
-use Rattle.carcara_cli.specs.TextWords.{AreWordsUpTo}
+use Rattle.carcara_cli.specs.Reading.{AreWordsUpTo}
 use Rattle.carcara_cli.proofs.TextLemmas.{one_word_more, all_words}
 use Rattle.carcara_cli.proofs.words.words_of.Goals as goal
 

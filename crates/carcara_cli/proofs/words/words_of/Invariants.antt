@@ -1,7 +1,7 @@
 use Rattle.std.proofs.Common.{◌≡◌, ◌-◌, length}
 use Rattle.sexpr.specs.Source.{source, position}
 use Rattle.carcara_cli.specs.Reading.{words_of}
-use Rattle.carcara_cli.specs.TextWords.{AreWordsUpTo}
+use Rattle.carcara_cli.specs.Reading.{AreWordsUpTo}
 use Rattle.carcara_cli.proofs.words.words_of.Given as goal
 
 abbrev pub invariant-tokens : goal.invariant-tokens

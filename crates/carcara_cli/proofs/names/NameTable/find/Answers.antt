@@ -1,6 +1,6 @@
 use Rattle.std.proofs.Common.{rules, ◌≡◌, sym, false}
 use Rattle.std.specs.List.{list_any}
-use Rattle.carcara_cli.specs.Names.{IsNoName}
+use Rattle.carcara_cli.specs.NamePlaces.{IsNoName}
 use Rattle.carcara_cli.proofs.NameLemmas.{is_name, is_place, is_no_name}
 use Rattle.carcara_cli.proofs.names.NameTable.find.Goals as goal
 

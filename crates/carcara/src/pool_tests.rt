@@ -1,0 +1,39 @@
+//! When the largest pool that may be made is full, and that a full pool is read again, through the library's call.
+use carcara_cli::{Judgement, judge};
+use std::alloc::Global;
+use std::test::Fail;
+
+// Each macro puts the one above it four times around its argument, so `e` has 4^5 = 1,024 unary minuses. A minus takes
+// two cells: 2,048 over each of x, 1 and 2, and three for the equality, 6,147 in all. A pool of 2^12 = 4,096 places has no
+// room for them, and one of 2^13 = 8,192 has.
+static MINUSES: &[u8] = b"(define-fun a ((x Int)) Int (- (- (- (- x)))))
+(define-fun b ((x Int)) Int (a (a (a (a x)))))
+(define-fun c ((x Int)) Int (b (b (b (b x)))))
+(define-fun d ((x Int)) Int (c (c (c (c x)))))
+(define-fun e ((x Int)) Int (d (d (d (d x)))))
+(assert (= (e 1) (e 2)))
+";
+
+// What the problem comes to with the empty proof, in pools of at most so many bits. None for want of memory.
+fn judged(alloc: Global, bits: u32) -> Option<Judgement> {
+    if MINUSES.len() > 268_435_456 || !(12..=26).contains(&bits) {
+        return None;
+    }
+    judge(alloc, MINUSES, false, b"", bits).ok()
+}
+
+// Where the largest pool that may be made is full, that is the answer, and no want of memory.
+#[test]
+fn the_largest_pool_is_full(rt: HostRuntime) -> Result<(), Fail> {
+    let judgement = judged(rt.alloc(), 12);
+    assert!(rt; matches!(judgement, Some(Judgement::PoolFull)));
+    Ok(())
+}
+
+// The first pool is the same one, since the text is short. Where it is full and a larger one may be made, that is made.
+#[test]
+fn a_full_pool_is_read_again(rt: HostRuntime) -> Result<(), Fail> {
+    let judgement = judged(rt.alloc(), 13);
+    assert!(rt; matches!(judgement, Some(Judgement::NoEmptyClause)));
+    Ok(())
+}
