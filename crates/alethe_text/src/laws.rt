@@ -1,0 +1,27 @@
+//! Laws of the definitions. The functions do nothing: their contracts are the laws.
+ghost use Rattle.std.specs.Prelude.{◌≡◌, ◌⊎◌, List, ℕ};
+ghost use Rattle.sexpr.specs.declared.causes.Refusal.{Refusal};
+ghost use Rattle.sexpr.specs.Form.{HasForm};
+ghost use Rattle.term_model.specs.Terms.{Var, Term};
+ghost use Rattle.rule_model.specs.Proofs.{Items};
+ghost use Rattle.problem_text.specs.Scripts.{Script};
+ghost use Rattle.alethe_text.specs.States.{Settings};
+ghost use Rattle.alethe_text.specs.ProofTexts.{StandsForProof, IsFirstProofFault};
+
+use sexpr::{faults_are_unique, items_are_unique};
+
+/// Behind a problem a text has one reading: it stands for one proof, or it has one first fault, and never both. One of the
+/// two comes of each text that has the form of nested items.
+pub fn proof_texts_have_one_reading()
+    ensures proof { (source : List ℕ) (settings : Settings) (before : Script) (p q : Items Var Term) (s t : Script) →
+        StandsForProof source settings before p s → StandsForProof source settings before q t → (p ≡ q) × (s ≡ t) }
+    ensures fault { (source : List ℕ) (settings : Settings) (before : Script) (r q : Refusal) →
+        IsFirstProofFault source settings before r → IsFirstProofFault source settings before q → r ≡ q }
+    ensures not_both { (source : List ℕ) (settings : Settings) (before : Script) (p : Items Var Term) (s : Script) (r : Refusal) →
+        StandsForProof source settings before p s → IsFirstProofFault source settings before r → ⊥ }
+    ensures judged { (source : List ℕ) (settings : Settings) (before : Script) → HasForm source →
+        ((p : Items Var Term) × (s : Script) × StandsForProof source settings before p s) ⊎ ((r : Refusal) × IsFirstProofFault source settings before r) }
+{
+    items_are_unique();
+    faults_are_unique();
+}
