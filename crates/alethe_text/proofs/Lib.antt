@@ -1,1 +1,12 @@
 pub mod OneProof
+pub mod Endings
+mod Lists
+mod LowestTerms
+mod SymbolNames
+mod CommandNames
+pub mod Staying
+mod LowestCoefficients
+mod Formed
+mod FormedSteps
+mod FormedAnchors
+mod WellFormed

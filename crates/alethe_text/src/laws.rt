@@ -4,11 +4,12 @@ ghost use Rattle.sexpr.specs.declared.causes.Refusal.{Refusal};
 ghost use Rattle.sexpr.specs.Form.{HasForm};
 ghost use Rattle.term_model.specs.Terms.{Var, Term};
 ghost use Rattle.rule_model.specs.Proofs.{Items};
+ghost use Rattle.rule_model.specs.WellFormed.{IsWellFormed};
 ghost use Rattle.problem_text.specs.Scripts.{Script};
 ghost use Rattle.alethe_text.specs.States.{Settings};
 ghost use Rattle.alethe_text.specs.ProofTexts.{StandsForProof, IsFirstProofFault};
 
-use sexpr::{faults_are_unique, items_are_unique};
+use sexpr::{faults_are_unique, items_are_unique, tokens_are_spelled};
 
 /// Behind a problem a text has one reading: it stands for one proof, or it has one first fault, and never both. One of the
 /// two comes of each text that has the form of nested items.
@@ -24,4 +25,14 @@ pub fn proof_texts_have_one_reading()
 {
     items_are_unique();
     faults_are_unique();
+}
+
+/// Whatever proof a text stands for is well formed: ids are new, premises are visible, what is discharged stands directly in
+/// the scope that is closed, the variables of open anchors differ, rules are those of their words, and coefficients are in
+/// lowest terms.
+pub fn proofs_are_well_formed()
+    ensures { (source : List ℕ) (settings : Settings) (before : Script) (proof : Items Var Term) (after : Script) →
+        StandsForProof source settings before proof after → IsWellFormed proof }
+{
+    tokens_are_spelled();
 }
