@@ -10,3 +10,4 @@ mod Formed
 mod FormedSteps
 mod FormedAnchors
 mod WellFormed
+mod Forms

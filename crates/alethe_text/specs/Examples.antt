@@ -1,9 +1,10 @@
 -- Public. The reading of short texts, computed from their bytes: what the examples of this crate speak of. Only they use it.
-use Rattle.std.specs.Prelude.{ℕ, false, List, Option, Some, None, Result, Ok, Err}
+use Rattle.std.specs.Prelude.{ℕ, true, false, List, [], Option, Some, None, Result, Ok, Err}
 use Rattle.sexpr.specs.declared.causes.Refusal.{Refusal}
 use Rattle.term_model.specs.Terms.{Var, Term}
 use Rattle.rule_model.specs.RuleNames.{rule_named}
-use Rattle.rule_model.specs.Proofs.{Items as Proof}
+use Rattle.rule_model.specs.declared.rules.Rule.{Rule}
+use Rattle.rule_model.specs.Proofs.{Step, Items as Proof}
 use Rattle.problem_text.specs.Examples.{first_fault, items_in, script_in}
 use Rattle.alethe_text.specs.Commands.{command_of}
 use Rattle.alethe_text.specs.Coefficients.{coefficient_of, common_divisor, coefficients_from}
@@ -40,3 +41,20 @@ first_fault_behind problem text = fault_of (proof_read usual problem text).resul
 unfoldable pub proof_behind : List ℕ → List ℕ → Option (Proof Var Term)
 unfolding proof_read
 proof_behind problem text = value_of (proof_read usual problem text).result
+
+unfoldable pub strict : List ℕ → List ℕ → Option (Proof Var Term)
+unfolding proof_read
+strict problem text = value_of (proof_read (record { replaces_lets = false; is_strict = true }) problem text).result
+
+-- a step with an empty clause and nothing else
+abbrev pub plain_step : List ℕ → Rule → List ℕ → Step Term
+plain_step id rule word = record {
+  id = id;
+  rule = rule;
+  rule_name = word;
+  clause = [];
+  premises = [];
+  discharged = [];
+  pivots = [];
+  ratios = None;
+}
