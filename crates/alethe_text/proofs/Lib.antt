@@ -11,3 +11,5 @@ mod FormedSteps
 mod FormedAnchors
 mod WellFormed
 mod Forms
+mod SortedReadings
+mod SortedProofs

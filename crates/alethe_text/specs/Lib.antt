@@ -7,4 +7,5 @@ pub mod Arguments
 pub mod Steps
 pub mod Anchors
 pub mod ProofTexts
+pub mod Soundness
 pub mod Examples

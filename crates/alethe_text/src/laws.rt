@@ -6,6 +6,9 @@ ghost use Rattle.term_model.specs.Terms.{Var, Term};
 ghost use Rattle.rule_model.specs.Proofs.{Items};
 ghost use Rattle.rule_model.specs.WellFormed.{IsWellFormed};
 ghost use Rattle.problem_text.specs.Scripts.{Script};
+ghost use Rattle.problem_text.specs.Soundness.{IsSound};
+ghost use Rattle.rule_model.specs.Scopes.{outermost};
+ghost use Rattle.alethe_text.specs.Soundness.{AreSorted};
 ghost use Rattle.alethe_text.specs.States.{Settings};
 ghost use Rattle.alethe_text.specs.ProofTexts.{StandsForProof, IsFirstProofFault};
 
@@ -36,3 +39,13 @@ pub fn proofs_are_well_formed()
 {
     tokens_are_spelled();
 }
+
+/// Whatever proof a text stands for behind a problem whose script is sound: literals and assumed terms are formulas, pivots
+/// are terms, and what an anchor gives a variable has its sort; none of these terms is too high, and no image is. What the
+/// proof names is sound again.
+pub fn proofs_are_well_sorted()
+    ensures terms { (source : List ℕ) (settings : Settings) (before : Script) (proof : Items Var Term) (after : Script) →
+        IsSound before → StandsForProof source settings before proof after → AreSorted outermost proof }
+    ensures script { (source : List ℕ) (settings : Settings) (before : Script) (proof : Items Var Term) (after : Script) →
+        IsSound before → StandsForProof source settings before proof after → IsSound after }
+{}
