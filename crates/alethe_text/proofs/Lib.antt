@@ -1,6 +1,6 @@
 pub mod OneProof
 pub mod Endings
-mod Lists
+pub mod Lists
 mod LowestTerms
 mod SymbolNames
 mod CommandNames
