@@ -1,8 +1,9 @@
 -- Cited by crates above. The ids in use are those of the visible commands and of the open anchors.
-use Rattle.std.proofs.Common.{◌≡◌, ◌≢◌, ◌<◌, ◌+◌, ℕ, zero, suc, List, [], ◌∷◌, ◌++◌, map, length, take, slice_index_or, Contains, Bool, true, false, ◌||◌, Some, None, cond, find, slice_get, refl, sym, ◌∙◌, ap, subst, arith}
+use Rattle.std.proofs.Common.{◌≡◌, ◌≢◌, ◌<◌, ◌≤◌, ◌+◌, ◌-◌, ℕ, zero, suc, List, [], ◌∷◌, ◌++◌, map, length, take, slice_index_or, Contains, Bool, true, false, ◌||◌, Option, Some, None, option_map, cond, find, slice_get, refl, sym, ◌∙◌, ap, subst, arith}
 use Rattle.std.specs.Str.{bytes_eq}
 use Rattle.std.proofs.Math.Seq.{take-append_seam}
-use Rattle.std.proofs.lemmas.List.{append_assoc, append-nil}
+use Rattle.std.proofs.lemmas.List.{append_assoc, append-nil, map-append}
+use Rattle.std.proofs.lemmas.Option.{slice_get-map}
 use Rattle.std.proofs.lemmas.Slice.Eq.{bytes_eq-Decides}
 use Rattle.rule_model.specs.Proofs.{Step as ProofStep, Items, no_items, with_assume, with_step, with_subproof}
 use Rattle.rule_model.specs.Scopes.{Anchor as ProofAnchor, Nesting, outermost, inside, Scope, at, first_index, scope_number, commands_in, next_index, next_scope}
@@ -16,7 +17,8 @@ use Rattle.alethe_reader.specs.declared.ids.Role.{Role}
 use Rattle.alethe_reader.specs.declared.ids.Role.TheVariants.{Assume, Step, Anchor}
 use Rattle.alethe_reader.specs.declared.ids.Found.{Found}
 use Rattle.alethe_reader.specs.Ids.{Used, IsUnused, IsUsedAt}
-use Rattle.alethe_reader.specs.IdsInUse.{in_use, own_ids, ids_around, ids_in, sight_of, sights_of, anchor_of, anchors_of, sight_at}
+use Rattle.alethe_text.specs.Ids.{assumes_seen}
+use Rattle.alethe_reader.specs.IdsInUse.{in_use, own_ids, ids_around, ids_in, sight_of, sights_of, anchor_of, anchors_of, sight_at, hidden, hide}
 
 pub sights_append : (us vs : List Used) → sights_of (us ++ vs) ≡ sights_of us ++ sights_of vs
 sights_append [] vs = refl
@@ -159,6 +161,86 @@ at_seen (u ∷ us) id role number (suc place) h = go u.role (at_seen us id role 
 
 pub found_seen : (us : List Used) (id : List ℕ) (f : Found) → IsUsedAt us id f → find (λ c. bytes_eq c.id id) (sights_of us) ≡ sight_at f.role f.number id
 found_seen us id f h = at_seen us id f.role f.number f.place (record { here = h.here; alone = h.alone })
+
+-- what stands behind some items, at its place there
+behind : {X : Type 0} (xs ys : List X) (k : ℕ) → slice_get (xs ++ ys) (length xs + k) ≡ slice_get ys k
+behind [] ys k = let e : 0 + k ≡ k = omega arith in ap (slice_get ys) e
+behind (x ∷ xs) ys k = ap (slice_get (x ∷ (xs ++ ys))) (moved (length xs) k) ∙ behind xs ys k
+  where
+    moved : (n k : ℕ) → suc n + k ≡ suc (n + k)
+    moved n k = omega arith
+
+-- An id in use as one of which only assumes are commands.
+record StandsHidden (us : List Used) (k : ℕ) (v : Used) : Type 0 where
+  pub u : Used
+  pub there : slice_get us k ≡ Some u
+  pub same : hide u ≡ v
+
+stands_hidden : (us : List Used) (k : ℕ) (v : Used) → slice_get (map hide us) k ≡ Some v → StandsHidden us k v
+stands_hidden us k v e = go (slice_get us k) refl (sym (slice_get-map hide us k) ∙ e)
+  where
+    inner : (u : Used) → Some (hide u) ≡ Some v → hide u ≡ v
+    inner u e = cc
+
+    go : (o : Option Used) → slice_get us k ≡ o → option_map hide o ≡ Some v → StandsHidden us k v
+    go None f g = absurd (cc)
+    go (Some u) f g = record { u = u; there = f; same = inner u g }
+
+unused_hidden : (us : List Used) (id : List ℕ) → IsUnused us id → IsUnused (map hide us) id
+unused_hidden us id h k v e same =
+    let s = stands_hidden us k v e in h k s.u s.there (ap (λ (u : Used). u.id) s.same ∙ same)
+
+at_hidden : (us : List Used) (id : List ℕ) (role : Role) (number place : ℕ) → IsAt us id role number place → IsAt (map hide us) id (hidden role) number place
+at_hidden us id role number place h = record {
+  here = slice_get-map hide us place ∙ ap (option_map hide) h.here;
+  alone = λ k v e same. (let s = stands_hidden us k v e in h.alone k s.u s.there (ap (λ (u : Used). u.id) s.same ∙ same));
+}
+
+module _ {V T : Type 0} where
+  own_assumes : (nesting : Nesting V T) (items : Items V T) → sights_of (map hide (own_ids nesting items)) ≡ assumes_seen nesting items
+  own_assumes nesting no_items = refl
+  own_assumes nesting (with_assume items id t) =
+      ap sights_of (map-append hide (own_ids nesting items) (in_use id Assume (first_index nesting + commands_in items) ∷ []))
+      ∙ (sights_append (map hide (own_ids nesting items)) (in_use id Assume (first_index nesting + commands_in items) ∷ [])
+      ∙ ap (λ l. l ++ sight (first_index nesting + commands_in items) id ∷ []) (own_assumes nesting items))
+  own_assumes nesting (with_step items s) =
+      ap sights_of (map-append hide (own_ids nesting items) (in_use s.id Step (first_index nesting + commands_in items) ∷ []))
+      ∙ (sights_append (map hide (own_ids nesting items)) (in_use s.id Anchor (first_index nesting + commands_in items) ∷ [])
+      ∙ (append-nil (sights_of (map hide (own_ids nesting items))) ∙ own_assumes nesting items))
+  own_assumes nesting (with_subproof items bindings proof s) =
+      ap sights_of (map-append hide (own_ids nesting items) (in_use s.id Step (first_index nesting + (commands_in items + commands_in proof)) ∷ []))
+      ∙ (sights_append (map hide (own_ids nesting items)) (in_use s.id Anchor (first_index nesting + (commands_in items + commands_in proof)) ∷ [])
+      ∙ (append-nil (sights_of (map hide (own_ids nesting items))) ∙ own_assumes nesting items))
+
+  own_unused : (scope : Scope V T) (id : List ℕ) → IsUnused (own_ids scope.nesting scope.items) id → find (λ c. bytes_eq c.id id) (assumes_seen scope.nesting scope.items) ≡ None
+  own_unused scope id h =
+      subst (λ cs. find (λ c. bytes_eq c.id id) cs ≡ None) (own_assumes scope.nesting scope.items)
+      (unseen (map hide (own_ids scope.nesting scope.items)) id (unused_hidden (own_ids scope.nesting scope.items) id h))
+
+  -- an id that is not in use is that of no assume in the scope, and so is one that was in use where the scope was opened
+  pub none_discharged : (scope : Scope V T) (id : List ℕ) → IsUnused (ids_in scope) id → find (λ c. bytes_eq c.id id) (assumes_seen scope.nesting scope.items) ≡ None
+  none_discharged scope id h =
+      own_unused scope id (λ k u e. h (length (ids_around scope.nesting) + k) u (behind (ids_around scope.nesting) (own_ids scope.nesting scope.items) k ∙ e))
+
+  pub outer_discharged : (scope : Scope V T) (id : List ℕ) (f : Found) → IsUsedAt (ids_in scope) id f → f.place < length (ids_around scope.nesting) → find (λ c. bytes_eq c.id id) (assumes_seen scope.nesting scope.items) ≡ None
+  outer_discharged scope id f h before =
+      own_unused scope id (λ k u e same.
+      let place = h.alone (length (ids_around scope.nesting) + k) u (behind (ids_around scope.nesting) (own_ids scope.nesting scope.items) k ∙ e) same in
+      absurd (omega (arith, before, place)))
+
+  -- one that was put in use in the scope is that of the assume with its number, where it is that of an assume
+  pub own_discharged : (scope : Scope V T) (id : List ℕ) (f : Found) → IsUsedAt (ids_in scope) id f → length (ids_around scope.nesting) ≤ f.place → find (λ c. bytes_eq c.id id) (assumes_seen scope.nesting scope.items) ≡ sight_at (hidden f.role) f.number id
+  own_discharged scope id f h inside_it =
+      let n = length (ids_around scope.nesting) in
+      let own = own_ids scope.nesting scope.items in
+      let place : n + (f.place - n) ≡ f.place = omega (arith, inside_it) in
+      let here : slice_get own (f.place - n) ≡ Some (in_use id f.role f.number) = sym (behind (ids_around scope.nesting) own (f.place - n)) ∙ (ap (slice_get (ids_in scope)) place ∙ h.here) in
+      let there : IsAt own id f.role f.number (f.place - n) = record {
+        here = here;
+        alone = λ k u e same. (let p = h.alone (n + k) u (behind (ids_around scope.nesting) own k ∙ e) same in omega (arith, p));
+      } in
+      subst (λ cs. find (λ c. bytes_eq c.id id) cs ≡ sight_at (hidden f.role) f.number id) (own_assumes scope.nesting scope.items)
+      (at_seen (map hide own) id (hidden f.role) f.number (f.place - n) (at_hidden own id f.role f.number (f.place - n) there))
 
 -- how the ids in use follow the proof that is written
 module _ {V T : Type 0} where

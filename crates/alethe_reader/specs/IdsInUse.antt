@@ -52,3 +52,12 @@ abbrev pub sight_at : Role → ℕ → List ℕ → Option Sight
 sight_at Assume number id = Some (sight number id)
 sight_at Step number id = Some (sight number id)
 sight_at Anchor number id = None
+
+-- the same ids, as if assumes were the only commands
+abbrev pub hidden : Role → Role
+hidden Assume = Assume
+hidden Step = Anchor
+hidden Anchor = Anchor
+
+abbrev pub hide : Used → Used
+hide u = in_use u.id (hidden u.role) u.number
