@@ -1,0 +1,84 @@
+-- The ids and rules of commands are names of symbols.
+use Rattle.std.proofs.Common.{ℕ, List, [], ◌∷◌, Bool, true, false, Option, Some, None, Result, IfOk, if◌then◌else◌}
+use Rattle.std.specs.Prelude.{⊤, codes, not, ◌||◌}
+use Rattle.std.specs.List.{AllByRecursion}
+use Rattle.std.specs.Str.{bytes_eq}
+use Rattle.sexpr.specs.declared.causes.Refusal.{Refusal}
+use Rattle.sexpr.specs.Words.{is_symbol}
+use Rattle.sexpr.specs.Items.{Item, word, quoted, string, list, Items, no_items, item}
+use Rattle.rule_model.specs.RuleNames.{IsSymbolName}
+use Rattle.text_items.specs.ItemShapes.{name_at, items_of}
+use Rattle.problem_text.proofs.Outcomes.{all_joined}
+use Rattle.alethe_text.specs.Commands.{Attribute, rule, premises, arguments, discharge, Command, assume, step, anchor, shaped, is_word_of, names_in, has_word, lacks_value, step_keywords, anchor_keywords, attribute_of, attributes_of, assume_shape, step_shape, anchor_shape, command_named, command_of}
+use Rattle.alethe_text.proofs.SymbolNames.{HasNames, HaveNames, name_is}
+
+abbrev pub IsRuleNamed : Attribute → Type 0
+IsRuleNamed (rule n) = IsSymbolName n.name
+IsRuleNamed (premises ns) = ⊤
+IsRuleNamed (arguments items) = ⊤
+IsRuleNamed (discharge ns) = ⊤
+
+abbrev pub IsNamed : Command → Type 0
+IsNamed (assume n i) = IsSymbolName n.name
+IsNamed (step n literals attributes) = IsSymbolName n.name × AllByRecursion IsRuleNamed attributes
+IsNamed (anchor place n others) = IsSymbolName n.name
+
+shape_named : (o : Option ℕ) (c : Command) → IsNamed c → IfOk (shaped o c) IsNamed
+shape_named (Some place) c h = tt
+shape_named None c h = h
+
+either : (b : Bool) (x y : Result Command Refusal) → IfOk x IsNamed → IfOk y IsNamed → IfOk (if b then x else y) IsNamed
+either true x y h k = h
+either false x y h k = k
+
+attribute_named : (keyword value : Item) → HasNames value → AllByRecursion IsRuleNamed (attribute_of keyword value)
+attribute_named keyword value h =
+    go (is_word_of (codes ":rule") keyword) (is_word_of (codes ":premises") keyword) (is_word_of (codes ":args") keyword) (is_word_of (codes ":discharge") keyword)
+  where
+    go : (a b c d : Bool) → AllByRecursion IsRuleNamed (if a then rule (name_at value) ∷ [] else if b then premises (names_in (items_of value)) ∷ [] else if c then arguments (items_of value) ∷ [] else if d then discharge (names_in (items_of value)) ∷ [] else [])
+    go true b c d = (name_is value h, tt)
+    go false true c d = (tt, tt)
+    go false false true d = (tt, tt)
+    go false false false true = (tt, tt)
+    go false false false false = tt
+
+attributes_named : (before : Item) (items : Items) → HaveNames items → AllByRecursion IsRuleNamed (attributes_of before items)
+attributes_named before no_items h = tt
+attributes_named before (item i rest) h =
+    all_joined IsRuleNamed (attribute_of before i) (attributes_of i rest) (attribute_named before i h.0) (attributes_named i rest h.1)
+
+assume_named : (place : ℕ) (items : Items) → HaveNames items → IfOk (assume_shape place items) IsNamed
+assume_named place no_items h = tt
+assume_named place (item id no_items) h = tt
+assume_named place (item id (item t rest)) h = shape_named _ _ (name_is id h.0)
+
+step_named : (place : ℕ) (items : Items) → HaveNames items → IfOk (step_shape place items) IsNamed
+step_named place no_items h = tt
+step_named place (item id no_items) h = tt
+step_named place (item id (item clause rest)) h =
+    either (not (has_word (codes ":rule") rest) || lacks_value step_keywords clause rest) _ _ tt
+    (shape_named _ _ (name_is id h.0, attributes_named clause rest h.1.1))
+
+anchor_named : (place : ℕ) (items : Items) → HaveNames items → IfOk (anchor_shape place items) IsNamed
+anchor_named place no_items h = tt
+anchor_named place (item keyword no_items) h = tt
+anchor_named place (item keyword (item id rest)) h =
+    either (lacks_value anchor_keywords id rest) _ _ tt (shape_named _ _ (name_is id h.1.0))
+
+word_named : (place at : ℕ) (name : List ℕ) (items : Items) → HaveNames items → IfOk (command_named place at name items) IsNamed
+word_named place at name items h =
+    either (bytes_eq name (codes "assume")) _ _ (assume_named place items h)
+    (either (bytes_eq name (codes "step")) _ _ (step_named place items h)
+    (either (bytes_eq name (codes "anchor")) _ _ (anchor_named place items h)
+    (either (bytes_eq name (codes "define-fun")) _ _ tt tt)))
+
+pub command_is_named : (i : Item) → HasNames i → IfOk (command_of i) IsNamed
+unfolding command_of
+command_is_named (word place spelling) h = tt
+command_is_named (quoted place spelling) h = tt
+command_is_named (string place spelling) h = tt
+command_is_named (list place no_items) h = tt
+command_is_named (list place (item (word at spelling) items)) h = either (is_symbol spelling) _ _ (word_named place at spelling items h.1) tt
+command_is_named (list place (item (quoted at spelling) items)) h = tt
+command_is_named (list place (item (string at spelling) items)) h = tt
+command_is_named (list place (item (list at inner) items)) h = tt

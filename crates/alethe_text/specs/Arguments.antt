@@ -1,0 +1,65 @@
+-- Public. The arguments of a step (Alethe, "The Proof Format"). Those of la_generic are its coefficients; in a strict proof
+-- those of resolution are its pivots; no others are judged, but for the terms that get a name in them.
+use Rattle.std.specs.Prelude.{Bool, true, false, ◌&&◌, if◌then◌else◌, List, [], ◌∷◌, codes, Option, Some, None, option_map, option_and_then, is_some, unwrap_or, ⊤}
+use Rattle.sexpr.specs.Items.{Item, word, quoted, string, list, Items, no_items, item, symbol_name}
+use Rattle.term_model.specs.Terms.{Var, Term}
+use Rattle.rule_model.specs.declared.rules.Rule.{Rule}
+use Rattle.rule_model.specs.Proofs.{Step}
+use Rattle.rule_model.specs.Scopes.{Nesting}
+use Rattle.problem_text.specs.NamedItems.{is_named_item}
+use Rattle.alethe_text.specs.Commands.{is_symbol_of}
+use Rattle.alethe_text.specs.Coefficients.{coefficients_from}
+use Rattle.alethe_text.specs.States.{Settings, Reading, ◌>>=◌, give, given}
+use Rattle.alethe_text.specs.ProofTerms.{term_in}
+
+abbrev pub takes_coefficients : Rule → Bool
+takes_coefficients Rule.LaGeneric = true
+takes_coefficients _ = false
+
+abbrev pub takes_pivots : Rule → Bool
+takes_pivots Rule.Resolution = true
+takes_pivots Rule.ThResolution = true
+takes_pivots _ = false
+
+-- the items are those of `(! t :named n)`
+abbrev pub is_naming : Items → Bool
+is_naming (item bang (item t (item keyword (item n no_items)))) =
+    is_symbol_of (codes "!") bang && (is_named_item keyword && is_some (symbol_name n))
+is_naming _ = false
+
+unfoldable mutual
+  -- the terms that get a name in an item, at any depth
+  pub named_in : Settings → Nesting Var Term → Item → Reading ⊤
+  named_in settings nesting (word place spelling) = give tt
+  named_in settings nesting (quoted place spelling) = give tt
+  named_in settings nesting (string place spelling) = give tt
+  named_in settings nesting (list place items) =
+      if is_naming items then (term_in settings nesting (list place items) >>= λ _. give tt) else named_among settings nesting items
+
+  pub named_among : Settings → Nesting Var Term → Items → Reading ⊤
+  named_among settings nesting no_items = give tt
+  named_among settings nesting (item i rest) = named_in settings nesting i >>= λ _. named_among settings nesting rest
+
+-- the truth value that a pivot is given
+abbrev pub truth_of : Item → Option Bool
+truth_of i = if is_symbol_of (codes "true") i then Some true else if is_symbol_of (codes "false") i then Some false else None
+
+abbrev pub with_pivot : Term → Option Bool → Option (List (Term × Bool)) → Option (List (Term × Bool))
+with_pivot t truth pivots = option_and_then (λ b. option_map (λ ps. (t, b) ∷ ps) pivots) truth
+
+-- Each odd argument is a term. They are pivots where behind each stands its truth value.
+unfoldable pub pivots_from : Settings → Nesting Var Term → Items → Reading (Option (List (Term × Bool)))
+pivots_from settings nesting no_items = give (Some [])
+pivots_from settings nesting (item i no_items) = term_in settings nesting i >>= λ _. give None
+pivots_from settings nesting (item i (item truth rest)) = do
+  t ← term_in settings nesting i
+  _ ← named_in settings nesting truth
+  pivots ← pivots_from settings nesting rest
+  give (with_pivot t.tree (truth_of truth) pivots)
+
+unfoldable pub arguments_from : Settings → Nesting Var Term → Items → Step Term → Reading (Step Term)
+arguments_from settings nesting items step =
+    if takes_coefficients step.rule then (given (coefficients_from items) >>= λ qs. give (record step { ratios = qs }))
+    else if settings.is_strict && takes_pivots step.rule
+    then (pivots_from settings nesting items >>= λ pivots. give (record step { pivots = unwrap_or pivots [] }))
+    else (named_among settings nesting items >>= λ _. give step)

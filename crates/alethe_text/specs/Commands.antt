@@ -1,0 +1,214 @@
+-- Public. The commands of a proof (Alethe, "The Proof Format") and their shapes, which reach down to the terms and sorts of
+-- a command, but not into them.
+use Rattle.std.specs.Prelude.{ℕ, Bool, false, not, ◌&&◌, ◌||◌, if◌then◌else◌, List, [], ◌∷◌, ◌++◌, codes, bytes_eq, Option, Some, None, is_some, Result, Ok}
+use Rattle.std.specs.Option.{option_or}
+use Rattle.sexpr.specs.declared.causes.Cause.TheVariants.{UnknownCommand, BadCommand, LeftOut}
+use Rattle.sexpr.specs.declared.causes.Refusal.{Refusal}
+use Rattle.sexpr.specs.Words.{is_symbol}
+use Rattle.sexpr.specs.Items.{Item, word, quoted, string, list, Items, no_items, item, place_of, symbol_name}
+use Rattle.text_items.specs.ItemShapes.{Name, name_at, excess, symbol_fault, pair_fault, items_of}
+use Rattle.text_items.specs.Spelling.{is_keyword_item}
+use Rattle.problem_text.specs.Commands.{refused, list_fault}
+use Rattle.problem_text.specs.Words.{is_among}
+
+-- An attribute of a step that has an effect: its rule, its premises, its arguments, the assumes that it discharges.
+pub data Attribute : Type 0 where
+  rule : Name → Attribute
+  premises : List Name → Attribute
+  arguments : Items → Attribute
+  discharge : List Name → Attribute
+
+-- An item of an anchor's arguments, with the place of its bracket: a variable alone; or a variable and the term that it
+-- stands for, with the variable's sort where the text has it.
+pub data Argument : Type 0 where
+  variable_alone : ℕ → Argument
+  assigned : ℕ → Name → Option Item → Item → Argument
+
+-- A command by its items: sorts and terms are still to be read. An assume has its id and its term; a step its id, its
+-- literals and its attributes; an anchor the place of its bracket, the id of the step that is to close it, and its arguments.
+pub data Command : Type 0 where
+  assume : Name → Item → Command
+  step : Name → Items → List Attribute → Command
+  anchor : ℕ → Name → List Argument → Command
+
+-- the item is the symbol of this name, or one of these keywords
+abbrev pub is_symbol_of : List ℕ → Item → Bool
+is_symbol_of name i = bytes_eq (name_at i).name name
+
+abbrev pub spelling_of : Item → List ℕ
+spelling_of (word place spelling) = spelling
+spelling_of (quoted place spelling) = []
+spelling_of (string place spelling) = []
+spelling_of (list place items) = []
+
+abbrev pub is_word_among : List (List ℕ) → Item → Bool
+is_word_among words i = is_among words (spelling_of i)
+
+abbrev pub is_word_of : List ℕ → Item → Bool
+is_word_of spelling i = bytes_eq (spelling_of i) spelling
+
+-- a command of the right shape, or the first place where it has another
+abbrev pub shaped : Option ℕ → Command → Result Command Refusal
+shaped (Some place) c = refused BadCommand place
+shaped None c = Ok c
+
+-- where a keyword, or a list of symbols, has to stand
+abbrev pub word_fault : List ℕ → Item → Option ℕ
+word_fault spelling i = if is_word_of spelling i then None else Some (place_of i)
+
+abbrev pub symbols_fault : Items → Option ℕ
+symbols_fault no_items = None
+symbols_fault (item i rest) = option_or (symbol_fault i) (symbols_fault rest)
+
+abbrev pub symbol_list_fault : Item → Option ℕ
+symbol_list_fault i = option_or (list_fault i) (symbols_fault (items_of i))
+
+abbrev pub names_in : Items → List Name
+names_in no_items = []
+names_in (item i rest) = name_at i ∷ names_in rest
+
+-- The keyword with which the list ends is one of these, and lacks its value.
+abbrev pub lacks_value : List (List ℕ) → Item → Items → Bool
+lacks_value keywords last no_items = is_word_among keywords last
+lacks_value keywords before (item i rest) = lacks_value keywords i rest
+
+-- the attributes of a step that have an effect: each takes a value, and stands once at most
+abbrev pub step_keywords : List (List ℕ)
+step_keywords = codes ":rule" ∷ codes ":premises" ∷ codes ":args" ∷ codes ":discharge" ∷ []
+
+-- An item that may not stand behind the one before it. Behind `:rule` stands a symbol, behind `:premises` and `:discharge` a
+-- list of symbols, and behind `:args` a list; behind another keyword one item of any kind, or none; and behind any of these
+-- a keyword.
+abbrev pub value_fault : Item → Item → Option ℕ
+value_fault before i =
+    if is_word_of (codes ":rule") before then symbol_fault i
+    else if is_word_among (codes ":premises" ∷ codes ":discharge" ∷ []) before then symbol_list_fault i
+    else if is_word_of (codes ":args") before then list_fault i
+    else if is_keyword_item before || is_keyword_item i then None
+    else Some (place_of i)
+
+-- the first fault of the attributes that stand behind an item, where these words stand before them
+abbrev pub attributes_fault : List (List ℕ) → Item → Items → Option ℕ
+attributes_fault earlier before no_items = None
+attributes_fault earlier before (item i rest) =
+    if is_word_among step_keywords i && is_word_among earlier i then Some (place_of i)
+    else option_or (value_fault before i) (attributes_fault (spelling_of i ∷ earlier) i rest)
+
+abbrev pub has_word : List ℕ → Items → Bool
+has_word spelling no_items = false
+has_word spelling (item i rest) = is_word_of spelling i || has_word spelling rest
+
+-- the attribute that a keyword and its value are, where it has an effect
+abbrev pub attribute_of : Item → Item → List Attribute
+attribute_of keyword value =
+    if is_word_of (codes ":rule") keyword then rule (name_at value) ∷ []
+    else if is_word_of (codes ":premises") keyword then premises (names_in (items_of value)) ∷ []
+    else if is_word_of (codes ":args") keyword then arguments (items_of value) ∷ []
+    else if is_word_of (codes ":discharge") keyword then discharge (names_in (items_of value)) ∷ []
+    else []
+
+abbrev pub attributes_of : Item → Items → List Attribute
+attributes_of before no_items = []
+attributes_of before (item i rest) = attribute_of before i ++ attributes_of i rest
+
+-- a clause is a list that begins with the symbol `cl`
+abbrev pub clause_fault : Item → Option ℕ
+clause_fault (list place (item head literals)) = if is_symbol_of (codes "cl") head then None else Some (place_of head)
+clause_fault other = Some (place_of other)
+
+abbrev pub behind_first : Items → Items
+behind_first no_items = no_items
+behind_first (item i rest) = rest
+
+-- The commands by what stands after their words. Each begins at this place, and one that lacks an item is faulty there.
+abbrev pub assume_shape : ℕ → Items → Result Command Refusal
+assume_shape place (item id (item t rest)) = shaped (option_or (symbol_fault id) (excess rest)) (assume (name_at id) t)
+assume_shape place _ = refused BadCommand place
+
+abbrev pub step_shape : ℕ → Items → Result Command Refusal
+step_shape place (item id (item clause rest)) =
+    if not (has_word (codes ":rule") rest) || lacks_value step_keywords clause rest then refused BadCommand place
+    else shaped (option_or (symbol_fault id) (option_or (clause_fault clause) (attributes_fault [] clause rest)))
+    (step (name_at id) (behind_first (items_of clause)) (attributes_of clause rest))
+step_shape place _ = refused BadCommand place
+
+-- a variable, alone or with its sort
+abbrev pub variable_fault : Item → Option ℕ
+variable_fault (list place items) = pair_fault (list place items)
+variable_fault other = symbol_fault other
+
+-- A variable and its term, behind the `:=` of an argument that begins at this place; or the sort behind a variable alone.
+abbrev pub assigned_fault : ℕ → Items → Option ℕ
+assigned_fault place (item x (item t rest)) = option_or (variable_fault x) (excess rest)
+assigned_fault place _ = Some place
+
+abbrev pub alone_fault : ℕ → Items → Option ℕ
+alone_fault place (item sort rest) = excess rest
+alone_fault place no_items = Some place
+
+abbrev pub argument_fault : Item → Option ℕ
+argument_fault (list place (item head rest)) =
+    if is_word_of (codes ":=") head then assigned_fault place rest
+    else if is_some (symbol_name head) then alone_fault place rest
+    else Some (place_of head)
+argument_fault other = Some (place_of other)
+
+abbrev pub each_argument_fault : Items → Option ℕ
+each_argument_fault no_items = None
+each_argument_fault (item i rest) = option_or (argument_fault i) (each_argument_fault rest)
+
+-- what may stand behind the id of an anchor
+abbrev pub arguments_fault : Items → Option ℕ
+arguments_fault no_items = None
+arguments_fault (item keyword no_items) = Some (place_of keyword)
+arguments_fault (item keyword (item items rest)) =
+    option_or (word_fault (codes ":args") keyword)
+    (option_or (list_fault items) (option_or (each_argument_fault (items_of items)) (excess rest)))
+
+-- a variable with the sort that the text gives it
+abbrev pub assigned_to : ℕ → Item → Item → Argument
+assigned_to place (list pair (item x (item sort rest))) t = assigned place (name_at x) (Some sort) t
+assigned_to place x t = assigned place (name_at x) None t
+
+abbrev pub argument_of : Item → Argument
+argument_of (list place (item assigns (item x (item t rest)))) = assigned_to place x t
+argument_of other = variable_alone (place_of other)
+
+abbrev pub arguments_of : Items → List Argument
+arguments_of no_items = []
+arguments_of (item i rest) = argument_of i ∷ arguments_of rest
+
+abbrev pub argument_items : Items → Items
+argument_items (item keyword (item items rest)) = items_of items
+argument_items _ = no_items
+
+abbrev pub anchor_keywords : List (List ℕ)
+anchor_keywords = codes ":step" ∷ codes ":args" ∷ []
+
+abbrev pub anchor_shape : ℕ → Items → Result Command Refusal
+anchor_shape place (item keyword (item id rest)) =
+    if lacks_value anchor_keywords id rest then refused BadCommand place
+    else shaped (option_or (word_fault (codes ":step") keyword) (option_or (symbol_fault id) (arguments_fault rest)))
+    (anchor place (name_at id) (arguments_of (argument_items rest)))
+anchor_shape place _ = refused BadCommand place
+
+-- The command of this word, whose place is the second. Functions are defined in proofs together with quantifiers, which are
+-- left out.
+abbrev pub command_named : ℕ → ℕ → List ℕ → Items → Result Command Refusal
+command_named place word_place name items =
+    if bytes_eq name (codes "assume") then assume_shape place items
+    else if bytes_eq name (codes "step") then step_shape place items
+    else if bytes_eq name (codes "anchor") then anchor_shape place items
+    else if bytes_eq name (codes "define-fun") then refused LeftOut word_place
+    else refused UnknownCommand word_place
+
+-- The word of a command stands without bars.
+abbrev pub headed_command : ℕ → Item → Items → Result Command Refusal
+headed_command place (word word_place spelling) items =
+    if is_symbol spelling then command_named place word_place spelling items else refused BadCommand word_place
+headed_command place head items = refused BadCommand (place_of head)
+
+-- the command that an item of a proof is
+unfoldable pub command_of : Item → Result Command Refusal
+command_of (list place (item head items)) = headed_command place head items
+command_of other = refused BadCommand (place_of other)

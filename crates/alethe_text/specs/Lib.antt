@@ -1,0 +1,11 @@
+pub mod Commands
+pub mod Coefficients
+pub mod States
+pub mod Ids
+pub mod ProofTerms
+pub mod Arguments
+pub mod Steps
+pub mod Anchors
+pub mod ProofTexts
+pub mod Soundness
+pub mod Examples
