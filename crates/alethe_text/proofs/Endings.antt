@@ -5,17 +5,18 @@ use Rattle.sexpr.specs.declared.causes.Cause.{Cause}
 use Rattle.sexpr.specs.declared.causes.Refusal.{Refusal}
 use Rattle.term_model.specs.Terms.{Var, Term}
 use Rattle.rule_model.specs.Scopes.{Scope}
-use Rattle.problem_text.specs.Scripts.{Script, Outcome}
-use Rattle.alethe_text.specs.States.{ProofState, ProofOutcome, Reading, goes_on_with, ◌>>=◌, demand, found, given, seen_in, changed, in_script}
+use Rattle.problem_text.specs.Outcomes.{Outcome, goes_on}
+use Rattle.problem_text.specs.Scripts.{Script}
+use Rattle.alethe_text.specs.States.{ProofState, Reading, ◌>>=◌, demand, found, given, seen_in, changed, in_script}
 
 abbrev pub After : {A : Type 0} → (A → ProofState → Type 0) → Result A Refusal → ProofState → Type 0
 After Q (Ok a) s = Q a s
 After Q (Err refusal) s = ⊤
 
-abbrev pub Ends : {A : Type 0} → (A → ProofState → Type 0) → ProofOutcome A → Type 0
+abbrev pub Ends : {A : Type 0} → (A → ProofState → Type 0) → Outcome ProofState A → Type 0
 Ends Q o = After Q o.result o.state
 
-after_goes : {A B : Type 0} (Q : A → ProofState → Type 0) (R : B → ProofState → Type 0) (r : Result A Refusal) (s : ProofState) (next : A → Reading B) → After Q r s → ((a : A) (t : ProofState) → Q a t → Ends R (next a t)) → Ends R (goes_on_with r s next)
+after_goes : {A B : Type 0} (Q : A → ProofState → Type 0) (R : B → ProofState → Type 0) (r : Result A Refusal) (s : ProofState) (next : A → Reading B) → After Q r s → ((a : A) (t : ProofState) → Q a t → Ends R (next a t)) → Ends R (goes_on r s next)
 after_goes Q R (Ok a) s next h k = k a s h
 after_goes Q R (Err refusal) s next h k = tt
 
@@ -34,10 +35,10 @@ found_one Q P (Some a) cause place s q p = (q, p)
 found_one Q P None cause place s q p = tt
 
 -- a reading in the script alone leaves the proof that is written
-pub in_script_stays : {A : Type 0} (P : Scope Var Term → Type 0) (reading : Script → Outcome A) (s : ProofState) → P s.scope → Ends (λ _ t. P t.scope) (in_script reading s)
+pub in_script_stays : {A : Type 0} (P : Scope Var Term → Type 0) (reading : Script → Outcome Script A) (s : ProofState) → P s.scope → Ends (λ _ t. P t.scope) (in_script reading s)
 in_script_stays {A} P reading s p = go (reading s.script).result
   where
-    go : (r : Result A Refusal) → After (λ _ t. P t.scope) r (record s { script = (reading s.script).script })
+    go : (r : Result A Refusal) → After (λ _ t. P t.scope) r (record s { script = (reading s.script).state })
     go (Ok a) = p
     go (Err refusal) = tt
 

@@ -16,7 +16,7 @@ use Rattle.text_items.specs.ItemShapes.{Name}
 use Rattle.problem_text.specs.Limits.{most_height}
 use Rattle.problem_text.specs.Words.{is_among, is_built_in}
 use Rattle.alethe_text.specs.Commands.{Argument, variable_alone, assigned}
-use Rattle.alethe_text.specs.States.{Settings, ProofState}
+use Rattle.alethe_text.specs.States.{ProofSettings, ProofState}
 use Rattle.alethe_text.specs.ProofTerms.{term_in}
 use Rattle.alethe_text.specs.Anchors.{bound_names, sort_given, image_of, argument_read, arguments_read, anchor_read}
 use Rattle.alethe_text.proofs.Endings.{Ends, and_next, looked, asked, given_next, changed_next, always}
@@ -29,7 +29,7 @@ use Rattle.alethe_text.proofs.Formed.{IsPlaced, IsNew, anchor_placed}
 abbrev IsFresh : List (List ℕ) → Var × Term → Scope Var Term → Type 0
 IsFresh earlier b scope = (is_among earlier b.0.name ≡ false) × (is_among (bound_names scope.nesting) b.0.name ≡ false)
 
-argument_formed : (P : Scope Var Term → Type 0) (settings : Settings) (earlier : List (List ℕ)) (a : Argument) (s : ProofState) → P s.scope → Ends (λ b t. P t.scope × IsFresh earlier b t.scope) (argument_read settings earlier a s)
+argument_formed : (P : Scope Var Term → Type 0) (settings : ProofSettings) (earlier : List (List ℕ)) (a : Argument) (s : ProofState) → P s.scope → Ends (λ b t. P t.scope × IsFresh earlier b t.scope) (argument_read settings earlier a s)
 unfolding argument_read
 argument_formed P settings earlier (variable_alone place) s h = tt
 argument_formed P settings earlier (assigned place x sort i) s h =
@@ -64,7 +64,7 @@ differ x earlier (b ∷ bs) h =
     let rest = differ x earlier bs h.1 in
     ((λ e. (let f = (bytes_eq-Decides b.0.name x.name).1 (ap (λ (y : Var). y.name) (sym e)) in absurd (cc)), rest.0), (parts.1, rest.1))
 
-arguments_formed : (P : Scope Var Term → Type 0) (settings : Settings) (earlier : List (List ℕ)) (others : List Argument) (s : ProofState) → P s.scope → Ends (λ bs t. P t.scope × AreFresh earlier t.scope bs) (arguments_read settings earlier others s)
+arguments_formed : (P : Scope Var Term → Type 0) (settings : ProofSettings) (earlier : List (List ℕ)) (others : List Argument) (s : ProofState) → P s.scope → Ends (λ bs t. P t.scope × AreFresh earlier t.scope bs) (arguments_read settings earlier others s)
 unfolding arguments_read
 arguments_formed P settings earlier [] s h = (h, record { new = tt; unbound = tt; distinct = no_pairs })
 arguments_formed P settings earlier (a ∷ others) s h =
@@ -93,7 +93,7 @@ unbound_variables nesting [] h = tt
 unbound_variables nesting (b ∷ bs) h =
     (λ bound. not_among (bound_names nesting) b.0.name h.0 (bound_name (open_bindings nesting) b.0 bound), unbound_variables nesting bs h.1)
 
-pub anchor_formed : (settings : Settings) (place : ℕ) (n : Name) (others : List Argument) (s : ProofState) → IsSymbolName n.name → IsPlaced s.scope → Ends Placed (anchor_read settings place n others s)
+pub anchor_formed : (settings : ProofSettings) (place : ℕ) (n : Name) (others : List Argument) (s : ProofState) → IsSymbolName n.name → IsPlaced s.scope → Ends Placed (anchor_read settings place n others s)
 unfolding anchor_read
 anchor_formed settings place n others s symbol placed =
     id_next Placed Repeated n _ s symbol

@@ -19,7 +19,7 @@ use Rattle.text_items.specs.ItemShapes.{Name}
 use Rattle.problem_text.specs.Words.{is_among}
 use Rattle.alethe_text.specs.Commands.{Attribute, rule, premises, arguments, discharge}
 use Rattle.alethe_text.specs.Coefficients.{coefficients_from}
-use Rattle.alethe_text.specs.States.{Settings, ProofState, Reading, ◌>>=◌, give, given}
+use Rattle.alethe_text.specs.States.{ProofSettings, ProofState, Reading, ◌>>=◌, give, given}
 use Rattle.alethe_text.specs.Ids.{Standing, stands_in, closes_scope, id_judged, standing_of, indices_of}
 use Rattle.alethe_text.specs.ProofTerms.{formula_in}
 use Rattle.alethe_text.specs.Arguments.{takes_coefficients, takes_pivots, named_among, pivots_from, arguments_from}
@@ -57,7 +57,7 @@ id_next R of_anchor n next s symbol k =
 abbrev pub Placed : {A : Type 0} → A → ProofState → Type 0
 Placed a t = IsPlaced t.scope
 
-pub assume_formed : (settings : Settings) (n : Name) (i : Item) (s : ProofState) → IsSymbolName n.name → IsPlaced s.scope → Ends Placed (assume_read settings n i s)
+pub assume_formed : (settings : ProofSettings) (n : Name) (i : Item) (s : ProofState) → IsSymbolName n.name → IsPlaced s.scope → Ends Placed (assume_read settings n i s)
 unfolding assume_read
 assume_formed settings n i s symbol placed =
     id_next Placed BadAnchor n _ s symbol
@@ -109,7 +109,7 @@ bare_is p id name clause = record {
 abbrev pub StepRead : (Scope Var Term → Type 0) → Standing → List ℕ → List ℕ → Step Term → ProofState → Type 0
 StepRead P p id name step t = P t.scope × IsReadStep p id name step
 
-module _ (P : Scope Var Term → Type 0) (settings : Settings) (p : Standing) (id name : List ℕ) where
+module _ (P : Scope Var Term → Type 0) (settings : ProofSettings) (p : Standing) (id name : List ℕ) where
   coefficients_formed : (items : Items) (s : ProofState) (step : Step Term) → P s.scope → IsReadStep p id name step → takes_coefficients step.rule ≡ true → Ends (StepRead P p id name) ((given (coefficients_from items) >>= λ qs. give (record step { ratios = qs })) s)
   coefficients_formed items s step h read e =
       given_next (λ o. IfSome o (All IsLowest)) (StepRead P p id name) (coefficients_from items) _ s (coefficients_lowest items)

@@ -6,7 +6,7 @@ use Rattle.sexpr.specs.Items.{Items, StandsForItems}
 use Rattle.term_model.specs.Terms.{Var, Term}
 use Rattle.rule_model.specs.Proofs.{Items as Proof}
 use Rattle.problem_text.specs.Scripts.{Script}
-use Rattle.alethe_text.specs.States.{Settings, unread}
+use Rattle.alethe_text.specs.States.{ProofSettings, unread}
 use Rattle.alethe_text.specs.ProofTexts.{proof_from, StandsForProof, IsProofCommandFault, IsFirstProofFault}
 
 -- a text stands for one list of items at most
@@ -29,7 +29,7 @@ err_same a b e = cc
 ok_or_err : {A : Type 0} (a : A) (r : Refusal) → ◌≡◌ {A = Result A Refusal} (Ok a) (Err r) → ⊥
 ok_or_err a r e = cc
 
-module _ (source : List ℕ) (settings : Settings) (before : Script) where
+module _ (source : List ℕ) (settings : ProofSettings) (before : Script) where
   pub one_proof : OneNesting → (p q : Proof Var Term) (s t : Script) → StandsForProof source settings before p s → StandsForProof source settings before q t → (p ≡ q) × (s ≡ t)
   one_proof one p q s t a b =
       let same = one source a.items b.items a.nested b.nested in (

@@ -20,7 +20,7 @@ use Rattle.problem_text.specs.Scripts.{Script, with_term, with_let_name}
 use Rattle.problem_text.specs.Soundness.{IsRead, IsSound}
 use Rattle.problem_text.specs.Words.{is_among, is_built_in}
 use Rattle.alethe_text.specs.Commands.{Attribute, Argument, variable_alone, assigned, Command, assume, step, anchor, command_of}
-use Rattle.alethe_text.specs.States.{Settings, ProofState, unread, Reading, ◌>>=◌, give}
+use Rattle.alethe_text.specs.States.{ProofSettings, ProofState, unread, Reading, ◌>>=◌, give}
 use Rattle.alethe_text.specs.Ids.{closes_scope, stands_in, id_judged, standing_of}
 use Rattle.alethe_text.specs.ProofTerms.{term_in, formula_in, formulas_in}
 use Rattle.alethe_text.specs.Soundness.{IsFormula, HasTerms, IsBinding, AreSorted, AreSortedAround}
@@ -47,7 +47,7 @@ id_kept R of_anchor n next s k =
     (λ _. asked_last (λ _ t. t ≡ s) (not (is_among (visible_ids s.scope.nesting s.scope.items) n.name)) Repeated n.place s (λ _. refl))))
     (λ _ t h. subst (λ u. Ends R (next tt u)) (sym h) k)
 
-assume_sorted : (settings : Settings) (n : Name) (i : Item) (s : ProofState) → Keeps IsSorted s → Ends Sound (assume_read settings n i s)
+assume_sorted : (settings : ProofSettings) (n : Name) (i : Item) (s : ProofState) → Keeps IsSorted s → Ends Sound (assume_read settings n i s)
 unfolding assume_read
 assume_sorted settings n i s h =
     id_kept Sound BadAnchor n _ s
@@ -85,7 +85,7 @@ standing_keeps n s h = looked Sound (λ s. s.scope) _ s (go (is_open_id s.scope.
     go true = h
     go false = id_kept Sound BadAnchor n _ s h
 
-step_sorted : (settings : Settings) (n : Name) (literals : Items) (others : List Attribute) (s : ProofState) → Keeps IsSorted s → Ends Sound (step_read settings n literals others s)
+step_sorted : (settings : ProofSettings) (n : Name) (literals : Items) (others : List Attribute) (s : ProofState) → Keeps IsSorted s → Ends Sound (step_read settings n literals others s)
 unfolding step_read
 step_sorted settings n literals others s h =
     and_next Sound Sound (standing_of n) _ s (standing_keeps n s h)
@@ -101,7 +101,7 @@ term_added t s h = record { named = h.named; macros = h.macros; assertions = h.a
 name_added : (name : List ℕ) (s : Script) → IsSound s → IsSound (with_let_name name s)
 name_added name s h = record { named = h.named; macros = h.macros; assertions = h.assertions }
 
-argument_sorted : (P : Scope Var Term → Type 0) (settings : Settings) (earlier : List (List ℕ)) (a : Argument) (s : ProofState) → Keeps P s → Ends (λ b t. IsBinding t.scope.nesting b × Keeps P t) (argument_read settings earlier a s)
+argument_sorted : (P : Scope Var Term → Type 0) (settings : ProofSettings) (earlier : List (List ℕ)) (a : Argument) (s : ProofState) → Keeps P s → Ends (λ b t. IsBinding t.scope.nesting b × Keeps P t) (argument_read settings earlier a s)
 unfolding argument_read
 argument_sorted P settings earlier (variable_alone place) s h = tt
 argument_sorted P settings earlier (assigned place x sort i) s h =
@@ -128,7 +128,7 @@ argument_sorted P settings earlier (assigned place x sort i) s h =
 abbrev AreBindings : List (Var × Term) → Scope Var Term → Type 0
 AreBindings bs scope = AllByRecursion (IsBinding scope.nesting) bs
 
-arguments_sorted : (P : Scope Var Term → Type 0) (settings : Settings) (earlier : List (List ℕ)) (others : List Argument) (s : ProofState) → Keeps P s → Ends (λ bs t. AreBindings bs t.scope × Keeps P t) (arguments_read settings earlier others s)
+arguments_sorted : (P : Scope Var Term → Type 0) (settings : ProofSettings) (earlier : List (List ℕ)) (others : List Argument) (s : ProofState) → Keeps P s → Ends (λ bs t. AreBindings bs t.scope × Keeps P t) (arguments_read settings earlier others s)
 unfolding arguments_read
 arguments_sorted P settings earlier [] s h = (tt, h)
 arguments_sorted P settings earlier (a ∷ others) s h =
@@ -137,20 +137,20 @@ arguments_sorted P settings earlier (a ∷ others) s h =
     (arguments_sorted (λ scope. IsBinding scope.nesting b × P scope) settings (b.0.name ∷ earlier) others t (record { script = k.1.script; scope = (k.0, k.1.scope) }))
     (λ bs u l. ((l.1.scope.0, l.0), record { script = l.1.script; scope = l.1.scope.1 })))
 
-anchor_sorted : (settings : Settings) (place : ℕ) (n : Name) (others : List Argument) (s : ProofState) → Keeps IsSorted s → Ends Sound (anchor_read settings place n others s)
+anchor_sorted : (settings : ProofSettings) (place : ℕ) (n : Name) (others : List Argument) (s : ProofState) → Keeps IsSorted s → Ends Sound (anchor_read settings place n others s)
 unfolding anchor_read
 anchor_sorted settings place n others s h =
     id_kept Sound Repeated n _ s
     (and_next (λ bs t. AreBindings bs t.scope × Keeps IsSorted t) Sound (arguments_read settings [] others) _ s (arguments_sorted IsSorted settings [] others s h)
     (λ bs t k. record { script = k.1.script; scope = record { around = (k.1.scope.around, k.1.scope.here, k.0); here = tt } }))
 
-command_sorted : (settings : Settings) (c : Command) (s : ProofState) → Keeps IsSorted s → Ends Sound (performed settings c s)
+command_sorted : (settings : ProofSettings) (c : Command) (s : ProofState) → Keeps IsSorted s → Ends Sound (performed settings c s)
 unfolding performed
 command_sorted settings (assume n i) s h = assume_sorted settings n i s h
 command_sorted settings (step n literals others) s h = step_sorted settings n literals others s h
 command_sorted settings (anchor place n others) s h = anchor_sorted settings place n others s h
 
-commands_sorted : (settings : Settings) (items : Items) (s : ProofState) → Keeps IsSorted s → Ends Sound (commands settings items s)
+commands_sorted : (settings : ProofSettings) (items : Items) (s : ProofState) → Keeps IsSorted s → Ends Sound (commands settings items s)
 unfolding commands
 commands_sorted settings no_items s h = h
 commands_sorted settings (item i rest) s h =
@@ -168,7 +168,7 @@ none_keeps : (o : Option ℕ) (s : ProofState) → Keeps IsSorted s → Ends Sou
 none_keeps None s h = h
 none_keeps (Some place) s h = tt
 
-proof_sorted : (settings : Settings) (items : Items) (before : Script) → IsSound before → Ends Whole (proof_from settings items (unread before))
+proof_sorted : (settings : ProofSettings) (items : Items) (before : Script) → IsSound before → Ends Whole (proof_from settings items (unread before))
 unfolding proof_from
 proof_sorted settings items before sound =
     and_next Sound Whole (commands settings (commands_in (behind_answer items))) _ (unread before)
@@ -177,7 +177,7 @@ proof_sorted settings items before sound =
     (λ _ t k. looked Whole (λ s. s) _ t (closed_whole t.scope.nesting t.scope.items t.anchors t k.scope.here k.script)))
 
 -- what a text stands for behind a sound script is well sorted
-pub text_sorted : (source : List ℕ) (settings : Settings) (before : Script) (proof : Proof Var Term) (after : Script) → IsSound before → StandsForProof source settings before proof after → AreSorted outermost proof × IsSound after
+pub text_sorted : (source : List ℕ) (settings : ProofSettings) (before : Script) (proof : Proof Var Term) (after : Script) → IsSound before → StandsForProof source settings before proof after → AreSorted outermost proof × IsSound after
 text_sorted source settings before proof after sound h =
     let both = subst (λ r. After Whole r (proof_from settings h.items (unread before)).state) h.read (proof_sorted settings h.items before sound) in
     (both.0, subst IsSound h.script both.1)

@@ -22,7 +22,7 @@ use Rattle.problem_text.specs.Words.{is_among}
 use Rattle.problem_text.proofs.Readings.{term-sound}
 use Rattle.alethe_text.specs.Commands.{Attribute, rule, premises, arguments, discharge}
 use Rattle.alethe_text.specs.Coefficients.{coefficients_from}
-use Rattle.alethe_text.specs.States.{Settings, ProofState, ◌>>=◌, give, given}
+use Rattle.alethe_text.specs.States.{ProofSettings, ProofState, ◌>>=◌, give, given}
 use Rattle.alethe_text.specs.Ids.{Standing, indices_of}
 use Rattle.alethe_text.specs.ProofTerms.{place_in, term_in, formula_in, formulas_in}
 use Rattle.alethe_text.specs.Arguments.{takes_coefficients, takes_pivots, is_naming, named_in, named_among, truth_of, with_pivot, pivots_from, arguments_from}
@@ -39,15 +39,15 @@ themselves : (bs : List (Var × Term)) → AreBoundSorted (map (λ b. itself b.0
 themselves [] = tt
 themselves (b ∷ bs) = (refl, themselves bs)
 
-module _ (P : Scope Var Term → Type 0) (settings : Settings) (nesting : Nesting Var Term) where
+module _ (P : Scope Var Term → Type 0) (settings : ProofSettings) (nesting : Nesting Var Term) where
   pub term_reads : (i : Item) (s : ProofState) → Keeps P s → Ends (λ t u. IsRead t × Keeps P u) (term_in settings nesting i s)
   unfolding term_in
   term_reads i s h = go (read_term i (place_in settings nesting) s.script).result sound.1
     where
-      sound : IsSound (read_term i (place_in settings nesting) s.script).script × IfOk (read_term i (place_in settings nesting) s.script).result IsRead
+      sound : IsSound (read_term i (place_in settings nesting) s.script).state × IfOk (read_term i (place_in settings nesting) s.script).result IsRead
       sound = term-sound (form_of i) (place_in settings nesting) s.script (themselves (reverse (open_bindings nesting))) h.script
 
-      go : (r : Result Typed Refusal) → IfOk r IsRead → After (λ t u. IsRead t × Keeps P u) r (record s { script = (read_term i (place_in settings nesting) s.script).script })
+      go : (r : Result Typed Refusal) → IfOk r IsRead → After (λ t u. IsRead t × Keeps P u) r (record s { script = (read_term i (place_in settings nesting) s.script).state })
       go (Ok t) k = (k, record { script = sound.0; scope = h.scope })
       go (Err refusal) k = tt
 
@@ -136,7 +136,7 @@ indices_keep P sights (n ∷ ns) s h =
     any None = tt
     any (Some c) = tt
 
-module _ (P : Scope Var Term → Type 0) (settings : Settings) (at : Standing) where
+module _ (P : Scope Var Term → Type 0) (settings : ProofSettings) (at : Standing) where
   attribute_reads : (a : Attribute) (s : ProofState) (step : Step Term) → HasTerms step → Keeps P s → Ends (λ step u. HasTerms step × Keeps P u) (attribute_read settings at a step s)
   unfolding attribute_read
   attribute_reads (rule n) s step terms h =

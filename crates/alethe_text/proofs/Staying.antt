@@ -10,14 +10,14 @@ use Rattle.rule_model.specs.Scopes.{Nesting, Scope}
 use Rattle.rule_model.specs.Visibility.{Sight}
 use Rattle.text_items.specs.ItemShapes.{Name}
 use Rattle.problem_text.specs.Terms.{read_term}
-use Rattle.alethe_text.specs.States.{Settings, ProofState, ◌>>=◌, give}
+use Rattle.alethe_text.specs.States.{ProofSettings, ProofState, ◌>>=◌, give}
 use Rattle.alethe_text.specs.Ids.{indices_of}
 use Rattle.alethe_text.specs.ProofTerms.{place_in, term_in, formula_in, formulas_in}
 use Rattle.alethe_text.specs.Arguments.{is_naming, named_in, named_among, pivots_from}
 use Rattle.alethe_text.proofs.Endings.{Ends, and_next, demanded, found_one, in_script_stays}
 use Rattle.alethe_text.proofs.Lists.{index_found}
 
-module _ (P : Scope Var Term → Type 0) (settings : Settings) (nesting : Nesting Var Term) where
+module _ (P : Scope Var Term → Type 0) (settings : ProofSettings) (nesting : Nesting Var Term) where
   -- P of the proof that is written
   abbrev pub Stays : {A : Type 0} → A → ProofState → Type 0
   Stays a t = P t.scope

@@ -12,7 +12,7 @@ use Rattle.rule_model.specs.WellFormed.{AreWellFormed, IsWellFormed}
 use Rattle.text_items.specs.ItemShapes.{Name, items_of}
 use Rattle.problem_text.specs.Scripts.{Script}
 use Rattle.alethe_text.specs.Commands.{Attribute, rule, premises, arguments, discharge, Command, assume, step, anchor, is_symbol_of, command_of}
-use Rattle.alethe_text.specs.States.{Settings, ProofState, unread}
+use Rattle.alethe_text.specs.States.{ProofSettings, ProofState, unread}
 use Rattle.alethe_text.specs.Ids.{Standing, standing_of}
 use Rattle.alethe_text.specs.ProofTerms.{formulas_in}
 use Rattle.alethe_text.specs.Steps.{rule_word, bare_step, attributes_read, step_read}
@@ -27,14 +27,14 @@ use Rattle.alethe_text.proofs.FormedAnchors.{anchor_formed}
 use Rattle.alethe_text.proofs.Formed.{IsPlaced, StandsAs, IsKeptWord, step_placed}
 
 -- a rule's word is empty where there is none, and no rule for quantifiers
-kept_word : (settings : Settings) (p : Standing) (id name : List ℕ) (P : Scope Var Term → Type 0) (others : List Attribute) → AllByRecursion IsRuleNamed others → AllByRecursion (IsKept P settings p id name) others → IsKeptWord (rule_word others)
+kept_word : (settings : ProofSettings) (p : Standing) (id name : List ℕ) (P : Scope Var Term → Type 0) (others : List Attribute) → AllByRecursion IsRuleNamed others → AllByRecursion (IsKept P settings p id name) others → IsKeptWord (rule_word others)
 kept_word settings p id name P [] h k = record { symbol = All-nil _; kept = not_among left_out_rules [] refl }
 kept_word settings p id name P (rule n ∷ others) h k = record { symbol = h.0; kept = k.0 }
 kept_word settings p id name P (premises ns ∷ others) h k = kept_word settings p id name P others h.1 k.1
 kept_word settings p id name P (arguments items ∷ others) h k = kept_word settings p id name P others h.1 k.1
 kept_word settings p id name P (discharge ns ∷ others) h k = kept_word settings p id name P others h.1 k.1
 
-step_formed : (settings : Settings) (n : Name) (literals : Items) (others : List Attribute) (s : ProofState) → IsSymbolName n.name → AllByRecursion IsRuleNamed others → IsPlaced s.scope → Ends Placed (step_read settings n literals others s)
+step_formed : (settings : ProofSettings) (n : Name) (literals : Items) (others : List Attribute) (s : ProofState) → IsSymbolName n.name → AllByRecursion IsRuleNamed others → IsPlaced s.scope → Ends Placed (step_read settings n literals others s)
 unfolding step_read
 step_formed settings n literals others s symbol named placed =
     and_next (λ p t. IsPlaced t.scope × StandsAs p n.name t.scope) Placed (standing_of n) _ s (standing_formed n s symbol placed)
@@ -44,13 +44,13 @@ step_formed settings n literals others s symbol named placed =
     (attributes_formed P settings p n.name (rule_word others) others u (bare_step n.name (rule_word others) clause) k (bare_is p n.name (rule_word others) clause))
     (λ read v l. step_placed v.scope p n.name (rule_word others) read l.0.0.0 l.0.0.1 l.0.1 (kept_word settings p n.name (rule_word others) P others named l.1))))
 
-command_formed : (settings : Settings) (c : Command) (s : ProofState) → IsNamed c → IsPlaced s.scope → Ends Placed (performed settings c s)
+command_formed : (settings : ProofSettings) (c : Command) (s : ProofState) → IsNamed c → IsPlaced s.scope → Ends Placed (performed settings c s)
 unfolding performed
 command_formed settings (assume n i) s named placed = assume_formed settings n i s named placed
 command_formed settings (step n literals others) s named placed = step_formed settings n literals others s named.0 named.1 placed
 command_formed settings (anchor place n others) s named placed = anchor_formed settings place n others s named placed
 
-commands_formed : (settings : Settings) (items : Items) (s : ProofState) → HaveNames items → IsPlaced s.scope → Ends Placed (commands settings items s)
+commands_formed : (settings : ProofSettings) (items : Items) (s : ProofState) → HaveNames items → IsPlaced s.scope → Ends Placed (commands settings items s)
 unfolding commands
 commands_formed settings no_items s named placed = placed
 commands_formed settings (item i rest) s named placed =
@@ -91,7 +91,7 @@ none_formed : (o : Option ℕ) (s : ProofState) → IsPlaced s.scope → Ends Pl
 none_formed None s h = h
 none_formed (Some place) s h = tt
 
-proof_formed : (settings : Settings) (items : Items) (before : Script) → HaveNames items → Ends Whole (proof_from settings items (unread before))
+proof_formed : (settings : ProofSettings) (items : Items) (before : Script) → HaveNames items → Ends Whole (proof_from settings items (unread before))
 unfolding proof_from
 proof_formed settings items before named =
     and_next Placed Whole (commands settings (commands_in (behind_answer items))) _ (unread before)
@@ -100,7 +100,7 @@ proof_formed settings items before named =
     (λ _ t k. looked Whole (λ s. s) _ t (closed_formed t.scope.nesting t.scope.items t.anchors t k.here)))
 
 -- what a text stands for is well formed
-pub text_formed : AreSpelled → (source : List ℕ) (settings : Settings) (before : Script) (proof : Proof Var Term) (after : Script) → StandsForProof source settings before proof after → IsWellFormed proof
+pub text_formed : AreSpelled → (source : List ℕ) (settings : ProofSettings) (before : Script) (proof : Proof Var Term) (after : Script) → StandsForProof source settings before proof after → IsWellFormed proof
 text_formed law source settings before proof after h =
     subst (λ r. After Whole r (proof_from settings h.items (unread before)).state) h.read
     (proof_formed settings h.items before (text_named law source h.items h.nested))

@@ -19,7 +19,7 @@ use Rattle.problem_text.specs.Scripts.{Script, with_term, with_let_name}
 use Rattle.problem_text.specs.Sorts.{sort_from}
 use Rattle.problem_text.specs.Words.{is_among, is_built_in}
 use Rattle.alethe_text.specs.Commands.{Argument, variable_alone, assigned}
-use Rattle.alethe_text.specs.States.{Settings, ProofState, Reading, ◌>>=◌, give, refuse, demand, given, seen_in, changed}
+use Rattle.alethe_text.specs.States.{ProofSettings, ProofState, Reading, ◌>>=◌, give, refuse, demand, given, seen_in, changed}
 use Rattle.alethe_text.specs.Ids.{id_judged}
 use Rattle.alethe_text.specs.ProofTerms.{term_in}
 
@@ -41,7 +41,7 @@ abbrev pub script_changed : (Script → Script) → Reading ⊤
 script_changed change = changed (λ s. record s { script = change s.script })
 
 -- A variable and its term, which is read outside the anchor's variables. These are the names of the variables before it.
-unfoldable pub argument_read : Settings → List (List ℕ) → Argument → Reading (Var × Term)
+unfoldable pub argument_read : ProofSettings → List (List ℕ) → Argument → Reading (Var × Term)
 argument_read settings earlier (variable_alone place) = refuse LeftOut place
 argument_read settings earlier (assigned place x sort i) = do
   state ← seen_in (λ s. s)
@@ -55,7 +55,7 @@ argument_read settings earlier (assigned place x sort i) = do
   _ ← demand (nat_le (height (image_of state.scope.nesting t.tree)) most_height) TooHigh place
   give (record { name = x.name; sort = t.sort }, t.tree)
 
-unfoldable pub arguments_read : Settings → List (List ℕ) → List Argument → Reading (List (Var × Term))
+unfoldable pub arguments_read : ProofSettings → List (List ℕ) → List Argument → Reading (List (Var × Term))
 arguments_read settings earlier [] = give []
 arguments_read settings earlier (argument ∷ others) = do
   b ← argument_read settings earlier argument
@@ -69,7 +69,7 @@ with_anchor place id bindings s = record s {
 }
 
 -- the id, then the arguments
-unfoldable pub anchor_read : Settings → ℕ → Name → List Argument → Reading ⊤
+unfoldable pub anchor_read : ProofSettings → ℕ → Name → List Argument → Reading ⊤
 anchor_read settings place n arguments = do
   _ ← id_judged Repeated n
   bindings ← arguments_read settings [] arguments

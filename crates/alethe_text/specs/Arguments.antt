@@ -9,7 +9,7 @@ use Rattle.rule_model.specs.Scopes.{Nesting}
 use Rattle.problem_text.specs.NamedItems.{is_named_item}
 use Rattle.alethe_text.specs.Commands.{is_symbol_of}
 use Rattle.alethe_text.specs.Coefficients.{coefficients_from}
-use Rattle.alethe_text.specs.States.{Settings, Reading, ◌>>=◌, give, given}
+use Rattle.alethe_text.specs.States.{ProofSettings, Reading, ◌>>=◌, give, given}
 use Rattle.alethe_text.specs.ProofTerms.{term_in}
 
 abbrev pub takes_coefficients : Rule → Bool
@@ -29,14 +29,14 @@ is_naming _ = false
 
 unfoldable mutual
   -- the terms that get a name in an item, at any depth
-  pub named_in : Settings → Nesting Var Term → Item → Reading ⊤
+  pub named_in : ProofSettings → Nesting Var Term → Item → Reading ⊤
   named_in settings nesting (word place spelling) = give tt
   named_in settings nesting (quoted place spelling) = give tt
   named_in settings nesting (string place spelling) = give tt
   named_in settings nesting (list place items) =
       if is_naming items then (term_in settings nesting (list place items) >>= λ _. give tt) else named_among settings nesting items
 
-  pub named_among : Settings → Nesting Var Term → Items → Reading ⊤
+  pub named_among : ProofSettings → Nesting Var Term → Items → Reading ⊤
   named_among settings nesting no_items = give tt
   named_among settings nesting (item i rest) = named_in settings nesting i >>= λ _. named_among settings nesting rest
 
@@ -48,7 +48,7 @@ abbrev pub with_pivot : Term → Option Bool → Option (List (Term × Bool)) �
 with_pivot t truth pivots = option_and_then (λ b. option_map (λ ps. (t, b) ∷ ps) pivots) truth
 
 -- Each odd argument is a term. They are pivots where behind each stands its truth value.
-unfoldable pub pivots_from : Settings → Nesting Var Term → Items → Reading (Option (List (Term × Bool)))
+unfoldable pub pivots_from : ProofSettings → Nesting Var Term → Items → Reading (Option (List (Term × Bool)))
 pivots_from settings nesting no_items = give (Some [])
 pivots_from settings nesting (item i no_items) = term_in settings nesting i >>= λ _. give None
 pivots_from settings nesting (item i (item truth rest)) = do
@@ -57,7 +57,7 @@ pivots_from settings nesting (item i (item truth rest)) = do
   pivots ← pivots_from settings nesting rest
   give (with_pivot t.tree (truth_of truth) pivots)
 
-unfoldable pub arguments_from : Settings → Nesting Var Term → Items → Step Term → Reading (Step Term)
+unfoldable pub arguments_from : ProofSettings → Nesting Var Term → Items → Step Term → Reading (Step Term)
 arguments_from settings nesting items step =
     if takes_coefficients step.rule then (given (coefficients_from items) >>= λ qs. give (record step { ratios = qs }))
     else if settings.is_strict && takes_pivots step.rule

@@ -6,9 +6,10 @@ use Rattle.rule_model.specs.RuleNames.{rule_named}
 use Rattle.rule_model.specs.declared.rules.Rule.{Rule}
 use Rattle.rule_model.specs.Proofs.{Step, Items as Proof}
 use Rattle.problem_text.specs.Examples.{first_fault, items_in, script_in}
+use Rattle.problem_text.specs.Outcomes.{Outcome}
 use Rattle.alethe_text.specs.Commands.{command_of}
 use Rattle.alethe_text.specs.Coefficients.{coefficient_of, common_divisor, coefficients_from}
-use Rattle.alethe_text.specs.States.{Settings, unread, ProofOutcome, ◌>>=◌}
+use Rattle.alethe_text.specs.States.{ProofSettings, ProofState, unread, ◌>>=◌}
 use Rattle.alethe_text.specs.Ids.{standing_of, indices_of}
 use Rattle.alethe_text.specs.ProofTerms.{term_in, formula_in, formulas_in}
 use Rattle.alethe_text.specs.Arguments.{named_in, pivots_from, arguments_from}
@@ -25,12 +26,12 @@ value_of (Ok a) = Some a
 value_of (Err refusal) = None
 
 -- what a text comes to behind a problem
-unfoldable pub proof_read : Settings → List ℕ → List ℕ → ProofOutcome (Proof Var Term)
+unfoldable pub proof_read : ProofSettings → List ℕ → List ℕ → Outcome ProofState (Proof Var Term)
 unfolding first_fault script_in rule_named command_of coefficient_of common_divisor coefficients_from ◌>>=◌ standing_of indices_of term_in formula_in formulas_in named_in pivots_from arguments_from assume_read attribute_read attributes_read step_read argument_read arguments_read anchor_read performed commands proof_from
 proof_read settings problem text = proof_from settings (items_in text) (unread (script_in problem))
 
 -- lets are kept, and the proof is not strict
-abbrev pub usual : Settings
+abbrev pub usual : ProofSettings
 usual = record { replaces_lets = false; is_strict = false }
 
 -- the first fault of the commands of a text, and the proof for which it stands

@@ -11,18 +11,18 @@ use Rattle.text_items.specs.ItemShapes.{excess, items_of}
 use Rattle.text_items.specs.Spelling.{is_list_item}
 use Rattle.problem_text.specs.Scripts.{Script}
 use Rattle.alethe_text.specs.Commands.{Command, assume, step, anchor, is_symbol_of, command_of}
-use Rattle.alethe_text.specs.States.{Settings, unread, Reading, ◌>>=◌, give, refuse, given, seen_in}
+use Rattle.alethe_text.specs.States.{ProofSettings, unread, Reading, ◌>>=◌, give, refuse, given, seen_in}
 use Rattle.alethe_text.specs.Steps.{assume_read, step_read}
 use Rattle.alethe_text.specs.Anchors.{anchor_read}
 
 -- what a command adds
-unfoldable pub performed : Settings → Command → Reading ⊤
+unfoldable pub performed : ProofSettings → Command → Reading ⊤
 performed settings (assume n i) = assume_read settings n i
 performed settings (step n literals attributes) = step_read settings n literals attributes
 performed settings (anchor place n arguments) = anchor_read settings place n arguments
 
 -- the commands, in their order
-unfoldable pub commands : Settings → Items → Reading ⊤
+unfoldable pub commands : ProofSettings → Items → Reading ⊤
 commands settings no_items = give tt
 commands settings (item i rest) = do
   c ← given (command_of i)
@@ -64,7 +64,7 @@ abbrev pub finished : Reading (Proof Var Term)
 finished = seen_in (λ s. s) >>= λ s. closed_proof s.scope.nesting s.scope.items s.anchors
 
 -- what the items of a whole text come to
-unfoldable pub proof_from : Settings → Items → Reading (Proof Var Term)
+unfoldable pub proof_from : ProofSettings → Items → Reading (Proof Var Term)
 proof_from settings items = do
   _ ← commands settings (commands_in (behind_answer items))
   _ ← none_behind (excess_behind (behind_answer items))
@@ -72,18 +72,18 @@ proof_from settings items = do
 
 -- The text is without a fault behind a problem that stands for the script `before`. It stands for this proof, and `after` has
 -- besides what the proof names, and the terms that it reads.
-pub record StandsForProof (source : List ℕ) (settings : Settings) (before : Script) (proof : Proof Var Term) (after : Script) : Type 0 where
+pub record StandsForProof (source : List ℕ) (settings : ProofSettings) (before : Script) (proof : Proof Var Term) (after : Script) : Type 0 where
   pub items : Items
   pub nested : StandsForItems source items
   pub read : (proof_from settings items (unread before)).result ≡ Ok proof
   pub script : (proof_from settings items (unread before)).state.script ≡ after
 
 -- the text has the form of nested items, and this is the first fault of its commands
-pub record IsProofCommandFault (source : List ℕ) (settings : Settings) (before : Script) (refusal : Refusal) : Type 0 where
+pub record IsProofCommandFault (source : List ℕ) (settings : ProofSettings) (before : Script) (refusal : Refusal) : Type 0 where
   pub items : Items
   pub nested : StandsForItems source items
   pub refused : (proof_from settings items (unread before)).result ≡ Err refusal
 
 -- The first fault of the text: one of its form, or else one of its commands.
-abbrev pub IsFirstProofFault : List ℕ → Settings → Script → Refusal → Type 0
+abbrev pub IsFirstProofFault : List ℕ → ProofSettings → Script → Refusal → Type 0
 IsFirstProofFault source settings before refusal = IsFormFault source refusal ⊎ IsProofCommandFault source settings before refusal

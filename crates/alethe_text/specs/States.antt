@@ -5,11 +5,13 @@ use Rattle.sexpr.specs.declared.causes.Refusal.{Refusal}
 use Rattle.term_model.specs.Terms.{Var, Term}
 use Rattle.rule_model.specs.Scopes.{Scope}
 use Rattle.rule_model.specs.Writing.{unwritten}
-use Rattle.problem_text.specs.Scripts.{Script, Outcome}
+use Rattle.problem_text.specs.Outcomes as outcome
+use Rattle.problem_text.specs.Outcomes.{Outcome, and_then}
+use Rattle.problem_text.specs.Scripts.{Script}
 
 -- Whether lets are replaced, and whether a proof in which nothing is left to find is read: then the arguments of resolution
 -- are its pivots.
-pub record Settings : Type 0 where
+pub record ProofSettings : Type 0 where
   pub replaces_lets : Bool
   pub is_strict : Bool
 
@@ -24,35 +26,26 @@ pub record ProofState : Type 0 where
 abbrev pub unread : Script → ProofState
 unread script = record { script = script; scope = unwritten; anchors = [] }
 
--- how a reading ends: what was read or the first fault, and the state after it
-pub record ProofOutcome (A : Type 0) : Type 0 where
-  pub result : Result A Refusal
-  pub state : ProofState
-
 abbrev pub Reading : Type 0 → Type 0
-Reading A = ProofState → ProofOutcome A
+Reading A = ProofState → Outcome ProofState A
 
 -- One reading and then another. A fault of the first is the fault of both.
-abbrev pub goes_on_with : {A B : Type 0} → Result A Refusal → ProofState → (A → Reading B) → ProofOutcome B
-goes_on_with (Ok a) s next = next a s
-goes_on_with (Err refusal) s next = record { result = Err refusal; state = s }
-
 infixl 10 ◌>>=◌
 unfoldable pub ◌>>=◌ : {A B : Type 0} → Reading A → (A → Reading B) → Reading B
-◌>>=◌ reading next = λ s. goes_on_with (reading s).result (reading s).state next
+◌>>=◌ reading next = λ s. and_then (reading s) next
 
 -- what is so without reading; a fault; a fault unless this holds
 abbrev pub give : {A : Type 0} → A → Reading A
-give a = λ s. record { result = Ok a; state = s }
+give a = λ s. outcome.done a s
 
 abbrev pub refuse : {A : Type 0} → Cause → ℕ → Reading A
-refuse cause place = λ s. record { result = Err (record { cause = cause; at = place }); state = s }
+refuse cause place = λ s. outcome.refuse cause place s
 
 abbrev pub demand : Bool → Cause → ℕ → Reading ⊤
 demand holds cause place = if holds then give tt else refuse cause place
 
 abbrev pub given : {A : Type 0} → Result A Refusal → Reading A
-given r = λ s. record { result = r; state = s }
+given r = λ s. outcome.given r s
 
 -- a value, or this fault where there is none
 abbrev pub found : {A : Type 0} → Option A → Cause → ℕ → Reading A
@@ -67,5 +60,5 @@ abbrev pub changed : (ProofState → ProofState) → Reading ⊤
 changed change = λ s. record { result = Ok tt; state = change s }
 
 -- a reading in the script alone
-abbrev pub in_script : {A : Type 0} → (Script → Outcome A) → Reading A
-in_script reading = λ s. record { result = (reading s.script).result; state = record s { script = (reading s.script).script } }
+abbrev pub in_script : {A : Type 0} → (Script → Outcome Script A) → Reading A
+in_script reading = λ s. record { result = (reading s.script).result; state = record s { script = (reading s.script).state } }

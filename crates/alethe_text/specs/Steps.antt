@@ -9,13 +9,13 @@ use Rattle.rule_model.specs.Writing.{add_assume, is_open_id, take_step}
 use Rattle.text_items.specs.ItemShapes.{Name}
 use Rattle.problem_text.specs.Words.{is_among}
 use Rattle.alethe_text.specs.Commands.{Attribute, rule, premises, arguments, discharge}
-use Rattle.alethe_text.specs.States.{Settings, ProofState, Reading, ◌>>=◌, give, demand, seen_in, changed}
+use Rattle.alethe_text.specs.States.{ProofSettings, ProofState, Reading, ◌>>=◌, give, demand, seen_in, changed}
 use Rattle.alethe_text.specs.Ids.{Standing, id_judged, standing_of, indices_of}
 use Rattle.alethe_text.specs.ProofTerms.{formula_in, formulas_in}
 use Rattle.alethe_text.specs.Arguments.{takes_coefficients, arguments_from}
 
 -- the id, then the term
-unfoldable pub assume_read : Settings → Name → Item → Reading ⊤
+unfoldable pub assume_read : ProofSettings → Name → Item → Reading ⊤
 assume_read settings n i = do
   _ ← id_judged BadAnchor n
   scope ← seen_in (λ s. s.scope)
@@ -42,7 +42,7 @@ bare_step id word clause = record {
 }
 
 -- Premises are visible commands. What is discharged are assumes that stand directly in the scope that the step closes.
-unfoldable pub attribute_read : Settings → Standing → Attribute → Step Term → Reading (Step Term)
+unfoldable pub attribute_read : ProofSettings → Standing → Attribute → Step Term → Reading (Step Term)
 attribute_read settings at (rule n) step = do
   _ ← demand (not (is_among left_out_rules n.name)) LeftOut n.place
   give step
@@ -54,7 +54,7 @@ attribute_read settings at (discharge ns) step = do
   indices ← indices_of at.discharges ns
   give (record step { discharged = indices })
 
-unfoldable pub attributes_read : Settings → Standing → List Attribute → Step Term → Reading (Step Term)
+unfoldable pub attributes_read : ProofSettings → Standing → List Attribute → Step Term → Reading (Step Term)
 attributes_read settings at [] step = give step
 attributes_read settings at (attribute ∷ others) step =
     attribute_read settings at attribute step >>= attributes_read settings at others
@@ -67,7 +67,7 @@ abbrev pub with_step : Step Term → ProofState → ProofState
 with_step step s = record s { scope = take_step s.scope step; anchors = without_closed s step }
 
 -- the id, then the literals, then the attributes in the order of the text
-unfoldable pub step_read : Settings → Name → Items → List Attribute → Reading ⊤
+unfoldable pub step_read : ProofSettings → Name → Items → List Attribute → Reading ⊤
 step_read settings n literals attributes = do
   at ← standing_of n
   clause ← formulas_in settings at.nesting literals
