@@ -86,7 +86,7 @@ module _ (mode : Mode) (p : Items Var Term) (i : ℕ) (end : End) (units : List 
       subst (λ (m : Mode). MeetsAt m p i) (sym check) (record { closes_none = none; met = (met_is p i rule).1 resolves })
 
   pub keeps_by_end : (I : Interpretation) (r : Valuation) → KeepsTruth I r (judged_at mode p i)
-  keeps_by_end I r all = check_sound I r (premise_clauses p i) (clause_at p i) resolves all
+  keeps_by_end I r context all = check_sound I r (premise_clauses p i) (clause_at p i) resolves all
 
 -- what the trail of an end shows of the terms
 module _ (s : Table) (v : TermsView) (refs : Items ℕ ℕ) (i : ℕ) (units : List (ℕ × ℕ)) where
