@@ -8,7 +8,6 @@ pub mod ArgumentCells
 pub mod StackLemmas
 pub mod SortingLemmas
 pub mod ChangeLemmas
-pub mod RuleLemmas
 pub mod CheckLemmas
 pub mod CheckAnswers
 pub mod OppositeLemmas
