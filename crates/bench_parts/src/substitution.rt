@@ -29,10 +29,14 @@ pub fn run(alloc: Global, case: &str, bits: &str, count: &str) -> Result<u64, St
         return Err(Stop::BadWords);
     }
     let (pool, pass) = Pool::new(alloc, bits)?;
-    let mut terms = Terms::new(&pool, pass);
+    answer(alloc, &mut Terms::new(&pool, pass), case, count)
+}
+
+// The answer of a case in an empty pool.
+fn answer(alloc: Global, terms: &mut Terms, case: &str, count: u32) -> Result<u64, Stop> {
     let mut symbols = Symbols::new(alloc)?;
     let leaves = leaves_of(&mut symbols)?;
-    answer_of_case(alloc, &symbols, &mut terms, leaves, case, count)
+    answer_of_case(alloc, &symbols, terms, leaves, case, count)
 }
 
 // The answer of a case, over the term of so many applications.
