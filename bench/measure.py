@@ -1,4 +1,4 @@
-"""What the benchmarks of the symbols and of the pool share: the programs that are built, and the times that they take."""
+"""What the benchmarks that run bench_parts share: the programs that are built, and what they take of time and memory."""
 
 import os
 import resource
@@ -9,10 +9,15 @@ CRATE = os.path.join(os.path.dirname(os.path.abspath(__file__)), "..", "crates",
 PROGRAM = os.path.join(CRATE, "out", "bench_parts")
 
 
-def build(tiny, source, baseline):
-    """Builds bench_parts by running a tiny case of it, and the baseline's source by `rustc -O`."""
+def build_program(tiny):
+    """Builds bench_parts by running a tiny case of it."""
     quiet = subprocess.DEVNULL
     subprocess.run(["rt", "run", "--"] + tiny, cwd=CRATE, check=True, stdout=quiet, stderr=quiet)
+
+
+def build(tiny, source, baseline):
+    """Builds bench_parts, and the baseline's source by `rustc -O`."""
+    build_program(tiny)
     subprocess.run(["rustc", "-O", "-o", baseline, source], check=True)
 
 
@@ -40,3 +45,12 @@ def least_times(commands, rounds):
         if len(answers) != 1:
             sys.exit(f"the programs differ: {answers}")
     return {name: min(took) for name, took in times.items()}
+
+
+def most_memory(command):
+    """The most bytes of memory that a command had resident at once; it has to end with status 0."""
+    child = subprocess.Popen(command, stdout=subprocess.DEVNULL)
+    _, status, usage = os.wait4(child.pid, 0)
+    if status != 0:
+        sys.exit(f"{command[0]} ended with status {status}")
+    return usage.ru_maxrss * 1024

@@ -1,1 +1,3 @@
 pub mod TermLemmas
+pub mod SubstitutionLemmas
+pub mod NumberedLemmas

@@ -9,7 +9,7 @@ use pair_pool::{Memory, Pool, PoolFull, Ref};
 use std::alloc::{AllocFailed, Global};
 use sym_table::{NameFault, Symbols};
 use term_model::Sort;
-use term_pool::{Shape, Terms};
+use term_pool::{Shape, TermStop, Terms};
 
 /// Why a case has no sum.
 #[derive(Clone, Copy, Debug, PartialEq, Eq)]
@@ -46,6 +46,15 @@ impl From<NameFault> for Stop {
     }
 }
 
+impl From<TermStop> for Stop {
+    fn from(stop: TermStop) -> Stop {
+        match stop {
+            TermStop::PoolFull => Stop::PoolFull,
+            TermStop::Memory => Stop::Memory,
+        }
+    }
+}
+
 impl<T: Drop> From<AllocFailed<T>> for Stop {
     fn from(_refused: AllocFailed<T>) -> Stop {
         Stop::Memory
@@ -53,7 +62,7 @@ impl<T: Drop> From<AllocFailed<T>> for Stop {
 }
 
 // How many leaves a table may have before a call that adds one.
-const LIMIT: u32 = 1 << 30;
+pub(crate) const LIMIT: u32 = 1 << 30;
 
 /// The leaves of a constant, and of the declared functions of 1 to 4 arguments.
 #[derive(Clone, Copy)]
@@ -113,7 +122,7 @@ fn sum_of_case(
 
 // Declares a function, and answers its leaf.
 #[tactic(auto, using(crate::proofs::TermLemmas::declared_head, crate::proofs::TermLemmas::keeps_heads))]
-fn declare(symbols: &mut Symbols, name: &[u8], args: &[Sort]) -> Result<u32, Stop>
+pub(crate) fn declare(symbols: &mut Symbols, name: &[u8], args: &[Sort]) -> Result<u32, Stop>
     ensures head { IfOk result (IsDeclaredLeaf symbols.new) }
     ensures keeps { KeepsHeads symbols.old symbols.new }
 {
@@ -151,7 +160,12 @@ fn declare_functions(symbols: &mut Symbols) -> Result<Heads, Stop>
 
 // The application of a declared function to terms.
 #[tactic(auto, using(crate::proofs::TermLemmas::keeps_references, crate::proofs::TermLemmas::application_is_term, crate::proofs::TermLemmas::all_known))]
-fn apply(symbols: &Symbols, terms: &mut Terms, head: u32, args: &[Ref]) -> Result<Ref, PoolFull>
+pub(crate) fn apply(
+    symbols: &Symbols,
+    terms: &mut Terms,
+    head: u32,
+    args: &[Ref],
+) -> Result<Ref, PoolFull>
     requires head { IsDeclaredLeaf symbols.now head }
     requires args { All (IsTerm symbols.now terms.old) args.now }
     ensures term { IfOk result (IsTerm symbols.now terms.new) }
@@ -255,7 +269,12 @@ fn read(symbols: &Symbols, terms: &mut Terms, r: Ref) -> u64
 
 // How many distinct cells the terms have.
 #[tactic(auto, using(crate::proofs::TermLemmas::all_known))]
-fn cells(alloc: Global, _symbols: &Symbols, terms: &mut Terms, built: &[Ref]) -> Result<u64, Memory>
+pub(crate) fn cells(
+    alloc: Global,
+    _symbols: &Symbols,
+    terms: &mut Terms,
+    built: &[Ref],
+) -> Result<u64, Memory>
     requires { All (IsTerm _symbols.now terms.old) built.now }
 {
     terms.cells_of(alloc, built)
