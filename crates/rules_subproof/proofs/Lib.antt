@@ -1,0 +1,6 @@
+pub mod Discharged
+pub mod Scanning
+pub mod Zips
+pub mod Fronts
+pub mod Begins
+pub mod EndLists
