@@ -38,8 +38,7 @@ module _ (s : Table) (v : TermsView) (refs : Items ℕ ℕ) (of : Items Var Term
   step rs ds k l r met e f below few there own is =
       let own' : clause_at refs (slice_index_or (discharged_at of i) k 0) ≡ r ∷ [] = subst (λ xs. clause_at refs (slice_index_or xs k 0) ≡ r ∷ []) (f ∙ same) own in
       let unit = zip_one s v r _ _ own' (zip (slice_index_or (discharged_at of i) k 0)) in
-      let refers : (d : Term) → RefersTo s v l (slice_index_or (clause_at of i) k d) = (λ d. subst (λ x. RefersTo s v x (slice_index_or (clause_at of i) k d)) (sym (there ∙ ap (λ xs. slice_index_or xs k l) e)) (zip_at s v (clause_at refs i) (clause_at of i) k l d (zip i) (let n = ap length e in omega arith))) in
-      (
+      let refers : (d : Term) → RefersTo s v l (slice_index_or (clause_at of i) k d) = (λ d. subst (λ x. RefersTo s v x (slice_index_or (clause_at of i) k d)) (sym (there ∙ ap (λ xs. slice_index_or xs k l) e)) (zip_at s v (clause_at refs i) (clause_at of i) k l d (zip i) (let n = ap length e in omega arith))) in (
         λ m u g. let same_term : unit.0 ≡ u = one_same (sym unit.1 ∙ g) in subst (λ x. slice_index_or (clause_at of i) k (not_of x) ≡ not_of x) same_term ((is (slice_index_or (clause_at of i) k (not_of unit.0)) unit.0 (refers (not_of unit.0)) unit.2).0 m),
         λ matches. (is (slice_index_or (clause_at of i) k (not_of unit.0)) unit.0 (refers (not_of unit.0)) unit.2).1 (matches unit.0 unit.1),
       )

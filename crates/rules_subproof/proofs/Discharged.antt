@@ -74,8 +74,8 @@ module _ {V T : Type 0} where
     assumed_at i (inside around before anchor) items (closing s) here may j has =
         let l : Line V T = record { scope = at (inside around before anchor) items; command = closing s } in
         let m = All-contains (IsAssumeLine (lines_to l.scope)) (assumes_in (inside around before anchor) items) j
-            (All-from_recursion _ (assumes_in (inside around before anchor) items) (assume_lines (inside around before anchor) items))
-            (All-contains (Contains (assumes_in (inside around before anchor) items)) s.discharged j may.discharged has) in
+        (All-from_recursion _ (assumes_in (inside around before anchor) items) (assume_lines (inside around before anchor) items))
+        (All-contains (Contains (assumes_in (inside around before anchor) items)) s.discharged j may.discharged has) in
         let taken = subst (λ ls. slice_get ls j ≡ Some m.line) (lines_before outermost proof i l here) m.there in
         let within = slice_get_within (take i (lines_in outermost proof)) j m.line taken in
         let few = taken_few i (lines_in outermost proof) in

@@ -4,3 +4,5 @@ pub mod Zips
 pub mod Fronts
 pub mod Begins
 pub mod EndLists
+pub mod ScopePlaces
+pub mod SubproofLemmas

@@ -33,7 +33,10 @@ pub(crate) fn is_subproof(
     commands_correspond();
     terms_correspond();
     let _commands = proof.count();
-    if !proof.bindings(scope).is_empty() || !proof.premises(i).is_empty() {
+    if !proof.bindings(scope).is_empty() {
+        return false;
+    }
+    if !proof.premises(i).is_empty() {
         return false;
     }
     let Some(last) = proof.last_inside(scope) else {

@@ -1,7 +1,6 @@
 -- What a term is an application of, and its arguments.
 use Rattle.std.proofs.Common.{◌≡◌, ◌≢◌, ◌↔◌, ◌<◌, ◌∷◌, ℕ, zero, suc, length, Bool, true, false, refl, sym, ◌∙◌, ap, subst, arith, IsTrue, nat_eq, Option, Some, None}
 use Rattle.std.specs.List.{slice_get}
-
 use Rattle.std.proofs.lemmas.Bool.{eqb-true, eq-eqb}
 use Rattle.sym_table.specs.Leaf.{operator}
 use Rattle.sym_table.specs.Table.{Table, IsTable, IsLeaf}
