@@ -1,5 +1,5 @@
 -- Going back over the commands before a step.
-use Rattle.std.proofs.Common.{◌≡◌, ◌<◌, ◌≤◌, ◌⊎◌, inl, inr, ℕ, zero, suc, List, Contains, Some, refl, sym, ◌∙◌, ap, subst, arith, true, false}
+use Rattle.std.proofs.Common.{◌≡◌, ◌<◌, ◌≤◌, ◌⊎◌, inl, inr, ℕ, zero, suc, List, Contains, Some, refl, sym, ap, subst, arith, true}
 use Rattle.rule_model.specs.Closings.{IsAssumeIn}
 use Rattle.rule_model.specs.Proofs.{Items}
 use Rattle.rule_model.specs.Reading.{closes_at, scope_at, rule_at}

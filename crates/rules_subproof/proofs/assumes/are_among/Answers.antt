@@ -1,4 +1,4 @@
-use Rattle.std.proofs.Common.{◌≡◌, ◌-◌, ◌<◌, ◌≤◌, suc, refl, sym, subst, rules, arith}
+use Rattle.std.proofs.Common.{◌≡◌, ◌-◌, ◌<◌, suc, refl, sym, subst, arith}
 use Rattle.rule_model.specs.Reading.{scope_at}
 use Rattle.rules_subproof.proofs.Scanning.{none_before, AreKnown}
 use Rattle.rules_subproof.proofs.assumes.are_among.Goals as goal
