@@ -1,6 +1,9 @@
-//! The rules whose steps close a scope. What stands of them here is whether a step discharges every assume of the scope.
+//! The rules whose steps close a scope: `subproof` and `let`.
 #![tactic(auto)]
 
 mod assumes;
+mod endings;
+mod negations;
+mod subproofs;
 
 pub use assumes::all_discharged;
