@@ -6,3 +6,4 @@ pub mod Begins
 pub mod EndLists
 pub mod ScopePlaces
 pub mod SubproofLemmas
+pub mod CheckLemmas

@@ -1,9 +1,11 @@
-//! The rules whose steps close a scope: `subproof` and `let`.
+//! The rules whose steps close a scope: `subproof`. `let` is not decided yet.
 #![tactic(auto)]
 
 mod assumes;
+mod checks;
 mod endings;
 mod negations;
 mod subproofs;
 
 pub use assumes::all_discharged;
+pub use checks::check;
