@@ -1,6 +1,11 @@
-//! The rules whose steps close a scope. What stands of them here is whether a step discharges every assume of the scope.
+//! The rules whose steps close a scope: `subproof`. `let` is not decided yet.
 #![tactic(auto)]
 
 mod assumes;
+mod checks;
+mod endings;
+mod negations;
+mod subproofs;
 
 pub use assumes::all_discharged;
+pub use checks::check;

@@ -1,0 +1,56 @@
+//! Whether a step that closes a scope meets the condition of its rule.
+
+ghost use Rattle.std.specs.Prelude.{◌≡◌, ◌≢◌, ◌↔◌, ◌<◌, IfErr, IfOk, IsTrue};
+ghost use Rattle.rule_model.specs.declared.rules.Rule.TheVariants as Rule;
+ghost use Rattle.rule_model.specs.Conditions.{IsMetAt};
+ghost use Rattle.rule_model.specs.Proofs.{Items};
+ghost use Rattle.rule_model.specs.Reading.{rule_at};
+ghost use Rattle.rule_model.specs.Scopes.{commands_in};
+ghost use Rattle.term_model.specs.Terms.{Var, Term};
+ghost use Rattle.proof_store.specs.Checks.{StandForSome};
+ghost use Rattle.proof_store.specs.Meaning.{StandForItems};
+ghost use Rattle.proof_store.specs.declared.answers.Answer.TheVariants as Answer;
+ghost use Rattle.proof_store.specs.declared.answers.RuleStop.TheVariants as RuleStop;
+
+use crate::subproofs::is_subproof;
+use proof_store::{Answer, Proof, RuleStop, commands_correspond};
+use rule_model::Mode;
+use std::alloc::Global;
+use sym_table::Symbols;
+use term_pool::Terms;
+
+/// What is answered of a step that meets its rule, or does not.
+fn answer(met: bool) -> Answer
+    ensures met { (result ≡ Answer.Met) ↔ IsTrue met }
+    ensures narrow { result ≢ Answer.TooWide }
+{
+    if met { Answer::Met } else { Answer::NotMet }
+}
+
+/// Whether the step at an index meets the condition of its rule, which is `subproof` (Alethe specification, "Subproofs" and
+/// "List of rules"). Both modes ask the same. A step that closes no scope doesn't meet it.
+///
+/// Takes no memory and places no cell, so it refuses nothing.
+pub fn check(
+    alloc: Global,
+    proof: &Proof,
+    i: u32,
+    mode: Mode,
+    symbols: &Symbols,
+    terms: &mut Terms<'_>,
+) -> Result<Answer, RuleStop>
+    requires index { i < commands_in proof.now }
+    requires subproof { rule_at proof.now i ≡ Rule.Subproof }
+    requires stand { StandForSome symbols.now terms.old proof.now }
+    ensures met { IfOk result (λ answer. (of : Items Var Term) → StandForItems symbols.now terms.old proof.now of → (answer ≡ Answer.Met) ↔ IsMetAt mode of i) }
+    ensures narrow { IfOk result (λ answer. answer ≢ Answer.TooWide) }
+    ensures stop { IfErr result (λ stop. stop ≡ RuleStop.Memory) }
+    ensures same { terms.new ≡ terms.old }
+{
+    let _ = (alloc, mode);
+    commands_correspond();
+    let Some(scope) = proof.closes(i) else {
+        return Ok(Answer::NotMet);
+    };
+    Ok(answer(is_subproof(proof, i, scope, symbols, terms)))
+}
