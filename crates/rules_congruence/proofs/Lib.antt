@@ -5,3 +5,5 @@ pub mod GivenLemmas
 pub mod TurningLemmas
 pub mod LinkLemmas
 pub mod WayLemmas
+pub mod Carrying
+pub mod Literals

@@ -194,14 +194,25 @@ get_of_take (x ∷ xs) (y ∷ ys) (suc n) zero below e = let f : x ∷ take n xs
 get_of_take (x ∷ xs) (y ∷ ys) (suc n) (suc k) below e =
     get_of_take xs ys n k (omega arith) (let f : x ∷ take n xs ≡ y ∷ take n ys = e in cc)
 
-pub reached_first : (links : List Link) (from : ℕ) (keys : List ℕ) → from < 2 ^ 31 → Inserts [] from keys → IsReached links from 0 keys
-reached_first links from keys small i = record {
+reached_only : (links : List Link) (from : ℕ) (keys : List ℕ) → from < 2 ^ 31 → Inserts [] from keys → IsReached links from 0 keys
+reached_only links from keys small i = record {
   first = i.key;
   within = omega arith;
   small = λ b h. elim (i.only b h) [ inl none ↦ absurd (contains_none b none) | inr e ↦ subst (λ x. x < 2 ^ 31) e small ];
   sound = λ b h. elim (i.only b h) [ inl none ↦ absurd (contains_none b none) | inr e ↦ subst (IsConnected (IsNear links) from) e (here from) ];
   closed = λ k b below near. absurd (omega arith);
 }
+
+none_of_length : (ks : List ℕ) → length ks ≡ 0 → ks ≡ []
+none_of_length [] e = refl
+none_of_length (k ∷ ks) e = absurd (omega (arith, e))
+
+pub reached_first : (links : List Link) (from : ℕ) (old keys : List ℕ) → from < 2 ^ 31 → length old ≡ 0 → Inserts old from keys → IsReached links from 0 keys
+reached_first links from old keys small empty i = reached_only links from keys small (subst (λ ks. Inserts ks from keys) (none_of_length old empty) i)
+
+pub key_there : (keys : List ℕ) (at next : ℕ) → at < length keys → ((d : ℕ) → get_or keys at d ≡ next) → Contains keys next
+key_there keys at next below is = (at, below, is next)
+
 
 pub reached_next : (links : List Link) (from at next : ℕ) (keys new : List ℕ) → AreSmall links → at < length keys → get_or keys at 0 ≡ next → Contains keys next → IsReached links from at keys → AddsEnds links next keys new → IsReached links from (at + 1) new
 reached_next links from at next keys new small below is there h adds = record {
@@ -243,3 +254,7 @@ reached_all links from at to keys past h = (
 pub connected_by : {X : Type 0} (near other : X → X → Type 0) → ((a b : X) → near a b → other a b) → (x y : X) → IsConnected near x y → IsConnected other x y
 connected_by near other each _ _ (here x) = here x
 connected_by near other each _ _ (further x w y step more) = further x w y (each x w step) (connected_by near other each w y more)
+
+pub connected_both : {X : Type 0} (near other : X → X → Type 0) → ((a b : X) → near a b ↔ other a b) → (x y : X) → IsConnected near x y ↔ IsConnected other x y
+connected_both near other each x y =
+    (connected_by near other (λ a b. (each a b).0) x y, connected_by other near (λ a b. (each a b).1) x y)

@@ -6,3 +6,4 @@ pub mod Turning
 pub mod Sides
 pub mod Links
 pub mod Ways
+pub mod Applications

@@ -1,8 +1,10 @@
 -- Private. What the search for a way knows.
-use Rattle.std.specs.Prelude.{◌≡◌, ◌⊎◌, ◌<◌, ◌≤◌, ◌^◌, ℕ, List, Contains, length, take, get_or}
+use Rattle.std.specs.Prelude.{◌≡◌, ◌≢◌, ◌⊎◌, ◌<◌, ◌≤◌, ◌^◌, ℕ, Bool, true, List, [], Contains, length, take, get_or}
+use Rattle.rule_model.specs.declared.rules.Mode.{Mode}
 use Rattle.rule_model.specs.Congruence.{IsConnected}
 use Rattle.rules_congruence.specs.declared.links.Link.{Link}
 use Rattle.rules_congruence.specs.Links.{link}
+use Rattle.rules_congruence.specs.Pairs.{AreEnds, IsPath}
 
 -- the table leads from one reference to the other by one link
 abbrev pub IsNear : List Link → ℕ → ℕ → Type 0
@@ -43,3 +45,8 @@ pub record IsReached (links : List Link) (from at : ℕ) (keys : List ℕ) : Typ
   pub small : AreReferences keys
   pub sound : (b : ℕ) → Contains keys b → IsConnected (IsNear links) from b
   pub closed : (k b : ℕ) → k < at → IsNear links (get_or keys k 0) b → Contains keys b
+
+-- the way of transitivity by pairs, among which there is nothing else or something, by the mode
+abbrev pub IsWayBy : Mode → List (ℕ × ℕ) → Bool → ℕ → ℕ → Type 0
+IsWayBy Mode.Check pairs only a b = IsConnected (AreEnds pairs) a b
+IsWayBy Mode.Strict pairs only a b = (only ≡ true) × ((pairs ≢ []) × IsPath pairs a b)

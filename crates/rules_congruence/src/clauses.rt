@@ -1,7 +1,7 @@
 //! Clauses of one literal, and steps of one premise or none.
 
-ghost use Rattle.std.specs.Prelude.{◌≡◌, ◌≢◌, ℕ, [], ◌∷◌, IfSome, IfNone};
-ghost use Rattle.rules_congruence.specs.Clauses.{IsUnit, IsNoUnit, IsLone};
+ghost use Rattle.std.specs.Prelude.{◌≡◌, ◌≢◌, ◌++◌, ℕ, List, [], ◌∷◌, IfSome, IfNone};
+ghost use Rattle.rules_congruence.specs.Clauses.{IsUnit, IsNoUnit, IsLone, clauses_of};
 
 use pair_pool::Ref;
 
@@ -36,4 +36,18 @@ pub(crate) fn lone(premises: &[&[Ref]], clause: &[Ref]) -> Option<Ref>
         return None;
     }
     literal(clause)
+}
+
+/// The literals of a step that has no premise: those before the last, and the last one.
+pub(crate) fn denying<'a>(premises: &[&[Ref]], clause: &'a [Ref]) -> Option<(&'a [Ref], Ref)>
+    ensures split { IfSome result (λ p. (clauses_of premises.now ≡ []) × (clause.now ≡ p.0.now ++ p.1 ∷ [])) }
+    ensures other { IfNone result ((front : List ℕ) (r : ℕ) → clauses_of premises.now ≡ [] → clause.now ≢ front ++ r ∷ []) }
+{
+    if !premises.is_empty() {
+        return None;
+    }
+    let Some((last, front)) = clause.split_last() else {
+        return None;
+    };
+    Some((front, *last))
 }

@@ -6,9 +6,13 @@
 //! arguments that equality up to flips takes. In strict mode nothing is searched.
 #![tactic(auto)]
 
+mod applications;
 mod clauses;
+mod congruence;
 mod links;
 mod parts;
 mod sides;
+mod transitivity;
 mod turning;
+mod using;
 mod ways;

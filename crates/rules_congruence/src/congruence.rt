@@ -1,0 +1,67 @@
+//! cong and eq_congruent: whether the arguments of two applications of one head hang together by equalities.
+
+ghost use Rattle.std.specs.Prelude.{◌≡◌, ◌≢◌, ◌↔◌, ◌<◌, ◌∷◌, [], ℕ, List, length, IsTrue, IfOk, IfSome, IfNone};
+ghost use Rattle.std.specs.List.{AllZip};
+ghost use Rattle.std.specs.List.Sorted.{IsNonDecreasingBy};
+ghost use Rattle.rule_model.specs.Congruence.{IsLinked};
+ghost use Rattle.term_model.specs.Terms.{Term};
+ghost use Rattle.term_pool.specs.Views.{IsTerm, RefersTo};
+ghost use Rattle.rules_congruence.specs.Links.{rank_of, AreSmall, TellsSides};
+ghost use Rattle.rules_congruence.specs.Steps.{ReferTo, AreTerms};
+
+use crate::links::{Link, has};
+use pair_pool::{Memory, Ref};
+use std::alloc::Global;
+use sym_table::Symbols;
+use term_pool::Terms;
+
+/// Whether two arguments are equal up to flips, or the sides of an equality in the table.
+fn is_linked(
+    alloc: Global,
+    symbols: &Symbols,
+    terms: &mut Terms<'_>,
+    links: &[Link],
+    left: Ref,
+    right: Ref,
+) -> Result<bool, Memory>
+    requires rising { IsNonDecreasingBy rank_of links.now }
+    requires small { AreSmall links.now }
+    requires left { IsTerm symbols.now terms.old left }
+    requires right { IsTerm symbols.now terms.old right }
+    ensures linked { IfOk result (λ yes. (ps : List (List Term)) (t u : Term) → TellsSides symbols.now terms.old links.now ps →
+        RefersTo symbols.now terms.old left t → RefersTo symbols.now terms.old right u → IsTrue yes ↔ IsLinked ps t u) }
+    ensures same { terms.new ≡ terms.old }
+{
+    if has(links, left, right) {
+        return Ok(true);
+    }
+    terms.same_up_to_flips(alloc, symbols, left, right)
+}
+
+/// Whether arguments are linked place by place.
+fn are_linked(
+    alloc: Global,
+    symbols: &Symbols,
+    terms: &mut Terms<'_>,
+    links: &[Link],
+    lefts: &[Ref],
+    rights: &[Ref],
+) -> Result<bool, Memory>
+    requires rising { IsNonDecreasingBy rank_of links.now }
+    requires small { AreSmall links.now }
+    requires lefts { AreTerms symbols.now terms.old lefts.now }
+    requires rights { AreTerms symbols.now terms.old rights.now }
+    ensures linked { IfOk result (λ yes. (ps : List (List Term)) (ts us : List Term) → TellsSides symbols.now terms.old links.now ps →
+        ReferTo symbols.now terms.old lefts.now ts → ReferTo symbols.now terms.old rights.now us → IsTrue yes ↔ AllZip (IsLinked ps) ts us) }
+    ensures same { terms.new ≡ terms.old }
+{
+    if lefts.len() != rights.len() {
+        return Ok(false);
+    }
+    for place in 0..lefts.len() {
+        if !is_linked(alloc, symbols, terms, links, lefts[place], rights[place])? {
+            return Ok(false);
+        }
+    }
+    Ok(true)
+}
