@@ -7,3 +7,6 @@ pub mod LinkLemmas
 pub mod WayLemmas
 pub mod Carrying
 pub mod Literals
+pub mod ApplicationLemmas
+pub mod UseLemmas
+pub mod CongruenceLemmas

@@ -1,6 +1,6 @@
 //! Two applications of one head, and their arguments.
 
-ghost use Rattle.std.specs.Prelude.{◌≡◌, ◌≢◌, [], List, IfOk, IfSome, IfNone};
+ghost use Rattle.std.specs.Prelude.{◌≡◌, ◌≢◌, ◌↔◌, [], List, length, IsTrue, IfOk, IfSome, IfNone};
 ghost use Rattle.rule_model.specs.Congruence.{Head, applied};
 ghost use Rattle.term_model.specs.Terms.{Term};
 ghost use Rattle.term_pool.specs.Views.{IsTerm, RefersTo};
@@ -60,6 +60,13 @@ fn arguments(
     Ok(list)
 }
 
+/// Whether a list has nothing.
+fn is_none(list: &[Ref]) -> bool
+    ensures { IsTrue result ↔ (length list.now ≡ 0) }
+{
+    list.is_empty()
+}
+
 /// Two terms as applications of one head to one argument or more, where they are.
 pub(crate) fn take_apart(
     alloc: Global,
@@ -81,7 +88,7 @@ pub(crate) fn take_apart(
         return Ok(None);
     };
     let lefts = arguments(alloc, symbols, terms, left)?;
-    if lefts.is_empty() {
+    if is_none(&lefts) {
         return Ok(None);
     }
     let rights = arguments(alloc, symbols, terms, right)?;

@@ -1,6 +1,6 @@
 //! Clauses of one literal, and steps of one premise or none.
 
-ghost use Rattle.std.specs.Prelude.{◌≡◌, ◌≢◌, ◌++◌, ℕ, List, [], ◌∷◌, IfSome, IfNone};
+ghost use Rattle.std.specs.Prelude.{◌≡◌, ◌≢◌, ◌++◌, ◌<◌, ℕ, List, [], ◌∷◌, length, slice_index_or, IfSome, IfNone};
 ghost use Rattle.rules_congruence.specs.Clauses.{IsUnit, IsNoUnit, IsLone, clauses_of};
 
 use pair_pool::Ref;
@@ -50,4 +50,12 @@ pub(crate) fn denying<'a>(premises: &[&[Ref]], clause: &'a [Ref]) -> Option<(&'a
         return None;
     };
     Some((front, *last))
+}
+
+/// The reference at a place.
+pub(crate) fn item(list: &[Ref], place: usize) -> Ref
+    requires { place < length list.now }
+    ensures { (d : ℕ) → slice_index_or list.now place d ≡ result }
+{
+    list[place]
 }

@@ -9,6 +9,7 @@ ghost use Rattle.term_pool.specs.Views.{IsTerm, RefersTo};
 ghost use Rattle.rules_congruence.specs.Links.{rank_of, AreSmall, TellsSides};
 ghost use Rattle.rules_congruence.specs.Steps.{ReferTo, AreTerms};
 
+use crate::clauses::item;
 use crate::links::{Link, has};
 use pair_pool::{Memory, Ref};
 use std::alloc::Global;
@@ -59,9 +60,44 @@ fn are_linked(
         return Ok(false);
     }
     for place in 0..lefts.len() {
-        if !is_linked(alloc, symbols, terms, links, lefts[place], rights[place])? {
+        if !is_linked(alloc, symbols, terms, links, item(lefts, place), item(rights, place))? {
             return Ok(false);
         }
     }
     Ok(true)
+}
+
+/// The two items of a list that has two.
+fn two(list: &[Ref]) -> Option<(Ref, Ref)>
+    ensures two { IfSome result (λ p. list.now ≡ p.0 ∷ p.1 ∷ []) }
+    ensures other { IfNone result ((a b : ℕ) → list.now ≢ a ∷ b ∷ []) }
+{
+    let [first, second] = list else {
+        return None;
+    };
+    Some((*first, *second))
+}
+
+/// Whether two pairs of arguments are linked crosswise.
+fn are_crosswise(
+    alloc: Global,
+    symbols: &Symbols,
+    terms: &mut Terms<'_>,
+    links: &[Link],
+    left: (Ref, Ref),
+    right: (Ref, Ref),
+) -> Result<bool, Memory>
+    requires rising { IsNonDecreasingBy rank_of links.now }
+    requires small { AreSmall links.now }
+    requires left { IsTerm symbols.now terms.old left.0 × IsTerm symbols.now terms.old left.1 }
+    requires right { IsTerm symbols.now terms.old right.0 × IsTerm symbols.now terms.old right.1 }
+    ensures linked { IfOk result (λ yes. (ps : List (List Term)) (a b c d : Term) → TellsSides symbols.now terms.old links.now ps →
+        RefersTo symbols.now terms.old left.0 a → RefersTo symbols.now terms.old left.1 b →
+        RefersTo symbols.now terms.old right.0 c → RefersTo symbols.now terms.old right.1 d → IsTrue yes ↔ (IsLinked ps a d × IsLinked ps b c)) }
+    ensures same { terms.new ≡ terms.old }
+{
+    if !is_linked(alloc, symbols, terms, links, left.0, right.1)? {
+        return Ok(false);
+    }
+    is_linked(alloc, symbols, terms, links, left.1, right.0)
 }

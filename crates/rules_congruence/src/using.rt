@@ -3,6 +3,7 @@
 ghost use Rattle.std.specs.Prelude.{◌≡◌, ◌↔◌, ◌<◌, ◌≤◌, ◌∷◌, ℕ, List, length, drop, IsTrue, IfSome, IfNone};
 ghost use Rattle.rules_congruence.specs.Pairs.{AreUsed};
 
+use crate::clauses::item;
 use pair_pool::Ref;
 
 /// Whether a pair of numbers are the numbers of two references.
@@ -44,7 +45,7 @@ pub(crate) fn are_used(all: bool, pairs: &[(Ref, Ref)], lefts: &[Ref], rights: &
     }
     let mut used = 0;
     for place in 0..lefts.len() {
-        let Some(more) = use_one(all, pairs, used, lefts[place], rights[place]) else {
+        let Some(more) = use_one(all, pairs, used, item(lefts, place), item(rights, place)) else {
             return false;
         };
         used = more;
