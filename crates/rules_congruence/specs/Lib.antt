@@ -7,3 +7,4 @@ pub mod Sides
 pub mod Links
 pub mod Ways
 pub mod Applications
+pub mod Uses

@@ -14,5 +14,6 @@ mod parts;
 mod sides;
 mod transitivity;
 mod turning;
+mod uses;
 mod using;
 mod ways;
