@@ -10,3 +10,4 @@ pub mod Literals
 pub mod ApplicationLemmas
 pub mod UseLemmas
 pub mod CongruenceLemmas
+pub mod TogetherLemmas

@@ -125,7 +125,7 @@ fn are_crosswise(
 }
 
 /// Check mode: whether the arguments are linked place by place, or those of two equalities crosswise.
-fn hang(
+pub(crate) fn hang(
     alloc: Global,
     symbols: &Symbols,
     terms: &mut Terms<'_>,

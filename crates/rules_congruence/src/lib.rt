@@ -12,6 +12,7 @@ mod congruence;
 mod links;
 mod parts;
 mod sides;
+mod together;
 mod transitivity;
 mod turning;
 mod uses;
