@@ -66,3 +66,23 @@ used_terms s v same all (p ∷ pairs) (e ∷ es) (x ∷ xs) (y ∷ ys) (t ∷ ts
 
     pair : (a b c d : Term) (es : List (Term × Term)) → a ≡ b → c ≡ d → ◌≡◌ {A = List (Term × Term)} ((a, c) ∷ es) ((b, d) ∷ es)
     pair a b c d es e f = rw (e, f) refl
+
+-- a term is the application of one head to one list
+same_head : (g h : Head) (ts us : List Term) → applied g ts ≡ applied h us → g ≡ h
+same_head (operator o) (operator p) ts us e = let f : o ≡ p = cc in ap operator f
+same_head (operator o) (function g) ts us e = absurd (cc)
+same_head (function f) (operator p) ts us e = absurd (cc)
+same_head (function f) (function g) ts us e = let h : f ≡ g = cc in ap function h
+
+pub congruent_by : {P : Type 0} (s : Table) (v : TermsView) (k : ℕ) (ls rs : List ℕ) (t u : Term) (ps : List (List Term)) (how : Head → List (List Term) → List Term → List Term → Type 0) (a : AreApplied s v k ls rs t u) → P ↔ how a.head ps a.ts a.us → P ↔ AreCongruent how ps t u
+congruent_by s v k ls rs t u ps how a by = (
+  λ h. record { head = a.head; ts = a.ts; us = a.us; some = a.some; left_is = a.left_is; right_is = a.right_is; arguments = by.0 h },
+  λ h.
+      let head : h.head ≡ a.head = same_head h.head a.head h.ts a.ts (sym h.left_is ∙ a.left_is) in
+      let ts : h.ts ≡ a.ts = sym (arguments_are h.head h.ts t h.left_is) ∙ arguments_are a.head a.ts t a.left_is in
+      let us : h.us ≡ a.us = sym (arguments_are h.head h.us u h.right_is) ∙ arguments_are a.head a.us u a.right_is in
+      by.1 (subst (λ x. how x ps a.ts a.us) head (subst (λ x. how h.head ps x a.us) ts (subst (λ x. how h.head ps h.ts x) us h.arguments))),
+)
+
+pub not_congruent : (t u : Term) (ps : List (List Term)) (how : Head → List (List Term) → List Term → List Term → Type 0) → ((head : Head) (ts us : List Term) → ts ≢ [] → t ≡ applied head ts → u ≢ applied head us) → ¬ AreCongruent how ps t u
+not_congruent t u ps how fails h = fails h.head h.ts h.us h.some h.left_is h.right_is

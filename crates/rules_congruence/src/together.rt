@@ -1,20 +1,22 @@
 //! cong and eq_congruent: whether equalities make two applications equal.
 
-ghost use Rattle.std.specs.Prelude.{◌≡◌, ◌↔◌, List, true, IsTrue, IfOk};
-ghost use Rattle.rule_model.specs.Congruence.{AreCongruent};
+ghost use Rattle.std.specs.Prelude.{◌≡◌, ◌↔◌, [], ◌∷◌, List, true, IsTrue, IfOk};
+ghost use Rattle.rule_model.specs.Congruence.{AreCongruent, Equates, Denies};
 ghost use Rattle.term_model.specs.Terms.{Term};
 ghost use Rattle.term_pool.specs.Views.{IsTerm, RefersTo};
 ghost use Rattle.rules_congruence.specs.Applications.{AreApplied};
 ghost use Rattle.rules_congruence.specs.Pairs.{AreUsed};
 ghost use Rattle.rules_congruence.specs.Sides.{IsGiven};
-ghost use Rattle.rules_congruence.specs.Steps.{AreTerms};
+ghost use Rattle.rules_congruence.specs.Steps.{ReferTo, ReferToClauses, AreTerms, AreClauses};
 ghost use Rattle.rules_congruence.specs.declared.uses.Uses.TheVariants as Uses;
 ghost use Rattle.rules_congruence.specs.Uses.{Together};
 
 use crate::applications::{Applications, take_apart};
+use crate::clauses::{denying, literal};
 use crate::congruence::hang;
 use crate::links::table_of;
-use crate::sides::Given;
+use crate::parts::sides_of;
+use crate::sides::{Given, denied, premised};
 use crate::uses::Uses;
 use crate::using::are_used;
 use pair_pool::{Memory, Ref};
@@ -95,4 +97,70 @@ fn are_congruent(
         return Ok(false);
     };
     together(alloc, uses, symbols, terms, given, &both)
+}
+
+/// Whether a literal equates two applications of one head whose arguments hang together by the equalities.
+fn equates(
+    alloc: Global,
+    uses: Uses,
+    symbols: &Symbols,
+    terms: &mut Terms<'_>,
+    given: &Given,
+    literal: Ref,
+) -> Result<bool, Memory>
+    requires { IsTerm symbols.now terms.old literal }
+    ensures equates { IfOk result (λ yes. (ps : List (List Term)) (t : Term) → IsGiven symbols.now terms.old given.now.pairs.items given.now.only ps →
+        RefersTo symbols.now terms.old literal t → IsTrue yes ↔ Equates (AreCongruent (Together uses)) ps (t ∷ [])) }
+    ensures same { terms.new ≡ terms.old }
+{
+    let Some(sides) = sides_of(symbols, terms, literal) else {
+        return Ok(false);
+    };
+    are_congruent(alloc, uses, symbols, terms, given, sides)
+}
+
+/// eq_congruent: whether the clause equates two applications after denying the equalities by which their arguments hang
+/// together.
+pub(crate) fn meets_eq_congruent(
+    alloc: Global,
+    uses: Uses,
+    symbols: &Symbols,
+    terms: &mut Terms<'_>,
+    premises: &[&[Ref]],
+    clause: &[Ref],
+) -> Result<bool, Memory>
+    requires clause { AreTerms symbols.now terms.old clause.now }
+    ensures met { IfOk result (λ yes. (ps : List (List Term)) (ts : List Term) → ReferToClauses symbols.now terms.old premises.now ps →
+        ReferTo symbols.now terms.old clause.now ts → IsTrue yes ↔ Denies (Equates (AreCongruent (Together uses))) ps ts) }
+    ensures same { terms.new ≡ terms.old }
+{
+    let Some(split) = denying(premises, clause) else {
+        return Ok(false);
+    };
+    let Some(given) = denied(alloc, symbols, terms, split.0)? else {
+        return Ok(false);
+    };
+    equates(alloc, uses, symbols, terms, &given, split.1)
+}
+
+/// cong: whether the clause equates two applications whose arguments hang together by the premises' equalities.
+pub(crate) fn meets_cong(
+    alloc: Global,
+    uses: Uses,
+    symbols: &Symbols,
+    terms: &mut Terms<'_>,
+    premises: &[&[Ref]],
+    clause: &[Ref],
+) -> Result<bool, Memory>
+    requires premises { AreClauses symbols.now terms.old premises.now }
+    requires clause { AreTerms symbols.now terms.old clause.now }
+    ensures met { IfOk result (λ yes. (ps : List (List Term)) (ts : List Term) → ReferToClauses symbols.now terms.old premises.now ps →
+        ReferTo symbols.now terms.old clause.now ts → IsTrue yes ↔ Equates (AreCongruent (Together uses)) ps ts) }
+    ensures same { terms.new ≡ terms.old }
+{
+    let Some(literal) = literal(clause) else {
+        return Ok(false);
+    };
+    let given = premised(alloc, symbols, terms, premises)?;
+    equates(alloc, uses, symbols, terms, &given, literal)
 }
