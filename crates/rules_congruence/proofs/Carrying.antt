@@ -1,5 +1,5 @@
 -- What holds of references holds of the terms for which they stand.
-use Rattle.std.proofs.Common.{◌≡◌, ◌≢◌, ◌↔◌, ◌⊎◌, inl, inr, ◌<◌, ℕ, zero, suc, Bool, true, false, List, [], ◌∷◌, ◌++◌, length, get_or, refl, sym, ap, ◌∙◌, subst, arith, Contains}
+use Rattle.std.proofs.Common.{◌≡◌, ◌≢◌, ◌↔◌, inl, inr, ℕ, Bool, true, List, [], ◌∷◌, refl, sym, ap, subst, Contains}
 use Rattle.std.specs.List.{AllZip}
 use Rattle.rule_model.specs.Congruence.{IsConnected, here, further, AreSides, IsChain, IsWay}
 use Rattle.rule_model.specs.declared.rules.Mode.{Mode}
@@ -9,9 +9,9 @@ use Rattle.term_model.specs.Flips.{equality}
 use Rattle.term_model.specs.Terms.{Term}
 use Rattle.term_pool.specs.Views.{TermsView, RefersTo}
 use Rattle.rules_congruence.specs.Pairs.{AreEnds, IsPath}
-use Rattle.rules_congruence.specs.Sides.{ReferToPair, ReferToPairs, IsNoUnit, AreEqualitiesOf, nothing, one, other, IsGiven}
+use Rattle.rules_congruence.specs.Sides.{ReferToPair, ReferToPairs, AreEqualitiesOf, nothing, one, other, IsGiven}
 use Rattle.rules_congruence.specs.Ways.{IsWayBy}
-use Rattle.rules_congruence.proofs.TurningLemmas.{AreOne, iff_trans}
+use Rattle.rules_congruence.proofs.TurningLemmas.{AreOne}
 use Rattle.rules_congruence.proofs.WayLemmas.{connected_both}
 
 -- the premises' equalities

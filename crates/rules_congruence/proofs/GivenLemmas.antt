@@ -1,5 +1,5 @@
 -- The equalities that are gathered from premises, or from literals that deny them.
-use Rattle.std.proofs.Common.{◌≡◌, ◌≢◌, ◌<◌, ◌+◌, ℕ, zero, suc, Bool, true, false, List, [], ◌∷◌, ◌++◌, length, map, take, get_or, refl, sym, ap, ◌∙◌, subst, arith}
+use Rattle.std.proofs.Common.{◌≡◌, ◌≢◌, ◌<◌, ◌+◌, ℕ, zero, suc, Bool, true, false, List, [], ◌∷◌, ◌++◌, length, take, get_or, refl, sym, ap, ◌∙◌, subst, arith}
 use Rattle.std.specs.Borrow.{Bor}
 use Rattle.sym_table.specs.Table.{Table}
 use Rattle.term_model.specs.Flips.{equality}
@@ -8,9 +8,9 @@ use Rattle.term_pool.specs.Views.{TermsView, RefersTo}
 use Rattle.rule_model.specs.Clausal.{itself}
 use Rattle.rule_model.specs.Congruence.{denials}
 use Rattle.rules_congruence.specs.Parts.{AreSidesOf}
-use Rattle.rules_congruence.specs.Sides.{ReferToPair, ReferToPairs, IsNoUnit, AreEqualitiesOf, nothing, one, other, IsGiven, IsUnitOf, AreDenied}
+use Rattle.rules_congruence.specs.Sides.{ReferToPair, IsNoUnit, AreEqualitiesOf, nothing, one, other, IsGiven, IsUnitOf, AreDenied}
 use Rattle.rules_congruence.specs.Steps.{ReferTo, ReferToClauses}
-use Rattle.rules_congruence.proofs.Referring.{zip_push, one_zip, zip_one, IsOneMore, zip_at, zip_next, zip_length}
+use Rattle.rules_congruence.proofs.Referring.{zip_push, one_zip, zip_one, zip_at, zip_next}
 
 -- a clause of one literal, by that literal
 pub unit_of : (s : Table) (v : TermsView) (rs : List ℕ) (r : ℕ) (p : ℕ × ℕ) (clause : List Term) → rs ≡ r ∷ [] → ((t : Term) → RefersTo s v r t → AreSidesOf s v itself p t) → ReferTo s v rs clause → IsUnitOf s v p clause

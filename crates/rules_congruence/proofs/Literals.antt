@@ -1,7 +1,6 @@
 -- Clauses that equate two terms, and clauses that deny equalities before their last literal.
-use Rattle.std.proofs.Common.{◌≡◌, ◌≢◌, ◌↔◌, ◌<◌, ℕ, zero, suc, Bool, true, false, List, [], ◌∷◌, ◌++◌, length, map, refl, sym, ap, ◌∙◌, subst, arith, All, IsTrue}
+use Rattle.std.proofs.Common.{◌≡◌, ◌≢◌, ◌↔◌, ℕ, true, List, [], ◌∷◌, ◌++◌, refl, sym, ap, ◌∙◌, subst}
 use Rattle.std.specs.Borrow.{Bor}
-use Rattle.std.specs.List.{AllZip}
 use Rattle.std.proofs.lemmas.List.Elements.{All-nil, All-cons, All-head, All-tail}
 use Rattle.rule_model.specs.Clausal.{itself}
 use Rattle.rule_model.specs.Congruence.{Equates, units, denials, Denies}
@@ -11,10 +10,10 @@ use Rattle.term_model.specs.Terms.{Term, not_of}
 use Rattle.term_pool.specs.Views.{TermsView, RefersTo, IsTerm}
 use Rattle.rules_congruence.specs.Clauses.{clauses_of}
 use Rattle.rules_congruence.specs.Parts.{AreSidesOf}
-use Rattle.rules_congruence.specs.Sides.{ReferToPairs, AreEqualitiesOf, nothing, one, other, IsGiven, AreDenied}
+use Rattle.rules_congruence.specs.Sides.{AreEqualitiesOf, nothing, one, IsGiven, AreDenied}
 use Rattle.rules_congruence.specs.Steps.{ReferTo, ReferToClauses, AreTerms}
 use Rattle.rules_congruence.proofs.Referring.{IsOneMore, zip_split}
-use Rattle.rules_congruence.proofs.TurningLemmas.{none_premised, premised_none}
+use Rattle.rules_congruence.proofs.TurningLemmas.{premised_none}
 
 -- a literal that equates two terms
 pub equates_both : {P : Type 0} (s : Table) (v : TermsView) (related : List (List Term) → Term → Term → Type 0) (ps : List (List Term)) (p : ℕ × ℕ) (t : Term) (sides : AreSidesOf s v itself p t) → P ↔ related ps sides.left sides.right → P ↔ Equates related ps (t ∷ [])

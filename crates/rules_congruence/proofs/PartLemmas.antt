@@ -1,18 +1,17 @@
 -- What a term is an application of, and its arguments.
-use Rattle.std.proofs.Common.{◌≡◌, ◌≢◌, ◌↔◌, ◌<◌, ◌∷◌, ℕ, zero, suc, length, Bool, true, false, refl, sym, ◌∙◌, ap, subst, arith, IsTrue, nat_eq, Option, Some, None}
+use Rattle.std.proofs.Common.{◌≡◌, ◌≢◌, ◌↔◌, ◌<◌, ℕ, length, false, refl, sym, ◌∙◌, ap, subst, arith, IsTrue, nat_eq, Some}
 use Rattle.std.specs.List.{slice_get}
-
 use Rattle.std.proofs.lemmas.Bool.{eqb-true, eq-eqb}
 use Rattle.sym_table.specs.Leaf.{operator}
 use Rattle.sym_table.specs.Table.{Table, IsTable, IsLeaf}
 use Rattle.term_model.specs.declared.symbols.Op.{Op}
 use Rattle.term_model.specs.Flips.{equality}
-use Rattle.term_model.specs.Terms.{Term, Terms, numeral, variable, operation, call, let_in, term, no_terms, list_of, not_of}
+use Rattle.term_model.specs.Terms.{Term, numeral, variable, operation, call, let_in, term, no_terms, not_of}
 use Rattle.term_pool.specs.Building.{IsApplication}
 use Rattle.term_pool.specs.Reading.{arguments_of, IsLet, HasArgument}
 use Rattle.term_pool.specs.Views.{TermsView, RefersTo, IsTerm}
 use Rattle.rule_model.specs.Clausal.{itself}
-use Rattle.rules_congruence.specs.Parts.{IsOver, StandsUnder, AreSidesOf, sign_of}
+use Rattle.rules_congruence.specs.Parts.{IsOver, StandsUnder, AreSidesOf}
 
 -- a head that is the operator's leaf, with so many arguments
 pub over_is : (s : Table) (k n : ℕ) (op : Op) (t : Term) → IsLeaf s k (operator op) → IsApplication s k (arguments_of t) t → ((IsLet t → ⊥) → n ≡ length (arguments_of t)) → IsOver op n t

@@ -1,19 +1,17 @@
 -- Arguments that hang together, over references and over terms.
-use Rattle.std.proofs.Common.{◌≡◌, ◌≢◌, ◌↔◌, ◌⊎◌, inl, inr, ℕ, Bool, true, false, List, [], ◌∷◌, refl, sym, ap, ◌∙◌, subst, All, Contains}
+use Rattle.std.proofs.Common.{◌≡◌, ◌≢◌, ◌↔◌, ◌⊎◌, inl, inr, ℕ, Bool, true, false, List, [], ◌∷◌, refl, sym, ap, ◌∙◌, subst}
 use Rattle.std.specs.List.{AllZip}
 use Rattle.std.proofs.lemmas.List.Elements.{All-nil, All-cons}
-use Rattle.rule_model.proofs.ArgumentLists.{list_of-terms_of}
-use Rattle.rule_model.specs.Congruence.{Head, operator, function, applied, AreSides, AreDifferences, ArePlaces, AreCongruent}
+use Rattle.rule_model.specs.Congruence.{Head, operator, function, applied, AreDifferences, ArePlaces, AreCongruent}
 use Rattle.sym_table.specs.Table.{Table}
 use Rattle.term_model.specs.Flips.{equality}
-use Rattle.term_model.specs.Terms.{Term, operation, call, terms_of}
-use Rattle.term_pool.specs.Reading.{arguments_of}
+use Rattle.term_model.specs.Terms.{Term}
 use Rattle.term_pool.specs.Views.{TermsView, RefersTo, IsTerm}
 use Rattle.rules_congruence.specs.Applications.{AreApplied}
-use Rattle.rules_congruence.specs.Links.{link, IsTableOf, TellsSides}
+use Rattle.rules_congruence.specs.Links.{IsTableOf, TellsSides}
 use Rattle.rules_congruence.specs.declared.links.Link.{Link}
 use Rattle.rules_congruence.specs.Pairs.{AreUsed}
-use Rattle.rules_congruence.specs.Sides.{ReferToPair, ReferToPairs, IsNoUnit, AreEqualitiesOf, nothing, one, other, IsGiven}
+use Rattle.rules_congruence.specs.Sides.{ReferToPair, ReferToPairs, AreEqualitiesOf, nothing, one, other, IsGiven}
 use Rattle.rules_congruence.specs.Steps.{ReferTo, AreTerms}
 use Rattle.rules_congruence.proofs.ApplicationLemmas.{arguments_are}
 use Rattle.rules_congruence.proofs.Carrying.{sides_both, ends_told}

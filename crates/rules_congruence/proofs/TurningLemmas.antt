@@ -1,11 +1,11 @@
 -- Equalities that are turned round.
-use Rattle.std.proofs.Common.{◌≡◌, ◌≢◌, ◌↔◌, ℕ, Bool, true, false, List, [], ◌∷◌, map, refl, sym, ap, ◌∙◌, subst, IsTrue}
+use Rattle.std.proofs.Common.{◌≡◌, ◌≢◌, ◌↔◌, ℕ, Bool, true, false, List, [], ◌∷◌, refl, sym, ap, ◌∙◌, subst, IsTrue}
 use Rattle.std.specs.Borrow.{Bor}
 use Rattle.std.proofs.lemmas.List.Elements.{All-head}
 use Rattle.std.specs.List.{AllZip}
 use Rattle.sym_table.specs.Table.{Table}
 use Rattle.term_model.specs.Flips.{equality}
-use Rattle.term_model.specs.Terms.{Term, not_of}
+use Rattle.term_model.specs.Terms.{Term}
 use Rattle.term_pool.specs.Views.{TermsView, RefersTo, IsTerm}
 use Rattle.rule_model.specs.Clausal.{itself}
 use Rattle.rule_model.specs.Congruence.{TurnsRound, IsReflexive, IsSymmetric}

@@ -1,5 +1,5 @@
 -- Pairs that are used in order.
-use Rattle.std.proofs.Common.{◌≡◌, ◌≢◌, ◌↔◌, ◌⊎◌, inl, inr, ◌<◌, ◌≤◌, ◌+◌, ℕ, zero, suc, Bool, true, false, List, [], ◌∷◌, length, get_or, drop, refl, sym, ap, ◌∙◌, subst, arith}
+use Rattle.std.proofs.Common.{◌≡◌, ◌↔◌, inl, inr, ◌<◌, ◌≤◌, ◌+◌, ℕ, zero, suc, Bool, List, [], ◌∷◌, length, get_or, drop, refl, sym, ap, ◌∙◌, subst, arith}
 use Rattle.rules_congruence.specs.Pairs.{AreUsed}
 use Rattle.rules_congruence.proofs.TurningLemmas.{iff_trans}
 use Rattle.rules_congruence.proofs.WayLemmas.{drop_next, drop_end}

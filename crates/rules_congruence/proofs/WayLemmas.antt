@@ -1,17 +1,15 @@
 -- Ways over pairs.
-use Rattle.std.proofs.Common.{◌≡◌, ◌≢◌, ◌↔◌, ◌⊎◌, inl, inr, ◌<◌, ◌≤◌, ◌+◌, ◌*◌, ◌^◌, ℕ, zero, suc, Bool, true, false, List, [], ◌∷◌, ◌++◌, length, get_or, take, drop, refl, sym, ap, ◌∙◌, subst, arith, All, Contains, IsTrue, nat_eq, ◌||◌, if◌then◌else◌}
+use Rattle.std.proofs.Common.{◌≡◌, ◌≢◌, ◌↔◌, ◌⊎◌, inl, inr, ◌<◌, ◌≤◌, ◌+◌, ◌*◌, ◌^◌, ℕ, zero, suc, Bool, true, false, List, [], ◌∷◌, ◌++◌, length, get_or, take, drop, refl, sym, ap, ◌∙◌, subst, arith, Contains, IsTrue, nat_eq, ◌||◌, if◌then◌else◌}
 use Rattle.std.specs.List.{list_any}
-use Rattle.std.specs.List.Sorted.{IsNonDecreasingBy}
 use Rattle.std.proofs.lemmas.List.{get_or_default}
 use Rattle.std.proofs.lemmas.Bool.{cases_lt, eqb-true, eq-eqb}
-use Rattle.std.proofs.lemmas.List.Elements.{All-push}
 use Rattle.rule_model.specs.Congruence.{IsConnected, here, further}
 use Rattle.rule_model.proofs.Lists.{contains_none, contains_cases, contains_head, contains_later}
 use Rattle.indexmap.specs.IndexSet.{insert_key}
 use Rattle.rules_congruence.specs.declared.links.Link.{Link}
 use Rattle.rules_congruence.specs.Links.{link, rank_of, AreSmall, IsFirstFrom}
-use Rattle.rules_congruence.specs.Pairs.{AreEnds, IsPath}
-use Rattle.rules_congruence.specs.Ways.{IsNear, AreReferences, Inserts, AddsEnds, IsReached, HasEndsTo}
+use Rattle.rules_congruence.specs.Pairs.{IsPath}
+use Rattle.rules_congruence.specs.Ways.{IsNear, Inserts, AddsEnds, IsReached, HasEndsTo}
 
 -- a list from a place on
 pub drop_next : {X : Type 0} (xs : List X) (i : ℕ) (d : X) → i < length xs → drop i xs ≡ get_or xs i d ∷ drop (i + 1) xs
@@ -212,7 +210,6 @@ reached_first links from old keys small empty i = reached_only links from keys s
 
 pub key_there : (keys : List ℕ) (at next : ℕ) → at < length keys → ((d : ℕ) → get_or keys at d ≡ next) → Contains keys next
 key_there keys at next below is = (at, below, is next)
-
 
 pub reached_next : (links : List Link) (from at next : ℕ) (keys new : List ℕ) → AreSmall links → at < length keys → get_or keys at 0 ≡ next → Contains keys next → IsReached links from at keys → AddsEnds links next keys new → IsReached links from (at + 1) new
 reached_next links from at next keys new small below is there h adds = record {

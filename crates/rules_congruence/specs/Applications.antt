@@ -2,7 +2,6 @@
 use Rattle.std.specs.Prelude.{◌≡◌, ◌≢◌, ℕ, List, []}
 use Rattle.rule_model.specs.Congruence.{Head, operator, function, applied}
 use Rattle.sym_table.specs.Leaf.{Leaf}
-use Rattle.sym_table.specs.Leaf as Leaf
 use Rattle.sym_table.specs.Table.{Table, IsLeaf}
 use Rattle.term_model.specs.Terms.{Term}
 use Rattle.term_pool.specs.Building.{IsApplication}

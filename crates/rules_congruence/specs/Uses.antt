@@ -1,12 +1,11 @@
 -- Private. How equalities are used by congruence.
-use Rattle.std.specs.Prelude.{◌≡◌, ◌≢◌, ℕ, List, [], ◌∷◌}
+use Rattle.std.specs.Prelude.{◌≡◌, ℕ, List, [], ◌∷◌}
 use Rattle.rule_model.specs.Congruence.{Head, AreLinked, AreDifferences, ArePlaces}
 use Rattle.sym_table.specs.Leaf.{operator}
 use Rattle.sym_table.specs.Table.{Table, IsLeaf}
 use Rattle.term_model.specs.declared.symbols.Op.{Op}
 use Rattle.term_model.specs.Terms.{Term}
 use Rattle.rules_congruence.specs.declared.uses.Uses.{Uses}
-use Rattle.rules_congruence.specs.declared.uses.Uses.TheVariants as Uses
 
 -- the written ways in which arguments hang together
 abbrev pub Together : Uses → Head → List (List Term) → List Term → List Term → Type 0

@@ -64,7 +64,14 @@ fn are_linked(
         return Ok(false);
     }
     for place in 0..lefts.len() {
-        if !is_linked(alloc, symbols, terms, links, item(lefts, place), item(rights, place))? {
+        if !is_linked(
+            alloc,
+            symbols,
+            terms,
+            links,
+            item(lefts, place),
+            item(rights, place),
+        )? {
             return Ok(false);
         }
     }

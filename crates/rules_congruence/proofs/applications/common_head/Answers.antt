@@ -1,6 +1,5 @@
-use Rattle.std.proofs.Common.{◌≡◌, ◌≢◌, refl, rules}
-use Rattle.rules_congruence.specs.Applications.{leaf_of}
-use Rattle.rules_congruence.proofs.ApplicationLemmas.{no_let, head_leaf, one_head}
+use Rattle.std.proofs.Common.{◌≡◌, rules}
+use Rattle.rules_congruence.proofs.ApplicationLemmas.{no_let, one_head}
 use Rattle.rules_congruence.proofs.applications.common_head.Goals as goal
 
 pub returns-in_default-clause-other : goal.returns-in_default-clause-other

@@ -1,4 +1,4 @@
-use Rattle.std.proofs.Common.{◌≡◌, ◌≢◌, ◌∙◌, sym, length, rules}
+use Rattle.std.proofs.Common.{◌∙◌, sym}
 use Rattle.rules_congruence.proofs.ApplicationLemmas.{no_let, no_argument, are_applied, head_is_no_let}
 use Rattle.rules_congruence.proofs.applications.take_apart.Goals as goal
 

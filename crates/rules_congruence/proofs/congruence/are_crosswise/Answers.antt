@@ -1,4 +1,4 @@
-use Rattle.std.proofs.Common.{◌≡◌, ◌↔◌, ◌∙◌, sym, List, IsTrue}
+use Rattle.std.proofs.Common.{◌↔◌, ◌∙◌, sym, List, IsTrue}
 use Rattle.rule_model.specs.Congruence.{IsLinked}
 use Rattle.term_model.specs.Terms.{Term}
 use Rattle.term_pool.specs.Views.{RefersTo}

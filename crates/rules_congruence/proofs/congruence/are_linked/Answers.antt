@@ -1,4 +1,4 @@
-use Rattle.std.proofs.Common.{◌≡◌, ◌<◌, ◌∙◌, ℕ, refl, length, subst, rules, arith}
+use Rattle.std.proofs.Common.{◌∙◌, refl, subst, arith}
 use Rattle.term_pool.specs.Views.{IsTerm}
 use Rattle.rule_model.specs.Congruence.{IsLinked}
 use Rattle.rules_congruence.proofs.CongruenceLemmas.{not_as_long, not_linked_at, linked_more, linked_all}

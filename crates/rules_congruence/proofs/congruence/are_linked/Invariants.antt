@@ -9,4 +9,4 @@ abbrev pub invariant-loop-place : goal.invariant-loop-place
 invariant-loop-place l =
     (l.terms ≡ l.initial.terms)
     × ((ps : List (List Term)) (k : ℕ) (t u : Term) → TellsSides l.symbols l.initial.terms l.links ps → k < l.place →
-        RefersTo l.symbols l.initial.terms (get_or l.lefts k 0) t → RefersTo l.symbols l.initial.terms (get_or l.rights k 0) u → IsLinked ps t u)
+    RefersTo l.symbols l.initial.terms (get_or l.lefts k 0) t → RefersTo l.symbols l.initial.terms (get_or l.rights k 0) u → IsLinked ps t u)

@@ -1,4 +1,4 @@
-use Rattle.std.proofs.Common.{◌≡◌, ◌↔◌, ◌∙◌, ◌⊎◌, inl, inr, ⊎_elim, sym, refl, List, IsTrue}
+use Rattle.std.proofs.Common.{◌↔◌, ◌∙◌, inl, inr, ⊎_elim, sym, refl, List, IsTrue}
 use Rattle.rule_model.specs.Congruence.{IsLinked, AreSides}
 use Rattle.term_model.specs.Flips.{EqualUpToFlips}
 use Rattle.term_model.specs.Terms.{Term}

@@ -1,4 +1,4 @@
-use Rattle.std.proofs.Common.{◌≡◌, ◌<◌, ◌∙◌, ◌↔◌, arith}
+use Rattle.std.proofs.Common.{◌<◌, arith}
 use Rattle.rules_congruence.specs.Links.{link}
 use Rattle.rules_congruence.proofs.LinkLemmas.{found_by}
 use Rattle.rules_congruence.proofs.TurningLemmas.{iff_trans}

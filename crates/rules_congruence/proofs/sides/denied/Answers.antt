@@ -1,4 +1,4 @@
-use Rattle.std.proofs.Common.{◌≡◌, ◌∙◌, List, [], ◌∷◌, refl}
+use Rattle.std.proofs.Common.{◌∙◌}
 use Rattle.term_pool.specs.Views.{RefersTo}
 use Rattle.rules_congruence.proofs.GivenLemmas.{not_denials, denied_next}
 use Rattle.rules_congruence.proofs.Referring.{zip_length}

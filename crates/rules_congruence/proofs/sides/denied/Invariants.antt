@@ -9,4 +9,4 @@ invariant-loop-literal l =
     (l.terms ≡ l.initial.terms)
     × (l.given.only ≡ true)
     × ((ts : List Term) → ReferTo l.symbols l.initial.terms (take l.literal-index l.literals) ts →
-        AreDenied l.symbols l.initial.terms l.given.pairs.items ts)
+    AreDenied l.symbols l.initial.terms l.given.pairs.items ts)

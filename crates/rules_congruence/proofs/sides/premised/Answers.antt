@@ -1,4 +1,4 @@
-use Rattle.std.proofs.Common.{◌≡◌, ◌∙◌, ℕ, List, [], ◌∷◌, refl}
+use Rattle.std.proofs.Common.{◌∙◌, ℕ, List, refl}
 use Rattle.std.specs.Borrow.{Bor}
 use Rattle.rules_congruence.specs.Steps.{ReferTo}
 use Rattle.rules_congruence.proofs.GivenLemmas.{given_none, given_next}

@@ -8,4 +8,4 @@ abbrev pub invariant-loop-premise : goal.invariant-loop-premise
 invariant-loop-premise l =
     (l.terms ≡ l.initial.terms)
     × ((ps : List (List Term)) → ReferToClauses l.symbols l.initial.terms (take l.premise-index l.premises) ps →
-        IsGiven l.symbols l.initial.terms l.given.pairs.items l.given.only ps)
+    IsGiven l.symbols l.initial.terms l.given.pairs.items l.given.only ps)

@@ -1,6 +1,5 @@
-use Rattle.std.proofs.Common.{List, [], ◌∷◌}
+use Rattle.std.proofs.Common.{List, []}
 use Rattle.std.proofs.lemmas.List.Elements.{All-head}
-use Rattle.term_model.specs.Flips.{equality}
 use Rattle.term_model.specs.Terms.{Term}
 use Rattle.term_pool.specs.Views.{IsTerm, RefersTo}
 use Rattle.rule_model.specs.Clausal.{itself}

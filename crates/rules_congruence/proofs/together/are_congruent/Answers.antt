@@ -1,4 +1,4 @@
-use Rattle.std.proofs.Common.{◌≡◌, ◌↔◌, List, IsTrue}
+use Rattle.std.proofs.Common.{◌↔◌, List, IsTrue}
 use Rattle.rule_model.specs.Congruence.{AreCongruent}
 use Rattle.term_model.specs.Terms.{Term}
 use Rattle.term_pool.specs.Views.{RefersTo}
@@ -32,6 +32,6 @@ returns-clause-congruent c =
     (λ yes. (ps : List (List Term)) (t u : Term) → IsGiven s v c.args.given.now.pairs.items c.args.given.now.only ps → RefersTo s v c.args.sides.0 t → RefersTo s v c.args.sides.1 u → IsTrue yes ↔ AreCongruent (Together c.args.uses) ps t u)
     c.together.result
     (λ yes h ps t u given left right.
-        let a = (rw c.in-Some.is at c.in_ok-both.ensures.applied) t u left right in
-        congruent_by s v c.in-Some.both.head c.in-Some.both.left.items c.in-Some.both.right.items t u ps (Together c.args.uses) a (h ps t u given a))
+    let a = (rw c.in-Some.is at c.in_ok-both.ensures.applied) t u left right in
+    congruent_by s v c.in-Some.both.head c.in-Some.both.left.items c.in-Some.both.right.items t u ps (Together c.args.uses) a (h ps t u given a))
     (rw c.take_apart.ensures.same at c.together.ensures.together)

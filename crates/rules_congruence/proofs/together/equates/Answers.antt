@@ -1,5 +1,5 @@
-use Rattle.std.proofs.Common.{◌≡◌, ◌↔◌, ◌∷◌, [], List, IsTrue}
-use Rattle.rule_model.specs.Congruence.{Equates, AreCongruent, Denies}
+use Rattle.std.proofs.Common.{◌↔◌, ◌∷◌, [], List, IsTrue}
+use Rattle.rule_model.specs.Congruence.{Equates, AreCongruent}
 use Rattle.rule_model.specs.Clausal.{itself}
 use Rattle.term_model.specs.Terms.{Term}
 use Rattle.term_pool.specs.Views.{RefersTo}
@@ -22,8 +22,8 @@ returns-clause-equates c =
     (λ yes. (ps : List (List Term)) (t : Term) → IsGiven s v c.args.given.now.pairs.items c.args.given.now.only ps → RefersTo s v c.args.literal t → IsTrue yes ↔ Equates (AreCongruent (Together c.args.uses)) ps (t ∷ []))
     c.are_congruent.result
     (λ yes h ps t given refers.
-        let sides = c.in-Some.ensures.sides t refers in
-        equates_both s v (AreCongruent (Together c.args.uses)) ps c.in-Some.sides t sides (h ps sides.left sides.right given sides.left_refers sides.right_refers))
+    let sides = c.in-Some.ensures.sides t refers in
+    equates_both s v (AreCongruent (Together c.args.uses)) ps c.in-Some.sides t sides (h ps sides.left sides.right given sides.left_refers sides.right_refers))
     (rw c.sides_of.ensures.same at c.are_congruent.ensures.congruent)
 
 pub are_congruent-requires-clause-left : goal.are_congruent-requires-clause-left

@@ -1,4 +1,4 @@
-use Rattle.std.proofs.Common.{◌≡◌, ◌↔◌, ◌∷◌, [], List, IsTrue, true, sym, subst}
+use Rattle.std.proofs.Common.{◌↔◌, ◌∷◌, [], List, IsTrue}
 use Rattle.rule_model.specs.Congruence.{Equates, AreCongruent, Denies}
 use Rattle.term_model.specs.Terms.{Term}
 use Rattle.term_pool.specs.Views.{RefersTo}
@@ -34,8 +34,8 @@ returns-clause-met c =
     (λ yes. (ps : List (List Term)) (ts : List Term) → ReferToClauses c.args.symbols.now c.args.terms.now c.args.premises.now ps → ReferTo c.args.symbols.now c.args.terms.now c.args.clause.now ts → IsTrue yes ↔ Denies (Equates (AreCongruent (Together c.args.uses))) ps ts)
     c.equates.result
     (λ yes h ps ts premises clause.
-        let more = split_refers c.args.symbols.now c.args.terms.now c.args.clause.now c.in-Some.split.0.now c.in-Some.split.1 ts c.in-Some.ensures.split.1 clause in
-        denies_both c.args.symbols.now c.args.terms.now (Equates (AreCongruent (Together c.args.uses))) (equates_one (AreCongruent (Together c.args.uses))) c.in-Some-2.given.pairs.items ps ts more.front more.last
-        (none_premised c.args.symbols.now c.args.terms.now c.args.premises.now ps c.in-Some.ensures.split.0 premises) more.is ((rw c.in-Some-2.is at c.in_ok-given.ensures.denied) more.front more.front_zip)
-        (λ qs given. h qs more.last (rw (rw c.in-Some-2.is at c.in_ok-given.ensures.only) given) more.last_zip))
+    let more = split_refers c.args.symbols.now c.args.terms.now c.args.clause.now c.in-Some.split.0.now c.in-Some.split.1 ts c.in-Some.ensures.split.1 clause in
+    denies_both c.args.symbols.now c.args.terms.now (Equates (AreCongruent (Together c.args.uses))) (equates_one (AreCongruent (Together c.args.uses))) c.in-Some-2.given.pairs.items ps ts more.front more.last
+    (none_premised c.args.symbols.now c.args.terms.now c.args.premises.now ps c.in-Some.ensures.split.0 premises) more.is ((rw c.in-Some-2.is at c.in_ok-given.ensures.denied) more.front more.front_zip)
+    (λ qs given. h qs more.last (rw (rw c.in-Some-2.is at c.in_ok-given.ensures.only) given) more.last_zip))
     (rw c.denied.ensures.same at c.equates.ensures.equates)

@@ -1,4 +1,3 @@
-use Rattle.std.proofs.Common.{◌≡◌, ◌↔◌}
 use Rattle.rules_congruence.proofs.TogetherLemmas.{differing_by, each_by}
 use Rattle.rules_congruence.proofs.TurningLemmas.{iff_trans}
 use Rattle.rules_congruence.proofs.together.together.Goals as goal

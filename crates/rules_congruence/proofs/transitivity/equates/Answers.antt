@@ -1,4 +1,4 @@
-use Rattle.std.proofs.Common.{◌≡◌, ◌↔◌, ◌∷◌, [], List, IsTrue}
+use Rattle.std.proofs.Common.{◌↔◌, ◌∷◌, [], List, IsTrue}
 use Rattle.rule_model.specs.Congruence.{Equates, IsWay}
 use Rattle.term_model.specs.Terms.{Term}
 use Rattle.term_pool.specs.Views.{RefersTo}
@@ -21,8 +21,8 @@ returns-clause-equates c =
     (λ yes. (ps : List (List Term)) (t : Term) → IsGiven c.args.symbols.now c.args.terms.now c.args.given.now.pairs.items c.args.given.now.only ps → RefersTo c.args.symbols.now c.args.terms.now c.args.literal t → IsTrue yes ↔ Equates (IsWay c.args.mode) ps (t ∷ []))
     c.is_way.result
     (λ yes h ps t given refers.
-        let sides = c.in-Some.ensures.sides t refers in
-        equates_both c.args.symbols.now c.args.terms.now (IsWay c.args.mode) ps c.in-Some.sides t sides
-        (iff_trans h (way_terms c.args.symbols.now c.args.terms.now (c.equal_exactly_where_terms_are.ensures c.args.symbols.now c.count-leaves.ensures.table)
-        c.args.mode c.args.given.now.pairs.items c.args.given.now.only ps c.in-Some.sides.0 c.in-Some.sides.1 sides.left sides.right given sides.left_refers sides.right_refers)))
+    let sides = c.in-Some.ensures.sides t refers in
+    equates_both c.args.symbols.now c.args.terms.now (IsWay c.args.mode) ps c.in-Some.sides t sides
+    (iff_trans h (way_terms c.args.symbols.now c.args.terms.now (c.equal_exactly_where_terms_are.ensures c.args.symbols.now c.count-leaves.ensures.table)
+    c.args.mode c.args.given.now.pairs.items c.args.given.now.only ps c.in-Some.sides.0 c.in-Some.sides.1 sides.left sides.right given sides.left_refers sides.right_refers)))
     c.is_way.ensures

@@ -1,4 +1,3 @@
-use Rattle.std.proofs.Common.{◌≡◌, ◌∙◌}
 use Rattle.rules_congruence.proofs.PartLemmas.{false_is}
 use Rattle.rules_congruence.proofs.TurningLemmas.{no_turned_left, no_turned_right, are_turned_by, iff_trans}
 use Rattle.rules_congruence.proofs.turning.are_turned.Goals as goal

@@ -1,4 +1,3 @@
-use Rattle.std.proofs.Common.{◌≡◌, ◌∙◌}
 use Rattle.rules_congruence.proofs.PartLemmas.{false_is}
 use Rattle.rules_congruence.proofs.TurningLemmas.{equal_sides_by, iff_trans}
 use Rattle.rules_congruence.proofs.turning.has_equal_sides.Goals as goal

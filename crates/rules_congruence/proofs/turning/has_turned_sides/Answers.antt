@@ -1,4 +1,3 @@
-use Rattle.std.proofs.Common.{◌≡◌, ◌∙◌}
 use Rattle.rule_model.specs.Clausal.{itself}
 use Rattle.rules_congruence.proofs.PartLemmas.{false_is, left_is_term, right_is_term}
 use Rattle.rules_congruence.proofs.TurningLemmas.{turned_sides_by}

@@ -1,4 +1,3 @@
-use Rattle.std.proofs.Common.{◌≡◌, ◌∙◌}
 use Rattle.rules_congruence.proofs.PartLemmas.{false_is}
 use Rattle.rules_congruence.proofs.TurningLemmas.{reflexive_by, not_lone, literal_is_term}
 use Rattle.rules_congruence.proofs.turning.is_reflexive.Goals as goal

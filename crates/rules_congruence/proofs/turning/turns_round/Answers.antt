@@ -1,5 +1,3 @@
-use Rattle.std.proofs.Common.{◌≡◌, ◌∙◌, [], ◌∷◌}
-use Rattle.std.proofs.lemmas.List.Elements.{All-head}
 use Rattle.rules_congruence.proofs.PartLemmas.{false_is}
 use Rattle.rules_congruence.proofs.TurningLemmas.{turns_by, no_unit_term, no_literal_term, unit_is_term, literal_is_term}
 use Rattle.rules_congruence.proofs.turning.turns_round.Goals as goal

@@ -1,4 +1,4 @@
-use Rattle.std.proofs.Common.{◌≡◌, ◌≢◌, ◌<◌, ◌≤◌, ◌∙◌, length, eq-eqb, arith}
+use Rattle.std.proofs.Common.{length, eq-eqb, arith}
 use Rattle.std.proofs.lemmas.Bool.{eqb-true}
 use Rattle.rules_congruence.proofs.PartLemmas.{false_is}
 use Rattle.rules_congruence.proofs.TurningLemmas.{iff_trans}
@@ -18,10 +18,11 @@ returns-in_default c =
 pub loop-place-preserved : goal.loop-place-preserved
 loop-place-preserved c =
     let test = c.loop-place-test.true in
-    let long = c.if-lefts-rights.false in
-    (c.in-Some.ensures.within,
-    used_next c.args.all c.args.pairs.now c.args.lefts.now c.args.rights.now c.loop-place.place c.item.result c.item-in-loop-place.result c.loop-place.used c.in-Some.more
-    (omega arith) (omega arith) c.item.ensures c.item-in-loop-place.ensures c.in-Some.ensures.used c.loop-place.invariant.1)
+    let long = c.if-lefts-rights.false in (
+      c.in-Some.ensures.within,
+      used_next c.args.all c.args.pairs.now c.args.lefts.now c.args.rights.now c.loop-place.place c.item.result c.item-in-loop-place.result c.loop-place.used c.in-Some.more
+          (omega arith) (omega arith) c.item.ensures c.item-in-loop-place.ensures c.in-Some.ensures.used c.loop-place.invariant.1,
+    )
 
 pub returns : goal.returns
 returns c =

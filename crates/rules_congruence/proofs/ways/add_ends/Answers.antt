@@ -1,4 +1,4 @@
-use Rattle.std.proofs.Common.{◌≡◌, ◌<◌, ◌≤◌, ◌+◌, ◌*◌, arith}
+use Rattle.std.proofs.Common.{arith}
 use Rattle.rules_congruence.proofs.WayLemmas.{ends_more, adds_ends}
 use Rattle.rules_congruence.proofs.ways.add_ends.Goals as goal
 

@@ -1,4 +1,4 @@
-use Rattle.std.proofs.Common.{◌↔◌, IsTrue, Bool, ℕ}
+use Rattle.std.proofs.Common.{◌↔◌, IsTrue, ℕ}
 use Rattle.rule_model.specs.Congruence.{IsConnected}
 use Rattle.rules_congruence.specs.Pairs.{AreEnds}
 use Rattle.rules_congruence.specs.Ways.{IsNear}

@@ -1,4 +1,4 @@
-use Rattle.std.proofs.Common.{◌≡◌, ◌<◌, ◌≤◌, ◌+◌, length, arith}
+use Rattle.std.proofs.Common.{◌<◌, ◌≤◌, length, arith}
 use Rattle.rules_congruence.proofs.WayLemmas.{reached_first, reached_next, reached_all, key_there}
 use Rattle.rules_congruence.proofs.ways.reaches.Goals as goal
 

@@ -1,4 +1,3 @@
-use Rattle.std.proofs.Common.{◌≡◌}
 use Rattle.rules_congruence.proofs.GivenLemmas.{given_one, given_other}
 use Rattle.rules_congruence.proofs.sides.Given.add.Goals as goal
 
