@@ -11,3 +11,5 @@ pub mod ApplicationLemmas
 pub mod UseLemmas
 pub mod CongruenceLemmas
 pub mod TogetherLemmas
+pub mod StepLemmas
+pub mod CheckAnswers

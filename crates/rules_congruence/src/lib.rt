@@ -7,6 +7,7 @@
 #![tactic(auto)]
 
 mod applications;
+mod checks;
 mod clauses;
 mod congruence;
 mod links;
@@ -18,3 +19,5 @@ mod turning;
 mod uses;
 mod using;
 mod ways;
+
+pub use checks::check;
