@@ -1,20 +1,21 @@
 //! Whether a step meets the condition of its rule.
 
-ghost use Rattle.std.specs.Prelude.{◌≡◌, ◌≢◌, ◌↔◌, ◌<◌, map, IsTrue, IfErr, IfOk};
+ghost use Rattle.std.specs.Prelude.{◌≡◌, ◌≢◌, ◌↔◌, ◌<◌, List, map, IsTrue, IfErr, IfOk};
 ghost use Rattle.proof_store.specs.Checks.{KeepsTruthAt, StandForSome};
 ghost use Rattle.proof_store.specs.Meaning.{StandForItems};
 ghost use Rattle.proof_store.specs.declared.answers.Answer.TheVariants as Answer;
 ghost use Rattle.proof_store.specs.declared.answers.RuleStop.TheVariants as RuleStop;
 ghost use Rattle.rule_model.specs.declared.rules.Rule.TheVariants as Rule;
 ghost use Rattle.rule_model.specs.Conditions.{IsMetAt, Met};
-ghost use Rattle.rule_model.specs.Congruence.{IsOfEquality, HangTogether, HangTogetherDenied};
+ghost use Rattle.rule_model.specs.Congruence.{IsOfEquality};
 ghost use Rattle.rule_model.specs.Judged.{judged_at};
 ghost use Rattle.rule_model.specs.Proofs.{Items};
 ghost use Rattle.rule_model.specs.Reading.{clause_at, premises_at, rule_at};
 ghost use Rattle.rule_model.specs.Scopes.{commands_in};
 ghost use Rattle.term_model.specs.Terms.{Var, Term};
 ghost use Rattle.rules_congruence.specs.Clauses.{clauses_of};
-ghost use Rattle.rules_congruence.specs.Uses.{Together};
+ghost use Rattle.rules_congruence.specs.Steps.{ReferTo, ReferToClauses, AreTerms, AreClauses, MeetsEquality};
+ghost use Rattle.rules_congruence.specs.Uses.{uses_of, denied_uses_of};
 
 use crate::together::{meets_cong, meets_eq_congruent};
 use crate::transitivity::{meets_eq_transitive, meets_trans};
@@ -30,7 +31,7 @@ use term_pool::Terms;
 
 /// How cong uses its premises.
 fn uses_of(mode: Mode) -> Uses
-    ensures { Together result ≡ HangTogether mode }
+    ensures { result ≡ uses_of mode }
 {
     match mode {
         Mode::Check => Uses::Any,
@@ -40,7 +41,7 @@ fn uses_of(mode: Mode) -> Uses
 
 /// How eq_congruent uses the equalities that its clause denies.
 fn denied_uses_of(mode: Mode) -> Uses
-    ensures { Together result ≡ HangTogetherDenied mode }
+    ensures { result ≡ denied_uses_of mode }
 {
     match mode {
         Mode::Check => Uses::Any,
@@ -55,10 +56,51 @@ fn premises_of<'a>(alloc: Global, proof: &'a Proof, i: u32) -> Result<Vec<&'a [R
 {
     let _commands = proof.count();
     let mut list = Vec::new(alloc);
-    for premise in proof.premises(i) {
+    let premises = proof.premises(i);
+    for premise in premises {
         list.push(proof.clause(*premise))?;
     }
     Ok(list)
+}
+
+/// The clauses of a step: those of its premises, in order, and its own.
+#[derive(Clone, Copy)]
+struct Clauses<'a> {
+    premises: &'a [&'a [Ref]],
+    clause: &'a [Ref],
+}
+
+/// Whether the clauses of a step meet a rule.
+fn meets(
+    alloc: Global,
+    mode: Mode,
+    rule: Rule,
+    symbols: &Symbols,
+    terms: &mut Terms<'_>,
+    step: Clauses<'_>,
+) -> Result<bool, Memory>
+    requires premises { AreClauses symbols.now terms.old step.premises.now }
+    requires clause { AreTerms symbols.now terms.old step.clause.now }
+    requires decided { rule ≢ Rule.EqCongruentPred }
+    ensures met { IfOk result (λ yes. (ps : List (List Term)) (ts : List Term) → ReferToClauses symbols.now terms.old step.premises.now ps →
+        ReferTo symbols.now terms.old step.clause.now ts → IsTrue yes ↔ MeetsEquality mode rule ps ts) }
+    ensures same { terms.new ≡ terms.old }
+{
+    let premises = step.premises;
+    let clause = step.clause;
+    match rule {
+        Rule::Symm => Ok(turns_round(symbols, terms, false, premises, clause)),
+        Rule::NotSymm => Ok(turns_round(symbols, terms, true, premises, clause)),
+        Rule::EqReflexive => Ok(is_reflexive(symbols, terms, premises, clause)),
+        Rule::EqSymmetric => Ok(is_symmetric(symbols, terms, premises, clause)),
+        Rule::Trans => meets_trans(alloc, mode, symbols, terms, premises, clause),
+        Rule::EqTransitive => meets_eq_transitive(alloc, mode, symbols, terms, premises, clause),
+        Rule::Cong => meets_cong(alloc, uses_of(mode), symbols, terms, premises, clause),
+        Rule::EqCongruent => {
+            meets_eq_congruent(alloc, denied_uses_of(mode), symbols, terms, premises, clause)
+        }
+        _ => Ok(false),
+    }
 }
 
 /// Whether the clauses of the step at an index meet its rule, whatever scope it closes.
@@ -82,19 +124,8 @@ fn meets_at(
     let list = premises_of(alloc, proof, i)?;
     let premises = list.as_slice();
     let clause = proof.clause(i);
-    match proof.rule(i) {
-        Rule::Symm => Ok(turns_round(symbols, terms, false, premises, clause)),
-        Rule::NotSymm => Ok(turns_round(symbols, terms, true, premises, clause)),
-        Rule::EqReflexive => Ok(is_reflexive(symbols, terms, premises, clause)),
-        Rule::EqSymmetric => Ok(is_symmetric(symbols, terms, premises, clause)),
-        Rule::Trans => meets_trans(alloc, mode, symbols, terms, premises, clause),
-        Rule::EqTransitive => meets_eq_transitive(alloc, mode, symbols, terms, premises, clause),
-        Rule::Cong => meets_cong(alloc, uses_of(mode), symbols, terms, premises, clause),
-        Rule::EqCongruent => {
-            meets_eq_congruent(alloc, denied_uses_of(mode), symbols, terms, premises, clause)
-        }
-        _ => Ok(false),
-    }
+    let rule = proof.rule(i);
+    meets(alloc, mode, rule, symbols, terms, Clauses { premises, clause })
 }
 
 /// Whether the step at an index meets the condition of its rule (Alethe specification, "List of rules"): `symm`,

@@ -4,4 +4,4 @@ use Rattle.rules_congruence.specs.Clauses.{clauses_of}
 use Rattle.rules_congruence.proofs.checks.premises_of.Given as goal
 
 abbrev pub invariant-loop-premise : goal.invariant-loop-premise
-invariant-loop-premise l = clauses_of l.list.items ≡ map (clause_at l.proof) (take l.premise-index l.premises.now)
+invariant-loop-premise l = clauses_of l.list.items ≡ map (clause_at l.proof) (take l.premise-index l.premises)
