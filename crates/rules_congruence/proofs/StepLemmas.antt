@@ -1,5 +1,5 @@
 -- A step of a proof: the clauses of its premises, its own, and its rule.
-use Rattle.std.proofs.Common.{◌≡◌, ◌≢◌, ◌↔◌, ℕ, zero, suc, ◌+◌, ◌<◌, List, [], ◌∷◌, ◌++◌, Bool, length, map, get_or, take, slice_get, All, Some, Contains, IsTrue, refl, sym, ◌∙◌, ap, subst, arith}
+use Rattle.std.proofs.Common.{◌≡◌, ◌≢◌, ◌↔◌, ℕ, zero, suc, ◌+◌, ◌<◌, List, [], ◌∷◌, ◌++◌, Bool, length, map, get_or, take, slice_get, Some, IsTrue, refl, sym, ◌∙◌, ap, subst, arith}
 use Rattle.std.specs.Borrow.{Bor}
 use Rattle.std.specs.Option.{option_map_or}
 use Rattle.std.proofs.lemmas.List.{get_or_default, map_push, map_more}
@@ -19,8 +19,9 @@ use Rattle.sym_table.specs.Table.{Table}
 use Rattle.term_model.specs.Terms.{Var, Term}
 use Rattle.term_pool.specs.Views.{TermsView, RefersTo, IsTerm}
 use Rattle.rules_congruence.specs.Clauses.{clauses_of}
-use Rattle.rules_congruence.specs.Steps.{ReferTo, ReferToClauses, AreTerms, AreClauses, MeetsEquality}
-use Rattle.rules_congruence.specs.Uses.{Together, uses_of, denied_uses_of}
+use Rattle.rules_congruence.specs.Steps.{ReferTo, ReferToClauses, AreTerms, AreClauses}
+use Rattle.rules_congruence.specs.Uses.{Together}
+use Rattle.rules_congruence.specs.Rules.{uses_of, denied_uses_of, MeetsEquality}
 
 premise_line : (ls : List (Line ℕ ℕ)) (i k : ℕ) → k < length (option_map_or (λ e. premises_of e.command) (slice_get (map entry_of ls) i) []) → (l : Line ℕ ℕ) × (slice_get ls i ≡ Some l) × (premises_of l.command ≡ option_map_or (λ e. premises_of e.command) (slice_get (map entry_of ls) i) [])
 premise_line [] i k h = absurd (omega (arith, h))

@@ -8,3 +8,4 @@ pub mod Links
 pub mod Ways
 pub mod Applications
 pub mod Uses
+pub mod Rules

@@ -5,9 +5,6 @@ use Rattle.std.specs.List.{AllZip}
 use Rattle.sym_table.specs.Table.{Table}
 use Rattle.term_model.specs.Terms.{Term}
 use Rattle.term_pool.specs.Views.{TermsView, RefersTo, IsTerm}
-use Rattle.rule_model.specs.declared.rules.Mode.{Mode}
-use Rattle.rule_model.specs.declared.rules.Rule.{Rule}
-use Rattle.rule_model.specs.Congruence.{MeetsSymm, MeetsNotSymm, MeetsTrans, MeetsCong, MeetsEqReflexive, MeetsEqSymmetric, MeetsEqTransitive, MeetsEqCongruent, MeetsEqCongruentPred}
 
 -- the references stand for the terms of a clause, in order
 abbrev pub ReferTo : Table → TermsView → List ℕ → List Term → Type 0
@@ -23,16 +20,3 @@ AreTerms s v references = All (IsTerm s v) references
 
 abbrev pub AreClauses : Table → TermsView → List (Bor (List ℕ)) → Type 0
 AreClauses s v premises = All (λ (references : Bor (List ℕ)). AreTerms s v references.now) premises
-
--- what a rule of the family asks, by the mode, of the clauses of a step
-abbrev pub MeetsEquality : Mode → Rule → List (List Term) → List Term → Type 0
-MeetsEquality mode Rule.Symm premises clause = MeetsSymm mode premises clause
-MeetsEquality mode Rule.NotSymm premises clause = MeetsNotSymm mode premises clause
-MeetsEquality mode Rule.Trans premises clause = MeetsTrans mode premises clause
-MeetsEquality mode Rule.Cong premises clause = MeetsCong mode premises clause
-MeetsEquality mode Rule.EqReflexive premises clause = MeetsEqReflexive mode premises clause
-MeetsEquality mode Rule.EqSymmetric premises clause = MeetsEqSymmetric mode premises clause
-MeetsEquality mode Rule.EqTransitive premises clause = MeetsEqTransitive mode premises clause
-MeetsEquality mode Rule.EqCongruent premises clause = MeetsEqCongruent mode premises clause
-MeetsEquality mode Rule.EqCongruentPred premises clause = MeetsEqCongruentPred mode premises clause
-MeetsEquality mode rule premises clause = ⊥

@@ -1,6 +1,5 @@
 -- Private. How equalities are used by congruence.
 use Rattle.std.specs.Prelude.{◌≡◌, ℕ, List, [], ◌∷◌}
-use Rattle.rule_model.specs.declared.rules.Mode.{Mode}
 use Rattle.rule_model.specs.Congruence.{Head, AreLinked, AreDifferences, ArePlaces}
 use Rattle.sym_table.specs.Leaf.{operator}
 use Rattle.sym_table.specs.Table.{Table, IsLeaf}
@@ -13,15 +12,6 @@ abbrev pub Together : Uses → Head → List (List Term) → List Term → List 
 Together Uses.Any head premises ts us = AreLinked head premises ts us
 Together Uses.Differing head premises ts us = AreDifferences premises ts us
 Together Uses.Each head premises ts us = ArePlaces premises ts us
-
--- how cong uses its premises, and eq_congruent the equalities that its clause denies
-abbrev pub uses_of : Mode → Uses
-uses_of Mode.Check = Uses.Any
-uses_of Mode.Strict = Uses.Differing
-
-abbrev pub denied_uses_of : Mode → Uses
-denied_uses_of Mode.Check = Uses.Any
-denied_uses_of Mode.Strict = Uses.Each
 
 -- two lists are the sides of two equalities, whose head this leaf is
 pub record ArePairs (s : Table) (k : ℕ) (ps qs : List ℕ) (pairs : (ℕ × ℕ) × (ℕ × ℕ)) : Type 0 where

@@ -14,8 +14,8 @@ ghost use Rattle.rule_model.specs.Reading.{clause_at, premises_at, rule_at};
 ghost use Rattle.rule_model.specs.Scopes.{commands_in};
 ghost use Rattle.term_model.specs.Terms.{Var, Term};
 ghost use Rattle.rules_congruence.specs.Clauses.{clauses_of};
-ghost use Rattle.rules_congruence.specs.Steps.{ReferTo, ReferToClauses, AreTerms, AreClauses, MeetsEquality};
-ghost use Rattle.rules_congruence.specs.Uses.{uses_of, denied_uses_of};
+ghost use Rattle.rules_congruence.specs.Steps.{ReferTo, ReferToClauses, AreTerms, AreClauses};
+ghost use Rattle.rules_congruence.specs.Rules.{uses_of, denied_uses_of, MeetsEquality};
 
 use crate::together::{meets_cong, meets_eq_congruent};
 use crate::transitivity::{meets_eq_transitive, meets_trans};

@@ -1,5 +1,6 @@
-use Rattle.std.proofs.Common.{◌∙◌, ap, sym, subst}
+use Rattle.std.proofs.Common.{◌≢◌, ◌∙◌, ap, sym, subst}
 use Rattle.std.proofs.lemmas.Result.{IfOk-weaker}
+use Rattle.rule_model.specs.declared.rules.Rule.{Rule}
 use Rattle.rule_model.specs.Congruence.{IsOfEquality}
 use Rattle.rules_congruence.specs.Clauses.{clauses_of}
 use Rattle.rules_congruence.proofs.StepLemmas.{are_terms, are_clauses, step_refers, met_by}
@@ -35,3 +36,6 @@ returns-clause-meets c =
     let step = step_refers s v refs of i c.as_slice-premises.result.now c.clause-clause.result.now (λ j. c.terms_correspond.ensures.clause s v refs of j stand)
     (c.commands_correspond.ensures.premises s v refs of i stand) (ap clauses_of c.as_slice-premises.ensures.value ∙ c.in_ok-list.ensures) c.clause-clause.ensures in
     met_by c.args.mode of i c.rule-rule.result b (c.rule-rule.ensures ∙ c.commands_correspond.ensures.rule s v refs of i stand) (subst IsOfEquality (sym c.rule-rule.ensures) c.requires.equality) (test _ _ step.0 step.1)) c.meets.ensures.met
+
+pub meets-requires-clause-decided : goal.meets-requires-clause-decided
+meets-requires-clause-decided c = subst (λ rule. rule ≢ Rule.EqCongruentPred) (sym c.rule-rule.ensures) c.requires.decided
