@@ -82,8 +82,8 @@ fn meets(
     requires premises { AreClauses symbols.now terms.old step.premises.now }
     requires clause { AreTerms symbols.now terms.old step.clause.now }
     requires decided { rule ≢ Rule.EqCongruentPred }
-    ensures met { IfOk result (λ yes. (ps : List (List Term)) (ts : List Term) → ReferToClauses symbols.now terms.old step.premises.now ps →
-        ReferTo symbols.now terms.old step.clause.now ts → IsTrue yes ↔ MeetsEquality mode rule ps ts) }
+    ensures met { IfOk result (λ yes. (ps : List (List Term)) (ts : List Term) → ReferToClauses symbols.now terms.old step.entry.premises.now ps →
+        ReferTo symbols.now terms.old step.entry.clause.now ts → IsTrue yes ↔ MeetsEquality mode rule ps ts) }
     ensures same { terms.new ≡ terms.old }
 {
     let premises = step.premises;
