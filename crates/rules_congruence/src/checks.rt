@@ -97,7 +97,14 @@ fn meets(
         Rule::EqTransitive => meets_eq_transitive(alloc, mode, symbols, terms, premises, clause),
         Rule::Cong => meets_cong(alloc, uses_of(mode), symbols, terms, premises, clause),
         Rule::EqCongruent => {
-            meets_eq_congruent(alloc, denied_uses_of(mode), symbols, terms, premises, clause)
+            meets_eq_congruent(
+                alloc,
+                denied_uses_of(mode),
+                symbols,
+                terms,
+                premises,
+                clause,
+            )
         }
         _ => Ok(false),
     }
@@ -125,7 +132,14 @@ fn meets_at(
     let premises = list.as_slice();
     let clause = proof.clause(i);
     let rule = proof.rule(i);
-    meets(alloc, mode, rule, symbols, terms, Clauses { premises, clause })
+    meets(
+        alloc,
+        mode,
+        rule,
+        symbols,
+        terms,
+        Clauses { premises, clause },
+    )
 }
 
 /// Whether the step at an index meets the condition of its rule (Alethe specification, "List of rules"): `symm`,
