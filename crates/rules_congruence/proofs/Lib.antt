@@ -1,0 +1,15 @@
+pub mod Options
+pub mod PartLemmas
+pub mod Referring
+pub mod GivenLemmas
+pub mod TurningLemmas
+pub mod LinkLemmas
+pub mod WayLemmas
+pub mod Carrying
+pub mod Literals
+pub mod ApplicationLemmas
+pub mod UseLemmas
+pub mod CongruenceLemmas
+pub mod TogetherLemmas
+pub mod StepLemmas
+pub mod CheckAnswers

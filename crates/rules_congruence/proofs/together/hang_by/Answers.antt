@@ -1,0 +1,20 @@
+use Rattle.std.proofs.Common.{◌↔◌, List, IsTrue}
+use Rattle.rule_model.specs.Congruence.{AreLinked}
+use Rattle.term_model.specs.Terms.{Term}
+use Rattle.rules_congruence.specs.Applications.{AreApplied}
+use Rattle.rules_congruence.specs.Links.{TellsSides}
+use Rattle.rules_congruence.specs.Sides.{IsGiven}
+use Rattle.rules_congruence.proofs.Options.{if_ok}
+use Rattle.rules_congruence.proofs.TogetherLemmas.{sides_told}
+use Rattle.rules_congruence.proofs.together.hang_by.Goals as goal
+
+pub returns-clause-together : goal.returns-clause-together
+returns-clause-together c =
+    let s = c.args.symbols.now in
+    let v = c.args.terms.now in
+    if_ok (λ yes. (ps : List (List Term)) (t u : Term) → TellsSides s v c.in_ok-links.links.items ps → (a : AreApplied s v c.args.both.now.head c.args.both.now.left.items c.args.both.now.right.items t u) → IsTrue yes ↔ AreLinked a.head ps a.ts a.us)
+    (λ yes. (ps : List (List Term)) (t u : Term) → IsGiven s v c.args.given.now.pairs.items c.args.given.now.only ps → (a : AreApplied s v c.args.both.now.head c.args.both.now.left.items c.args.both.now.right.items t u) → IsTrue yes ↔ AreLinked a.head ps a.ts a.us)
+    c.hang.result
+    (λ yes h ps t u given a. h ps t u
+    (sides_told s v (c.equal_exactly_where_terms_are.ensures s c.count-leaves.ensures.table) c.args.given.now.pairs.items c.args.given.now.only ps c.in_ok-links.links.items given (rw c.deref.ensures.value at c.in_ok-links.ensures)) a)
+    (rw c.deref-2.ensures.value at c.hang.ensures.linked)

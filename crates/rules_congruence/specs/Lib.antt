@@ -1,0 +1,11 @@
+pub mod Parts
+pub mod Pairs
+pub mod Steps
+pub mod Clauses
+pub mod Turning
+pub mod Sides
+pub mod Links
+pub mod Ways
+pub mod Applications
+pub mod Uses
+pub mod Rules

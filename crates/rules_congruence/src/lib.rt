@@ -1,0 +1,23 @@
+//! The rules of equality of the Alethe specification but `refl`: whether a step meets the condition of its rule.
+//!
+//! A step's equalities are its premises, or literals that deny them. They are read once into a list of pairs of references.
+//! For check mode that list, both ways round, is sorted into a table: transitivity goes through it breadth first, and
+//! congruence looks the sides of its arguments up in it. So a step costs the sorting of its premises and the walks over its
+//! arguments that equality up to flips takes. In strict mode nothing is searched.
+#![tactic(auto)]
+
+mod applications;
+mod checks;
+mod clauses;
+mod congruence;
+mod links;
+mod parts;
+mod sides;
+mod together;
+mod transitivity;
+mod turning;
+mod uses;
+mod using;
+mod ways;
+
+pub use checks::check;
