@@ -1,3 +1,4 @@
 pub mod Ids
 pub mod IdsInUse
+pub mod Reading
 pub mod HeldIds

@@ -5,7 +5,9 @@
 //! `rule_model` has it.
 #![tactic(auto)]
 
+pub mod contract;
 pub mod ids;
 pub mod laws;
+pub mod session;
 
 pub use ids::Ids;
