@@ -20,7 +20,7 @@ use Rattle.problem_text.specs.Sorts.{sort_from, sorts_from, parameters_from}
 use Rattle.problem_text.specs.Names.{Place, Meaning, meaning_of, applied, inside, let_term, itself}
 use Rattle.problem_text.specs.Terms.{settled, with_meaning, with_names, term_from, terms_from, bounds_from, read_term}
 use Rattle.problem_text.specs.Problems.{logic_set, sort_declared, function_declared, function_defined, term_asserted, performed, ends, commands}
-use Rattle.problem_text.proofs.Outcomes.{Ends, ends-and_then, ends-goes_on}
+use Rattle.problem_text.proofs.Outcomes.{Ends, ends-and_then, ends-then_script}
 
 abbrev Anything : {A : Type 0} → A → Type 0
 Anything a = ⊤
@@ -146,5 +146,5 @@ module _ (x : Term) where
   unfolding commands
   by_commands no_items replaces s h = (h, tt)
   by_commands (item i rest) replaces s h =
-      ends-goes_on (HasRead x) Anything Anything (command_of s.is_checked i) s _ h (anything (command_of s.is_checked i))
+      ends-then_script (HasRead x) Anything Anything (command_of s.is_checked i) s _ h (anything (command_of s.is_checked i))
       (λ c _. by_next (ends c) replaces c s (commands replaces rest) h (λ end k. by_commands rest replaces end k))

@@ -19,7 +19,7 @@ use Rattle.problem_text.specs.Names.{Place, itself}
 use Rattle.problem_text.specs.Terms.{read_term}
 use Rattle.problem_text.specs.Problems.{logic_set, sort_declared, function_declared, function_defined, term_asserted, performed, ends, commands, StandsForProblem}
 use Rattle.problem_text.specs.Soundness.{HasNoLets}
-use Rattle.problem_text.proofs.Outcomes.{Ends, ends-and_then, ends-goes_on, all_at_end, if_found}
+use Rattle.problem_text.proofs.Outcomes.{Ends, ends-and_then, ends-then_script, all_at_end, if_found}
 use Rattle.problem_text.proofs.LetFreeTerms.{IsFreeIn, AreBoundFree, parameters-free, term-free}
 
 module _ (replaces : Bool) where
@@ -102,7 +102,7 @@ module _ (replaces : Bool) where
   unfolding commands
   commands-free no_items s plain = (plain, tt)
   commands-free (item i rest) s plain =
-      ends-goes_on ArePlain Whatever Whatever (command_of s.is_checked i) s _ plain (any_result (command_of s.is_checked i))
+      ends-then_script ArePlain Whatever Whatever (command_of s.is_checked i) s _ plain (any_result (command_of s.is_checked i))
       (λ c _. next-free (ends c) c s (commands replaces rest) plain (λ after plain'. commands-free rest after plain'))
 
   pub problem-free : (source : List ℕ) (s : Script) → StandsForProblem source replaces s → HasNoLets replaces s

@@ -15,7 +15,7 @@ use Rattle.problem_text.specs.Limits.{most_height}
 use Rattle.rule_model.specs.Replacement.{replaced, free_variables, HasNoLet, HaveNoLet}
 use Rattle.problem_text.specs.TypedTerms.{Typed}
 use Rattle.problem_text.specs.Scripts.{Named, Script, is_taken, with_named, with_term, with_let_name, Outcome, done, refuse, and_then}
-use Rattle.problem_text.specs.Names.{Bound, Place, itself, innermost, is_bound, replacement, Meaning, value, macro, function, operator, meaning_of_bound, meaning_of_named, meaning_of, trees, sorts_of, expansion, applied, bindings_of, inside, let_term}
+use Rattle.problem_text.specs.Names.{Bound, Place, itself, innermost, is_bound, replacement, Meaning, value, macro, function, operator, meaning_of_bound, meaning_of_named, meaning_of, trees, sorts_of, expansion, applied, let_bindings, inside, let_term}
 use Rattle.problem_text.specs.Terms.{settled, with_meaning, with_names, term_from, terms_from, bounds_from}
 use Rattle.problem_text.proofs.Outcomes.{Ends, ends-and_then, all_joined, if_found, if_some-or, if_some-map, if_some-and_then}
 use Rattle.rule_model.proofs.Replacing.{AreLetFree, replaced-let_free}
@@ -134,7 +134,7 @@ module _ (ArePlain : Script → Type 0) (found_plain : (s : Script) (name : List
   let-free : (p : Place) (bs : List Bound) (t : Typed) → IsFreeIn p t → IsFreeIn p (let_term p bs t)
   let-free p bs t h = go p.replaces_lets refl
     where
-      go : (b : Bool) → p.replaces_lets ≡ b → p.replaces_lets ≡ true → HasNoLet (if b then t else record { tree = let_in (bindings_of bs) t.tree; sort = t.sort }).tree
+      go : (b : Bool) → p.replaces_lets ≡ b → p.replaces_lets ≡ true → HasNoLet (if b then t else record { tree = let_in (let_bindings bs) t.tree; sort = t.sort }).tree
       go true e f = h e
       go false e f = absurd cc
 

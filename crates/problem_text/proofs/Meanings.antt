@@ -10,7 +10,7 @@ use Rattle.problem_text.specs.Words.{operator_named}
 use Rattle.rule_model.specs.Replacement.{replaced, free_variables}
 use Rattle.problem_text.specs.TypedTerms.{Typed}
 use Rattle.problem_text.specs.Scripts.{Script}
-use Rattle.problem_text.specs.Names.{Bound, Place, itself, innermost, is_bound, replacement, Meaning, value, macro, function, operator, meaning_of_bound, meaning_of_named, meaning_of, trees, sorts_of, expansion, applied, bindings_of, inside, let_term}
+use Rattle.problem_text.specs.Names.{Bound, Place, itself, innermost, is_bound, replacement, Meaning, value, macro, function, operator, meaning_of_bound, meaning_of_named, meaning_of, trees, sorts_of, expansion, applied, let_bindings, inside, let_term}
 use Rattle.problem_text.specs.Soundness.{AreSorted, IsSound}
 use Rattle.problem_text.proofs.Outcomes.{all_joined, if_found, if_some-or, if_some-map, if_some-and_then}
 use Rattle.rule_model.specs.Substitution.{HaveTheirSorts}
@@ -116,13 +116,13 @@ inside-fits p bs h k = go p.replaces_lets
     go true = all_joined (λ b. IsOf b.stands_for b.variable.sort) bs p.scope k h
     go false = all_joined (λ b. IsOf b.stands_for b.variable.sort) (map (λ b. itself b.variable) bs) p.scope (themselves-fit bs) h
 
-pub bindings-fit : (bs : List Bound) → AreSorted bs → AreBound (bindings_of bs)
+pub bindings-fit : (bs : List Bound) → AreSorted bs → AreBound (let_bindings bs)
 bindings-fit [] h = tt
 bindings-fit (b ∷ bs) h = (h.0, bindings-fit bs h.1)
 
 pub let-fits : (p : Place) (bs : List Bound) (t : Typed) → AreSorted bs → IsOf t.tree t.sort → IsOf (let_term p bs t).tree (let_term p bs t).sort
 let-fits p bs t h e = go p.replaces_lets
   where
-    go : (b : Bool) → IsTyped (if b then t else record { tree = let_in (bindings_of bs) t.tree; sort = t.sort })
+    go : (b : Bool) → IsTyped (if b then t else record { tree = let_in (let_bindings bs) t.tree; sort = t.sort })
     go true = e
     go false = (bindings-fit bs h, e)

@@ -3,18 +3,18 @@ use Rattle.std.proofs.Common.{List, [], ◌∷◌, ◌++◌, Bool, true, false, 
 use Rattle.std.specs.List.{AllByRecursion}
 use Rattle.std.specs.Option.{option_or}
 use Rattle.sexpr.specs.declared.causes.Refusal.{Refusal}
-use Rattle.problem_text.specs.Scripts.{Script, Outcome, goes_on, and_then}
+use Rattle.problem_text.specs.Scripts.{Script, Outcome, then_script, and_then}
 
 -- P of the script after a reading, and Q of what was read
 abbrev pub Ends : {A : Type 0} → (Script → Type 0) → (A → Type 0) → Outcome A → Type 0
 Ends P Q o = P o.script × IfOk o.result Q
 
-pub ends-goes_on : {A B : Type 0} (P : Script → Type 0) (Q : A → Type 0) (R : B → Type 0) (r : Result A Refusal) (s : Script) (next : A → Script → Outcome B) → P s → IfOk r Q → ((a : A) → Q a → Ends P R (next a s)) → Ends P R (goes_on r s next)
-ends-goes_on P Q R (Ok a) s next p q k = k a q
-ends-goes_on P Q R (Err refusal) s next p q k = (p, tt)
+pub ends-then_script : {A B : Type 0} (P : Script → Type 0) (Q : A → Type 0) (R : B → Type 0) (r : Result A Refusal) (s : Script) (next : A → Script → Outcome B) → P s → IfOk r Q → ((a : A) → Q a → Ends P R (next a s)) → Ends P R (then_script r s next)
+ends-then_script P Q R (Ok a) s next p q k = k a q
+ends-then_script P Q R (Err refusal) s next p q k = (p, tt)
 
 pub ends-and_then : {A B : Type 0} (P : Script → Type 0) (Q : A → Type 0) (R : B → Type 0) (o : Outcome A) (next : A → Script → Outcome B) → Ends P Q o → ((a : A) (s : Script) → Q a → P s → Ends P R (next a s)) → Ends P R (and_then o next)
-ends-and_then P Q R o next h k = ends-goes_on P Q R o.result o.script next h.0 h.1 (λ a q. k a o.script q h.0)
+ends-and_then P Q R o next h k = ends-then_script P Q R o.result o.script next h.0 h.1 (λ a q. k a o.script q h.0)
 
 -- lists
 pub all_at_end : {X : Type 0} (P : X → Type 0) (xs : List X) (x : X) → AllByRecursion P xs → P x → AllByRecursion P (xs ++ x ∷ [])

@@ -15,13 +15,13 @@ use Rattle.text_items.specs.ItemShapes.{Name}
 use Rattle.problem_text.specs.Forms.{form_of}
 use Rattle.problem_text.specs.Commands.{Command, set_logic, without_effect, declare_sort, declare_fun, define_fun, assert_term, check_sat, exit, command_of}
 use Rattle.problem_text.specs.TypedTerms.{Typed}
-use Rattle.problem_text.specs.Scripts.{Macro, Script, empty_script, is_taken, with_name, with_sort, with_function, with_macro, with_assertion, Outcome, done, refuse, given, and_then}
+use Rattle.problem_text.specs.Scripts.{Macro, Script, empty_script, is_taken, with_name, with_declared_sort, with_function, with_macro, with_assertion, Outcome, done, refuse, given, and_then}
 use Rattle.problem_text.specs.Sorts.{sort_from, sorts_from, parameters_from}
 use Rattle.problem_text.specs.Names.{itself}
 use Rattle.problem_text.specs.Terms.{read_term}
 use Rattle.problem_text.specs.Problems.{logic_set, sort_declared, function_declared, function_defined, term_asserted, performed, ends, commands, StandsForProblem}
 use Rattle.problem_text.specs.Soundness.{IsRead, AreSorted, IsSound}
-use Rattle.problem_text.proofs.Outcomes.{Ends, ends-and_then, ends-goes_on, all_at_end}
+use Rattle.problem_text.proofs.Outcomes.{Ends, ends-and_then, ends-then_script, all_at_end}
 use Rattle.problem_text.proofs.Readings.{term-sound}
 
 -- nothing is said of what was read
@@ -60,7 +60,7 @@ logic-sound n s sound =
 sort-sound : (n : Name) (arity_place arity : ℕ) (s : Script) → IsSound s → IsDone (sort_declared n arity_place arity s)
 sort-sound n arity_place arity s sound =
     unless_refused (is_built_in n.name || is_among s.sorts n.name) Repeated n.place s _ sound
-    (where_allowed (arity == 0) LeftOut arity_place s _ sound (same_terms s (with_sort n.name s) refl refl refl sound, tt))
+    (where_allowed (arity == 0) LeftOut arity_place s _ sound (same_terms s (with_declared_sort n.name s) refl refl refl sound, tt))
 
 function-sound : (n : Name) (arguments : Items) (target : Item) (s : Script) → IsSound s → IsDone (function_declared n arguments target s)
 function-sound n arguments target s sound =
@@ -135,7 +135,7 @@ pub commands-sound : (items : Items) (replaces : Bool) (s : Script) → IsSound 
 unfolding commands
 commands-sound no_items replaces s sound = (sound, tt)
 commands-sound (item i rest) replaces s sound =
-    ends-goes_on IsSound Any' Any' (command_of s.is_checked i) s _ sound (any_result (command_of s.is_checked i))
+    ends-then_script IsSound Any' Any' (command_of s.is_checked i) s _ sound (any_result (command_of s.is_checked i))
     (λ c _. next-sound (ends c) replaces c s (commands replaces rest) sound (λ after sound'. commands-sound rest replaces after sound'))
 
 pub problem-sound : (source : List ℕ) (replaces : Bool) (s : Script) → StandsForProblem source replaces s → IsSound s

@@ -10,7 +10,7 @@ use Rattle.sexpr.specs.Items.{Item, word, list, Items, no_items, item, place_of}
 use Rattle.text_items.specs.Spelling.{is_keyword_item}
 use Rattle.problem_text.specs.Words.{is_among, left_out_commands}
 use Rattle.text_items.specs.ItemShapes.{Name, name_at, excess, symbol_fault, pairs_fault}
-use Rattle.text_items.specs.ItemShapes.{items_of}
+use Rattle.text_items.specs.ItemShapes.{items_in_list}
 
 -- A command by its items: sorts, parameters and terms are still to be read. A declaration of a sort has the place
 -- and the value of its numeral. A declaration of a constant is that of a function without arguments.
@@ -70,7 +70,7 @@ declare_sort_shape place _ = refused BadCommand place
 abbrev pub declare_fun_shape : ℕ → Items → Result Command Refusal
 declare_fun_shape place (item name (item sorts (item target rest))) =
     shaped (option_or (symbol_fault name) (option_or (list_fault sorts) (excess rest)))
-    (declare_fun (name_at name) (items_of sorts) target)
+    (declare_fun (name_at name) (items_in_list sorts) target)
 declare_fun_shape place _ = refused BadCommand place
 
 abbrev pub declare_const_shape : ℕ → Items → Result Command Refusal
@@ -81,7 +81,7 @@ declare_const_shape place _ = refused BadCommand place
 abbrev pub define_fun_shape : ℕ → Items → Result Command Refusal
 define_fun_shape place (item name (item parameters (item target (item body rest)))) =
     shaped (option_or (symbol_fault name) (option_or (parameters_fault parameters) (excess rest)))
-    (define_fun (name_at name) (items_of parameters) target body)
+    (define_fun (name_at name) (items_in_list parameters) target body)
 define_fun_shape place _ = refused BadCommand place
 
 abbrev pub assert_shape : ℕ → Items → Result Command Refusal

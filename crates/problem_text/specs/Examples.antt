@@ -32,16 +32,16 @@ tokens_from zero text at = []
 tokens_from (suc n) text at = elim (token_read (next_token text at)) [ Some t ↦ t ∷ tokens_from n text t.end | None ↦ [] ]
 
 -- Items are put together from the right: the lists that are still open to the left, the innermost first.
-abbrev pub opened : ℕ → List Items → List Items
-opened place (inner ∷ outer ∷ others) = item (list place inner) outer ∷ others
-opened place others = others
+abbrev pub with_inner_list : ℕ → List Items → List Items
+with_inner_list place (inner ∷ outer ∷ others) = item (list place inner) outer ∷ others
+with_inner_list place others = others
 
 abbrev pub put_before : Item → List Items → List Items
 put_before i [] = []
 put_before i (inner ∷ others) = item i inner ∷ others
 
 abbrev pub with_token : List ℕ → Token → TokenKind → List Items → List Items
-with_token text t Open open_lists = opened t.start open_lists
+with_token text t Open open_lists = with_inner_list t.start open_lists
 with_token text t Close open_lists = no_items ∷ open_lists
 with_token text t Text open_lists = put_before (string t.start (token_text text t)) open_lists
 with_token text t Quoted open_lists = put_before (quoted t.start (token_text text t)) open_lists
@@ -51,12 +51,12 @@ abbrev pub nested : List ℕ → List Token → List Items
 nested text [] = no_items ∷ []
 nested text (t ∷ ts) = with_token text t t.kind (nested text ts)
 
-abbrev pub outermost : List Items → Items
-outermost [] = no_items
-outermost (items ∷ others) = items
+abbrev pub outermost_items : List Items → Items
+outermost_items [] = no_items
+outermost_items (items ∷ others) = items
 
 unfoldable pub items_in : List ℕ → Items
-items_in text = outermost (nested text (tokens_from (length text) text 0))
+items_in text = outermost_items (nested text (tokens_from (length text) text 0))
 
 abbrev pub fault_in : Result Unit Refusal → Option Refusal
 fault_in (Ok done) = None

@@ -82,9 +82,9 @@ applied (function f) ts = option_map (λ s. record { tree = call f (trees ts); s
 applied (operator op) ts = option_map (λ s. record { tree = operation op (trees ts); sort = s }) (application_sort op (sorts_of ts))
 
 -- the bindings of a let, as they stand in its term
-abbrev pub bindings_of : List Bound → Bindings
-bindings_of [] = no_bindings
-bindings_of (b ∷ bs) = binding b.variable b.stands_for (bindings_of bs)
+abbrev pub let_bindings : List Bound → Bindings
+let_bindings [] = no_bindings
+let_bindings (b ∷ bs) = binding b.variable b.stands_for (let_bindings bs)
 
 -- where the body of a let with these bindings stands
 abbrev pub inside : List Bound → Place → Place
@@ -92,4 +92,4 @@ inside bs p = record p { scope = (if p.replaces_lets then bs else map (λ b. its
 
 -- a let with this body
 abbrev pub let_term : Place → List Bound → Typed → Typed
-let_term p bs t = if p.replaces_lets then t else record { tree = let_in (bindings_of bs) t.tree; sort = t.sort }
+let_term p bs t = if p.replaces_lets then t else record { tree = let_in (let_bindings bs) t.tree; sort = t.sort }

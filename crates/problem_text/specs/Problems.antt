@@ -9,7 +9,7 @@ use Rattle.term_model.specs.Terms.{sort_eq, Fun}
 use Rattle.problem_text.specs.Words.{is_among, is_built_in, logics}
 use Rattle.text_items.specs.ItemShapes.{Name}
 use Rattle.problem_text.specs.Commands.{Command, set_logic, without_effect, declare_sort, declare_fun, define_fun, assert_term, check_sat, exit, command_of}
-use Rattle.problem_text.specs.Scripts.{Script, empty_script, is_taken, with_name, with_sort, with_function, with_macro, with_assertion, Outcome, done, refuse, given, and_then, goes_on}
+use Rattle.problem_text.specs.Scripts.{Script, empty_script, is_taken, with_name, with_declared_sort, with_function, with_macro, with_assertion, Outcome, done, refuse, given, and_then, then_script}
 use Rattle.problem_text.specs.Sorts.{sort_from, sorts_from, parameters_from}
 use Rattle.problem_text.specs.Names.{itself}
 use Rattle.problem_text.specs.Terms.{read_term}
@@ -24,7 +24,7 @@ logic_set n s =
 abbrev pub sort_declared : Name → ℕ → ℕ → Script → Outcome ⊤
 sort_declared n arity_place arity s =
     if is_built_in n.name || is_among s.sorts n.name then refuse Repeated n.place s
-    else if arity == 0 then done tt (with_sort n.name s)
+    else if arity == 0 then done tt (with_declared_sort n.name s)
     else refuse LeftOut arity_place s
 
 abbrev pub function_declared : Name → Items → Item → Script → Outcome ⊤
@@ -72,7 +72,7 @@ goes_on_after replaces_lets c s next = if ends c then done tt s else and_then (p
 unfoldable pub commands : Bool → Items → Script → Outcome ⊤
 commands replaces_lets no_items s = done tt s
 commands replaces_lets (item i rest) s =
-    goes_on (command_of s.is_checked i) s (λ c before. goes_on_after replaces_lets c before (commands replaces_lets rest))
+    then_script (command_of s.is_checked i) s (λ c before. goes_on_after replaces_lets c before (commands replaces_lets rest))
 
 -- what the items of a whole text come to
 abbrev pub problem : Bool → Items → Outcome ⊤
@@ -95,5 +95,5 @@ abbrev pub IsFirstFault : List ℕ → Bool → Refusal → Type 0
 IsFirstFault source replaces_lets refusal = IsFormFault source refusal ⊎ IsCommandFault source replaces_lets refusal
 
 -- no variable that a let binds has the name of a declared function
-abbrev pub AreApart : Script → Type 0
-AreApart s = (f : Fun) → Contains s.functions f → Contains s.let_names f.name → ⊥
+abbrev pub AreNamesApart : Script → Type 0
+AreNamesApart s = (f : Fun) → Contains s.functions f → Contains s.let_names f.name → ⊥

@@ -55,8 +55,8 @@ is_taken s name = is_built_in name || is_among s.taken name
 abbrev pub with_name : List ℕ → Script → Script
 with_name name s = record s { taken = s.taken ++ name ∷ [] }
 
-abbrev pub with_sort : List ℕ → Script → Script
-with_sort name s = record s { sorts = s.sorts ++ name ∷ [] }
+abbrev pub with_declared_sort : List ℕ → Script → Script
+with_declared_sort name s = record s { sorts = s.sorts ++ name ∷ [] }
 
 abbrev pub with_function : Fun → Script → Script
 with_function f s = record s { functions = s.functions ++ f ∷ [] }
@@ -92,9 +92,9 @@ abbrev pub given : {A : Type 0} → Result A Refusal → Script → Outcome A
 given r s = record { result = r; script = s }
 
 -- One reading and then another. A fault of the first is the fault of both.
-abbrev pub goes_on : {A B : Type 0} → Result A Refusal → Script → (A → Script → Outcome B) → Outcome B
-goes_on (Ok a) s next = next a s
-goes_on (Err refusal) s next = record { result = Err refusal; script = s }
+abbrev pub then_script : {A B : Type 0} → Result A Refusal → Script → (A → Script → Outcome B) → Outcome B
+then_script (Ok a) s next = next a s
+then_script (Err refusal) s next = record { result = Err refusal; script = s }
 
 abbrev pub and_then : {A B : Type 0} → Outcome A → (A → Script → Outcome B) → Outcome B
-and_then o next = goes_on o.result o.script next
+and_then o next = then_script o.result o.script next

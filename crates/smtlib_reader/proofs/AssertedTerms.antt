@@ -14,7 +14,7 @@ use Rattle.problem_text.specs.Forms.{form_of}
 use Rattle.problem_text.specs.Problems.{term_asserted, performed}
 use Rattle.term_reader.specs.Reading.{IsReadTerm, Reads}
 use Rattle.problem_text.specs.TypedTerms.{Typed}
-use Rattle.problem_text.specs.Scripts.{Script, Outcome, done, refuse, goes_on, with_assertion}
+use Rattle.problem_text.specs.Scripts.{Script, Outcome, done, refuse, then_script, with_assertion}
 use Rattle.smtlib_reader.specs.Sessions.{top, IsSession, IsReadBy, Performs}
 use Rattle.term_names.specs.Standing.{AddsNoSymbols}
 use Rattle.problem_text.specs.Terms.{read_term}
@@ -64,7 +64,7 @@ module _ (replaces : Bool) (i : Item) (sc : Script) where
   module _ (s : Table) (v w : TermsView) (r : Reader) where
     pub term_fails : (d : Session) (fault : ReadFault) → Reads s v w r (top replaces) read_here (Err fault) → Performs s v w d (performed replaces (assert_term i) sc) (Err fault)
     term_fails d (ReadFault.Text refusal) h = rw asserted (record {
-      outcome = ap (λ (q : Result Typed Refusal). (goes_on q read_here.script (λ t last. judged t last (sort_eq t.sort Sort.Bool))).result) h.outcome;
+      outcome = ap (λ (q : Result Typed Refusal). (then_script q read_here.script (λ t last. judged t last (sort_eq t.sort Sort.Bool))).result) h.outcome;
       placed = places_more s v.pass w.pass _ _ read_more h.placed;
     })
     term_fails d ReadFault.PoolFull h = rw asserted (record { outcome = lacks_more s w.pass _ _ read_more h.outcome; placed = places_more s v.pass w.pass _ _ read_more h.placed })
@@ -77,7 +77,7 @@ module _ (replaces : Bool) (i : Item) (sc : Script) where
       -- with the sort of the term
       comes_to : (b : Bool) → sort_eq c.sort Sort.Bool ≡ b → term_asserted replaces i sc ≡ judged h.outcome.0 h.outcome.1 b
       comes_to b e =
-          ap (λ (q : Outcome Typed). goes_on q.result q.script (λ t last. judged t last (sort_eq t.sort Sort.Bool))) h.outcome.2
+          ap (λ (q : Outcome Typed). then_script q.result q.script (λ t last. judged t last (sort_eq t.sort Sort.Bool))) h.outcome.2
           ∙ ap (judged h.outcome.0 h.outcome.1) (ap (λ sort. sort_eq sort Sort.Bool) (sym h.outcome.3.sort) ∙ e)
 
       pub other_sort : (d : Session) (refusal : Refusal) → Err refusal ≡ checked (sort_eq c.sort Sort.Bool) (place_of i) → Performs s v w d (performed replaces (assert_term i) sc) (Err (ReadFault.Text refusal))

@@ -7,7 +7,7 @@ use Rattle.sexpr.specs.Words.{is_symbol}
 use Rattle.sexpr.specs.Items.{Item, word, quoted, string, list, Items, no_items, item, place_of}
 use Rattle.smtlib_reader.specs.declared.command_words.CommandWord.{CommandWord}
 use Rattle.problem_text.specs.Words.{is_among, left_out_commands}
-use Rattle.text_items.specs.ItemShapes.{items_of}
+use Rattle.text_items.specs.ItemShapes.{items_in_list}
 use Rattle.problem_text.specs.Commands.{Command as Shape, refused, command_named, headed_command, command_of}
 use Rattle.smtlib_reader.specs.CommandShapes.{head_word, word_named, command_so}
 
@@ -52,7 +52,7 @@ abbrev inside : Bool → ℕ → Items → Result Shape Refusal
 inside checked place no_items = refused BadCommand place
 inside checked place (item head items) = headed_command checked place head items
 
-by_items : (checked : Bool) (i : Item) → command_of checked i ≡ inside checked (place_of i) (items_of i)
+by_items : (checked : Bool) (i : Item) → command_of checked i ≡ inside checked (place_of i) (items_in_list i)
 unfolding command_of
 by_items checked (word p s) = refl
 by_items checked (quoted p s) = refl
@@ -60,22 +60,22 @@ by_items checked (string p s) = refl
 by_items checked (list p no_items) = refl
 by_items checked (list p (item head items)) = refl
 
-pub lacks_word : (checked : Bool) (i : Item) → items_of i ≡ no_items → (p : ℕ) → p ≡ place_of i → (r : Refusal) → r ≡ record { cause = BadCommand; at = p } → command_of checked i ≡ Err r
+pub lacks_word : (checked : Bool) (i : Item) → items_in_list i ≡ no_items → (p : ℕ) → p ≡ place_of i → (r : Refusal) → r ≡ record { cause = BadCommand; at = p } → command_of checked i ≡ Err r
 lacks_word checked i e p start r is =
     by_items checked i ∙ ap (inside checked (place_of i)) e ∙ ap (λ q. refused {A = Shape} BadCommand q) (sym start) ∙ ap Err (sym is)
 
-has_head : (checked : Bool) (i head : Item) (items : Items) → items_of i ≡ item head items → (name : Option (List ℕ)) → name ≡ head_word head
+has_head : (checked : Bool) (i head : Item) (items : Items) → items_in_list i ≡ item head items → (name : Option (List ℕ)) → name ≡ head_word head
     → command_of checked i ≡ headed checked (place_of i) (place_of head) name items
 has_head checked i head items e name is =
     by_items checked i ∙ ap (inside checked (place_of i)) e ∙ by_head checked (place_of i) head items
     ∙ ap (λ o. headed checked (place_of i) (place_of head) o items) (sym is)
 
-pub with_word : (checked : Bool) (i head : Item) (items : Items) → items_of i ≡ item head items → (name : List ℕ) → Some name ≡ head_word head → (w : CommandWord) → w ≡ word_named name
+pub with_word : (checked : Bool) (i head : Item) (items : Items) → items_in_list i ≡ item head items → (name : List ℕ) → Some name ≡ head_word head → (w : CommandWord) → w ≡ word_named name
     → (p q : ℕ) → p ≡ place_of i → q ≡ place_of head → command_of checked i ≡ command_so w checked p q items
 with_word checked i head items e name is w named p q start word_start =
     has_head checked i head items e (Some name) is ∙ by_word checked (place_of i) (place_of head) name items
     ∙ ap (λ v. command_so v checked (place_of i) (place_of head) items) (sym named)
     ∙ ap (λ r. command_so w checked r (place_of head) items) (sym start) ∙ ap (λ r. command_so w checked p r items) (sym word_start)
 
-pub without_word : (checked : Bool) (i head : Item) (items : Items) → items_of i ≡ item head items → None ≡ head_word head → (q : ℕ) → q ≡ place_of head → command_of checked i ≡ refused BadCommand q
+pub without_word : (checked : Bool) (i head : Item) (items : Items) → items_in_list i ≡ item head items → None ≡ head_word head → (q : ℕ) → q ≡ place_of head → command_of checked i ≡ refused BadCommand q
 without_word checked i head items e is q word_start = has_head checked i head items e None is ∙ ap (λ r. refused {A = Shape} BadCommand r) (sym word_start)

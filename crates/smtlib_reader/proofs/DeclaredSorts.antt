@@ -72,17 +72,17 @@ sort_is_free s name e (inr (n, there)) =
 
 -- the script with one more sort
 module _ (s : Table) (v : TermsView) (name : List ℕ) (sc : Script) (keeps : Keeps s (with_sort s name)) where
-  sort_script : (k : KnownView) → IsScript s v k sc → IsScript (with_sort s name) v k (spec.with_sort name sc)
+  sort_script : (k : KnownView) → IsScript s v k sc → IsScript (with_sort s name) v k (spec.with_declared_sort name sc)
   sort_script k h = record {
     sorts = ap (λ names. names ++ name ∷ []) h.sorts;
     names = λ other.
-        meant_moves s (with_sort s name) v v keeps (keeps_none v) sc (spec.with_sort name sc) other
+        meant_moves s (with_sort s name) v v keeps (keeps_none v) sc (spec.with_declared_sort name sc) other
         (record { functions = refl; macros = refl; named = refl; taken = refl }) (λ f. f) k (known_entry k other) (h.names other);
   }
 
-  sort_session : (d : Session) → IsSession s v d sc → IsSession (with_sort s name) v d (spec.with_sort name sc)
+  sort_session : (d : Session) → IsSession s v d sc → IsSession (with_sort s name) v d (spec.with_declared_sort name sc)
   sort_session d h = record {
-    idle = idle_moves s (with_sort s name) v d.reader sc (spec.with_sort name sc) (top d.reader.replaces_lets) keeps h.idle (sort_script d.reader.known h.idle.script);
+    idle = idle_moves s (with_sort s name) v d.reader sc (spec.with_declared_sort name sc) (top d.reader.replaces_lets) keeps h.idle (sort_script d.reader.known h.idle.script);
     functions = h.functions;
     assertions = all_refer_still s (with_sort s name) v keeps d.assertions.items sc.assertions h.assertions;
     has_logic = h.has_logic;
@@ -92,7 +92,7 @@ module _ (s : Table) (v : TermsView) (name : List ℕ) (sc : Script) (keeps : Ke
 module _ (s : Table) (v : TermsView) (d : Session) (replaces : Bool) (x : Name) (place arity : ℕ) (sc : Script) (is : IsSession s v d sc) where
   -- by whether the name is taken, and whether the sort has no parameters
   abbrev sort_by : Bool → Bool → Outcome ⊤
-  sort_by taken none = if taken then refuse Repeated x.place sc else if none then done tt (spec.with_sort x.name sc) else refuse LeftOut place sc
+  sort_by taken none = if taken then refuse Repeated x.place sc else if none then done tt (spec.with_declared_sort x.name sc) else refuse LeftOut place sc
 
   sort_parts : (taken none : Bool) → (is_built_in x.name || is_among s.sorts x.name) ≡ taken → (arity == 0) ≡ none → performed replaces (declare_sort x place arity) sc ≡ sort_by taken none
   unfolding performed
@@ -113,6 +113,6 @@ module _ (s : Table) (v : TermsView) (d : Session) (replaces : Bool) (x : Name) 
   sort_added z (Ok u) taken none added fault keeps =
       let kept : Keeps s (with_sort s x.name) = subst (λ (t : Table). Keeps s t) added keeps in
       subst (λ (t : Table). Performs t v v d (performed replaces (declare_sort x place arity) sc) (Ok tt)) (sym added)
-      (performs_done (with_sort s x.name) v d (performed replaces (declare_sort x place arity) sc) (spec.with_sort x.name sc) (sort_parts false true taken none) (sort_session s v x.name sc kept d is))
+      (performs_done (with_sort s x.name) v d (performed replaces (declare_sort x place arity) sc) (spec.with_declared_sort x.name sc) (sort_parts false true taken none) (sort_session s v x.name sc kept d is))
   sort_added z (Err f) taken none added fault keeps =
       subst (λ (g : ReadFault). Performs z v v d (performed replaces (declare_sort x place arity) sc) (Err g)) (sym fault) (performs_memory z v d (performed replaces (declare_sort x place arity) sc))

@@ -17,9 +17,9 @@ use Rattle.problem_text.specs.Forms.{form_of}
 use Rattle.term_names.specs.Known.{KnownView}
 use Rattle.problem_text.specs.Problems.{performed}
 use Rattle.problem_text.specs.TypedTerms.{Typed}
-use Rattle.problem_text.specs.Scripts.{Script, Outcome, done, refuse, given, goes_on, and_then, is_taken, with_name, with_macro}
+use Rattle.problem_text.specs.Scripts.{Script, Outcome, done, refuse, given, then_script, and_then, is_taken, with_name, with_macro}
 use Rattle.smtlib_reader.specs.Sessions.{IsSession, Performs}
-use Rattle.problem_text.specs.Sorts.{chained, sort_from, parameters_from}
+use Rattle.problem_text.specs.Sorts.{after_ok, sort_from, parameters_from}
 use Rattle.term_names.specs.Standing.{AddsNoSymbols}
 use Rattle.problem_text.specs.Words.{is_among, is_built_in}
 use Rattle.term_names.specs.declared.faults.ReadFault.{ReadFault}
@@ -68,7 +68,7 @@ module _ (replaces : Bool) (n : Name) (parameters : Items) (target body : Item) 
 
   -- once the signature is read
   abbrev signed : Result Signature Refusal → Outcome ⊤
-  signed r = goes_on r (with_name n.name sc) (λ q named. macro_defined n.name q.parameters q.target body named)
+  signed r = then_script r (with_name n.name sc) (λ q named. macro_defined n.name q.parameters q.target body named)
 
   abbrev by_name : Bool → Result Signature Refusal → Outcome ⊤
   by_name b r = if b then refuse Repeated n.place sc else signed r
@@ -79,7 +79,7 @@ module _ (replaces : Bool) (n : Name) (parameters : Items) (target body : Item) 
     where
       go : (a : Result (List Var) Refusal) (b : Result Sort Refusal)
           → and_then (given a (with_name n.name sc)) (λ xs named. and_then (given b named) (λ sort sorted. macro_defined n.name xs sort body sorted))
-          ≡ signed (chained a (λ xs. chained b (λ t. Ok (record { parameters = xs; target = t }))))
+          ≡ signed (after_ok a (λ xs. after_ok b (λ t. Ok (record { parameters = xs; target = t }))))
       go (Ok xs) (Ok sort) = refl
       go (Ok xs) (Err refusal) = refl
       go (Err refusal) b = refl

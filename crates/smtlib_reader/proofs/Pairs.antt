@@ -4,7 +4,7 @@ use Rattle.std.specs.Option.{option_or}
 use Rattle.sexpr.specs.Items.{Item, word, quoted, string, list, Items, no_items, item, place_of}
 use Rattle.text_items.specs.declared.nodes.Node.{Node}
 use Rattle.text_items.specs.ItemShapes.{excess, symbol_fault, pair_fault, pairs_fault}
-use Rattle.text_items.specs.ItemShapes.{items_of}
+use Rattle.text_items.specs.ItemShapes.{items_in_list}
 use Rattle.text_items.specs.Nodes.{IsNode, AreNodes}
 use Rattle.text_items.proofs.NodeItems.{place_told, next_told, begin_with, none_left, children}
 
@@ -14,7 +14,7 @@ inside place no_items = Some place
 inside place (item x no_items) = Some place
 inside place (item x (item t rest)) = option_or (symbol_fault x) (excess rest)
 
-pair_inside : (i : Item) → inside (place_of i) (items_of i) ≡ pair_fault i
+pair_inside : (i : Item) → inside (place_of i) (items_in_list i) ≡ pair_fault i
 pair_inside (word p s) = refl
 pair_inside (quoted p s) = refl
 pair_inside (string p s) = refl
@@ -23,25 +23,25 @@ pair_inside (list p (item x no_items)) = refl
 pair_inside (list p (item x (item t rest))) = refl
 
 module _ (source : List ℕ) (nodes : List Node) (k : ℕ) (node : Node) (here : slice_get nodes k ≡ Some node) (i : Item) (m : ℕ) (is : IsNode source nodes k i m) where
-  within : AreNodes source nodes (k + 1) (items_of i) node.next
-  within = subst (λ q. AreNodes source nodes (k + 1) (items_of i) q) (sym (next_told source nodes k i m node here is)) (children source nodes k i m is)
+  within : AreNodes source nodes (k + 1) (items_in_list i) node.next
+  within = subst (λ q. AreNodes source nodes (k + 1) (items_in_list i) q) (sym (next_told source nodes k i m node here is)) (children source nodes k i m is)
 
-  at_start : (items : Items) → items_of i ≡ items → inside node.token.start items ≡ pair_fault i
+  at_start : (items : Items) → items_in_list i ≡ items → inside node.token.start items ≡ pair_fault i
   at_start items e = ap (λ p. inside p items) (place_told source nodes k i m node here is) ∙ ap (inside (place_of i)) (sym e) ∙ pair_inside i
 
   pub lacks_first : node.next ≤ k + 1 → Some node.token.start ≡ pair_fault i
-  lacks_first h = at_start no_items (none_left source nodes (k + 1) (items_of i) node.next h within)
+  lacks_first h = at_start no_items (none_left source nodes (k + 1) (items_in_list i) node.next h within)
 
   pub lacks_second : k + 1 < node.next → (x : Node) → slice_get nodes (k + 1) ≡ Some x → node.next ≤ x.next → Some node.token.start ≡ pair_fault i
   lacks_second h x at last =
-      let t = begin_with source nodes (k + 1) (items_of i) node.next h within x at in
+      let t = begin_with source nodes (k + 1) (items_in_list i) node.next h within x at in
       at_start (item t.first no_items) (t.same ∙ ap (item t.first) (none_left source nodes x.next t.others node.next last t.there))
 
   pub pair_whole : k + 1 < node.next → (x : Node) → slice_get nodes (k + 1) ≡ Some x → x.next < node.next → (y : Node) → slice_get nodes x.next ≡ Some y
       → (f e : Option ℕ) → ((j : Item) (n : ℕ) → IsNode source nodes (k + 1) j n → f ≡ symbol_fault j)
       → ((items : Items) → AreNodes source nodes y.next items node.next → e ≡ excess items) → option_or f e ≡ pair_fault i
   pair_whole h x at more y behind f e symbol rest =
-      let t = begin_with source nodes (k + 1) (items_of i) node.next h within x at in
+      let t = begin_with source nodes (k + 1) (items_in_list i) node.next h within x at in
       let u = begin_with source nodes x.next t.others node.next more t.there y behind in
       ap (λ q. option_or q e) (symbol t.first x.next t.here) ∙ ap (λ q. option_or (symbol_fault t.first) q) (rest u.others u.there)
       ∙ at_start (item t.first (item u.first u.others)) (t.same ∙ ap (item t.first) u.same)

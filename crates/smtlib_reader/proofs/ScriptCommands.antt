@@ -12,7 +12,7 @@ use Rattle.text_items.specs.Nodes.{IsNode}
 use Rattle.smtlib_reader.specs.ProblemReading.{HasItems, IsFirstItem, AreLeft, ReadsCommand}
 use Rattle.problem_text.specs.Problems.{performed, ends, goes_on_after, commands}
 use Rattle.term_reader.specs.Reading.{EndsWith}
-use Rattle.problem_text.specs.Scripts.{Script, Outcome, done, goes_on, and_then}
+use Rattle.problem_text.specs.Scripts.{Script, Outcome, done, then_script, and_then}
 use Rattle.smtlib_reader.specs.Sessions.{IsSession, IsReadBy, Performs}
 use Rattle.smtlib_reader.specs.declared.commands.Command as code
 use Rattle.smtlib_reader.specs.declared.commands.Command.TheVariants.{SetLogic, WithoutEffect, DeclareSort, DeclareFun, DefineFun, Assert, CheckSat, Exit}
@@ -24,7 +24,7 @@ use Rattle.term_reader.proofs.Staying.{places_none, places_more, lacks_more}
 
 -- the first of the commands, by its shape
 abbrev comes_of : Bool → Script → Items → Result Command Refusal → Outcome ⊤
-comes_of replaces sc rest r = goes_on r sc (λ c before. goes_on_after replaces c before (commands replaces rest))
+comes_of replaces sc rest r = then_script r sc (λ c before. goes_on_after replaces c before (commands replaces rest))
 
 unfolds : (replaces : Bool) (i : Item) (rest : Items) (sc : Script) → commands replaces (item i rest) sc ≡ comes_of replaces sc rest (command_of sc.is_checked i)
 unfolding commands
@@ -52,7 +52,7 @@ exits replaces c rest sc is = rw is refl
 read_by_end : (replaces : Bool) (rest : Items) (o : Outcome ⊤) (t : Term) → Contains o.script.terms t → Contains (then_rest replaces rest o).script.terms t
 read_by_end replaces rest o t h = go o.result
   where
-    go : (r : Result ⊤ Refusal) → Contains (goes_on r o.script (λ _ after. commands replaces rest after)).script.terms t
+    go : (r : Result ⊤ Refusal) → Contains (then_script r o.script (λ _ after. commands replaces rest after)).script.terms t
     go (Ok a) = (by_commands t rest replaces o.script h).0
     go (Err refusal) = h
 

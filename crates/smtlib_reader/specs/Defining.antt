@@ -17,8 +17,9 @@ use Rattle.term_reader.specs.Reading.{IsReadTerm, EndsWith, IsIdle}
 use Rattle.problem_text.specs.TypedTerms.{Typed}
 use Rattle.problem_text.specs.Scripts.{Script, Outcome, done, refuse, and_then, with_macro}
 use Rattle.smtlib_reader.specs.Sessions.{IsReadBy, top}
-use Rattle.problem_text.specs.Sorts.{chained, sort_from, parameters_from}
-use Rattle.term_names.specs.Standing.{AreLeavesOf, IsScript, IsReservedName}
+use Rattle.problem_text.specs.Sorts.{after_ok, sort_from, parameters_from}
+use Rattle.term_names.specs.Standing.{IsScript, IsReservedName}
+use Rattle.term_expansion.specs.Free.{AreLeavesOf}
 use Rattle.problem_text.specs.Terms.{read_term}
 use Rattle.term_expansion.specs.Values.{IsValue}
 use Rattle.smtlib_reader.specs.declared.defining.Listed.{Listed}
@@ -35,7 +36,7 @@ pub record Signature : Type 0 where
 
 abbrev pub signature_from : List (List ℕ) → Items → Item → Result Signature Refusal
 signature_from sorts parameters target =
-    chained (parameters_from sorts [] parameters) (λ xs. chained (sort_from sorts target) (λ t. Ok (record { parameters = xs; target = t })))
+    after_ok (parameters_from sorts [] parameters) (λ xs. after_ok (sort_from sorts target) (λ t. Ok (record { parameters = xs; target = t })))
 
 -- What was read of the nodes from `first` on is the signature that is expected, unless memory was refused. Each parameter
 -- has a node of its own.

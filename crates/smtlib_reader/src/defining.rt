@@ -9,7 +9,7 @@ ghost use Rattle.smtlib_reader.specs.CommandShapes.{SaysCommand};
 ghost use Rattle.problem_text.specs.Commands as shape;
 ghost use Rattle.smtlib_reader.specs.Defining.{IsSignatureRead, signature_from, IsDefining, Defines, macro_defined, AreListed, IsReadyForBody, AddsParameter, ReadsBody, body_read};
 ghost use Rattle.text_items.specs.ItemShapes.{pairs_fault};
-ghost use Rattle.term_names.specs.InScope.{AreBound};
+ghost use Rattle.term_names.specs.InScope.{AreBindingsOf};
 ghost use Rattle.problem_text.specs.Names.{itself};
 ghost use Rattle.text_items.specs.Nodes.{IsNode, AreNodes};
 ghost use Rattle.smtlib_reader.specs.Parameters.{IsParameter, AreParameters};
@@ -209,7 +209,7 @@ fn list_parameters(
     requires parameters { (xs : List Var) × AreParameters (source text.now) nodes.now parameters.now xs }
     requires no_values { values.old ≡ [] }
     requires room { length symbols.old.leaves + length parameters.now ≤ 2 ^ 30 }
-    ensures bound { (v : TermsView) (xs : List Var) → AreParameters (source text.now) nodes.now parameters.now xs → IfOk result (λ leaves. AreBound symbols.new v leaves.items values.new (map itself xs)) }
+    ensures bound { (v : TermsView) (xs : List Var) → AreParameters (source text.now) nodes.now parameters.now xs → IfOk result (λ leaves. AreBindingsOf symbols.new v leaves.items values.new (map itself xs)) }
     ensures memory { IfErr result (λ fault. fault ≡ ReadFault.Memory) }
     ensures symbols { AddsNoSymbols symbols.old symbols.new }
     ensures few { length symbols.new.leaves ≤ length symbols.old.leaves + length parameters.now }

@@ -15,7 +15,7 @@ use Rattle.term_pool.specs.Reading.{arguments_of, IsShapeOf, HasArgument, IsLetT
 use Rattle.term_pool.specs.StandsFor.{variable_leaf, function_leaf}
 use Rattle.term_pool.specs.Views.{TermsView, RefersTo, KeepsTerms}
 use Rattle.sort_check.specs.declared.descent.Step.{Step}
-use Rattle.sort_check.specs.Descent.{IsWellSortedApplication, IsVariable, IsHeadOf, IsLower, IsStep}
+use Rattle.sort_check.specs.Descent.{IsWellSortedApplication, IsVariable, HeadsTerm, IsLower, IsStep}
 use Rattle.sort_check.specs.WellSorted.{IsWellSortedTerm}
 use Rattle.sort_check.proofs.Leaves.{meets, there, at_leaf, operator_leaf}
 
@@ -65,7 +65,7 @@ shape_let s (operation op ts) n m h e = let f = h.2 in absurd cc
 shape_let s (call f ts) n m h e = let g = h.2 in absurd cc
 shape_let s (let_in bs u) n m h e = (bs, u, refl)
 
-pub shape_application : (s : Table) (t : Term) (n : Shape) (k m : ℕ) → IsShapeOf s t n → n ≡ Shape.App k m → IsHeadOf s k t
+pub shape_application : (s : Table) (t : Term) (n : Shape) (k m : ℕ) → IsShapeOf s t n → n ≡ Shape.App k m → HeadsTerm s k t
 shape_application s (numeral j) n k m h e = absurd cc
 shape_application s (variable x) n k m h e = let f = h.2 in absurd cc
 shape_application s (operation op ts) n k m h e =
@@ -111,7 +111,7 @@ pub is_application : (s : Table) (v : TermsView) (r k m : ℕ) (n : Shape) → (
 is_application s v r k m n shape e w = record { term = w; head = shape_application s w.means n k m (shape w.means w.refers) e }
 
 -- what the leaf of a head says of the application
-head_operation : (s : Table) (k : ℕ) (op : Op) (t : Term) → IsLeaf s k (operator op) → IsHeadOf s k t → (ts : Terms) × (t ≡ operation op ts)
+head_operation : (s : Table) (k : ℕ) (op : Op) (t : Term) → IsLeaf s k (operator op) → HeadsTerm s k t → (ts : Terms) × (t ≡ operation op ts)
 head_operation s k op (numeral n) p h = absurd h
 head_operation s k op (variable x) p h = absurd h
 head_operation s k op (operation q ts) p h = (ts, ap (λ o. operation o ts) (go q op (sym h ∙ p)))
@@ -124,7 +124,7 @@ head_operation s k op (call f ts) p h = absurd (go (sym h ∙ p))
     go e = cc
 head_operation s k op (let_in bs u) p h = absurd h
 
-pub operator_step : (s : Table) (k n : ℕ) (op : Op) (u : Sort) → LeafMeets s k (λ l. Kind.Op op ≡ kind_of n l) → ((ss : List Sort) (sort : Sort) → application_sort op ss ≡ Some sort → sort ≡ u) → (t : Term) (sort : Sort) → IsOf t sort → IsHeadOf s k t → u ≡ sort
+pub operator_step : (s : Table) (k n : ℕ) (op : Op) (u : Sort) → LeafMeets s k (λ l. Kind.Op op ≡ kind_of n l) → ((ss : List Sort) (sort : Sort) → application_sort op ss ≡ Some sort → sort ≡ u) → (t : Term) (sort : Sort) → IsOf t sort → HeadsTerm s k t → u ≡ sort
 operator_step s k n op u h fixed t sort i head =
     let x = there s k (λ l. Kind.Op op ≡ kind_of n l) h in
     let leaf : IsLeaf s k (operator op) = x.1 ∙ ap Some (operator_leaf n op x.0 x.2) in
@@ -156,7 +156,7 @@ ite_branch ts sort h =
     let e : h.sorts ≡ Sort.Bool ∷ sort ∷ sort ∷ [] = (choice_sort_of h.sorts sort).0 h.is in
     branch_of ts sort (rw e at h.arguments)
 
-ite_at : (s : Table) (k n : ℕ) (op : Op) (t : Term) → LeafMeets s k (λ l. Kind.Op op ≡ kind_of n l) → op ≡ Op.Ite → IsHeadOf s k t → (ts : Terms) × (t ≡ operation Op.Ite ts)
+ite_at : (s : Table) (k n : ℕ) (op : Op) (t : Term) → LeafMeets s k (λ l. Kind.Op op ≡ kind_of n l) → op ≡ Op.Ite → HeadsTerm s k t → (ts : Terms) × (t ≡ operation Op.Ite ts)
 ite_at s k n op t h is_ite head =
     let x = there s k (λ l. Kind.Op op ≡ kind_of n l) h in
     let leaf : IsLeaf s k (operator op) = x.1 ∙ ap Some (operator_leaf n op x.0 x.2) in
@@ -170,7 +170,7 @@ ite_argument s v r k n op h is_ite w =
     let b = ite_branch y.0 w.term.sorted.sort j in
     record { symbols = s; means = operation Op.Ite y.0; refers = rw y.1 at w.term.refers; there = b.long }
 
-pub ite_step : (s : Table) (v w : TermsView) (r k n a : ℕ) (op : Op) → w ≡ v → LeafMeets s k (λ l. Kind.Op op ≡ kind_of n l) → op ≡ Op.Ite → ((s : Table) (t u : Term) → RefersTo s v r t → slice_get (arguments_of t) 1 ≡ Some u → RefersTo s w a u) → (t : Term) (sort : Sort) → RefersTo s v r t → IsOf t sort → IsHeadOf s k t → IsLower s v t sort a
+pub ite_step : (s : Table) (v w : TermsView) (r k n a : ℕ) (op : Op) → w ≡ v → LeafMeets s k (λ l. Kind.Op op ≡ kind_of n l) → op ≡ Op.Ite → ((s : Table) (t u : Term) → RefersTo s v r t → slice_get (arguments_of t) 1 ≡ Some u → RefersTo s w a u) → (t : Term) (sort : Sort) → RefersTo s v r t → IsOf t sort → HeadsTerm s k t → IsLower s v t sort a
 ite_step s v w r k n a op same h is_ite argument t sort refers i head =
     let y = ite_at s k n op t h is_ite head in
     let j : IsOf (operation Op.Ite y.0) sort = rw y.1 at i in
@@ -181,7 +181,7 @@ ite_step s v w r k n a op same h is_ite argument t sort refers i head =
     record { lower = b.branch; refers = rw same at (argument s (operation Op.Ite y.0) b.branch g b.there); of = b.of; below = rw d (omega arith) }
 
 -- a head that is no operator is that of a function's call
-head_call : (s : Table) (k n : ℕ) (kind : Kind) (t : Term) → LeafMeets s k (λ l. kind ≡ kind_of n l) → ((op : Op) → kind ≡ Kind.Op op → ⊥) → IsHeadOf s k t → (f : Fun) × (ts : Terms) × (t ≡ call f ts) × IsLeaf s k (function_leaf f)
+head_call : (s : Table) (k n : ℕ) (kind : Kind) (t : Term) → LeafMeets s k (λ l. kind ≡ kind_of n l) → ((op : Op) → kind ≡ Kind.Op op → ⊥) → HeadsTerm s k t → (f : Fun) × (ts : Terms) × (t ≡ call f ts) × IsLeaf s k (function_leaf f)
 head_call s k n kind (numeral m) h other head = absurd head
 head_call s k n kind (variable x) h other head = absurd head
 head_call s k n kind (operation op ts) h other head =
@@ -194,7 +194,7 @@ is_function_leaf s v r k n kind h other w =
     let x = head_call s k n kind w.term.means h other w.head in
     meets s k (function_leaf x.0) (λ l. IsTrue (is_function l)) x.3 refl
 
-pub function_step : (s : Table) (k n : ℕ) (kind : Kind) (u : Sort) → LeafMeets s k (λ l. kind ≡ kind_of n l) → ((op : Op) → kind ≡ Kind.Op op → ⊥) → LeafMeets s k (λ l. target_of l ≡ Some u) → (t : Term) (sort : Sort) → IsOf t sort → IsHeadOf s k t → u ≡ sort
+pub function_step : (s : Table) (k n : ℕ) (kind : Kind) (u : Sort) → LeafMeets s k (λ l. kind ≡ kind_of n l) → ((op : Op) → kind ≡ Kind.Op op → ⊥) → LeafMeets s k (λ l. target_of l ≡ Some u) → (t : Term) (sort : Sort) → IsOf t sort → HeadsTerm s k t → u ≡ sort
 function_step s k n kind u h other target t sort i head =
     let x = head_call s k n kind t h other head in
     let j : IsOf (call x.0 x.1) sort = rw x.2 at i in
@@ -202,6 +202,6 @@ function_step s k n kind u h other target t sort i head =
     let f : Some x.0.target ≡ Some u = at_leaf s k (function_leaf x.0) (λ l. target_of l ≡ Some u) x.3 target in
     cc
 
-pub application_look : (s : Table) (v w : TermsView) (r k m : ℕ) (n : Shape) (x : Step) → w ≡ v → ((t : Term) → RefersTo s v r t → IsShapeOf s t n) → n ≡ Shape.App k m → ((t : Term) (sort : Sort) → RefersTo s w r t → IsOf t sort → IsHeadOf s k t → IsStep s w t sort x) → (t : Term) (sort : Sort) → RefersTo s v r t → IsOf t sort → IsStep s v t sort x
+pub application_look : (s : Table) (v w : TermsView) (r k m : ℕ) (n : Shape) (x : Step) → w ≡ v → ((t : Term) → RefersTo s v r t → IsShapeOf s t n) → n ≡ Shape.App k m → ((t : Term) (sort : Sort) → RefersTo s w r t → IsOf t sort → HeadsTerm s k t → IsStep s w t sort x) → (t : Term) (sort : Sort) → RefersTo s v r t → IsOf t sort → IsStep s v t sort x
 application_look s v w r k m n x same shape e found t sort h i =
     let found_here = rw same at found in found_here t sort h i (shape_application s t n k m (shape t h) e)

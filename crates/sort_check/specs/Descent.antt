@@ -18,17 +18,17 @@ pub record IsVariable (s : Table) (k : ℕ) : Type 0 where
   pub leaf : IsLeaf s k (variable_leaf name)
 
 -- the term is an application of the symbol of leaf k
-abbrev pub IsHeadOf : Table → ℕ → Term → Type 0
-IsHeadOf s k (numeral n) = ⊥
-IsHeadOf s k (variable x) = ⊥
-IsHeadOf s k (operation op ts) = IsLeaf s k (operator op)
-IsHeadOf s k (call f ts) = IsLeaf s k (function_leaf f)
-IsHeadOf s k (let_in bs u) = ⊥
+abbrev pub HeadsTerm : Table → ℕ → Term → Type 0
+HeadsTerm s k (numeral n) = ⊥
+HeadsTerm s k (variable x) = ⊥
+HeadsTerm s k (operation op ts) = IsLeaf s k (operator op)
+HeadsTerm s k (call f ts) = IsLeaf s k (function_leaf f)
+HeadsTerm s k (let_in bs u) = ⊥
 
 -- r stands for a well-sorted application of the symbol of leaf k
 pub record IsWellSortedApplication (s : Table) (v : TermsView) (r k : ℕ) : Type 0 where
   pub term : IsWellSortedTerm s v r
-  pub head : IsHeadOf s k term.means
+  pub head : HeadsTerm s k term.means
 
 -- r stands for a term of this sort that is lower than t
 pub record IsLower (s : Table) (v : TermsView) (t : Term) (sort : Sort) (r : ℕ) : Type 0 where

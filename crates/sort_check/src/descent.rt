@@ -9,7 +9,7 @@ ghost use Rattle.term_model.specs.declared.symbols.Sort.{Sort};
 ghost use Rattle.term_pool.specs.Reading.{IsLetTerm};
 ghost use Rattle.term_pool.specs.StandsFor.{variable_leaf};
 ghost use Rattle.term_pool.specs.Views.{RefersTo, KeepsTerms};
-ghost use Rattle.sort_check.specs.Descent.{IsWellSortedApplication, IsHeadOf, IsStep, IsVariable};
+ghost use Rattle.sort_check.specs.Descent.{IsWellSortedApplication, HeadsTerm, IsStep, IsVariable};
 ghost use Rattle.sort_check.specs.WellSorted.{IsWellSortedTerm};
 
 use crate::operators::fixed_sort;
@@ -92,7 +92,7 @@ fn variable_sort(symbols: &Symbols, leaf: u32) -> Sort
 /// The sort of an application, or the first branch of an `ite`.
 fn application_step(symbols: &Symbols, terms: &mut Terms<'_>, r: Ref, head: u32) -> Step
     requires { IsWellSortedApplication symbols.now terms.old r head }
-    ensures step { (t : Term) (sort : Sort) → RefersTo symbols.now terms.old r t → IsOf t sort → IsHeadOf symbols.now head t → IsStep symbols.now terms.old t sort result }
+    ensures step { (t : Term) (sort : Sort) → RefersTo symbols.now terms.old r t → IsOf t sort → HeadsTerm symbols.now head t → IsStep symbols.now terms.old t sort result }
     ensures same { terms.new ≡ terms.old }
 {
     let Kind::Op(op) = symbols.kind(head) else {

@@ -19,7 +19,7 @@ use Rattle.term_pool.specs.declared.stop.TermStop.{TermStop}
 use Rattle.term_pool.specs.declared.stop.TermStop.TheVariants as Stop
 use Rattle.term_pool.specs.Views.{TermsView, RefersTo, ReferToAll, KnowsAll, KeepsPass, KeepsTerms, IsTerm}
 use Rattle.term_expansion.specs.Assigned.{term_of, assigned_all}
-use Rattle.term_expansion.specs.Expanding.{AreVariables, Says, SaysAll, IsSaid, AreSaid, replaced_each, HasPart, HasParts, key_of, Done, HasBecome, AreDone, IsGiven}
+use Rattle.term_expansion.specs.Expanding.{AreVariables, SaysAssigned, SaysAll, IsSaid, AreSaid, replaced_each, HasPart, HasParts, key_of, Done, HasExpanded, AreDone, IsGivenList}
 use Rattle.term_expansion.specs.Free.{AddsLeaves}
 use Rattle.term_expansion.specs.Needs.{IsNeeded, Values, AreValuesOf, HasNeeds}
 use Rattle.rule_model.specs.Replacement.{Replacement, term_at, replaced, replaced_bindings}
@@ -31,13 +31,13 @@ use Rattle.term_expansion.proofs.TermParts.{becomes_application, no_let, let_is}
 
 -- what a call that expands one term, or several, has shown
 abbrev pub ExpandsOne : Table → TermsView → TermsView → List Assigned → ℕ → ℕ → Type 0
-ExpandsOne s v w a r i = (t : Term) (q : Replacement) → RefersTo s v r t → Says s v a q t → RefersTo s w i (replaced q t)
+ExpandsOne s v w a r i = (t : Term) (q : Replacement) → RefersTo s v r t → SaysAssigned s v a q t → RefersTo s w i (replaced q t)
 
 abbrev pub PlacesOne : Table → TermsView → TermsView → List Assigned → ℕ → Type 0
-PlacesOne s v w a r = (t : Term) (q : Replacement) (whole : Tree) → RefersTo s v r t → Says s v a q t → HasPart s whole (replaced q t) → PlacesOnlyIn v.pass w.pass whole
+PlacesOne s v w a r = (t : Term) (q : Replacement) (whole : Tree) → RefersTo s v r t → SaysAssigned s v a q t → HasPart s whole (replaced q t) → PlacesOnlyIn v.pass w.pass whole
 
 abbrev pub FillsOne : Table → TermsView → TermsView → List Assigned → ℕ → Type 0
-FillsOne s v w a r = (t : Term) (q : Replacement) (whole : Tree) → RefersTo s v r t → Says s v a q t → HasPart s whole (replaced q t) → IsFullIn w.pass whole
+FillsOne s v w a r = (t : Term) (q : Replacement) (whole : Tree) → RefersTo s v r t → SaysAssigned s v a q t → HasPart s whole (replaced q t) → IsFullIn w.pass whole
 
 abbrev pub ExpandsAll : Table → TermsView → TermsView → List Assigned → List ℕ → List ℕ → Type 0
 ExpandsAll s v w a rs is = (ts : List Term) (q : Replacement) → ReferToAll s v rs ts → SaysAll s v a q ts → ReferToAll s w is (replaced_each q ts)
@@ -110,7 +110,7 @@ not_assigned s (b ∷ a) k l h g never = go (eqb b.variable k) (eqb_tells b.vari
 leaf_stays : (s : Table) (v : TermsView) (a : List Assigned) (r : ℕ) (l : Leaf) (t : Term) → AreVariables s a → IsLeaf s r l → ((x : Var) → l ≢ variable_leaf x) → RefersTo s v r t → RefersTo s v (term_of r a) t
 leaf_stays s v a r l t h g never refers = subst (λ (k : ℕ). RefersTo s v k t) (sym (not_assigned s a r l h g never)) refers
 
-leaf_is : (s : Table) (v : TermsView) (a : List Assigned) (q : Replacement) (r : ℕ) (t : Term) → StandsFor s (leaf r) t → RefersTo s v r t → Says s v a q t → RefersTo s v (term_of r a) (replaced q t)
+leaf_is : (s : Table) (v : TermsView) (a : List Assigned) (q : Replacement) (r : ℕ) (t : Term) → StandsFor s (leaf r) t → RefersTo s v r t → SaysAssigned s v a q t → RefersTo s v (term_of r a) (replaced q t)
 unfolding replaced
 leaf_is s v a q r (numeral n) p refers says = leaf_stays s v a r (Leaf.numeral (pos n)) (numeral n) says.variables p (λ x e. cc) refers
 leaf_is s v a q r (variable x) p refers says = says.puts r x p refl
@@ -133,7 +133,7 @@ known_leaf pass r number k e f known =
 -- what is remembered
 pub remembered : (s : Table) (v : TermsView) (a : List Assigned) (r i : ℕ) (leaves : List ℕ) (key : Vec ℕ Global) (done : Done) → AreOne s v → AreDone s v done → key.items ≡ key_of r a leaves → Some i ≡ get (λ x y. pointwise nat_eq x.items y.items) done key → ExpandsOne s v v a r i
 remembered s v a r i leaves key done one are is e t q refers says =
-    let h : HasBecome s v key.items i = are.each key i (sym e) in
+    let h : HasExpanded s v key.items i = are.each key i (sym e) in
     let same = need.pairs-same h.assigned a h.cell r h.leaves leaves (sym h.key_is ∙ is) in
     let term : h.means ≡ t = (one h.cell r h.means t h.refers refers).0 same.0 in
     let becomes : replaced h.puts h.means ≡ replaced q h.means =
@@ -141,7 +141,7 @@ remembered s v a r i leaves key done one are is e t q refers says =
     (λ x n. let (k, is_leaf, c) = h.covered x n in (one (term_of k h.assigned) (term_of k a) (term_at h.puts x) (term_at q x) (h.says.puts k x is_leaf n) (says.puts k x is_leaf (subst (λ (u : Term). IsNeeded x u) term n))).0 (same.2 k c)) in
     subst (λ (u : Term). RefersTo s v i u) (becomes ∙ ap (replaced q) term) h.becomes
 
-pub has_become : (s : Table) (v w : TermsView) (a : List Assigned) (r i : ℕ) (leaves : List ℕ) (key : Vec ℕ Global) → AreOne s v → KeepsTerms v w → IsSaid s v a r → HasNeeds s v r leaves → key.items ≡ key_of r a leaves → ExpandsOne s v w a r i → HasBecome s w key.items i
+pub has_become : (s : Table) (v w : TermsView) (a : List Assigned) (r i : ℕ) (leaves : List ℕ) (key : Vec ℕ Global) → AreOne s v → KeepsTerms v w → IsSaid s v a r → HasNeeds s v r leaves → key.items ≡ key_of r a leaves → ExpandsOne s v w a r i → HasExpanded s w key.items i
 has_become s v w a r i leaves key one keeps said needs is expands = record {
   cell = r;
   assigned = a;
@@ -155,13 +155,13 @@ has_become s v w a r i leaves key one keeps said needs is expands = record {
   becomes = expands said.means said.puts said.refers said.says;
 }
 
-pub noted : (s : Table) (w : TermsView) (i : ℕ) (key : Vec ℕ Global) (old new : Done) → AreDone s w old → HasBecome s w key.items i → ((k : Vec ℕ Global) → get (λ x y. pointwise nat_eq x.items y.items) new k ≡ cond (pointwise nat_eq key.items k.items) (Some i) (get (λ x y. pointwise nat_eq x.items y.items) old k)) → AreDone s w new
+pub noted : (s : Table) (w : TermsView) (i : ℕ) (key : Vec ℕ Global) (old new : Done) → AreDone s w old → HasExpanded s w key.items i → ((k : Vec ℕ Global) → get (λ x y. pointwise nat_eq x.items y.items) new k ≡ cond (pointwise nat_eq key.items k.items) (Some i) (get (λ x y. pointwise nat_eq x.items y.items) old k)) → AreDone s w new
 noted s w i key old new are h updates = record { each = λ k j e. go k j (pointwise nat_eq key.items k.items) refl (sym (updates k) ∙ e) }
   where
-    go : (k : Vec ℕ Global) (j : ℕ) (b : Bool) → pointwise nat_eq key.items k.items ≡ b → cond b (Some i) (get (λ x y. pointwise nat_eq x.items y.items) old k) ≡ Some j → HasBecome s w k.items j
+    go : (k : Vec ℕ Global) (j : ℕ) (b : Bool) → pointwise nat_eq key.items k.items ≡ b → cond b (Some i) (get (λ x y. pointwise nat_eq x.items y.items) old k) ≡ Some j → HasExpanded s w k.items j
     go k j true same e =
-        subst (λ (n : ℕ). HasBecome s w k.items n) (same_some e)
-        (subst (λ (ks : List ℕ). HasBecome s w ks i) (need.list-same key.items k.items same) h)
+        subst (λ (n : ℕ). HasExpanded s w k.items n) (same_some e)
+        (subst (λ (ks : List ℕ). HasExpanded s w ks i) (need.list-same key.items k.items same) h)
     go k j false same e = are.each k j e
 
 -- items of lists
@@ -251,7 +251,7 @@ said_at s v w a b rs i r keeps same h l e =
       means = x.means;
       refers = refers-grow s v w keeps r x.means x.refers;
       puts = h.puts;
-      says = need.says-grow s v w (refers-grow s v w keeps) a h.puts x.means (all_at (Says s v a h.puts) h.means i x.means h.says x.there);
+      says = need.says-grow s v w (refers-grow s v w keeps) a h.puts x.means (all_at (SaysAssigned s v a h.puts) h.means i x.means h.says x.there);
     })
 
 pub placed-next : (s : Table) (v w z : TermsView) (a b : List Assigned) (rs : List ℕ) (i r : ℕ) → KeepsTerms v w → KeepsTerms w z → b ≡ a → i < length rs → r ≡ get_or rs i r → PlacesAll s v w a rs → PlacesOne s w z b r → PlacesAll s v z a rs
@@ -259,13 +259,13 @@ placed-next s v w z a b rs i r keeps later same l e before one ts q whole refer 
     let x = item_at s v rs ts i r refer l e in
     let next : PlacesOne s w z a r = subst (λ (c : List Assigned). PlacesOne s w z c r) same one in
     placed-then v.pass w.pass z.pass whole later.pass (before ts q whole refer says parts)
-    (next x.means q whole (refers-grow s v w keeps r x.means x.refers) (need.says-grow s v w (refers-grow s v w keeps) a q x.means (all_at (Says s v a q) ts i x.means says x.there)) (parts_at s whole q ts i x.means parts x.there))
+    (next x.means q whole (refers-grow s v w keeps r x.means x.refers) (need.says-grow s v w (refers-grow s v w keeps) a q x.means (all_at (SaysAssigned s v a q) ts i x.means says x.there)) (parts_at s whole q ts i x.means parts x.there))
 
 pub fills-next : (s : Table) (v w z : TermsView) (a b : List Assigned) (rs : List ℕ) (i r : ℕ) → KeepsTerms v w → b ≡ a → i < length rs → r ≡ get_or rs i r → FillsOne s w z b r → FillsAll s v z a rs
 fills-next s v w z a b rs i r keeps same l e one ts q whole refer says parts =
     let x = item_at s v rs ts i r refer l e in
     let next : FillsOne s w z a r = subst (λ (c : List Assigned). FillsOne s w z c r) same one in
-    next x.means q whole (refers-grow s v w keeps r x.means x.refers) (need.says-grow s v w (refers-grow s v w keeps) a q x.means (all_at (Says s v a q) ts i x.means says x.there)) (parts_at s whole q ts i x.means parts x.there)
+    next x.means q whole (refers-grow s v w keeps r x.means x.refers) (need.says-grow s v w (refers-grow s v w keeps) a q x.means (all_at (SaysAssigned s v a q) ts i x.means says x.there)) (parts_at s whole q ts i x.means parts x.there)
 
 pub expanded-next : (s : Table) (v w z : TermsView) (a b : List Assigned) (rs all new : List ℕ) (i r j : ℕ) → KeepsTerms v w → KeepsTerms w z → b ≡ a → i < length rs → r ≡ get_or rs i r → new ≡ all ++ j ∷ [] → ((ts : List Term) (q : Replacement) → ReferToAll s v rs ts → SaysAll s v a q ts → ReferToAll s w all (take i (replaced_each q ts))) → ExpandsOne s w z b r j → (ts : List Term) (q : Replacement) → ReferToAll s v rs ts → SaysAll s v a q ts → ReferToAll s z new (take (i + 1) (replaced_each q ts))
 expanded-next s v w z a b rs all new i r j keeps later same l e is before one ts q refer says =
@@ -275,7 +275,7 @@ expanded-next s v w z a b rs all new i r j keeps later same l e is before one ts
     (subst (λ (ks : List ℕ). ReferToAll s z ks (take i (replaced_each q ts) ++ replaced q x.means ∷ [])) (sym is)
     (refer-push s z all j (take i (replaced_each q ts)) (replaced q x.means)
     (need.refer-grow s w z (refers-grow s w z later) all (take i (replaced_each q ts)) (before ts q refer says))
-    (next x.means q (refers-grow s v w keeps r x.means x.refers) (need.says-grow s v w (refers-grow s v w keeps) a q x.means (all_at (Says s v a q) ts i x.means says x.there)))))
+    (next x.means q (refers-grow s v w keeps r x.means x.refers) (need.says-grow s v w (refers-grow s v w keeps) a q x.means (all_at (SaysAssigned s v a q) ts i x.means says x.there)))))
 
 take-all : (q : Replacement) (s : Table) (v : TermsView) (rs : List ℕ) (ts : List Term) (n : ℕ) → ReferToAll s v rs ts → length rs ≤ n → take n (replaced_each q ts) ≡ replaced_each q ts
 take-all q s v [] [] zero h l = refl
@@ -323,7 +323,7 @@ module _ (s : Table) (v : TermsView) (a : List Assigned) (r head : ℕ) (rs : Li
   arguments_full w h t q whole refers says part =
       h (arguments_of t) q whole (refer t refers) (need.argument-says s v a q t (never_let t refers) says) (need.argument-parts s q whole t (never_let t refers) part)
 
-  pub arguments_expanded : (w : TermsView) (is : List ℕ) → ExpandsAll s v w a rs is → (t : Term) (q : Replacement) → RefersTo s v r t → Says s v a q t → ReferToAll s w is (replaced_each q (arguments_of t))
+  pub arguments_expanded : (w : TermsView) (is : List ℕ) → ExpandsAll s v w a rs is → (t : Term) (q : Replacement) → RefersTo s v r t → SaysAssigned s v a q t → ReferToAll s w is (replaced_each q (arguments_of t))
   arguments_expanded w is h t q refers says = h (arguments_of t) q (refer t refers) (need.argument-says s v a q t (never_let t refers) says)
 
   -- the trees of what the arguments become
@@ -384,10 +384,10 @@ pub record IsLetWork (s : Table) (v : TermsView) (r body : ℕ) (gs ps : List �
   pub inside : RefersTo s v body inner
   pub leaves : List ℕ
   pub needed : AddsLeaves s [] leaves (λ x. IsNeeded x inner)
-  pub given : IsGiven leaves vars values gs ps
+  pub given : IsGivenList leaves vars values gs ps
   pub terms : HasGivenTerms s v bindings inner gs ps
 
-pub let_work : (s : Table) (v : TermsView) (r body : ℕ) (vars values leaves gs ps : List ℕ) (m : Values) → IsTable s → AreOne s v → ((t : Term) → RefersTo s v r t → IsLet t) → ((s : Table) (bs : Bindings) (u : Term) → RefersTo s v r (let_in bs u) → AreBindings s v vars values bs) → ((s : Table) (bs : Bindings) (u : Term) → RefersTo s v r (let_in bs u) → RefersTo s v body u) → HasNeeds s v body leaves → AreValuesOf m vars values → ((ks rs : List ℕ) → AreValuesOf m ks rs → IsGiven leaves ks rs gs ps) → (t : Term) → RefersTo s v r t → IsLetWork s v r body gs ps t
+pub let_work : (s : Table) (v : TermsView) (r body : ℕ) (vars values leaves gs ps : List ℕ) (m : Values) → IsTable s → AreOne s v → ((t : Term) → RefersTo s v r t → IsLet t) → ((s : Table) (bs : Bindings) (u : Term) → RefersTo s v r (let_in bs u) → AreBindings s v vars values bs) → ((s : Table) (bs : Bindings) (u : Term) → RefersTo s v r (let_in bs u) → RefersTo s v body u) → HasNeeds s v body leaves → AreValuesOf m vars values → ((ks rs : List ℕ) → AreValuesOf m ks rs → IsGivenList leaves ks rs gs ps) → (t : Term) → RefersTo s v r t → IsLetWork s v r body gs ps t
 let_work s v r body vars values leaves gs ps m table one is_let bindings bodies needs by_leaves given t refers =
     let (bs, u, e) = let_is t (is_let t refers) in
     let let_refers : RefersTo s v r (let_in bs u) = subst (λ (x : Term). RefersTo s v r x) e refers in
@@ -410,15 +410,15 @@ let_work s v r body vars values leaves gs ps m table one is_let bindings bodies 
       terms = need.given-terms s v table vars values bs u bound leaves (need.leaves-needed s leaves u needed) gs ps is_given.are;
     }
 
-pub let_work_from : (s : Table) (v w x : TermsView) (r body : ℕ) (own_vars own_values vars values inside leaves gs ps : List ℕ) (m : Values) → IsTable s → w ≡ v → x ≡ w → AreOne s x → ((t : Term) → RefersTo s v r t → IsLet t) → ((s : Table) (bs : Bindings) (u : Term) → RefersTo s v r (let_in bs u) → AreBindings s v own_vars own_values bs) → ((s : Table) (bs : Bindings) (u : Term) → RefersTo s v r (let_in bs u) → RefersTo s v body u) → HasNeeds s w body inside → vars ≡ own_vars → values ≡ own_values → leaves ≡ inside → AreValuesOf m vars values → ((ks rs : List ℕ) → AreValuesOf m ks rs → IsGiven leaves ks rs gs ps) → (t : Term) → RefersTo s v r t → IsLetWork s v r body gs ps t
+pub let_work_from : (s : Table) (v w x : TermsView) (r body : ℕ) (own_vars own_values vars values inside leaves gs ps : List ℕ) (m : Values) → IsTable s → w ≡ v → x ≡ w → AreOne s x → ((t : Term) → RefersTo s v r t → IsLet t) → ((s : Table) (bs : Bindings) (u : Term) → RefersTo s v r (let_in bs u) → AreBindings s v own_vars own_values bs) → ((s : Table) (bs : Bindings) (u : Term) → RefersTo s v r (let_in bs u) → RefersTo s v body u) → HasNeeds s w body inside → vars ≡ own_vars → values ≡ own_values → leaves ≡ inside → AreValuesOf m vars values → ((ks rs : List ℕ) → AreValuesOf m ks rs → IsGivenList leaves ks rs gs ps) → (t : Term) → RefersTo s v r t → IsLetWork s v r body gs ps t
 let_work_from s v w x r body own_vars own_values vars values inside leaves gs ps m table e f one is_let bindings bodies needs same_vars same_values same_leaves by_leaves given =
     let_work s v r body vars values leaves gs ps m table (one_moved s v x (f ∙ e) one) is_let
     (λ z bs u refers. subst (λ (ks : List ℕ). AreBindings z v ks values bs) (sym same_vars) (subst (λ (rs : List ℕ). AreBindings z v own_vars rs bs) (sym same_values) (bindings z bs u refers)))
     bodies (needs_back s v w body inside leaves e same_leaves needs) by_leaves given
 
 module _ (s : Table) (v : TermsView) (a : List Assigned) (r body : ℕ) (gs ps : List ℕ) (table : IsTable s) (work : (t : Term) → RefersTo s v r t → IsLetWork s v r body gs ps t) where
-  says_let : (t : Term) (q : Replacement) (w : IsLetWork s v r body gs ps t) → Says s v a q t → Says s v a q (let_in w.bindings w.inner)
-  says_let t q w says = subst (λ (x : Term). Says s v a q x) w.is says
+  says_let : (t : Term) (q : Replacement) (w : IsLetWork s v r body gs ps t) → SaysAssigned s v a q t → SaysAssigned s v a q (let_in w.bindings w.inner)
+  says_let t q w says = subst (λ (x : Term). SaysAssigned s v a q x) w.is says
 
   pub values_said : IsSaid s v a r → AreSaid s v a ps
   values_said h =
@@ -445,7 +445,7 @@ module _ (s : Table) (v : TermsView) (a : List Assigned) (r body : ℕ) (gs ps :
       (need.given-parts s v w.bindings w.inner gs ps w.terms.means q whole w.terms.are (subst (λ (x : Term). HasPart s whole (replaced q x)) w.is part))
 
   module _ (z : TermsView) (keeps : KeepsTerms v z) (is : List ℕ) (expands : ExpandsAll s v z a ps is) where
-    body_says : (t : Term) (q : Replacement) → (w : IsLetWork s v r body gs ps t) → Says s v a q t → Says s z (assigned_all gs is a) (replaced_bindings q w.bindings ++ q) w.inner
+    body_says : (t : Term) (q : Replacement) → (w : IsLetWork s v r body gs ps t) → SaysAssigned s v a q t → SaysAssigned s z (assigned_all gs is a) (replaced_bindings q w.bindings ++ q) w.inner
     body_says t q w says =
         need.inside-says s v z table (refers-grow s v z keeps) w.vars w.values w.bindings w.inner w.bound w.leaves w.needed gs ps w.given w.terms.means w.terms.are is a q (says_let t q w says)
         (expands w.terms.means q (need.given-refer s v w.bindings w.inner gs ps w.terms.means w.terms.are) (need.given-says s v v w.bindings w.inner gs ps w.terms.means a q w.terms.are (says_let t q w says)))

@@ -15,9 +15,9 @@ use Rattle.term_pool.specs.StandsFor.{variable_leaf, function_leaf, StandsForApp
 use Rattle.term_pool.specs.Trees.{IsPartOf}
 use Rattle.term_pool.specs.Views.{TermsView, RefersTo, ReferToAll, KeepsTerms}
 use Rattle.term_expansion.specs.Assigned.{term_of, assigned_all}
-use Rattle.term_expansion.specs.Expanding.{AreVariables, Says, SaysAll, HasPart, HasParts, pairs_of, key_of, Done, AreDone, AreGiven, IsGiven}
+use Rattle.term_expansion.specs.Expanding.{AreVariables, SaysAssigned, SaysAll, HasPart, HasParts, pairs_of, key_of, Done, AreDone, AreGiven, IsGivenList}
 use Rattle.term_expansion.specs.Free.{AddsLeaves}
-use Rattle.term_expansion.specs.Needs.{IsNeeded, IsNeededAmong, IsNeededFor, value_of, Needs, AreNeeds}
+use Rattle.term_expansion.specs.Needs.{IsNeeded, IsNeededAmong, IsNeededFor, value_for_key, Needs, AreNeeds}
 use Rattle.rule_model.specs.Replacement.{Replacement, term_at, replaced, replaced_all, replaced_bindings}
 use Rattle.term_expansion.specs.declared.assignments.Assigned.{Assigned}
 use Rattle.term_expansion.proofs.Images.{leaf_variable, same_some}
@@ -128,7 +128,7 @@ among-says s v assigned q no_terms vars h = tt
 among-says s v assigned q (term t ts) vars h =
     (record { variables = vars; puts = λ k x g n. h k x g (inl n) }, among-says s v assigned q ts vars (λ k x g n. h k x g (inr n)))
 
-pub argument-says : (s : Table) (v : TermsView) (assigned : List Assigned) (q : Replacement) (t : Term) → (IsLet t → ⊥) → Says s v assigned q t → SaysAll s v assigned q (arguments_of t)
+pub argument-says : (s : Table) (v : TermsView) (assigned : List Assigned) (q : Replacement) (t : Term) → (IsLet t → ⊥) → SaysAssigned s v assigned q t → SaysAll s v assigned q (arguments_of t)
 argument-says s v assigned q (numeral n) plain h = tt
 argument-says s v assigned q (variable x) plain h = tt
 argument-says s v assigned q (operation op ts) plain h = among-says s v assigned q ts h.variables h.puts
@@ -223,21 +223,21 @@ bound-later s v bs z x t r d h = record {
   needs = λ y n. inr (d, h.needs y n);
 }
 
-pub bound-value : (s : Table) (v : TermsView) → IsTable s → (ks rs : List ℕ) (bs : Bindings) → AreBindings s v ks rs bs → (k r : ℕ) (x : Var) → IsLeaf s k (variable_leaf x) → value_of k ks rs ≡ Some r → IsBoundValue s v bs x r
+pub bound-value : (s : Table) (v : TermsView) → IsTable s → (ks rs : List ℕ) (bs : Bindings) → AreBindings s v ks rs bs → (k r : ℕ) (x : Var) → IsLeaf s k (variable_leaf x) → value_for_key k ks rs ≡ Some r → IsBoundValue s v bs x r
 bound-value s v table [] rs bs h k r x g e = absurd cc
 bound-value s v table (j ∷ ks) [] bs h k r x g e = absurd cc
 bound-value s v table (j ∷ ks) (i ∷ rs) no_bindings h k r x g e = absurd h
 bound-value s v table (j ∷ ks) (i ∷ rs) (binding z t bs) h k r x g e =
     go (eqb j k) (eqb_tells j k) e (λ f. bound-value s v table ks rs bs h.2 k r x g f)
   where
-    go : (b : Bool) → ((b ≡ true) × (j ≡ k)) ⊎ ((b ≡ false) × (j ≢ k)) → cond b (Some i) (value_of k ks rs) ≡ Some r → (value_of k ks rs ≡ Some r → IsBoundValue s v bs x r) → IsBoundValue s v (binding z t bs) x r
+    go : (b : Bool) → ((b ≡ true) × (j ≡ k)) ⊎ ((b ≡ false) × (j ≢ k)) → cond b (Some i) (value_for_key k ks rs) ≡ Some r → (value_for_key k ks rs ≡ Some r → IsBoundValue s v bs x r) → IsBoundValue s v (binding z t bs) x r
     go true (inl both) f rest =
         bound-first s v bs z x t r (one_variable s j k z x h.0 g both.1) (subst (λ (n : ℕ). RefersTo s v n t) (same_some f) h.1)
     go true (inr both) f rest = absurd (true_false both.0)
     go false (inl both) f rest = absurd (true_false (sym both.0))
     go false (inr both) f rest = bound-later s v bs z x t r (λ same. both.1 (one_leaf s table j k z x h.0 g same)) (rest f)
 
-pub unbound-value : (s : Table) (v : TermsView) → IsTable s → (ks rs : List ℕ) (bs : Bindings) → AreBindings s v ks rs bs → (k : ℕ) (x : Var) → IsLeaf s k (variable_leaf x) → value_of k ks rs ≡ None → IsUnbound bs x
+pub unbound-value : (s : Table) (v : TermsView) → IsTable s → (ks rs : List ℕ) (bs : Bindings) → AreBindings s v ks rs bs → (k : ℕ) (x : Var) → IsLeaf s k (variable_leaf x) → value_for_key k ks rs ≡ None → IsUnbound bs x
 unfolding replaced
 unbound-value s v table [] [] no_bindings h k x g e = record { put = λ q. refl; needs = refl }
 unbound-value s v table [] [] (binding z t bs) h k x g e = absurd h
@@ -247,7 +247,7 @@ unbound-value s v table (j ∷ ks) (i ∷ rs) no_bindings h k x g e = absurd h
 unbound-value s v table (j ∷ ks) (i ∷ rs) (binding z t bs) h k x g e =
     go (eqb j k) (eqb_tells j k) e (λ f. unbound-value s v table ks rs bs h.2 k x g f)
   where
-    go : (b : Bool) → ((b ≡ true) × (j ≡ k)) ⊎ ((b ≡ false) × (j ≢ k)) → cond b (Some i) (value_of k ks rs) ≡ None → (value_of k ks rs ≡ None → IsUnbound bs x) → IsUnbound (binding z t bs) x
+    go : (b : Bool) → ((b ≡ true) × (j ≡ k)) ⊎ ((b ≡ false) × (j ≢ k)) → cond b (Some i) (value_for_key k ks rs) ≡ None → (value_for_key k ks rs ≡ None → IsUnbound bs x) → IsUnbound (binding z t bs) x
     go true tells f rest = absurd cc
     go false (inl both) f rest = absurd (true_false (sym both.0))
     go false (inr both) f rest =
@@ -305,7 +305,7 @@ given-refer s v bs u (g ∷ gs) [] ts h = absurd h
 given-refer s v bs u (g ∷ gs) (p ∷ ps) [] h = absurd h
 given-refer s v bs u (g ∷ gs) (p ∷ ps) (t ∷ ts) h = (h.0.refers, given-refer s v bs u gs ps ts h.1)
 
-pub given-says : (s : Table) (v w : TermsView) (bs : Bindings) (u : Term) (gs ps : List ℕ) (ts : List Term) (assigned : List Assigned) (q : Replacement) → AreGivenTerms s v bs u gs ps ts → Says s w assigned q (let_in bs u) → SaysAll s w assigned q ts
+pub given-says : (s : Table) (v w : TermsView) (bs : Bindings) (u : Term) (gs ps : List ℕ) (ts : List Term) (assigned : List Assigned) (q : Replacement) → AreGivenTerms s v bs u gs ps ts → SaysAssigned s w assigned q (let_in bs u) → SaysAll s w assigned q ts
 given-says s v w bs u [] [] [] assigned q h says = tt
 given-says s v w bs u [] [] (t ∷ ts) assigned q h says = absurd h
 given-says s v w bs u [] (p ∷ ps) ts assigned q h says = absurd h
@@ -355,17 +355,17 @@ inside-puts s v w bs u (g ∷ gs) (p ∷ ps) (t ∷ ts) (i ∷ is) assigned q k 
     go false (inl both) later = absurd (true_false (sym both.0))
     go false (inr both) later = later both.1
 
-pub inside-says : (s : Table) (v w : TermsView) → IsTable s → ((r : ℕ) (t : Term) → RefersTo s v r t → RefersTo s w r t) → (ks rs : List ℕ) (bs : Bindings) (u : Term) → AreBindings s v ks rs bs → (leaves : List ℕ) → AddsLeaves s [] leaves (λ x. IsNeeded x u) → (gs ps : List ℕ) → IsGiven leaves ks rs gs ps → (ts : List Term) → AreGivenTerms s v bs u gs ps ts → (is : List ℕ) (assigned : List Assigned) (q : Replacement) → Says s v assigned q (let_in bs u) → ReferToAll s w is (map (replaced q) ts) → Says s w (assigned_all gs is assigned) (replaced_bindings q bs ++ q) u
+pub inside-says : (s : Table) (v w : TermsView) → IsTable s → ((r : ℕ) (t : Term) → RefersTo s v r t → RefersTo s w r t) → (ks rs : List ℕ) (bs : Bindings) (u : Term) → AreBindings s v ks rs bs → (leaves : List ℕ) → AddsLeaves s [] leaves (λ x. IsNeeded x u) → (gs ps : List ℕ) → IsGivenList leaves ks rs gs ps → (ts : List Term) → AreGivenTerms s v bs u gs ps ts → (is : List ℕ) (assigned : List Assigned) (q : Replacement) → SaysAssigned s v assigned q (let_in bs u) → ReferToAll s w is (map (replaced q) ts) → SaysAssigned s w (assigned_all gs is assigned) (replaced_bindings q bs ++ q) u
 inside-says s v w table grows ks rs bs u h leaves adds gs ps given ts are is assigned q says refer = record {
   variables = inside-variables s v bs u gs ps ts is assigned are says.variables;
-  puts = λ k x l need. inside-puts s v w bs u gs ps ts is assigned q k x l are refer (λ none. outside k x l need none (value_of k ks rs) refl);
+  puts = λ k x l need. inside-puts s v w bs u gs ps ts is assigned q k x l are refer (λ none. outside k x l need none (value_for_key k ks rs) refl);
 }
   where
     has : (k : ℕ) (x : Var) → IsLeaf s k (variable_leaf x) → IsNeeded x u → Contains leaves k
     has k x l need =
         let a = adds.all x need in subst (Contains leaves) (one_leaf s table a.0 k x x a.1 l refl) a.2
 
-    outside : (k : ℕ) (x : Var) → IsLeaf s k (variable_leaf x) → IsNeeded x u → ¬ Contains gs k → (o : Option ℕ) → value_of k ks rs ≡ o → RefersTo s w (term_of k assigned) (term_at (replaced_bindings q bs ++ q) x)
+    outside : (k : ℕ) (x : Var) → IsLeaf s k (variable_leaf x) → IsNeeded x u → ¬ Contains gs k → (o : Option ℕ) → value_for_key k ks rs ≡ o → RefersTo s w (term_of k assigned) (term_at (replaced_bindings q bs ++ q) x)
     outside k x l need none (Some r) e = absurd (none (given.all k r (has k x l need) e))
     outside k x l need none None e =
         let b = unbound-value s v table ks rs bs h k x l e in
@@ -381,7 +381,7 @@ refer-grow s v w grows [] (t ∷ ts) h = absurd h
 refer-grow s v w grows (r ∷ rs) [] h = absurd h
 refer-grow s v w grows (r ∷ rs) (t ∷ ts) h = (grows r t h.0, refer-grow s v w grows rs ts h.1)
 
-pub says-grow : (s : Table) (v w : TermsView) → ((r : ℕ) (t : Term) → RefersTo s v r t → RefersTo s w r t) → (assigned : List Assigned) (q : Replacement) (t : Term) → Says s v assigned q t → Says s w assigned q t
+pub says-grow : (s : Table) (v w : TermsView) → ((r : ℕ) (t : Term) → RefersTo s v r t → RefersTo s w r t) → (assigned : List Assigned) (q : Replacement) (t : Term) → SaysAssigned s v assigned q t → SaysAssigned s w assigned q t
 says-grow s v w grows assigned q t h = record {
   variables = h.variables;
   puts = λ k x l n. grows (term_of k assigned) (term_at q x) (h.puts k x l n);

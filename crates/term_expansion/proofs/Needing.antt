@@ -11,7 +11,7 @@ use Rattle.term_pool.specs.Reading.{arguments_of}
 use Rattle.term_pool.specs.StandsFor.{variable_leaf}
 use Rattle.term_pool.specs.Views.{TermsView, RefersTo, ReferToAll, IsTerm}
 use Rattle.term_expansion.specs.Free.{HasVariable, IsLeafOfSome, AddsLeaves, AddsOne, AddsUnbound}
-use Rattle.term_expansion.specs.Needs.{IsNeeded, IsNeededAmong, IsNeededFor, IsNeededInAny, value_of, Values, AreValuesOf, HasNeeds, Needs, AreNeeds}
+use Rattle.term_expansion.specs.Needs.{IsNeeded, IsNeededAmong, IsNeededFor, IsNeededInAny, value_for_key, Values, AreValuesOf, HasNeeds, Needs, AreNeeds}
 use Rattle.term_expansion.proofs.LeafLemmas.{adds-same, adds-both, adds-none, added-leaves, swapped, one_variable, one_leaf, is_variable, one-adds, one-more}
 use Rattle.term_expansion.proofs.Images.{drop-at, same_some}
 use Rattle.term_expansion.proofs.SetLemmas.{none_in}
@@ -95,14 +95,14 @@ record IsGivenValue (s : Table) (v : TermsView) (r : ℕ) (bs : Bindings) (y : V
   there : (x : Var) → IsNeeded x means → IsNeededFor x bs y
   back : (x : Var) → IsNeededFor x bs y → IsNeeded x means
 
-given : (s : Table) (v : TermsView) → IsTable s → (k r : ℕ) (ks rs : List ℕ) (bs : Bindings) (y : Var) → AreBindings s v ks rs bs → IsLeaf s k (variable_leaf y) → value_of k ks rs ≡ Some r → IsGivenValue s v r bs y
+given : (s : Table) (v : TermsView) → IsTable s → (k r : ℕ) (ks rs : List ℕ) (bs : Bindings) (y : Var) → AreBindings s v ks rs bs → IsLeaf s k (variable_leaf y) → value_for_key k ks rs ≡ Some r → IsGivenValue s v r bs y
 given s v table k r [] rs bs y h leaf e = absurd cc
 given s v table k r (j ∷ ks) [] bs y h leaf e = absurd cc
 given s v table k r (j ∷ ks) (q ∷ rs) no_bindings y h leaf e = absurd h
 given s v table k r (j ∷ ks) (q ∷ rs) (binding z t bs) y h leaf e =
     go (eqb j k) (eqb_tells j k) e (λ later. given s v table k r ks rs bs y h.2 leaf later)
   where
-    go : (b : Bool) → ((b ≡ true) × (j ≡ k)) ⊎ ((b ≡ false) × (j ≢ k)) → cond b (Some q) (value_of k ks rs) ≡ Some r → (value_of k ks rs ≡ Some r → IsGivenValue s v r bs y) → IsGivenValue s v r (binding z t bs) y
+    go : (b : Bool) → ((b ≡ true) × (j ≡ k)) ⊎ ((b ≡ false) × (j ≢ k)) → cond b (Some q) (value_for_key k ks rs) ≡ Some r → (value_for_key k ks rs ≡ Some r → IsGivenValue s v r bs y) → IsGivenValue s v r (binding z t bs) y
     go true (inr both) e next = absurd (let w = both.0 in cc)
     go false (inl both) e next = absurd (let w = both.0 in cc)
     go true (inl both) e next =
@@ -123,18 +123,18 @@ given s v table k r (j ∷ ks) (q ∷ rs) (binding z t bs) y h leaf e =
           back = λ x p. elim p [ inl here ↦ absurd (apart here.0) | inr later ↦ g.back x later.1 ];
         }
 
-pub given-term : (s : Table) (v : TermsView) → IsTable s → (k r : ℕ) (ks rs : List ℕ) (bs : Bindings) (y : Var) → AreBindings s v ks rs bs → IsLeaf s k (variable_leaf y) → value_of k ks rs ≡ Some r → IsTerm s v r
+pub given-term : (s : Table) (v : TermsView) → IsTable s → (k r : ℕ) (ks rs : List ℕ) (bs : Bindings) (y : Var) → AreBindings s v ks rs bs → IsLeaf s k (variable_leaf y) → value_for_key k ks rs ≡ Some r → IsTerm s v r
 given-term s v table k r ks rs bs y h leaf e =
     let g = given s v table k r ks rs bs y h leaf e in
     record { means = g.means; refers = g.refers }
 
-pub given-adds : (s : Table) (v : TermsView) → IsTable s → (k r : ℕ) (ks rs a b : List ℕ) (bs : Bindings) (y : Var) → AreBindings s v ks rs bs → IsLeaf s k (variable_leaf y) → value_of k ks rs ≡ Some r → ((t : Term) → RefersTo s v r t → AddsLeaves s a b (λ x. IsNeeded x t)) → AddsLeaves s a b (λ x. IsNeededFor x bs y)
+pub given-adds : (s : Table) (v : TermsView) → IsTable s → (k r : ℕ) (ks rs a b : List ℕ) (bs : Bindings) (y : Var) → AreBindings s v ks rs bs → IsLeaf s k (variable_leaf y) → value_for_key k ks rs ≡ Some r → ((t : Term) → RefersTo s v r t → AddsLeaves s a b (λ x. IsNeeded x t)) → AddsLeaves s a b (λ x. IsNeededFor x bs y)
 given-adds s v table k r ks rs a b bs y h leaf e adds =
     let g = given s v table k r ks rs bs y h leaf e in
     adds-same s a b _ _ g.there g.back (adds g.means g.refers)
 
 -- a variable that the let does not bind
-unbound : (s : Table) (v : TermsView) → IsTable s → (k : ℕ) (ks rs : List ℕ) (bs : Bindings) (y : Var) → AreBindings s v ks rs bs → IsLeaf s k (variable_leaf y) → value_of k ks rs ≡ None → (x : Var) → (y ≡ x) ↔ IsNeededFor x bs y
+unbound : (s : Table) (v : TermsView) → IsTable s → (k : ℕ) (ks rs : List ℕ) (bs : Bindings) (y : Var) → AreBindings s v ks rs bs → IsLeaf s k (variable_leaf y) → value_for_key k ks rs ≡ None → (x : Var) → (y ≡ x) ↔ IsNeededFor x bs y
 unbound s v table k [] [] no_bindings y h leaf e x = (λ p. p, λ p. p)
 unbound s v table k [] [] (binding z t bs) y h leaf e x = absurd h
 unbound s v table k [] (r ∷ rs) bs y h leaf e x = absurd h
@@ -143,7 +143,7 @@ unbound s v table k (j ∷ ks) (q ∷ rs) no_bindings y h leaf e x = absurd h
 unbound s v table k (j ∷ ks) (q ∷ rs) (binding z t bs) y h leaf e x =
     go (eqb j k) (eqb_tells j k) e (λ later. unbound s v table k ks rs bs y h.2 leaf later x)
   where
-    go : (b : Bool) → ((b ≡ true) × (j ≡ k)) ⊎ ((b ≡ false) × (j ≢ k)) → cond b (Some q) (value_of k ks rs) ≡ None → (value_of k ks rs ≡ None → (y ≡ x) ↔ IsNeededFor x bs y) → (y ≡ x) ↔ IsNeededFor x (binding z t bs) y
+    go : (b : Bool) → ((b ≡ true) × (j ≡ k)) ⊎ ((b ≡ false) × (j ≢ k)) → cond b (Some q) (value_for_key k ks rs) ≡ None → (value_for_key k ks rs ≡ None → (y ≡ x) ↔ IsNeededFor x bs y) → (y ≡ x) ↔ IsNeededFor x (binding z t bs) y
     go true both e next = absurd cc
     go false (inl both) e next = absurd (let w = both.0 in cc)
     go false (inr both) e next =
@@ -151,7 +151,7 @@ unbound s v table k (j ∷ ks) (q ∷ rs) (binding z t bs) y h leaf e x =
         let apart : ¬ (z ≡ y) = λ same. both.1 (one_leaf s table j k z y h.0 leaf same) in
         (λ p. inr (apart, u.0 p), λ p. elim p [ inl here ↦ absurd (apart here.0) | inr later ↦ u.1 later.1 ])
 
-pub unbound-adds : (s : Table) (v : TermsView) → IsTable s → (k : ℕ) (ks rs a b : List ℕ) (bs : Bindings) (y : Var) → AreBindings s v ks rs bs → IsLeaf s k (variable_leaf y) → value_of k ks rs ≡ None → AddsOne a b k → AddsLeaves s a b (λ x. IsNeededFor x bs y)
+pub unbound-adds : (s : Table) (v : TermsView) → IsTable s → (k : ℕ) (ks rs a b : List ℕ) (bs : Bindings) (y : Var) → AreBindings s v ks rs bs → IsLeaf s k (variable_leaf y) → value_for_key k ks rs ≡ None → AddsOne a b k → AddsLeaves s a b (λ x. IsNeededFor x bs y)
 unbound-adds s v table k ks rs a b bs y h leaf e one =
     let u = unbound s v table k ks rs bs y h leaf e in
     adds-same s a b _ _ (λ x p. (u x).0 p) (λ x p. (u x).1 p) (one-adds s k y a b leaf one)

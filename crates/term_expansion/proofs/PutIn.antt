@@ -7,7 +7,7 @@ use Rattle.sym_table.specs.Table.{Table}
 use Rattle.term_model.specs.Terms.{Var, var_eq, Term, numeral, variable, operation, call, let_in, Terms, no_terms, term, Bindings, no_bindings, binding}
 use Rattle.term_pool.specs.StandsFor.{function_leaf, StandsFor, StandsForApplication, StandsForList, StandsForBindings}
 use Rattle.term_pool.specs.Views.{TermsView, RefersTo}
-use Rattle.term_expansion.specs.Expanding.{Says, SaysWhole, IsSaid, HasPart}
+use Rattle.term_expansion.specs.Expanding.{SaysAssigned, SaysWhole, IsSaid, HasPart}
 use Rattle.rule_model.specs.Heights.{height}
 use Rattle.term_expansion.specs.Images.{PlacesTerm, LacksRoomFor}
 use Rattle.rule_model.specs.Replacement.{Replacement, term_at, replaced, replaced_all, replaced_bindings}
@@ -111,7 +111,7 @@ whole_of s v bs c t q h k =
     record { tree = r.tree; stands = r.stands; part = record { tree = r.tree; stands = r.stands; part = part-refl r.tree } }
 
 -- what a replacement puts in, for what a term needs
-pub says_of : (s : Table) (v : TermsView) (a : List Assigned) (q : Replacement) (t : Term) → SaysWhole s v a q → Says s v a q t
+pub says_of : (s : Table) (v : TermsView) (a : List Assigned) (q : Replacement) (t : Term) → SaysWhole s v a q → SaysAssigned s v a q t
 says_of s v a q t h = record { variables = h.variables; puts = λ k x leaf n. h.puts k x leaf }
 
 pub said_of : (s : Table) (v : TermsView) (a : List Assigned) (bs : List Bound) (c : Value) (t : Typed) (q : Replacement) → IsValue s v c t → SaysWhole s v a q → IsSaid s v a c.term

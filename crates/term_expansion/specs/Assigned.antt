@@ -20,7 +20,7 @@ abbrev pub KnowOuter : List Assigned → Type 0
 KnowOuter [] = Unit {0}
 KnowOuter (a ∷ assigned) = (a.outer ≡ assigned_to a.variable assigned) × KnowOuter assigned
 
-pub record AreNested (innermost : Numbers) (assigned : List Assigned) : Type 0 where
+pub record AreAssignedWithin (innermost : Numbers) (assigned : List Assigned) : Type 0 where
   pub outer : KnowOuter assigned
   pub innermost_is : (k : ℕ) → get nat_eq innermost k ≡ assigned_to k assigned
 

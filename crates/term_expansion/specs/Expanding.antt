@@ -14,7 +14,7 @@ use Rattle.term_pool.specs.Trees.{IsPartOf}
 use Rattle.term_pool.specs.Views.{TermsView, RefersTo, ReferToAll}
 use Rattle.term_expansion.specs.Assigned.{term_of}
 use Rattle.term_expansion.specs.Free.{HasVariable}
-use Rattle.term_expansion.specs.Needs.{IsNeeded, value_of}
+use Rattle.term_expansion.specs.Needs.{IsNeeded, value_for_key}
 use Rattle.rule_model.specs.Replacement.{Replacement, term_at, replaced}
 use Rattle.term_expansion.specs.declared.assignments.Assigned.{Assigned}
 
@@ -23,7 +23,7 @@ abbrev pub AreVariables : Table → List Assigned → Type 0
 AreVariables s assigned = AllByRecursion (λ a. (x : Var) × IsLeaf s a.variable (variable_leaf x)) assigned
 
 -- what is put in for the variables that the term needs is as the replacement says
-pub record Says (s : Table) (v : TermsView) (assigned : List Assigned) (q : Replacement) (t : Term) : Type 0 where
+pub record SaysAssigned (s : Table) (v : TermsView) (assigned : List Assigned) (q : Replacement) (t : Term) : Type 0 where
   pub variables : AreVariables s assigned
   pub puts : (k : ℕ) (x : Var) → IsLeaf s k (variable_leaf x) → IsNeeded x t → RefersTo s v (term_of k assigned) (term_at q x)
 
@@ -34,14 +34,14 @@ pub record SaysWhole (s : Table) (v : TermsView) (assigned : List Assigned) (q :
 
 -- and so for what each of the terms needs
 abbrev pub SaysAll : Table → TermsView → List Assigned → Replacement → List Term → Type 0
-SaysAll s v assigned q ts = AllByRecursion (Says s v assigned q) ts
+SaysAll s v assigned q ts = AllByRecursion (SaysAssigned s v assigned q) ts
 
 -- the reference stands for a term, and for what that needs something is put in
 pub record IsSaid (s : Table) (v : TermsView) (assigned : List Assigned) (r : ℕ) : Type 0 where
   pub means : Term
   pub refers : RefersTo s v r means
   pub puts : Replacement
-  pub says : Says s v assigned puts means
+  pub says : SaysAssigned s v assigned puts means
 
 pub record AreSaid (s : Table) (v : TermsView) (assigned : List Assigned) (rs : List ℕ) : Type 0 where
   pub means : List Term
@@ -74,7 +74,7 @@ key_of r assigned leaves = r ∷ pairs_of assigned leaves
 abbrev pub Done : Type 0
 Done = HashMap (Vec ℕ Global) ℕ (BuildHasherDefault FoldHasher)
 
-pub record HasBecome (s : Table) (v : TermsView) (key : List ℕ) (i : ℕ) : Type 0 where
+pub record HasExpanded (s : Table) (v : TermsView) (key : List ℕ) (i : ℕ) : Type 0 where
   pub cell : ℕ
   pub assigned : List Assigned
   pub leaves : List ℕ
@@ -83,19 +83,19 @@ pub record HasBecome (s : Table) (v : TermsView) (key : List ℕ) (i : ℕ) : Ty
   pub refers : RefersTo s v cell means
   pub covered : (x : Var) → IsNeeded x means → HasVariable s leaves x
   pub puts : Replacement
-  pub says : Says s v assigned puts means
+  pub says : SaysAssigned s v assigned puts means
   pub becomes : RefersTo s v i (replaced puts means)
 
 pub record AreDone (s : Table) (v : TermsView) (done : Done) : Type 0 where
-  pub each : (key : Vec ℕ Global) (i : ℕ) → get (λ x y. pointwise nat_eq x.items y.items) done key ≡ Some i → HasBecome s v key.items i
+  pub each : (key : Vec ℕ Global) (i : ℕ) → get (λ x y. pointwise nat_eq x.items y.items) done key ≡ Some i → HasExpanded s v key.items i
 
 -- of the variables with these leaves those that are given values, and the values
 abbrev pub AreGiven : List ℕ → List ℕ → List ℕ → List ℕ → List ℕ → Type 0
 AreGiven leaves vars values [] [] = Unit {0}
 AreGiven leaves vars values [] (r ∷ rs) = ⊥
 AreGiven leaves vars values (k ∷ ks) [] = ⊥
-AreGiven leaves vars values (k ∷ ks) (r ∷ rs) = (Contains leaves k × (value_of k vars values ≡ Some r)) × AreGiven leaves vars values ks rs
+AreGiven leaves vars values (k ∷ ks) (r ∷ rs) = (Contains leaves k × (value_for_key k vars values ≡ Some r)) × AreGiven leaves vars values ks rs
 
-pub record IsGiven (leaves vars values ks rs : List ℕ) : Type 0 where
+pub record IsGivenList (leaves vars values ks rs : List ℕ) : Type 0 where
   pub are : AreGiven leaves vars values ks rs
-  pub all : (k r : ℕ) → Contains leaves k → value_of k vars values ≡ Some r → Contains ks k
+  pub all : (k r : ℕ) → Contains leaves k → value_for_key k vars values ≡ Some r → Contains ks k

@@ -37,17 +37,17 @@ IsNeededInAny x [] = ⊥
 IsNeededInAny x (t ∷ ts) = IsNeeded x t ⊎ IsNeededInAny x ts
 
 -- the value that the first of these variables with this leaf is given
-abbrev pub value_of : ℕ → List ℕ → List ℕ → Option ℕ
-value_of k [] rs = None
-value_of k (j ∷ ks) [] = None
-value_of k (j ∷ ks) (r ∷ rs) = if j == k then Some r else value_of k ks rs
+abbrev pub value_for_key : ℕ → List ℕ → List ℕ → Option ℕ
+value_for_key k [] rs = None
+value_for_key k (j ∷ ks) [] = None
+value_for_key k (j ∷ ks) (r ∷ rs) = if j == k then Some r else value_for_key k ks rs
 
 -- the values by the leaves of their variables
 abbrev pub Values : Type 0
 Values = HashMap ℕ ℕ (BuildHasherDefault FoldHasher)
 
 abbrev pub AreValuesOf : Values → List ℕ → List ℕ → Type 0
-AreValuesOf m ks rs = (k : ℕ) → get nat_eq m k ≡ value_of k ks rs
+AreValuesOf m ks rs = (k : ℕ) → get nat_eq m k ≡ value_for_key k ks rs
 
 -- for some terms, told by their references, the leaves of the variables that they need
 abbrev pub Needs : Type 0

@@ -28,13 +28,13 @@ pub(crate) struct Assignments {
 impl Model for Assignments {
     ghost use Rattle.std.specs.Prelude.{List, reverse};
     ghost use Rattle.term_expansion.specs.declared.assignments.Assigned.{Assigned};
-    ghost use Rattle.term_expansion.specs.Assigned.{AreNested};
+    ghost use Rattle.term_expansion.specs.Assigned.{AreAssignedWithin};
 
     ghost Value = { List Assigned };
 
     ghost view = { λ a. reverse a.assigned.items };
 
-    ghost invariant = { λ a. AreNested a.innermost (reverse a.assigned.items) };
+    ghost invariant = { λ a. AreAssignedWithin a.innermost (reverse a.assigned.items) };
 }
 
 impl Assignments {

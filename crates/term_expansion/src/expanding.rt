@@ -10,7 +10,7 @@ ghost use Rattle.term_pool.specs.Building.{IsApplication, PlacesOnlyIn, IsFullIn
 ghost use Rattle.term_pool.specs.Reading.{arguments_of, IsLet};
 ghost use Rattle.term_pool.specs.Views.{RefersTo, ReferToAll, KeepsTerms};
 ghost use Rattle.term_pool.specs.declared.stop.TermStop.TheVariants as TermStop;
-ghost use Rattle.term_expansion.specs.Expanding.{Says, SaysAll, IsSaid, AreSaid, replaced_each, HasPart, HasParts, key_of, AreDone, IsGiven};
+ghost use Rattle.term_expansion.specs.Expanding.{SaysAssigned, SaysAll, IsSaid, AreSaid, replaced_each, HasPart, HasParts, key_of, AreDone, IsGivenList};
 ghost use Rattle.term_expansion.specs.Needs.{AreValuesOf, AreNeeds};
 ghost use Rattle.rule_model.specs.Replacement.{Replacement, replaced};
 
@@ -45,7 +45,7 @@ struct GivenValues {
 
 /// Of the variables with these leaves those that a let gives a value, and the values.
 fn given(alloc: Global, values: &HashMap<u32, Ref>, leaves: &[u32]) -> Result<GivenValues, Memory>
-    ensures given { IfOk result (λ g. (ks rs : List ℕ) → AreValuesOf values.now ks rs → IsGiven leaves.now ks rs g.variables.items g.values.items) }
+    ensures given { IfOk result (λ g. (ks rs : List ℕ) → AreValuesOf values.now ks rs → IsGivenList leaves.now ks rs g.variables.items g.values.items) }
     ensures one_each { IfOk result (λ g. length g.variables.items ≡ length g.values.items) }
 {
     let mut given = GivenValues {
@@ -77,9 +77,9 @@ pub(crate) fn expand(
     requires said { IsSaid symbols.now terms.old assignments.old r }
     requires needs { AreNeeds symbols.now terms.old needs.old }
     requires done { AreDone symbols.now terms.old done.old }
-    ensures value { IfOk result (λ i. (t : Term) (q : Replacement) → RefersTo symbols.now terms.old r t → Says symbols.now terms.old assignments.old q t → RefersTo symbols.now terms.new i (replaced q t)) }
-    ensures placed { (t : Term) (q : Replacement) (whole : Tree) → RefersTo symbols.now terms.old r t → Says symbols.now terms.old assignments.old q t → HasPart symbols.now whole (replaced q t) → PlacesOnlyIn terms.old.pass terms.new.pass whole }
-    ensures full { IfErr result (λ e. e ≡ TermStop.PoolFull → (t : Term) (q : Replacement) (whole : Tree) → RefersTo symbols.now terms.old r t → Says symbols.now terms.old assignments.old q t → HasPart symbols.now whole (replaced q t) → IsFullIn terms.new.pass whole) }
+    ensures value { IfOk result (λ i. (t : Term) (q : Replacement) → RefersTo symbols.now terms.old r t → SaysAssigned symbols.now terms.old assignments.old q t → RefersTo symbols.now terms.new i (replaced q t)) }
+    ensures placed { (t : Term) (q : Replacement) (whole : Tree) → RefersTo symbols.now terms.old r t → SaysAssigned symbols.now terms.old assignments.old q t → HasPart symbols.now whole (replaced q t) → PlacesOnlyIn terms.old.pass terms.new.pass whole }
+    ensures full { IfErr result (λ e. e ≡ TermStop.PoolFull → (t : Term) (q : Replacement) (whole : Tree) → RefersTo symbols.now terms.old r t → SaysAssigned symbols.now terms.old assignments.old q t → HasPart symbols.now whole (replaced q t) → IsFullIn terms.new.pass whole) }
     ensures assignments { OnOk result (assignments.new ≡ assignments.old) }
     ensures needs { OnOk result (AreNeeds symbols.now terms.new needs.new) }
     ensures done { OnOk result (AreDone symbols.now terms.new done.new) }
@@ -119,9 +119,9 @@ fn expand_anew(
     requires said { IsSaid symbols.now terms.old assignments.old r }
     requires needs { AreNeeds symbols.now terms.old needs.old }
     requires done { AreDone symbols.now terms.old done.old }
-    ensures value { IfOk result (λ i. (t : Term) (q : Replacement) → RefersTo symbols.now terms.old r t → Says symbols.now terms.old assignments.old q t → RefersTo symbols.now terms.new i (replaced q t)) }
-    ensures placed { (t : Term) (q : Replacement) (whole : Tree) → RefersTo symbols.now terms.old r t → Says symbols.now terms.old assignments.old q t → HasPart symbols.now whole (replaced q t) → PlacesOnlyIn terms.old.pass terms.new.pass whole }
-    ensures full { IfErr result (λ e. e ≡ TermStop.PoolFull → (t : Term) (q : Replacement) (whole : Tree) → RefersTo symbols.now terms.old r t → Says symbols.now terms.old assignments.old q t → HasPart symbols.now whole (replaced q t) → IsFullIn terms.new.pass whole) }
+    ensures value { IfOk result (λ i. (t : Term) (q : Replacement) → RefersTo symbols.now terms.old r t → SaysAssigned symbols.now terms.old assignments.old q t → RefersTo symbols.now terms.new i (replaced q t)) }
+    ensures placed { (t : Term) (q : Replacement) (whole : Tree) → RefersTo symbols.now terms.old r t → SaysAssigned symbols.now terms.old assignments.old q t → HasPart symbols.now whole (replaced q t) → PlacesOnlyIn terms.old.pass terms.new.pass whole }
+    ensures full { IfErr result (λ e. e ≡ TermStop.PoolFull → (t : Term) (q : Replacement) (whole : Tree) → RefersTo symbols.now terms.old r t → SaysAssigned symbols.now terms.old assignments.old q t → HasPart symbols.now whole (replaced q t) → IsFullIn terms.new.pass whole) }
     ensures assignments { OnOk result (assignments.new ≡ assignments.old) }
     ensures needs { OnOk result (AreNeeds symbols.now terms.new needs.new) }
     ensures done { OnOk result (AreDone symbols.now terms.new done.new) }
@@ -165,9 +165,9 @@ fn expand_application(
     requires said { IsSaid symbols.now terms.old assignments.old r }
     requires needs { AreNeeds symbols.now terms.old needs.old }
     requires done { AreDone symbols.now terms.old done.old }
-    ensures value { IfOk result (λ i. (t : Term) (q : Replacement) → RefersTo symbols.now terms.old r t → Says symbols.now terms.old assignments.old q t → RefersTo symbols.now terms.new i (replaced q t)) }
-    ensures placed { (t : Term) (q : Replacement) (whole : Tree) → RefersTo symbols.now terms.old r t → Says symbols.now terms.old assignments.old q t → HasPart symbols.now whole (replaced q t) → PlacesOnlyIn terms.old.pass terms.new.pass whole }
-    ensures full { IfErr result (λ e. e ≡ TermStop.PoolFull → (t : Term) (q : Replacement) (whole : Tree) → RefersTo symbols.now terms.old r t → Says symbols.now terms.old assignments.old q t → HasPart symbols.now whole (replaced q t) → IsFullIn terms.new.pass whole) }
+    ensures value { IfOk result (λ i. (t : Term) (q : Replacement) → RefersTo symbols.now terms.old r t → SaysAssigned symbols.now terms.old assignments.old q t → RefersTo symbols.now terms.new i (replaced q t)) }
+    ensures placed { (t : Term) (q : Replacement) (whole : Tree) → RefersTo symbols.now terms.old r t → SaysAssigned symbols.now terms.old assignments.old q t → HasPart symbols.now whole (replaced q t) → PlacesOnlyIn terms.old.pass terms.new.pass whole }
+    ensures full { IfErr result (λ e. e ≡ TermStop.PoolFull → (t : Term) (q : Replacement) (whole : Tree) → RefersTo symbols.now terms.old r t → SaysAssigned symbols.now terms.old assignments.old q t → HasPart symbols.now whole (replaced q t) → IsFullIn terms.new.pass whole) }
     ensures assignments { OnOk result (assignments.new ≡ assignments.old) }
     ensures needs { OnOk result (AreNeeds symbols.now terms.new needs.new) }
     ensures done { OnOk result (AreDone symbols.now terms.new done.new) }
@@ -207,9 +207,9 @@ fn expand_let(
     requires said { IsSaid symbols.now terms.old assignments.old r }
     requires needs { AreNeeds symbols.now terms.old needs.old }
     requires done { AreDone symbols.now terms.old done.old }
-    ensures value { IfOk result (λ i. (t : Term) (q : Replacement) → RefersTo symbols.now terms.old r t → Says symbols.now terms.old assignments.old q t → RefersTo symbols.now terms.new i (replaced q t)) }
-    ensures placed { (t : Term) (q : Replacement) (whole : Tree) → RefersTo symbols.now terms.old r t → Says symbols.now terms.old assignments.old q t → HasPart symbols.now whole (replaced q t) → PlacesOnlyIn terms.old.pass terms.new.pass whole }
-    ensures full { IfErr result (λ e. e ≡ TermStop.PoolFull → (t : Term) (q : Replacement) (whole : Tree) → RefersTo symbols.now terms.old r t → Says symbols.now terms.old assignments.old q t → HasPart symbols.now whole (replaced q t) → IsFullIn terms.new.pass whole) }
+    ensures value { IfOk result (λ i. (t : Term) (q : Replacement) → RefersTo symbols.now terms.old r t → SaysAssigned symbols.now terms.old assignments.old q t → RefersTo symbols.now terms.new i (replaced q t)) }
+    ensures placed { (t : Term) (q : Replacement) (whole : Tree) → RefersTo symbols.now terms.old r t → SaysAssigned symbols.now terms.old assignments.old q t → HasPart symbols.now whole (replaced q t) → PlacesOnlyIn terms.old.pass terms.new.pass whole }
+    ensures full { IfErr result (λ e. e ≡ TermStop.PoolFull → (t : Term) (q : Replacement) (whole : Tree) → RefersTo symbols.now terms.old r t → SaysAssigned symbols.now terms.old assignments.old q t → HasPart symbols.now whole (replaced q t) → IsFullIn terms.new.pass whole) }
     ensures assignments { OnOk result (assignments.new ≡ assignments.old) }
     ensures needs { OnOk result (AreNeeds symbols.now terms.new needs.new) }
     ensures done { OnOk result (AreDone symbols.now terms.new done.new) }

@@ -15,7 +15,8 @@ use Rattle.term_names.specs.Making.{IsMade}
 use Rattle.problem_text.specs.Names.{Meaning, macro, applied}
 use Rattle.rule_model.specs.Replacement.{HasNoLet}
 use Rattle.problem_text.specs.Scripts.{Macro}
-use Rattle.term_names.specs.Standing.{IsMacroOf, AreLeavesOf}
+use Rattle.term_names.specs.Standing.{IsMacroOf}
+use Rattle.term_expansion.specs.Free.{AreLeavesOf}
 use Rattle.term_names.specs.declared.entries.Macro as held
 use Rattle.term_expansion.proofs.Images.{replaced-none}
 

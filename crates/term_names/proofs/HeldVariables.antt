@@ -7,9 +7,9 @@ use Rattle.std.proofs.lemmas.List.Quantifiers.{position-Some}
 use Rattle.std.proofs.lemmas.Option.{slice_get-get_or, slice_get_read, get_or_from_slice_get}
 use Rattle.std.proofs.lemmas.Slice.Eq.{bytes_eq-Decides}
 use Rattle.term_names.specs.declared.scope.Held.{Held}
-use Rattle.term_names.specs.NameNumbers.{AreApart}
+use Rattle.term_names.specs.NameNumbers.{HaveOneNumberEach}
 use Rattle.term_names.specs.Scope.{Scoped}
-use Rattle.term_names.specs.Held.{named, scoped, innermost, AreHeld, IsLinked, IsNumbered}
+use Rattle.term_names.specs.Held.{scoped_as, scoped, innermost_held, AreHeld, IsLinked, IsNumbered}
 
 true-false : ◌≡◌ {A = Bool} true false → ⊥
 true-false e = cc
@@ -23,11 +23,11 @@ abbrev pub place_in : List Held → ℕ → Option Held
 place_in held zero = None
 place_in held (suc p) = slice_get held p
 
-pub innermost-within : (k : ℕ) (held : List Held) → innermost k held ≤ length held
-innermost-within k [] = omega arith
-innermost-within k (h ∷ held) = go (eqb h.name k) (innermost-within k held)
+pub innermost_held-within : (k : ℕ) (held : List Held) → innermost_held k held ≤ length held
+innermost_held-within k [] = omega arith
+innermost_held-within k (h ∷ held) = go (eqb h.name k) (innermost_held-within k held)
   where
-    go : (b : Bool) → innermost k held ≤ length held → cond b (length held + 1) (innermost k held) ≤ suc (length held)
+    go : (b : Bool) → innermost_held k held ≤ length held → cond b (length held + 1) (innermost_held k held) ≤ suc (length held)
     go true e = omega arith
     go false e = omega arith
 
@@ -45,17 +45,17 @@ place_in-kept held h zero l = refl
 place_in-kept held h (suc p) l = slice_get-kept held (h ∷ []) p (omega arith)
 
 -- `innermost` is where the innermost variable of the name stands
-pub find-innermost : (k : ℕ) (held : List Held) → find (has_number k) held ≡ place_in (reverse held) (innermost k held)
-find-innermost k [] = refl
-find-innermost k (h ∷ held) =
-    go (eqb h.name k) (find-innermost k held) ∙ ap (λ hs. place_in hs (innermost k (h ∷ held))) (sym (reverse-append (h ∷ []) held))
+pub find-innermost_held : (k : ℕ) (held : List Held) → find (has_number k) held ≡ place_in (reverse held) (innermost_held k held)
+find-innermost_held k [] = refl
+find-innermost_held k (h ∷ held) =
+    go (eqb h.name k) (find-innermost_held k held) ∙ ap (λ hs. place_in hs (innermost_held k (h ∷ held))) (sym (reverse-append (h ∷ []) held))
   where
-    go : (b : Bool) → find (has_number k) held ≡ place_in (reverse held) (innermost k held) → cond b (Some h) (find (has_number k) held) ≡ place_in (reverse held ++ h ∷ []) (cond b (length held + 1) (innermost k held))
+    go : (b : Bool) → find (has_number k) held ≡ place_in (reverse held) (innermost_held k held) → cond b (Some h) (find (has_number k) held) ≡ place_in (reverse held ++ h ∷ []) (cond b (length held + 1) (innermost_held k held))
     go true e = rw add-one (sym (slice_get-last (reverse held) h (length held) (length-reverse held)))
-    go false e = e ∙ sym (place_in-kept (reverse held) h (innermost k held) (omega (arith, innermost-within k held, length-reverse held)))
+    go false e = e ∙ sym (place_in-kept (reverse held) h (innermost_held k held) (omega (arith, innermost_held-within k held, length-reverse held)))
 
 -- the name at a place is found there
-own_place : (names : List (List ℕ)) (k : ℕ) (name : List ℕ) → AreApart names → k < length names → bytes_eq (get_or names k []) name ≡ true → position (bytes_eq name) names ≡ Some k
+own_place : (names : List (List ℕ)) (k : ℕ) (name : List ℕ) → HaveOneNumberEach names → k < length names → bytes_eq (get_or names k []) name ≡ true → position (bytes_eq name) names ≡ Some k
 own_place names k name apart l e =
     apart k name (slice_get-get_or names k [] l ∙ ap Some ((bytes_eq-Decides (get_or names k []) name).0 e))
 
@@ -66,7 +66,7 @@ at_place names k name e =
     slice_get-get_or names k [] at.0 ∙ ap Some (sym ((bytes_eq-Decides name (get_or names k [])).0 at.1))
 
 -- a name is that of number k where its own number is k
-same_test : (names : List (List ℕ)) (k j : ℕ) (name : List ℕ) → AreApart names → position (bytes_eq name) names ≡ Some k → j < length names → bytes_eq (get_or names j []) name ≡ eqb j k
+same_test : (names : List (List ℕ)) (k j : ℕ) (name : List ℕ) → HaveOneNumberEach names → position (bytes_eq name) names ≡ Some k → j < length names → bytes_eq (get_or names j []) name ≡ eqb j k
 same_test names k j name apart e l = elim (eqb_tells j k) [ inl h ↦ same h.1 ∙ sym h.0 | inr h ↦ other (bytes_eq (get_or names j []) name) refl h.1 ∙ sym h.0 ]
   where
     same : j ≡ k → bytes_eq (get_or names j []) name ≡ true
@@ -81,7 +81,7 @@ same_test names k j name apart e l = elim (eqb_tells j k) [ inl h ↦ same h.1 �
         absurd (apart' (cc))
     other false f apart' = refl
 
-no_test : (names : List (List ℕ)) (j : ℕ) (name : List ℕ) → AreApart names → position (bytes_eq name) names ≡ None → j < length names → bytes_eq (get_or names j []) name ≡ false
+no_test : (names : List (List ℕ)) (j : ℕ) (name : List ℕ) → HaveOneNumberEach names → position (bytes_eq name) names ≡ None → j < length names → bytes_eq (get_or names j []) name ≡ false
 no_test names j name apart e l = go (bytes_eq (get_or names j []) name) refl
   where
     go : (b : Bool) → bytes_eq (get_or names j []) name ≡ b → b ≡ false
@@ -94,32 +94,32 @@ abbrev pub is_named : List ℕ → Scoped → Bool
 is_named name e = bytes_eq e.name name
 
 -- to look for a name is to look for its number
-pub find-scoped : (names : List (List ℕ)) (k : ℕ) (name : List ℕ) (held : List Held) → AreApart names → position (bytes_eq name) names ≡ Some k → AreHeld (length names) held → find (is_named name) (scoped names held) ≡ option_map (named names) (find (has_number k) held)
+pub find-scoped : (names : List (List ℕ)) (k : ℕ) (name : List ℕ) (held : List Held) → HaveOneNumberEach names → position (bytes_eq name) names ≡ Some k → AreHeld (length names) held → find (is_named name) (scoped names held) ≡ option_map (scoped_as names) (find (has_number k) held)
 find-scoped names k name [] apart e h = refl
 find-scoped names k name (x ∷ held) apart e h =
-    ap (λ b. cond b (Some (named names x)) (find (is_named name) (scoped names held))) (same_test names k x.name name apart e h.0)
+    ap (λ b. cond b (Some (scoped_as names x)) (find (is_named name) (scoped names held))) (same_test names k x.name name apart e h.0)
     ∙ go (eqb x.name k) (find-scoped names k name held apart e h.2)
   where
-    go : (b : Bool) → find (is_named name) (scoped names held) ≡ option_map (named names) (find (has_number k) held) → cond b (Some (named names x)) (find (is_named name) (scoped names held)) ≡ option_map (named names) (cond b (Some x) (find (has_number k) held))
+    go : (b : Bool) → find (is_named name) (scoped names held) ≡ option_map (scoped_as names) (find (has_number k) held) → cond b (Some (scoped_as names x)) (find (is_named name) (scoped names held)) ≡ option_map (scoped_as names) (cond b (Some x) (find (has_number k) held))
     go true f = refl
     go false f = f
 
 -- a name without a number is that of no variable
-pub find-no_number : (names : List (List ℕ)) (name : List ℕ) (held : List Held) → AreApart names → position (bytes_eq name) names ≡ None → AreHeld (length names) held → find (is_named name) (scoped names held) ≡ None
+pub find-no_number : (names : List (List ℕ)) (name : List ℕ) (held : List Held) → HaveOneNumberEach names → position (bytes_eq name) names ≡ None → AreHeld (length names) held → find (is_named name) (scoped names held) ≡ None
 find-no_number names name [] apart e h = refl
 find-no_number names name (x ∷ held) apart e h =
-    ap (λ b. cond b (Some (named names x)) (find (is_named name) (scoped names held))) (no_test names x.name name apart e h.0)
+    ap (λ b. cond b (Some (scoped_as names x)) (find (is_named name) (scoped names held))) (no_test names x.name name apart e h.0)
     ∙ find-no_number names name held apart e h.2
 
 AreHeld-more : (m n : ℕ) (held : List Held) → m ≤ n → AreHeld m held → AreHeld n held
 AreHeld-more m n [] l h = tt
 AreHeld-more m n (x ∷ held) l h = ((let f = h.0 in omega arith), h.1, AreHeld-more m n held l h.2)
 
-innermost-none : (n k : ℕ) (held : List Held) → AreHeld n held → n ≤ k → innermost k held ≡ 0
-innermost-none n k [] h l = refl
-innermost-none n k (x ∷ held) h l = elim (eqb_tells x.name k) [
+innermost_held-none : (n k : ℕ) (held : List Held) → AreHeld n held → n ≤ k → innermost_held k held ≡ 0
+innermost_held-none n k [] h l = refl
+innermost_held-none n k (x ∷ held) h l = elim (eqb_tells x.name k) [
   | inl a ↦ (let f = h.0 in let g = a.1 in absurd (omega arith))
-  | inr a ↦ ap (λ b. cond b (length held + 1) (innermost k held)) a.0 ∙ innermost-none n k held h.2 l
+  | inr a ↦ ap (λ b. cond b (length held + 1) (innermost_held k held)) a.0 ∙ innermost_held-none n k held h.2 l
 ]
 
 -- what is there stays linked where a name gets a number
@@ -136,11 +136,11 @@ IsLinked-numbered names more firsts more_firsts held name k n h = elim n.others 
       tops = tops;
     })
       where
-        tops : (j : ℕ) → j < length (names ++ name ∷ []) → get_or (firsts ++ 0 ∷ []) j 0 ≡ innermost j held
+        tops : (j : ℕ) → j < length (names ++ name ∷ []) → get_or (firsts ++ 0 ∷ []) j 0 ≡ innermost_held j held
         tops j l = elim (eqb_tells j (length names)) [
           | inl e ↦
               let at = e.1 in
-              get_or_at firsts 0 [] 0 j (sym h.one_each ∙ sym at) ∙ sym (innermost-none (length names) j held h.outer (omega arith))
+              get_or_at firsts 0 [] 0 j (sym h.one_each ∙ sym at) ∙ sym (innermost_held-none (length names) j held h.outer (omega arith))
           | inr e ↦
               let apart = e.1 in
               let within : j < length names = omega (arith, length_push names name) in
@@ -172,11 +172,11 @@ module _ (names : List (List ℕ)) (firsts : List ℕ) (held : List Held) (h : H
           let one_each = l.one_each in
           ap (λ i. get_or (set firsts h.name (length held + 1)) i 0) (sym a.1)
           ∙ get_or-set_same firsts h.name (length held + 1) 0 (omega arith)
-          ∙ sym (ap (λ b. cond b (length held + 1) (innermost j held)) a.0)
+          ∙ sym (ap (λ b. cond b (length held + 1) (innermost_held j held)) a.0)
       | inr a ↦
           get_or-set_other firsts h.name j (length held + 1) 0 (λ e. a.1 (sym e))
           ∙ l.tops j below
-          ∙ sym (ap (λ b. cond b (length held + 1) (innermost j held)) a.0)
+          ∙ sym (ap (λ b. cond b (length held + 1) (innermost_held j held)) a.0)
     ];
   }
 
@@ -191,15 +191,15 @@ module _ (names : List (List ℕ)) (firsts : List ℕ) (held : List Held) (h : H
           ap (λ i. get_or (set firsts h.name h.outer) i 0) (sym a.1)
           ∙ get_or-set_same firsts h.name h.outer 0 (omega arith)
           ∙ l.outer.1
-          ∙ ap (λ i. innermost i held) a.1
+          ∙ ap (λ i. innermost_held i held) a.1
       | inr a ↦
           get_or-set_other firsts h.name j h.outer 0 (λ e. a.1 (sym e))
           ∙ l.tops j below
-          ∙ ap (λ b. cond b (length held + 1) (innermost j held)) a.0
+          ∙ ap (λ b. cond b (length held + 1) (innermost_held j held)) a.0
     ];
   }
 
-module _ (names : List (List ℕ)) (firsts : List ℕ) (items : List Held) (k : ℕ) (name : List ℕ) (place : ℕ) (apart : AreApart names) (number : position (bytes_eq name) names ≡ Some k) (l : IsLinked names firsts (reverse items)) where
+module _ (names : List (List ℕ)) (firsts : List ℕ) (items : List Held) (k : ℕ) (name : List ℕ) (place : ℕ) (apart : HaveOneNumberEach names) (number : position (bytes_eq name) names ≡ Some k) (l : IsLinked names firsts (reverse items)) where
   pub number-within : k < length firsts
   number-within =
       let at = (position-Some (bytes_eq name) names k [] number).0 in
@@ -207,27 +207,27 @@ module _ (names : List (List ℕ)) (firsts : List ℕ) (items : List Held) (k : 
       omega arith
 
   -- the place that is read
-  pub place-innermost : place ≡ get_or firsts k place → place ≡ innermost k (reverse items)
-  place-innermost read =
+  pub place-innermost_held : place ≡ get_or firsts k place → place ≡ innermost_held k (reverse items)
+  place-innermost_held read =
       read ∙ get_or_default firsts k place 0 number-within ∙ l.tops k (position-Some (bytes_eq name) names k [] number).0
 
   pub place-within : place ≡ get_or firsts k place → place ≤ length items
   place-within read =
-      omega (arith, innermost-within k (reverse items), length-reverse items, place-innermost read)
+      omega (arith, innermost_held-within k (reverse items), length-reverse items, place-innermost_held read)
 
   -- the variable that is found
   pub find-place : place ≡ get_or firsts k place → option_map (λ e. e.bound) (find (is_named name) (scoped names (reverse items))) ≡ option_map (λ h. h.bound) (place_in items place)
   find-place read =
-      ap (option_map (λ (e : Scoped). e.bound)) (find-scoped names k name (reverse items) apart number l.outer ∙ ap (option_map (named names)) found)
+      ap (option_map (λ (e : Scoped). e.bound)) (find-scoped names k name (reverse items) apart number l.outer ∙ ap (option_map (scoped_as names)) found)
       ∙ go (place_in items place)
     where
       found : find (has_number k) (reverse items) ≡ place_in items place
       found =
-          find-innermost k (reverse items)
-          ∙ ap (λ hs. place_in hs (innermost k (reverse items))) (reverse-reverse items)
-          ∙ ap (place_in items) (sym (place-innermost read))
+          find-innermost_held k (reverse items)
+          ∙ ap (λ hs. place_in hs (innermost_held k (reverse items))) (reverse-reverse items)
+          ∙ ap (place_in items) (sym (place-innermost_held read))
 
-      go : (o : Option Held) → option_map (λ (e : Scoped). e.bound) (option_map (named names) o) ≡ option_map (λ (h : Held). h.bound) o
+      go : (o : Option Held) → option_map (λ (e : Scoped). e.bound) (option_map (scoped_as names) o) ≡ option_map (λ (h : Held). h.bound) o
       go None = refl
       go (Some h) = refl
 

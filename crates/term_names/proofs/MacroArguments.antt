@@ -15,7 +15,8 @@ use Rattle.problem_text.specs.Names.{macro, sorts_of, expansion, applied}
 use Rattle.rule_model.specs.Replacement.{Replacement, replaced}
 use Rattle.problem_text.specs.TypedTerms.{Typed}
 use Rattle.problem_text.specs.Scripts.{Macro}
-use Rattle.term_names.specs.Standing.{AreLeavesOf, IsMacroOf}
+use Rattle.term_names.specs.Standing.{IsMacroOf}
+use Rattle.term_expansion.specs.Free.{AreLeavesOf}
 use Rattle.term_expansion.specs.Values.{IsValue, AreValues, IsReplacement}
 use Rattle.term_names.specs.declared.entries.Macro as held
 use Rattle.term_names.specs.declared.faults.ReadFault.{ReadFault}

@@ -6,7 +6,8 @@ use Rattle.std.specs.Str.{bytes_eq}
 use Rattle.std.proofs.lemmas.List.{map-append}
 use Rattle.std.proofs.lemmas.Slice.Eq.{bytes_eq-Decides}
 use Rattle.indexmap.specs.IndexSet.{insert_key}
-use Rattle.term_names.specs.NameNumbers.{texts, AreApart}
+use Rattle.term_names.specs.NameNumbers.{HaveOneNumberEach}
+use Rattle.sym_table.specs.Names.{texts}
 use Rattle.term_names.proofs.Positions.{position-map, position-push_found, position-push_new, list_any-no_place, slice_get-push_cases}
 
 -- the place of a name in the table is its number
@@ -20,8 +21,8 @@ texts-insert_key keys key name e h =
     ap (λ b. texts (if b then keys else keys ++ key ∷ [])) new ∙ map-append (λ key. key.items) keys (key ∷ []) ∙ ap (λ n. texts keys ++ n ∷ []) e
 
 -- names stay apart
-pub AreApart-push : (names : List (List ℕ)) (name : List ℕ) → AreApart names → position (bytes_eq name) names ≡ None → AreApart (names ++ name ∷ [])
-AreApart-push names name apart new k n e =
+pub HaveOneNumberEach-push : (names : List (List ℕ)) (name : List ℕ) → HaveOneNumberEach names → position (bytes_eq name) names ≡ None → HaveOneNumberEach (names ++ name ∷ [])
+HaveOneNumberEach-push names name apart new k n e =
     elim (slice_get-push_cases names name k n e) [
       | inl h ↦ position-push_found (bytes_eq n) names name k (apart k n h)
       | inr h ↦ last h.0 h.1

@@ -1,6 +1,6 @@
 //! Names with numbers.
 ghost use Rattle.std.specs.Prelude.{◌≡◌, ◌++◌, [], ◌∷◌, length, position, bytes_eq, None, OnOk, OnErr};
-ghost use Rattle.term_names.specs.NameNumbers.{AreApart};
+ghost use Rattle.term_names.specs.NameNumbers.{HaveOneNumberEach};
 
 use indexmap::IndexSet;
 use std::alloc::Global;
@@ -16,13 +16,14 @@ pub struct NameNumbers {
 
 impl Model for NameNumbers {
     ghost use Rattle.std.specs.Prelude.{List, ℕ};
-    ghost use Rattle.term_names.specs.NameNumbers.{texts, AreApart};
+    ghost use Rattle.term_names.specs.NameNumbers.{HaveOneNumberEach};
+    ghost use Rattle.sym_table.specs.Names.{texts};
 
     ghost Value = { List (List ℕ) };
 
     ghost view = { λ n. texts n.names.keys };
 
-    ghost invariant = { λ n. AreApart (texts n.names.keys) };
+    ghost invariant = { λ n. HaveOneNumberEach (texts n.names.keys) };
 }
 
 impl NameNumbers {
@@ -45,7 +46,7 @@ impl NameNumbers {
     /// The number of the name.
     pub fn find(&self, name: &[u8]) -> Option<usize>
         ensures number { result ≡ position (bytes_eq name.now) self.now }
-        ensures apart { AreApart self.now }
+        ensures apart { HaveOneNumberEach self.now }
     {
         self.names.get_index_of(name)
     }

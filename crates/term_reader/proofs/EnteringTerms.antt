@@ -22,14 +22,14 @@ use Rattle.term_reader.specs.Layers.{AreBinds, IsLayer}
 use Rattle.term_names.specs.Making.{PlacesCellsOf}
 use Rattle.problem_text.specs.Names.{Place, meaning_of}
 use Rattle.text_items.specs.Nodes.{IsNode}
-use Rattle.term_reader.specs.Reading.{Stands, IsAt, IsReadTerm, EndsWith, Goes}
+use Rattle.term_reader.specs.Reading.{StandsThere, IsAt, IsReadTerm, EndsWith, Goes}
 use Rattle.term_reader.specs.Resuming.{Waiting, arguments, bindings, naming, resumed}
 use Rattle.problem_text.specs.TypedTerms.{Typed}
 use Rattle.problem_text.specs.Scripts.{Script, with_term, with_let_name, Outcome, done}
 use Rattle.term_reader.specs.Shapes.{IsFirstRepeat}
 use Rattle.term_names.specs.Standing.{HasNoEntry, IsNoFunction, IsMeant, AddsNoSymbols}
 use Rattle.problem_text.specs.Terms.{term_from}
-use Rattle.term_names.specs.InScope.{AreBound}
+use Rattle.term_names.specs.InScope.{AreBindingsOf}
 use Rattle.term_expansion.specs.Values.{IsValue, AreValues}
 use Rattle.term_names.specs.declared.faults.ReadFault.{ReadFault}
 use Rattle.term_reader.specs.declared.frames.Frame.{Frame}
@@ -85,7 +85,7 @@ module _ (s : Table) (v : TermsView) (sc : Script) (terms : List Term) (names : 
     taken = h.taken;
   }
 
-  pub stands_alike : (r : Reader) (p : Place) → Stands s v r sc p → Stands s v r (alike sc terms names) p
+  pub stands_alike : (r : Reader) (p : Place) → StandsThere s v r sc p → StandsThere s v r (alike sc terms names) p
   stands_alike r p h = record {
     script = record { sorts = h.script.sorts; names = λ name. meant_alike r.known name (known_entry r.known name) (h.script.names name) };
     scope = h.scope;
@@ -94,7 +94,7 @@ module _ (s : Table) (v : TermsView) (sc : Script) (terms : List Term) (names : 
   }
 
 -- one form more that is open changes nothing of what the tables stand for
-stands_opened : (s : Table) (v : TermsView) (r : Reader) (f : Frame) (sc : Script) (p : Place) → Stands s v r sc p → Stands s v (with_open r f) sc p
+stands_opened : (s : Table) (v : TermsView) (r : Reader) (f : Frame) (sc : Script) (p : Place) → StandsThere s v r sc p → StandsThere s v (with_open r f) sc p
 stands_opened s v r f sc p h = record { script = h.script; scope = h.scope; replaces = h.replaces; low = h.low }
 
 -- a fault is that of the whole, and a term that is read is read by the end
@@ -176,7 +176,7 @@ module _ (source : List ℕ) (nodes : List Node) (g : Reading) (s : Table) (v : 
 
   -- what a call says that reads a symbol alone
   abbrev IsSymbolRead : TermsView → Result Value ReadFault → Type 0
-  IsSymbolRead w result = (sc : Script) (p : Place) (x : Name) → Stands s v r sc p → IsNameNode source nodes k x → ReadsAlone s v w (term_from (symbol x) p sc) sc result
+  IsSymbolRead w result = (sc : Script) (p : Place) (x : Name) → StandsThere s v r sc p → IsNameNode source nodes k x → ReadsAlone s v w (term_from (symbol x) p sc) sc result
 
   symbol_read : (w : TermsView) (result : Result Value ReadFault) (h : Top Layer.Symbol) → IsSymbolRead w result → ReadsAlone s v w (comes_of h.at) h.at.script result
   symbol_read w result h reads =
@@ -202,7 +202,7 @@ module _ (source : List ℕ) (nodes : List Node) (g : Reading) (s : Table) (v : 
 
   -- an argument is read, or the first one
   pub application_goes : (head first end place : ℕ) (applied : Head) → Top (Layer.Application head first end) → IsStart k place
-      → ((w : TermsView) (sc : Script) (p : Place) (x : Name) → Stands s w r sc p → IsNameNode source nodes head x → IsHeadFound s w r.known (Some applied) (meaning_of p sc x.name))
+      → ((w : TermsView) (sc : Script) (p : Place) (x : Name) → StandsThere s w r sc p → IsNameNode source nodes head x → IsHeadFound s w r.known (Some applied) (meaning_of p sc x.name))
       → Goes source nodes g s v v (with_open r (Frame.Arguments place applied (length r.values) end)) (Ok (Turn.Read first))
   application_goes head first end place applied h starts found =
       let a = h.at in
@@ -241,7 +241,7 @@ module _ (source : List ℕ) (nodes : List Node) (g : Reading) (s : Table) (v : 
       }
 
   pub application_unknown : (head first end place : ℕ) (refusal : Refusal) → Top (Layer.Application head first end) → IsStart head place → refusal ≡ record { cause = UnknownName; at = place }
-      → ((w : TermsView) (sc : Script) (p : Place) (x : Name) → Stands s w r sc p → IsNameNode source nodes head x → IsHeadFound s w r.known None (meaning_of p sc x.name))
+      → ((w : TermsView) (sc : Script) (p : Place) (x : Name) → StandsThere s w r sc p → IsNameNode source nodes head x → IsHeadFound s w r.known None (meaning_of p sc x.name))
       → Goes source nodes g s v v r (Err (ReadFault.Text refusal))
   application_unknown head first end place refusal h starts is found =
       let a = h.at in
@@ -282,8 +282,8 @@ module _ (source : List ℕ) (nodes : List Node) (g : Reading) (s : Table) (v : 
               within = omega arith;
               leaves_within = omega arith;
               read_bound =
-                  subst (λ (values : List Value). AreBound s v (drop leaf r.leaves.items) values []) (sym (ap (λ (n : ℕ). drop n r.values) from_is ∙ drop-length r.values))
-                  (subst (λ (ks : List ℕ). AreBound s v ks [] []) (sym (ap (λ (n : ℕ). drop n r.leaves.items) leaf_is ∙ drop-length r.leaves.items)) tt);
+                  subst (λ (values : List Value). AreBindingsOf s v (drop leaf r.leaves.items) values []) (sym (ap (λ (n : ℕ). drop n r.values) from_is ∙ drop-length r.values))
+                  (subst (λ (ks : List ℕ). AreBindingsOf s v ks [] []) (sym (ap (λ (n : ℕ). drop n r.leaves.items) leaf_is ∙ drop-length r.leaves.items)) tt);
               variable = b.named;
               left_here = b.there;
               first_faulty = further;

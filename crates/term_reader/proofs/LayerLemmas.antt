@@ -19,7 +19,7 @@ use Rattle.text_items.specs.Nodes.{IsNode, AreNodes}
 use Rattle.text_items.specs.NameNodes.{BeginsAt, IsNameNode}
 use Rattle.term_reader.specs.Layers.{IsForm, AreBinds, NamesAreSymbols, AreAttributes, IsLayer}
 use Rattle.term_reader.specs.Shapes.{IsSymbolLayer, IsTokenLayer, IsApplied}
-use Rattle.text_items.specs.Stepping.{Begins, has_two, HasSecond}
+use Rattle.text_items.specs.Stepping.{IsItemStart, has_two, HasSecond}
 use Rattle.text_items.proofs.NodeSteps.{node_behind, nodes_ordered, name_node, name_next}
 use Rattle.text_items.proofs.ShapeLemmas.{IsListAt}
 
@@ -109,14 +109,14 @@ symbol_spelled (string place spelling) name e = absurd cc
 symbol_spelled (list place items) name e = absurd cc
 
 -- a token that is no symbol: a word or a string
-pub word_spelled : (kind : TokenKind) (spelling : List ℕ) (i : Item) (top : Layer) (place : ℕ) → kind ≡ Word → Begins kind spelling i → place ≡ place_of i → IsTokenLayer place top (word_form place spelling) → IsTokenLayer (place_of i) top (form_of i)
+pub word_spelled : (kind : TokenKind) (spelling : List ℕ) (i : Item) (top : Layer) (place : ℕ) → kind ≡ Word → IsItemStart kind spelling i → place ≡ place_of i → IsTokenLayer place top (word_form place spelling) → IsTokenLayer (place_of i) top (form_of i)
 unfolding form_of
 word_spelled kind spelling (word at own) top place is begins same h = rw (← same, ← begins.1) h
 word_spelled kind spelling (quoted at own) top place is begins same h = absurd (cc (begins.0, is))
 word_spelled kind spelling (string at own) top place is begins same h = absurd (cc (begins.0, is))
 word_spelled kind spelling (list at items) top place is begins same h = absurd (cc (begins, is))
 
-pub string_spelled : (kind : TokenKind) (spelling : List ℕ) (i : Item) (place : ℕ) → kind ≢ Word → Begins kind spelling i → place ≡ place_of i → is_list_item i ≡ false → symbol_name i ≡ None → form_of i ≡ faulty LeftOut place
+pub string_spelled : (kind : TokenKind) (spelling : List ℕ) (i : Item) (place : ℕ) → kind ≢ Word → IsItemStart kind spelling i → place ≡ place_of i → is_list_item i ≡ false → symbol_name i ≡ None → form_of i ≡ faulty LeftOut place
 unfolding form_of
 string_spelled kind spelling (word at own) place other begins same e none = absurd (other begins.0)
 string_spelled kind spelling (quoted at own) place other begins same e none = absurd cc

@@ -10,7 +10,7 @@ use Rattle.term_pool.specs.Views.{TermsView}
 use Rattle.text_items.specs.ItemShapes.{Name}
 use Rattle.problem_text.specs.Forms.{Binds, no_binds, bind}
 use Rattle.term_reader.specs.Frames.{Reading, AreFrames}
-use Rattle.term_names.specs.InScope.{IsScope, AreLow, AreBound}
+use Rattle.term_names.specs.InScope.{IsScope, AreLow, AreBindingsOf}
 use Rattle.text_items.specs.NameNodes.{IsNameNode}
 use Rattle.term_reader.specs.Layers.{AreBinds}
 use Rattle.term_reader.specs.Leaving.{with_open, Leaves}
@@ -54,7 +54,7 @@ module _ (source : List ℕ) (nodes : List Node) (g : Reading) (s : Table) (v : 
     low_now : AreLow values
     low_now = rw added.values_are (all_at_end _ r.values c h.stands.low h.low)
 
-    bound_now : AreBound t v (drop first leaves) (drop from values) all_read
+    bound_now : AreBindingsOf t v (drop first leaves) (drop from values) all_read
     bound_now =
         let (read, x, earlier, left, f, m, rest, is, here, outer) = h.frames in
         let (k, leaf_is, leaves_are) = added.leaf x here.variable in
@@ -83,12 +83,12 @@ module _ (source : List ℕ) (nodes : List Node) (g : Reading) (s : Table) (v : 
         rw (values_same, leaves_same)
         (frames_stay s t v v added.adds.keeps (keeps_none v) source nodes g r.known r.known (λ _. refl) r.frames (take from r.values) (take first r.leaves.items) r.scope h.place m rest outer)
 
-    pub bindings_bound : (w : TermsView) × (bs : List Bound) × AreBound t w (drop first leaves) (drop from values) bs
+    pub bindings_bound : (w : TermsView) × (bs : List Bound) × AreBindingsOf t w (drop first leaves) (drop from values) bs
     bindings_bound = (v, all_read, bound_now)
 
     -- The last one was read: the body comes.
     pub body_begins : n ≡ body → (scope inner : List Scoped) (ks : List ℕ) → ks ≡ drop first leaves
-        → ((w : TermsView) (bs : List Bound) (p : Place) → AreBound t w ks (drop from values) bs → IsScope t w r.scope p.scope → p.replaces_lets ≡ r.replaces_lets → IsScope t w scope (inside bs p).scope)
+        → ((w : TermsView) (bs : List Bound) (p : Place) → AreBindingsOf t w ks (drop from values) bs → IsScope t w r.scope p.scope → p.replaces_lets ≡ r.replaces_lets → IsScope t w scope (inside bs p).scope)
         → scope ≡ inner ++ r.scope → length inner ≡ length ks → (q : Reader) → q.leaves.items ≡ leaves
         → IsAt source nodes g t v (record r { scope = scope; values = values; leaves = q.leaves; frames = Frame.Body place from first ∷ r.frames }) body
     body_begins last scope inner ks are binds split each q leaves_are =
@@ -206,7 +206,7 @@ module _ (source : List ℕ) (nodes : List Node) (g : Reading) (s : Table) (v : 
 
   -- What is done, by the stacks as the code has them.
   pub body_next : (t : Table) (q : Reader) → IsAdded t q.leaves.items q.values → length t.leaves ≤ length s.leaves + 1 → n ≡ body → (inner : List Scoped) (ks : List ℕ) → ks ≡ drop first q.leaves.items
-      → ((w : TermsView) (bs : List Bound) (p : Place) → AreBound t w ks (drop from q.values) bs → IsScope t w r.scope p.scope → p.replaces_lets ≡ r.replaces_lets → IsScope t w q.scope (inside bs p).scope)
+      → ((w : TermsView) (bs : List Bound) (p : Place) → AreBindingsOf t w ks (drop from q.values) bs → IsScope t w r.scope p.scope → p.replaces_lets ≡ r.replaces_lets → IsScope t w q.scope (inside bs p).scope)
       → q.scope ≡ inner ++ r.scope → length inner ≡ length ks → q.frames ≡ Frame.Body place from first ∷ r.frames
       → Leaves source nodes g s v (with_open r (Frame.Bindings place from first name repeat body)) c n t v (record r { scope = q.scope; values = q.values; leaves = q.leaves; frames = q.frames }) (Ok (Turn.Read body))
   body_next t q added one_more last inner ks are binds split each frames_are = record {

@@ -4,7 +4,7 @@ use Rattle.std.proofs.Math.Seq.{drop-append_seam}
 use Rattle.sym_table.specs.Table.{Table}
 use Rattle.term_pool.specs.Views.{TermsView, KeepsTerms}
 use Rattle.term_reader.specs.Frames.{Reading}
-use Rattle.term_names.specs.InScope.{IsScope, AreBound}
+use Rattle.term_names.specs.InScope.{IsScope, AreBindingsOf}
 use Rattle.term_reader.specs.Leaving.{with_open, Leaves}
 use Rattle.term_names.specs.Making.{IsMade, Makes}
 use Rattle.problem_text.specs.Names.{Bound, Place, inside, let_term}
@@ -43,7 +43,7 @@ module _ (source : List ℕ) (nodes : List Node) (g : Reading) (s : Table) (v : 
   abbrev pub Closed : TermsView → Result (Option Value) ReadFault → Type 0
   Closed w made =
       (ks : List ℕ) × (ks ≡ drop first r.leaves.items)
-      × ((p : Place) (bs : List Bound) (t : Typed) → AreBound s v ks (drop from r.values) bs → IsValue s v c t → p.replaces_lets ≡ r.replaces_lets → Makes s v w (Some (let_term p bs t)) made)
+      × ((p : Place) (bs : List Bound) (t : Typed) → AreBindingsOf s v ks (drop from r.values) bs → IsValue s v c t → p.replaces_lets ≡ r.replaces_lets → Makes s v w (Some (let_term p bs t)) made)
 
   outer_replaces : (outer : Place) (bound : List Bound) → h.place ≡ inside bound outer → outer.replaces_lets ≡ r.replaces_lets
   outer_replaces outer bound same = sym (ap (λ (p : Place). p.replaces_lets) same) ∙ h.stands.replaces

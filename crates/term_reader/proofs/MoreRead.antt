@@ -5,7 +5,7 @@ use Rattle.sym_table.specs.Table.{Table, IsLeaf}
 use Rattle.term_model.specs.Terms.{Term}
 use Rattle.term_pool.specs.StandsFor.{variable_leaf}
 use Rattle.term_pool.specs.Views.{TermsView}
-use Rattle.term_names.specs.InScope.{AreBound, AreLow}
+use Rattle.term_names.specs.InScope.{AreBindingsOf, AreLow}
 use Rattle.term_names.specs.Known.{KnownView, known_entry}
 use Rattle.problem_text.specs.Names.{Bound}
 use Rattle.problem_text.specs.TypedTerms.{Typed}
@@ -37,8 +37,8 @@ module _ (s : Table) (v : TermsView) where
   values_pushed from values ts c t within h is =
       subst (λ cs. AreValues s v cs (ts ++ t ∷ [])) (sym (drop-append-le from values (c ∷ []) within)) (values_at_end (drop from values) ts c t h is)
 
-  bound_at_end : (ks : List ℕ) (cs : List Value) (bs : List Bound) (k : ℕ) (c : Value) (b : Bound) → AreBound s v ks cs bs → IsLeaf s k (variable_leaf b.variable)
-      → IsValue s v c (record { tree = b.stands_for; sort = b.variable.sort }) → AreBound s v (ks ++ k ∷ []) (cs ++ c ∷ []) (bs ++ b ∷ [])
+  bound_at_end : (ks : List ℕ) (cs : List Value) (bs : List Bound) (k : ℕ) (c : Value) (b : Bound) → AreBindingsOf s v ks cs bs → IsLeaf s k (variable_leaf b.variable)
+      → IsValue s v c (record { tree = b.stands_for; sort = b.variable.sort }) → AreBindingsOf s v (ks ++ k ∷ []) (cs ++ c ∷ []) (bs ++ b ∷ [])
   bound_at_end [] [] [] k c b h leaf is = (leaf, is, tt)
   bound_at_end [] [] (e ∷ bs) k c b h leaf is = absurd h
   bound_at_end [] (d ∷ cs) bs k c b h leaf is = absurd h
@@ -47,11 +47,11 @@ module _ (s : Table) (v : TermsView) where
   bound_at_end (j ∷ ks) (d ∷ cs) (e ∷ bs) k c b h leaf is = (h.0, h.1, bound_at_end ks cs bs k c b h.2 leaf is)
 
   pub bound_pushed : (first from : ℕ) (leaves : List ℕ) (values : List Value) (bs : List Bound) (k : ℕ) (c : Value) (b : Bound) → first ≤ length leaves → from ≤ length values
-      → AreBound s v (drop first leaves) (drop from values) bs → IsLeaf s k (variable_leaf b.variable) → IsValue s v c (record { tree = b.stands_for; sort = b.variable.sort })
-      → AreBound s v (drop first (leaves ++ k ∷ [])) (drop from (values ++ c ∷ [])) (bs ++ b ∷ [])
+      → AreBindingsOf s v (drop first leaves) (drop from values) bs → IsLeaf s k (variable_leaf b.variable) → IsValue s v c (record { tree = b.stands_for; sort = b.variable.sort })
+      → AreBindingsOf s v (drop first (leaves ++ k ∷ [])) (drop from (values ++ c ∷ [])) (bs ++ b ∷ [])
   bound_pushed first from leaves values bs k c b leaves_within within h leaf is =
-      subst (λ ks. AreBound s v ks (drop from (values ++ c ∷ [])) (bs ++ b ∷ [])) (sym (drop-append-le first leaves (k ∷ []) leaves_within))
-      (subst (λ cs. AreBound s v (drop first leaves ++ k ∷ []) cs (bs ++ b ∷ [])) (sym (drop-append-le from values (c ∷ []) within))
+      subst (λ ks. AreBindingsOf s v ks (drop from (values ++ c ∷ [])) (bs ++ b ∷ [])) (sym (drop-append-le first leaves (k ∷ []) leaves_within))
+      (subst (λ cs. AreBindingsOf s v (drop first leaves ++ k ∷ []) cs (bs ++ b ∷ [])) (sym (drop-append-le from values (c ∷ []) within))
       (bound_at_end (drop first leaves) (drop from values) bs k c b h leaf is))
 
 -- The script: what its names are does not change with the terms that were read and the names that lets bound.

@@ -12,7 +12,7 @@ use Rattle.term_reader.specs.Reading.{IsIdle, Reads}
 use Rattle.term_names.specs.Scope.{Scoped}
 use Rattle.problem_text.specs.TypedTerms.{Typed}
 use Rattle.problem_text.specs.Scripts.{Script, Outcome}
-use Rattle.term_names.specs.Standing.{AreLeavesOf}
+use Rattle.term_expansion.specs.Free.{AreLeavesOf}
 use Rattle.term_names.specs.declared.faults.ReadFault.{ReadFault}
 use Rattle.term_reader.specs.declared.reader.Reader.{Reader}
 use Rattle.term_expansion.specs.declared.values.Value.{Value}

@@ -6,7 +6,7 @@ use Rattle.problem_text.specs.Words.{is_among, is_built_in}
 use Rattle.text_items.specs.ItemShapes.{Name}
 use Rattle.problem_text.specs.Forms.{Form, symbol, application, let_form, annotated, Forms, no_forms, form, Binds, no_binds, bind}
 use Rattle.problem_text.specs.TypedTerms.{Typed}
-use Rattle.problem_text.specs.Scripts.{Script, with_let_name, Outcome, done, refuse, goes_on, and_then}
+use Rattle.problem_text.specs.Scripts.{Script, with_let_name, Outcome, done, refuse, then_script, and_then}
 use Rattle.problem_text.specs.Names.{Bound, Place, Meaning, meaning_of, applied, inside, let_term}
 use Rattle.problem_text.specs.Terms.{settled, with_names, with_meaning, term_from, terms_from, bounds_from}
 use Rattle.term_reader.specs.Resuming.{Waiting, arguments, bindings, body_of, naming, bound_to, body_from, after, resumed}
@@ -15,14 +15,14 @@ use Rattle.term_reader.specs.Resuming.{Waiting, arguments, bindings, body_of, na
 pub same_next : {A B : Type 0} (o : Outcome A) (f g : A → Script → Outcome B) → ((a : A) (s : Script) → f a s ≡ g a s) → and_then o f ≡ and_then o g
 same_next {A = A} {B = B} o f g h = go o.result
   where
-    go : (r : Result A Refusal) → goes_on r o.script f ≡ goes_on r o.script g
+    go : (r : Result A Refusal) → then_script r o.script f ≡ then_script r o.script g
     go (Ok a) = h a o.script
     go (Err refusal) = refl
 
 pub joined : {A B C : Type 0} (o : Outcome A) (f : A → Script → Outcome B) (g : B → Script → Outcome C) → and_then (and_then o f) g ≡ and_then o (λ a s. and_then (f a s) g)
 joined {A = A} o f g = go o.result
   where
-    go : (r : Result A Refusal) → and_then (goes_on r o.script f) g ≡ goes_on r o.script (λ a s. and_then (f a s) g)
+    go : (r : Result A Refusal) → and_then (then_script r o.script f) g ≡ then_script r o.script (λ a s. and_then (f a s) g)
     go (Ok a) = refl
     go (Err refusal) = refl
 

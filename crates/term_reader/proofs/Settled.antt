@@ -7,7 +7,7 @@ use Rattle.term_pool.specs.Views.{TermsView}
 use Rattle.term_reader.specs.Frames.{Reading, AreFrames}
 use Rattle.term_names.specs.Making.{IsExpected, IsMade, Makes, PlacesCellsOf}
 use Rattle.problem_text.specs.Names.{Place}
-use Rattle.term_reader.specs.Reading.{Stands, HasRead, EndsWith, IsReadTerm, GoesOn, Goes}
+use Rattle.term_reader.specs.Reading.{StandsThere, HasRead, EndsWith, IsReadTerm, GoesOnReading, Goes}
 use Rattle.term_reader.specs.Resuming.{Waiting, resumed}
 use Rattle.problem_text.specs.TypedTerms.{Typed}
 use Rattle.problem_text.specs.Scripts.{Script, Outcome, with_term}
@@ -35,7 +35,7 @@ pub record IsWhole (g : Reading) (s : Table) (v w : TermsView) (place : ℕ) (ma
 pub record Closes (source : List ℕ) (nodes : List Node) (g : Reading) (s : Table) (v w : TermsView) (r : Reader) (place n : ℕ) (made : Result (Option Value) ReadFault) : Type 0 where
   pub whole : IsWhole g s v w place made
   pub around : Place
-  pub stands : Stands s w r whole.script around
+  pub stands : StandsThere s w r whole.script around
   pub frames : AreFrames source nodes g s w r.known r.frames r.values r.leaves.items r.scope around n whole.waiting
 
 -- a fault of what is read now is the fault of the whole
@@ -44,7 +44,7 @@ fault_of_whole ws o r whole fails comes =
     ap (λ (x : Outcome Typed). x.result) (sym comes ∙ ap (λ x. resumed ws (record { result = x; script = o.script })) fails ∙ refused_whole ws r o.script)
 
 -- memory ran out, or nothing was placed
-pub nothing_made : (source : List ℕ) (nodes : List Node) (g : Reading) (s : Table) (v : TermsView) (r : Reader) (result : Result Turn ReadFault) → GoesOn source nodes g s v r result → Goes source nodes g s v v r result
+pub nothing_made : (source : List ℕ) (nodes : List Node) (g : Reading) (s : Table) (v : TermsView) (r : Reader) (result : Result Turn ReadFault) → GoesOnReading source nodes g s v r result → Goes source nodes g s v v r result
 nothing_made source nodes g s v r result step = record { step = step; placed = places_none s v.pass v.pass (IsReadTerm g.whole) refl }
 
 module _ (source : List ℕ) (nodes : List Node) (g : Reading) (s : Table) (v w : TermsView) (place : ℕ) where

@@ -14,19 +14,19 @@ use Rattle.text_items.specs.ItemShapes.{Name}
 use Rattle.problem_text.specs.Forms.{Form, Forms, Binds}
 use Rattle.term_names.specs.Heads.{IsSymbolOf, IsMacroMeant, IsHeadOf}
 use Rattle.term_reader.specs.Frames.{HasArguments, HasBindings, HasBody, Reading, AreFrames}
-use Rattle.term_expansion.specs.Free.{AreFreeLeaves}
+use Rattle.term_expansion.specs.Free.{AreFreeLeaves, AreLeavesOf}
 use Rattle.term_expansion.specs.Images.{PlacesTerm, LacksRoomFor}
-use Rattle.term_names.specs.InScope.{IsScope, AreBound}
+use Rattle.term_names.specs.InScope.{IsScope, AreBindingsOf}
 use Rattle.term_names.specs.Known.{KnownView, known_entry, macro_of}
-use Rattle.term_names.specs.Making.{IsCellOf, PlacesCellsOf, LacksCellOf}
+use Rattle.term_names.specs.Making.{IsWantedCell, PlacesCellsOf, LacksCellOf}
 use Rattle.problem_text.specs.Names.{Bound, Place, Meaning}
-use Rattle.term_reader.specs.Reading.{Stands}
+use Rattle.term_reader.specs.Reading.{StandsThere}
 use Rattle.rule_model.specs.Replacement.{Replacement}
 use Rattle.term_reader.specs.Resuming.{Waiting}
 use Rattle.term_names.specs.Scope.{Scoped}
 use Rattle.problem_text.specs.TypedTerms.{Typed}
 use Rattle.problem_text.specs.Scripts.{Macro, Named, Script}
-use Rattle.term_names.specs.Standing.{AreLeavesOf, IsMacroOf, IsNamedOf, IsFunctionAt, IsNoFunction, IsFreeName, IsMeant, IsScript, AddsNoSymbols}
+use Rattle.term_names.specs.Standing.{IsMacroOf, IsNamedOf, IsFunctionAt, IsNoFunction, IsFreeName, IsMeant, IsScript, AddsNoSymbols}
 use Rattle.term_expansion.specs.Values.{IsValue, AreValues, PutsIn, IsReplacement}
 use Rattle.term_names.specs.declared.entries.Macro as held_macro
 use Rattle.term_names.specs.declared.entries.Named as held_named
@@ -188,7 +188,7 @@ module _ (s z : Table) (v w : TermsView) (keeps : Keeps s z) (terms : KeepsTerms
   scope_stays (e ∷ es) [] h = absurd h
   scope_stays (e ∷ es) (b ∷ bs) h = (h.0, puts_in_stays e.bound b.variable b.stands_for h.1, scope_stays es bs h.2)
 
-  pub bound_stays : (ks : List ℕ) (cs : List Value) (bs : List Bound) → AreBound s v ks cs bs → AreBound z w ks cs bs
+  pub bound_stays : (ks : List ℕ) (cs : List Value) (bs : List Bound) → AreBindingsOf s v ks cs bs → AreBindingsOf z w ks cs bs
   bound_stays [] [] [] h = h
   bound_stays [] [] (b ∷ bs) h = absurd h
   bound_stays [] (c ∷ cs) bs h = absurd h
@@ -354,7 +354,7 @@ module _ (s z : Table) (v w : TermsView) (adds : AddsNoSymbols s z) (terms : Kee
   pub script_stays : (k : KnownView) (sc : Script) → IsScript s v k sc → IsScript z w k sc
   script_stays k sc h = record { sorts = adds.sorts ∙ h.sorts; names = λ name. meant_stays k sc name (known_entry k name) (h.names name) }
 
-  pub stands_stays : (r : Reader) (sc : Script) (p : Place) → Stands s v r sc p → Stands z w r sc p
+  pub stands_stays : (r : Reader) (sc : Script) (p : Place) → StandsThere s v r sc p → StandsThere z w r sc p
   stands_stays r sc p h = record {
     script = script_stays r.known sc h.script;
     scope = scope_stays s z v w adds.keeps terms r.scope p.scope h.scope;
@@ -377,7 +377,7 @@ cell_in_stays p q keeps a b t h = record {
   part = h.part;
 }
 
-pub cell_stays : (s z : Table) (p q : PassView) (P : Term → Type 0) → Keeps s z → KeepsPass p q → (a b : ℕ) → IsCellOf s p P a b → IsCellOf z q P a b
+pub cell_stays : (s z : Table) (p q : PassView) (P : Term → Type 0) → Keeps s z → KeepsPass p q → (a b : ℕ) → IsWantedCell s p P a b → IsWantedCell z q P a b
 cell_stays s z p q P table keeps a b h = record {
   whole = h.whole;
   wanted = h.wanted;
@@ -386,25 +386,25 @@ cell_stays s z p q P table keeps a b h = record {
   cell = cell_in_stays p q keeps a b h.tree h.cell;
 }
 
-pub cell_more : (s : Table) (p : PassView) (P Q : Term → Type 0) → ((t : Term) → P t → Q t) → (a b : ℕ) → IsCellOf s p P a b → IsCellOf s p Q a b
+pub cell_more : (s : Table) (p : PassView) (P Q : Term → Type 0) → ((t : Term) → P t → Q t) → (a b : ℕ) → IsWantedCell s p P a b → IsWantedCell s p Q a b
 cell_more s p P Q more a b h = record { whole = h.whole; wanted = more h.whole h.wanted; tree = h.tree; stands = h.stands; cell = h.cell }
 
 -- one call and then another
 pub places_then : (s z : Table) (a b c : PassView) (P : Term → Type 0) → Keeps s z → KeepsPass b c → PlacesCellsOf s a b P → PlacesCellsOf z b c P → PlacesCellsOf z a c P
 places_then s z a b c P table keeps h k r m n e = go (k r m n e)
   where
-    earlier : IsPlaced a r m n ⊎ IsCellOf s b P m n → IsPlaced a r m n ⊎ IsCellOf z c P m n
+    earlier : IsPlaced a r m n ⊎ IsWantedCell s b P m n → IsPlaced a r m n ⊎ IsWantedCell z c P m n
     earlier (inl x) = inl x
     earlier (inr y) = inr (cell_stays s z b c P table keeps m n y)
 
-    go : IsPlaced b r m n ⊎ IsCellOf z c P m n → IsPlaced a r m n ⊎ IsCellOf z c P m n
+    go : IsPlaced b r m n ⊎ IsWantedCell z c P m n → IsPlaced a r m n ⊎ IsWantedCell z c P m n
     go (inl x) = earlier (h r m n x)
     go (inr y) = inr y
 
 pub places_more : (s : Table) (a b : PassView) (P Q : Term → Type 0) → ((t : Term) → P t → Q t) → PlacesCellsOf s a b P → PlacesCellsOf s a b Q
 places_more s a b P Q more h r m n e = go (h r m n e)
   where
-    go : IsPlaced a r m n ⊎ IsCellOf s b P m n → IsPlaced a r m n ⊎ IsCellOf s b Q m n
+    go : IsPlaced a r m n ⊎ IsWantedCell s b P m n → IsPlaced a r m n ⊎ IsWantedCell s b Q m n
     go (inl x) = inl x
     go (inr y) = inr (cell_more s b P Q more m n y)
 
@@ -434,7 +434,7 @@ lacks_more s p P Q more h = record { whole = h.whole; wanted = more h.whole h.wa
 pub places_tree : (s : Table) (a b : PassView) (P : Term → Type 0) (t : Term) (tree : Tree) → P t → StandsFor s tree t → PlacesOnlyIn a b tree → PlacesCellsOf s a b P
 places_tree s a b P t tree wanted stands h r m n e = go (h r m n e)
   where
-    go : IsPlaced a r m n ⊎ IsCellIn b m n tree → IsPlaced a r m n ⊎ IsCellOf s b P m n
+    go : IsPlaced a r m n ⊎ IsCellIn b m n tree → IsPlaced a r m n ⊎ IsWantedCell s b P m n
     go (inl x) = inl x
     go (inr y) = inr (record { whole = t; wanted = wanted; tree = tree; stands = stands; cell = y })
 

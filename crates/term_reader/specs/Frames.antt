@@ -4,7 +4,7 @@ use Rattle.sym_table.specs.Table.{Table}
 use Rattle.term_pool.specs.Views.{TermsView}
 use Rattle.text_items.specs.ItemShapes.{Name}
 use Rattle.problem_text.specs.Forms.{Form, Forms, Binds}
-use Rattle.term_names.specs.InScope.{IsScope, AreBound}
+use Rattle.term_names.specs.InScope.{IsScope, AreBindingsOf}
 use Rattle.term_names.specs.Known.{KnownView}
 use Rattle.text_items.specs.NameNodes.{IsNameNode}
 use Rattle.term_reader.specs.Layers.{IsForm, AreForms, AreBinds, AreAttributes}
@@ -33,7 +33,7 @@ pub record HasArguments (source : List ℕ) (nodes : List Node) (s : Table) (v :
 pub record HasBindings (source : List ℕ) (nodes : List Node) (s : Table) (v : TermsView) (from first name repeat body n : ℕ) (values : List Value) (leaves : List ℕ) (read : List Bound) (x : Name) (earlier : List (List ℕ)) (left : Binds) (f : Form) (m : ℕ) : Type 0 where
   pub within : from ≤ length values
   pub leaves_within : first ≤ length leaves
-  pub read_bound : AreBound s v (drop first leaves) (drop from values) read
+  pub read_bound : AreBindingsOf s v (drop first leaves) (drop from values) read
   pub variable : IsNameNode source nodes name x
   pub left_here : AreBinds source nodes n left body
   pub first_faulty : IsFirstRepeat source nodes n (x.name ∷ earlier) left repeat body
@@ -43,7 +43,7 @@ pub record HasBindings (source : List ℕ) (nodes : List Node) (s : Table) (v : 
 pub record HasBody (s : Table) (v : TermsView) (from first : ℕ) (values : List Value) (leaves : List ℕ) (scope : List Scoped) (p : Place) (bound : List Bound) (around : List Scoped) (outer : Place) : Type 0 where
   pub within : from ≤ length values
   pub leaves_within : first < length leaves
-  pub bound_here : AreBound s v (drop first leaves) (drop from values) bound
+  pub bound_here : AreBindingsOf s v (drop first leaves) (drop from values) bound
   pub same_place : p ≡ inside bound outer
   pub inner : List Scoped
   pub split : scope ≡ inner ++ around

@@ -12,7 +12,8 @@ use Rattle.problem_text.specs.Problems.{problem}
 use Rattle.term_reader.specs.Reading.{IsIdle, EndsWith, IsReadTerm}
 use Rattle.problem_text.specs.TypedTerms.{Typed}
 use Rattle.problem_text.specs.Scripts.{Script, Outcome, done}
-use Rattle.term_names.specs.Standing.{IsScript, AreLeavesOf}
+use Rattle.term_names.specs.Standing.{IsScript}
+use Rattle.term_expansion.specs.Free.{AreLeavesOf}
 use Rattle.term_names.specs.declared.faults.ReadFault.{ReadFault}
 use Rattle.term_reader.specs.declared.reader.Reader.{Reader}
 

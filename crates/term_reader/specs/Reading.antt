@@ -25,7 +25,7 @@ use Rattle.term_reader.specs.declared.reader.Turn.{Turn}
 use Rattle.term_expansion.specs.declared.values.Value.{Value}
 
 -- the reader's own tables stand for the script and the place
-pub record Stands (s : Table) (v : TermsView) (r : Reader) (sc : Script) (p : Place) : Type 0 where
+pub record StandsThere (s : Table) (v : TermsView) (r : Reader) (sc : Script) (p : Place) : Type 0 where
   pub script : IsScript s v r.known sc
   pub scope : IsScope s v r.scope p.scope
   pub replaces : p.replaces_lets ≡ r.replaces_lets
@@ -38,7 +38,7 @@ pub record IsAt (source : List ℕ) (nodes : List Node) (g : Reading) (s : Table
   pub spelled : Form
   pub behind : ℕ
   pub waiting : List Waiting
-  pub stands : Stands s v r script place
+  pub stands : StandsThere s v r script place
   pub here : IsForm source nodes k spelled behind
   pub frames : AreFrames source nodes g s v r.known r.frames r.values r.leaves.items r.scope place behind waiting
   pub comes : resumed waiting (term_from spelled place script) ≡ g.whole
@@ -49,7 +49,7 @@ pub record HasRead (source : List ℕ) (nodes : List Node) (g : Reading) (s : Ta
   pub place : Place
   pub term : Typed
   pub waiting : List Waiting
-  pub stands : Stands s v r script place
+  pub stands : StandsThere s v r script place
   pub is : IsValue s v c term
   pub low : c.height ≤ most_height
   pub frames : AreFrames source nodes g s v r.known r.frames r.values r.leaves.items r.scope place n waiting
@@ -70,12 +70,12 @@ EndsWith s pass outcome IsWanted ReadFault.PoolFull = LacksCellOf s pass IsWante
 EndsWith s pass outcome IsWanted ReadFault.Memory = Unit {0}
 
 -- It goes on with this turn, or ends with the fault of the whole term.
-abbrev pub GoesOn : List ℕ → List Node → Reading → Table → TermsView → Reader → Result Turn ReadFault → Type 0
-GoesOn source nodes g s v r (Ok turn) = IsTurn source nodes g s v r turn
-GoesOn source nodes g s v r (Err fault) = EndsWith s v.pass g.whole.result (IsReadTerm g.whole) fault
+abbrev pub GoesOnReading : List ℕ → List Node → Reading → Table → TermsView → Reader → Result Turn ReadFault → Type 0
+GoesOnReading source nodes g s v r (Ok turn) = IsTurn source nodes g s v r turn
+GoesOnReading source nodes g s v r (Err fault) = EndsWith s v.pass g.whole.result (IsReadTerm g.whole) fault
 
 pub record Goes (source : List ℕ) (nodes : List Node) (g : Reading) (s : Table) (old new : TermsView) (r : Reader) (result : Result Turn ReadFault) : Type 0 where
-  pub step : GoesOn source nodes g s new r result
+  pub step : GoesOnReading source nodes g s new r result
   pub placed : PlacesCellsOf s old.pass new.pass (IsReadTerm g.whole)
 
 -- the node that a turn is at

@@ -15,7 +15,8 @@ ghost use Rattle.problem_text.specs.Names.{Bound, Place, itself};
 ghost use Rattle.term_reader.specs.ProblemViews.{IsProblemOf, IsReaderOf, ReadsTerm};
 ghost use Rattle.term_reader.specs.Reading.{IsIdle, Reads};
 ghost use Rattle.problem_text.specs.Scripts.{Script};
-ghost use Rattle.term_names.specs.Standing.{AddsNoSymbols, AreLeavesOf};
+ghost use Rattle.term_names.specs.Standing.{AddsNoSymbols};
+ghost use Rattle.term_expansion.specs.Free.{AreLeavesOf};
 ghost use Rattle.problem_text.specs.Terms.{read_term};
 
 use crate::flags::Flags;

@@ -8,7 +8,7 @@ use Rattle.sexpr.specs.Tokens.{token_text}
 use Rattle.sexpr.specs.Items.{Item, word, quoted, string, list, Items, no_items, item, place_of, name_spelled}
 use Rattle.text_items.specs.declared.nodes.Node.{Node}
 use Rattle.text_items.specs.ItemShapes.{Name, name_at, symbol_fault}
-use Rattle.text_items.specs.ItemShapes.{items_of}
+use Rattle.text_items.specs.ItemShapes.{items_in_list}
 use Rattle.text_items.specs.Nodes.{HasNode, IsTokenNode, IsNode, AreNodes}
 use Rattle.text_items.specs.NameNodes.{BeginsAt, IsNameNode}
 use Rattle.text_items.specs.Children.{IsSpan, AreSpans, BeginWith}
@@ -107,7 +107,7 @@ none_left source nodes k (item i rest) last more (n, is, are) =
     absurd (omega arith)
 
 -- what stands in an item begins at the node after its own
-pub children : (source : List ℕ) (nodes : List Node) (k : ℕ) (i : Item) (m : ℕ) → IsNode source nodes k i m → AreNodes source nodes (k + 1) (items_of i) m
+pub children : (source : List ℕ) (nodes : List Node) (k : ℕ) (i : Item) (m : ℕ) → IsNode source nodes k i m → AreNodes source nodes (k + 1) (items_in_list i) m
 children source nodes k (word p s) m h = sym h.alone
 children source nodes k (quoted p s) m h = sym h.alone
 children source nodes k (string p s) m h = sym h.alone

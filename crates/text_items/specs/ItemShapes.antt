@@ -30,6 +30,6 @@ abbrev pub pairs_fault : Items → Option ℕ
 pairs_fault no_items = None
 pairs_fault (item pair rest) = option_or (pair_fault pair) (pairs_fault rest)
 
-abbrev pub items_of : Item → Items
-items_of (list place items) = items
-items_of other = no_items
+abbrev pub items_in_list : Item → Items
+items_in_list (list place items) = items
+items_in_list other = no_items
