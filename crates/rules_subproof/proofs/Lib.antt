@@ -6,3 +6,9 @@ pub mod Begins
 pub mod EndLists
 pub mod ScopePlaces
 pub mod SubproofLemmas
+pub mod Units
+pub mod Links
+pub mod Variables
+pub mod Firsts
+pub mod LetSides
+pub mod LetClosing

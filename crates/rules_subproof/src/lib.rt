@@ -2,8 +2,13 @@
 #![tactic(auto)]
 
 mod assumes;
+mod checks;
 mod endings;
+mod lets;
+mod links;
 mod negations;
 mod subproofs;
+mod units;
 
 pub use assumes::all_discharged;
+pub use checks::check;
