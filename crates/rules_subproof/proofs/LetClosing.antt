@@ -31,7 +31,8 @@ module _ (mode : Mode) (of : Items Var Term) (i k : ℕ) where
     pub closing_binds : IsLetClosing mode of i k → BindsAs (bindings_at of k) bs u
     closing_binds h =
         let same = let_parts (sym h.clause ∙ equates.clause) in
-        rw (← same.0, ← same.1) (record { variables = h.variables; hidden = h.hidden })
+        subst (λ b. BindsAs (bindings_at of k) b u) same.0
+        (subst (λ x. BindsAs (bindings_at of k) h.bindings x) same.1 (record { variables = h.variables; hidden = h.hidden }))
 
     pub let_met : ((j : ℕ) → ¬ IsAssumeIn of i k j) → BindsAs (bindings_at of k) bs u → (met : Bool) → IsTrue met ↔ AreLinkedTo mode (clauses_at of (premises_at of i)) (bound_terms bs) (map (λ (b : Var × Term). b.1) (bindings_at of k)) → IsTrue met ↔ IsLetClosing mode of i k
     let_met none binds met linked = (

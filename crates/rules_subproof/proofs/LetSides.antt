@@ -25,7 +25,7 @@ module _ (s : Table) (v : TermsView) (p : ℕ × ℕ) where
   pub is_let_term : (ts : List Term) → IsUnitOf s v p ts → ((t : Term) → RefersTo s v p.0 t → IsLet t) → IsLetTerm v p.0
   is_let_term ts unit lets =
       let is = let_of unit.left (lets unit.left unit.left_refers) in
-      record { symbols = s; bindings = is.0; body = is.1; refers = rw (← is.2) unit.left_refers }
+      record { symbols = s; bindings = is.0; body = is.1; refers = subst (RefersTo s v p.0) is.2 unit.left_refers }
 
   -- an application is no let
   pub no_application : (o : Option ℕ) → is_some o ≡ true → IfSome o (λ k. (s : Table) (t : Term) → IsTable s → RefersTo s v p.0 t → IsApplication s k (arguments_of t) t) → IsTable s → (bs : Bindings) (u : Term) → ¬ RefersTo s v p.0 (let_in bs u)
@@ -44,7 +44,7 @@ module _ (of : Items Var Term) (i k : ℕ) where
     module _ (s : Table) (v : TermsView) (equal : (p q : ℕ) (t u : Term) → RefersTo s v p t → RefersTo s v q u → (p ≡ q) ↔ (t ≡ u)) (p q : ℕ × ℕ) (unit : IsUnitOf s v p (clause_at of i)) (inner : IsUnitOf s v q (clause_at of last)) where
       pub let_refers : (bs : Bindings) (t u : Term) → EquatesLet of i k bs t u → RefersTo s v p.0 (let_in bs t)
       let_refers bs t u h =
-          rw (← (unit_parts (sym unit.is ∙ h.clause)).0) unit.left_refers
+          subst (RefersTo s v p.0) (unit_parts (sym unit.is ∙ h.clause)).0 unit.left_refers
 
       pub right_same : (bs : Bindings) (t u : Term) → EquatesLet of i k bs t u → p.1 ≡ q.1
       right_same bs t u h =
@@ -61,7 +61,7 @@ module _ (of : Items Var Term) (i k : ℕ) where
         pub let_found : ((t : Term) → RefersTo s v p.0 t → IsLet t) → body ≡ q.0 → p.1 ≡ q.1 → IsLetEquated s v of i k p
         let_found lets e f =
             let is = let_of unit.left (lets unit.left unit.left_refers) in
-            let refers : RefersTo s v p.0 (let_in is.0 is.1) = rw (← is.2) unit.left_refers in
+            let refers : RefersTo s v p.0 (let_in is.0 is.1) = subst (RefersTo s v p.0) is.2 unit.left_refers in
             let left : is.1 ≡ inner.left = (equal body q.0 is.1 inner.left (body_refers is.0 is.1 refers) inner.left_refers).0 e in
             let right : unit.right ≡ inner.right = (equal p.1 q.1 unit.right inner.right unit.right_refers inner.right_refers).0 f in
             record {

@@ -12,3 +12,4 @@ pub mod Variables
 pub mod Firsts
 pub mod LetSides
 pub mod LetClosing
+pub mod CheckLemmas

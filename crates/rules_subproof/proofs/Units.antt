@@ -7,6 +7,7 @@ use Rattle.term_model.specs.Terms.{Var, Term}
 use Rattle.term_pool.specs.Views.{TermsView, RefersTo, IsTerm}
 use Rattle.rule_model.specs.Clausal.{itself}
 use Rattle.rule_model.specs.Congruence.{AreSides}
+use Rattle.rule_model.proofs.Lists.{contains_none, contains_cases, contains_head, contains_later}
 use Rattle.term_parts.specs.Parts.{AreSidesOf}
 use Rattle.rules_subproof.specs.Lets.{IsUnitOf, IsEqualBy}
 use Rattle.rules_subproof.proofs.Zips.{zip_length, zip_one}
@@ -67,33 +68,20 @@ module _ (s : Table) (v : TermsView) where
         unit.is ∙ (ap (λ x. equality x unit.right ∷ []) a ∙ ap (λ y. equality t y ∷ []) b)
 
 -- the sides of a premise, looked for from the first on
-contains_first : {X : Type 0} (x y : X) (xs : List X) → x ≡ y → Contains (x ∷ xs) y
-contains_first x y xs e = (0, omega arith, e)
-
-contains_later : {X : Type 0} (x y : X) (xs : List X) → Contains xs y → Contains (x ∷ xs) y
-contains_later x y xs h = (suc h.0, (let below = h.1 in omega arith), h.2)
-
-contains_or : {X : Type 0} (x y : X) (xs : List X) → Contains (x ∷ xs) y → (x ≡ y) ⊎ Contains xs y
-contains_or x y xs (zero, below, e) = inl e
-contains_or x y xs (suc k, below, e) = inr (k, omega (arith, below), e)
-
-no_premise : {X : Type 0} (y : X) → ¬ Contains [] y
-no_premise y h = let below = h.1 in omega (arith, below)
-
 pub no_sides : (t u : Term) → ¬ AreSides [] t u
-no_sides t u h = elim h [ inl a ↦ no_premise _ a | inr b ↦ no_premise _ b ]
+no_sides t u h = elim h [ inl a ↦ contains_none _ a | inr b ↦ contains_none _ b ]
 
 pub sides_first : (c : List Term) (cs : List (List Term)) (t u : Term) → c ≡ equality t u ∷ [] → AreSides (c ∷ cs) t u
-sides_first c cs t u e = inl (contains_first c _ cs e)
+sides_first c cs t u e = inl (subst (λ d. Contains (d ∷ cs) (equality t u ∷ [])) (sym e) (contains_head (equality t u ∷ []) cs))
 
 pub sides_turned : (c : List Term) (cs : List (List Term)) (t u : Term) → c ≡ equality u t ∷ [] → AreSides (c ∷ cs) t u
-sides_turned c cs t u e = inr (contains_first c _ cs e)
+sides_turned c cs t u e = inr (subst (λ d. Contains (d ∷ cs) (equality u t ∷ [])) (sym e) (contains_head (equality u t ∷ []) cs))
 
 pub sides_later : (c : List Term) (cs : List (List Term)) (t u : Term) → c ≢ equality t u ∷ [] → c ≢ equality u t ∷ [] → AreSides (c ∷ cs) t u ↔ AreSides cs t u
 sides_later c cs t u first turned = (
   λ h. elim h [
-    | inl a ↦ elim (contains_or c _ cs a) [ inl e ↦ absurd (first e) | inr k ↦ inl k ]
-    | inr b ↦ elim (contains_or c _ cs b) [ inl e ↦ absurd (turned e) | inr k ↦ inr k ]
+    | inl a ↦ elim (contains_cases c (equality t u ∷ []) cs a) [ inl e ↦ absurd (first e) | inr k ↦ inl k ]
+    | inr b ↦ elim (contains_cases c (equality u t ∷ []) cs b) [ inl e ↦ absurd (turned e) | inr k ↦ inr k ]
   ],
-  λ h. elim h [ inl a ↦ inl (contains_later c _ cs a) | inr b ↦ inr (contains_later c _ cs b) ],
+  λ h. elim h [ inl a ↦ inl (contains_later c (equality t u ∷ []) cs a) | inr b ↦ inr (contains_later c (equality u t ∷ []) cs b) ],
 )

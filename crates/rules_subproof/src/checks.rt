@@ -1,6 +1,6 @@
 //! Whether a step that closes a scope meets the condition of its rule.
 
-ghost use Rattle.std.specs.Prelude.{◌≡◌, ◌≢◌, ◌↔◌, ◌<◌, ◌⊎◌, IfErr, IfOk};
+ghost use Rattle.std.specs.Prelude.{◌≡◌, ◌≢◌, ◌↔◌, ◌<◌, ◌⊎◌, IfErr, IfOk, IsTrue};
 ghost use Rattle.rule_model.specs.declared.rules.Rule.TheVariants as Rule;
 ghost use Rattle.rule_model.specs.Conditions.{IsMetAt};
 ghost use Rattle.rule_model.specs.Proofs.{Items};
@@ -19,6 +19,14 @@ use rule_model::{Mode, Rule};
 use std::alloc::Global;
 use sym_table::Symbols;
 use term_pool::Terms;
+
+/// What is answered of a step that meets its rule, or does not.
+fn answer(met: bool) -> Answer
+    ensures met { (result ≡ Answer.Met) ↔ IsTrue met }
+    ensures narrow { result ≢ Answer.TooWide }
+{
+    if met { Answer::Met } else { Answer::NotMet }
+}
 
 /// Whether the step at an index meets the condition of its rule, which is `subproof` or `let` (Alethe specification,
 /// "Subproofs" and "List of rules"). A step that closes no scope meets neither. The modes differ for `let` alone: check
@@ -47,9 +55,11 @@ pub fn check(
     let Some(scope) = proof.closes(i) else {
         return Ok(Answer::NotMet);
     };
-    let met = match proof.rule(i) {
-        Rule::Subproof => is_subproof(proof, i, scope, symbols, terms),
-        _ => is_let(alloc, proof, i, mode, symbols, terms)?,
-    };
-    Ok(if met { Answer::Met } else { Answer::NotMet })
+    match proof.rule(i) {
+        Rule::Subproof => Ok(answer(is_subproof(proof, i, scope, symbols, terms))),
+        _ => {
+            let met = is_let(alloc, proof, i, mode, symbols, terms)?;
+            Ok(answer(met))
+        }
+    }
 }
