@@ -1,6 +1,7 @@
 -- How what a let binds its variables to hangs together with what an anchor does, looked at place by place.
-use Rattle.std.proofs.Common.{◌≡◌, ◌≢◌, ◌<◌, ◌≤◌, ◌+◌, ◌↔◌, ◌⊎◌, inl, inr, ℕ, zero, suc, List, [], ◌∷◌, map, drop, length, refl, sym, ◌∙◌, ap, subst, arith}
+use Rattle.std.proofs.Common.{◌≡◌, ◌≢◌, ◌<◌, ◌≤◌, ◌+◌, ◌↔◌, ◌⊎◌, inl, inr, ℕ, zero, suc, List, [], ◌∷◌, map, drop, length, get_or, refl, sym, ◌∙◌, ap, subst, arith}
 use Rattle.std.specs.List.{AllZip}
+use Rattle.std.proofs.lemmas.List.{drop_more}
 use Rattle.sym_table.specs.Table.{Table}
 use Rattle.term_model.specs.Flips.{equality}
 use Rattle.term_model.specs.Terms.{Var, Term}
@@ -30,6 +31,12 @@ module _ (s : Table) (v : TermsView) where
   pub left_start : (asked : List Term → List Term → Type 0) (values : List ℕ) (anchor : List (ℕ × ℕ)) (ts : List Term) (bound : List (Var × Term)) → AllZip (RefersTo s v) values ts → AllZip (IsBindingOf s v) anchor bound → IsLeft asked values anchor (asked ts (images_of bound))
   left_start asked values anchor ts bound zip others =
       record { ts = ts; bound = bound; values_refer = zip; anchor_refers = others; same = (λ h. h, λ h. h) }
+
+  pub left_here : (asked : List Term → List Term → Type 0) (values : List ℕ) (anchor : List (ℕ × ℕ)) (k : ℕ) (goal : Type 0) → k < length values → k < length anchor → IsLeft asked (drop k values) (drop k anchor) goal
+      → IsLeft asked (get_or values k 0 ∷ drop (k + 1) values) (get_or anchor k (0, 0) ∷ drop (k + 1) anchor) goal
+  left_here asked values anchor k goal below under h =
+      subst (λ xs. IsLeft asked xs (get_or anchor k (0, 0) ∷ drop (k + 1) anchor) goal) (drop_more values k 0 below)
+      (subst (λ as. IsLeft asked (drop k values) as goal) (drop_more anchor k (0, 0) under) h)
 
   -- what is asked of the first value and the anchor's first term, and of the others
   record IsSplit (asked : List Term → List Term → Type 0) (x : ℕ) (xs : List ℕ) (a : ℕ × ℕ) (as : List (ℕ × ℕ)) (goal : Type 0) : Type 0 where
