@@ -16,3 +16,13 @@ values-init c = (
   omega arith,
   λ of ts bound stands zip others. left_start c.args.symbols.now c.args.terms.now (AreDifferences (clauses_at of c.args.premises.now)) c.args.values.now c.args.anchor.now ts bound zip others,
 )
+
+pub values-preserved-then-value-image : goal.values-preserved-then-value-image
+values-preserved-then-value-image c = (
+  c.values.invariant.0,
+  c.values.invariant.1,
+  λ of ts bound stands zip others.
+      let here = left_here c.args.symbols.now c.args.terms.now _ c.args.values.now c.args.anchor.now c.values.place _ c.values-test.true (let one = c.requires.one_each in let below = c.values-test.true in omega arith) (c.values.invariant.2 of ts bound stands zip others) in
+      same_next c.args.symbols.now c.args.terms.now _ _ _ _ _ (clauses_at of (drop c.values.used c.args.premises.now))
+      (λ t u l r. (c.equal_exactly_where_terms_are.ensures c.args.symbols.now c.count-leaves.ensures.table _ _ t u l r).0 c.if-value-image.true) here,
+)
