@@ -1,4 +1,4 @@
-//! The rules whose steps close a scope: `subproof` and `let`.
+//! The rules whose steps close a scope: `subproof`. `let` is not decided yet.
 #![tactic(auto)]
 
 mod assumes;
