@@ -1,4 +1,4 @@
-//! The rules whose steps close a scope: `subproof`. `let` is not decided yet.
+//! The rules whose steps close a scope: `subproof` and `let`.
 #![tactic(auto)]
 
 mod assumes;
