@@ -14,7 +14,7 @@ use Rattle.rule_model.specs.declared.literal.Literal.TheVariants.{Plain, Always,
 use Rattle.rules_resolution.specs.Clause.{clauses_of}
 use Rattle.rules_resolution.specs.Literal.{Lit}
 use Rattle.rules_resolution.specs.declared.naming.Key.{Key}
-use Rattle.rules_resolution.specs.declared.trail.Memory.{Memory}
+use Rattle.pair_pool.specs.declared.stops.Memory.{Memory}
 use Rattle.rules_resolution.specs.Renaming.{all_literals, atom_of, name_at, AreNames, joined}
 use Rattle.rules_resolution.specs.Naming.{key_rank, key_at, keys_from, IsKeyOf, AreKeys, IsRun, name_in, HasNames}
 use Rattle.rules_resolution.proofs.Literals.{true_or_false}

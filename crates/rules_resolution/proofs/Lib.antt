@@ -9,8 +9,10 @@ pub mod Closing
 pub mod Counts
 pub mod States
 pub mod Progresses
+pub mod Scanning
+pub mod Ends
 pub mod Renamings
 pub mod Keys
 pub mod TermLiterals
 pub mod TermAnswers
-pub mod TermTests
+pub mod Loading

@@ -19,7 +19,7 @@ use Rattle.rules_resolution.specs.Work.{IsState, falses_of, FalsifiesAll, Falsif
 use Rattle.rules_resolution.specs.Progress.{PremiseIsDone, IsReadyOr, LeadsOn, IsProgress}
 use Rattle.std.specs.Global.{Vec}
 use Rattle.std.specs.Prelude.{Option, Some, None, Result, Ok, Err, MatchOption, IfOk, IfSome, OnSome}
-use Rattle.rules_resolution.specs.declared.trail.Memory.{Memory}
+use Rattle.pair_pool.specs.declared.stops.Memory.{Memory}
 use Rattle.rules_resolution.specs.Trace.{Trace}
 use Rattle.rules_resolution.specs.Shows.{Shows}
 use Rattle.std.proofs.lemmas.Bool.{cases_lt}

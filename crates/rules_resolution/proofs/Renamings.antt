@@ -9,7 +9,7 @@ use Rattle.rule_model.proofs.Renamings.{leads_renamed, contradicts_renamed, foll
 use Rattle.rule_model.specs.declared.literal.Literal.TheVariants.{Plain, Always, Never}
 use Rattle.rules_resolution.specs.Clause.{clauses_of}
 use Rattle.rules_resolution.specs.Literal.{Lit}
-use Rattle.rules_resolution.specs.declared.trail.Memory.{Memory}
+use Rattle.pair_pool.specs.declared.stops.Memory.{Memory}
 use Rattle.rules_resolution.specs.Shows.{Shows}
 use Rattle.rules_resolution.specs.Trace.{Trace}
 use Rattle.rules_resolution.specs.Renaming.{all_literals, atom_of, name_at, AreNames, named, renamed_from, renamed_in, joined}

@@ -1,56 +1,62 @@
--- What is answered of literals over references is so of the terms.
-use Rattle.std.proofs.Common.{◌≡◌, ◌↔◌, ℕ, inl, inr, Option, Some, None, Result, Ok, Err, IfOk, IfSome, IfNone, List, map, [], All, MatchOption}
-use Rattle.std.specs.Prelude.{OnSome}
+-- What is found of literals over references is so of the terms that the references of a proof stand for.
+use Rattle.std.proofs.Common.{◌≡◌, ◌↔◌, inl, inr, ℕ, List, [], ◌∷◌, map, sym, subst}
 use Rattle.std.specs.Global.{Vec}
+use Rattle.std.specs.List.{AllZip}
 use Rattle.sym_table.specs.Table.{Table}
-use Rattle.term_model.specs.Interpretations.{Interpretation}
-use Rattle.term_model.specs.Meaning.{Valuation}
-use Rattle.term_model.specs.Terms.{Term}
+use Rattle.term_model.specs.Terms.{Var, Term}
 use Rattle.term_pool.specs.Views.{TermsView, RefersTo}
 use Rattle.rule_model.specs.declared.literal.Literal.{Literal}
-use Rattle.rule_model.specs.Clauses.{MakesClauseTrue}
+use Rattle.rule_model.specs.declared.rules.Mode.{Mode}
+use Rattle.rule_model.specs.declared.rules.Rule.{Rule}
+use Rattle.rule_model.specs.Conditions.{Met, MeetsRule}
 use Rattle.rule_model.specs.Consequence.{Contradicts, Leads, Follows}
-use Rattle.rule_model.specs.Renaming.{IsOneToOne}
+use Rattle.rule_model.specs.Judged.{Judged, judged_at}
+use Rattle.rule_model.specs.Proofs.{Items}
+use Rattle.rule_model.specs.Reading.{rule_at, clause_at, premises_at}
+use Rattle.rule_model.specs.Renaming.{IsOneToOne, AreImages, AreAllImages}
 use Rattle.rule_model.specs.Resolution.{as_clause, ResolvesInCheck}
-use Rattle.rule_model.proofs.Renamings.{follows_renamed}
-use Rattle.rule_model.proofs.Resolution.{check_sound}
-use Rattle.rules_resolution.specs.declared.trail.Memory.{Memory}
+use Rattle.rule_model.proofs.Renamings.{leads_renamed, contradicts_renamed, follows_renamed}
+use Rattle.rules_resolution.specs.declared.end.End.{End}
 use Rattle.rules_resolution.specs.Clause.{clauses_of}
+use Rattle.rules_resolution.specs.Ends.{IsEnd}
 use Rattle.rules_resolution.specs.Literal.{Lit}
-use Rattle.rules_resolution.specs.References.{ReferToStep}
-use Rattle.rules_resolution.specs.Shows.{Shows}
+use Rattle.rules_resolution.specs.Steps.{IsResolutionRule, premise_clauses}
 use Rattle.rules_resolution.specs.TermLiterals.{AreLiteralsOf, AreClausesOf}
-use Rattle.rules_resolution.specs.Trace.{Trace}
-use Rattle.rules_resolution.proofs.Renamings.{shows_renamed, shown_follows}
 use Rattle.rules_resolution.proofs.TermLiterals.{are_images, are_all_images}
 
-module _ (s : Table) (v : TermsView) (one : IsOneToOne (RefersTo s v)) (premises : List (Vec ℕ)) (clause : List ℕ) (clauses : List (Vec Lit)) (goal : List Lit) (clauses_are : AreClausesOf s v premises clauses) (goal_is : AreLiteralsOf s v clause goal) where
-  shows_terms : (ps : List (List Term)) (c : List Term) (trail : Trace) → ReferToStep s v premises clause ps c → Shows (clauses_of clauses) goal trail → Shows (map as_clause ps) (as_clause c) trail
-  shows_terms ps c trail refer =
-      (shows_renamed (RefersTo s v) one (clauses_of clauses) (map as_clause ps) goal (as_clause c) trail
-      (are_all_images s v premises clauses ps clauses_are refer.premises_are) (are_images s v clause goal c goal_is refer.clause_is)).0
+-- an end says the same of clauses with other names for their atoms
+end_renamed : {A B : Type 0} (R : A → B → Type 0) → IsOneToOne R → (ps : List (List (Literal A))) (qs : List (List (Literal B))) (g : List (Literal A)) (h : List (Literal B)) (units : List (ℕ × ℕ))
+    → AreAllImages R ps qs → AreImages R g h → (end : End) → IsEnd end ps g units → IsEnd end qs h units
+end_renamed R one ps qs g h units zs z End.Contradiction is = (is.0, (contradicts_renamed R one g h z).0 is.1)
+end_renamed R one ps qs g h units zs z (End.Conflict last) is = (
+  λ wrong. is.0 ((contradicts_renamed R one g h z).1 wrong),
+  (leads_renamed R one ps qs g h units last zs z).0 is.1,
+)
+end_renamed R one ps qs g h units zs z End.Stuck is = λ follows. is ((follows_renamed R one ps qs g h zs z).1 follows)
 
-  follows_numbers : (ps : List (List Term)) (c : List Term) → ReferToStep s v premises clause ps c → ResolvesInCheck ps c → Follows (clauses_of clauses) goal
-  follows_numbers ps c refer =
-      (follows_renamed (RefersTo s v) one (clauses_of clauses) (map as_clause ps) goal (as_clause c)
-      (are_all_images s v premises clauses ps clauses_are refer.premises_are) (are_images s v clause goal c goal_is refer.clause_is)).1
+-- the clauses of the premises, each standing for terms
+premises_zip : (s : Table) (v : TermsView) (f : ℕ → List ℕ) (g : ℕ → List Term) (js : List ℕ) → ((j : ℕ) → AllZip (RefersTo s v) (f j) (g j)) → AllZip (AllZip (RefersTo s v)) (map f js) (map g js)
+premises_zip s v f g [] each = tt
+premises_zip s v f g (j ∷ js) each = (each j, premises_zip s v f g js each)
 
-  pub shown_terms : (r : Result (Option Trace) Memory) → IfOk r (λ found. IfSome found (Shows (clauses_of clauses) goal))
-      → IfOk r (λ found. IfSome found (λ trail. (ps : List (List Term)) (c : List Term) → ReferToStep s v premises clause ps c → Shows (map as_clause ps) (as_clause c) trail))
-  shown_terms (Err e) shown = shown
-  shown_terms (Ok None) shown = shown
-  shown_terms (Ok (Some trail)) shown = λ ps c refer. shows_terms ps c trail refer shown
+pub end_of_terms : (s : Table) (v : TermsView) → IsOneToOne (RefersTo s v) → (refs : Items ℕ ℕ) (p : Items Var Term) (i : ℕ)
+    → ((j : ℕ) → AllZip (RefersTo s v) (clause_at refs j) (clause_at p j)) → premises_at refs i ≡ premises_at p i
+    → (clauses : List (Vec Lit)) (goal : List Lit) (units : List (ℕ × ℕ)) → AreClausesOf s v (premise_clauses refs i) clauses → AreLiteralsOf s v (clause_at refs i) goal
+    → (end : End) → IsEnd end (clauses_of clauses) goal units → IsEnd end (map as_clause (premise_clauses p i)) (as_clause (clause_at p i)) units
+end_of_terms s v one refs p i each same clauses goal units clauses_are goal_is end is =
+    end_renamed (RefersTo s v) one (clauses_of clauses) (map as_clause (premise_clauses p i)) goal (as_clause (clause_at p i)) units
+    (are_all_images s v (premise_clauses refs i) clauses (premise_clauses p i) clauses_are
+    (subst (λ (js : List ℕ). AllZip (AllZip (RefersTo s v)) (premise_clauses refs i) (map (clause_at p) js)) same
+    (premises_zip s v (clause_at refs) (clause_at p) (premises_at refs i) each)))
+    (are_images s v (clause_at refs i) goal (clause_at p i) goal_is (each i)) end is
 
-  pub none_terms : (r : Result (Option Trace) Memory) → IfOk r (λ found. IfNone found (Follows (clauses_of clauses) goal → ⊥))
-      → IfOk r (λ found. IfNone found ((ps : List (List Term)) (c : List Term) → ReferToStep s v premises clause ps c → ResolvesInCheck ps c → ⊥))
-  none_terms (Err e) none = none
-  none_terms (Ok None) none = λ ps c refer resolves. none (follows_numbers ps c refer resolves)
-  none_terms (Ok (Some trail)) none = none
-
-  pub sound_terms : (r : Result (Option Trace) Memory) → IfOk r (λ found. IfSome found (Shows (clauses_of clauses) goal))
-      → IfOk r (λ found. OnSome found ((ps : List (List Term)) (c : List Term) → ReferToStep s v premises clause ps c →
-      (I : Interpretation) (r : Valuation) → All (MakesClauseTrue I r) ps → MakesClauseTrue I r c))
-  sound_terms (Err e) shown = shown
-  sound_terms (Ok None) shown = shown
-  sound_terms (Ok (Some trail)) shown =
-      λ ps c refer I r all. check_sound I r ps c (shown_follows (map as_clause ps) (as_clause c) trail (shows_terms ps c trail refer shown)) all
+-- what either rule of resolution asks in check mode
+pub met_is : (p : Items Var Term) (i : ℕ) → IsResolutionRule (rule_at p i) → Met (judged_at Mode.Check p i) ↔ ResolvesInCheck (premise_clauses p i) (clause_at p i)
+met_is p i (inl e) = (
+  λ met. subst (λ (rule : Rule). MeetsRule rule (judged_at Mode.Check p i)) e met,
+  λ resolves. subst (λ (rule : Rule). MeetsRule rule (judged_at Mode.Check p i)) (sym e) resolves,
+)
+met_is p i (inr e) = (
+  λ met. subst (λ (rule : Rule). MeetsRule rule (judged_at Mode.Check p i)) e met,
+  λ resolves. subst (λ (rule : Rule). MeetsRule rule (judged_at Mode.Check p i)) (sym e) resolves,
+)

@@ -13,7 +13,7 @@ use Rattle.sym_table.specs.Table.{Table, IsLeaf}
 use Rattle.term_model.specs.declared.symbols.Op.{Op}
 use Rattle.term_model.specs.Terms.{Term, operation, no_terms, not_of}
 use Rattle.term_pool.specs.Nots.{negated, Strips, IsStripped}
-use Rattle.term_pool.specs.Views.{TermsView, RefersTo, ReferToAll, KeepsTerms}
+use Rattle.term_pool.specs.Views.{TermsView, RefersTo, IsTerm, KeepsTerms}
 use Rattle.rule_model.specs.declared.literal.Literal.{Literal}
 use Rattle.rule_model.specs.declared.literal.Literal.TheVariants.{Plain, Always, Never}
 use Rattle.rule_model.specs.Literals.{negation_of}
@@ -110,7 +110,7 @@ pub zip_more : {X Y : Type 0} (R : X → Y → Type 0) (xs : List X) (ys : List 
 zip_more R xs ys i d y h z r = rw (take_more xs i d h) (zip_push R (take i xs) ys (get_or xs i d) y z r)
 
 -- literals are the images of the terms that the references stand for
-pub are_images : (s : Table) (v : TermsView) (references : List ℕ) (literals : List Lit) (ts : List Term) → AreLiteralsOf s v references literals → ReferToAll s v references ts → AreImages (RefersTo s v) literals (as_clause ts)
+pub are_images : (s : Table) (v : TermsView) (references : List ℕ) (literals : List Lit) (ts : List Term) → AreLiteralsOf s v references literals → AllZip (RefersTo s v) references ts → AreImages (RefersTo s v) literals (as_clause ts)
 are_images s v [] [] [] z refer = tt
 are_images s v [] [] (t ∷ ts) z refer = absurd refer
 are_images s v [] (l ∷ ls) ts z refer = absurd z
@@ -118,25 +118,32 @@ are_images s v (r ∷ rs) [] ts z refer = absurd z
 are_images s v (r ∷ rs) (l ∷ ls) [] z refer = absurd refer
 are_images s v (r ∷ rs) (l ∷ ls) (t ∷ ts) z refer = (z.0 t refer.0, are_images s v rs ls ts z.1 refer.1)
 
-pub are_all_images : (s : Table) (v : TermsView) (premises : List (Vec ℕ)) (clauses : List (Vec Lit)) (ps : List (List Term)) → AreClausesOf s v premises clauses → AllZip (λ references ts. ReferToAll s v references.items ts) premises ps → AreAllImages (RefersTo s v) (clauses_of clauses) (map as_clause ps)
+pub are_all_images : (s : Table) (v : TermsView) (premises : List (List ℕ)) (clauses : List (Vec Lit)) (ps : List (List Term)) → AreClausesOf s v premises clauses → AllZip (AllZip (RefersTo s v)) premises ps → AreAllImages (RefersTo s v) (clauses_of clauses) (map as_clause ps)
 are_all_images s v [] [] [] z refer = tt
 are_all_images s v [] [] (p ∷ ps) z refer = absurd refer
 are_all_images s v [] (c ∷ cs) ps z refer = absurd z
 are_all_images s v (r ∷ rs) [] ps z refer = absurd z
 are_all_images s v (r ∷ rs) (c ∷ cs) [] z refer = absurd refer
-are_all_images s v (r ∷ rs) (c ∷ cs) (p ∷ ps) z refer = (are_images s v r.items c.items p z.0 refer.0, are_all_images s v rs cs ps z.1 refer.1)
+are_all_images s v (r ∷ rs) (c ∷ cs) (p ∷ ps) z refer = (are_images s v r c.items p z.0 refer.0, are_all_images s v rs cs ps z.1 refer.1)
 
 -- as many clauses as premises, none longer than the longest
-pub as_many_clauses : (s : Table) (v : TermsView) (premises : List (Vec ℕ)) (clauses : List (Vec Lit)) → AreClausesOf s v premises clauses → length premises ≡ length clauses
-as_many_clauses s v premises clauses z = zip_length (λ (references : Vec ℕ) (literals : Vec Lit). AreLiteralsOf s v references.items literals.items) premises clauses z
+pub as_many_clauses : (s : Table) (v : TermsView) (premises : List (List ℕ)) (clauses : List (Vec Lit)) → AreClausesOf s v premises clauses → length premises ≡ length clauses
+as_many_clauses s v premises clauses z = zip_length (λ (references : List ℕ) (literals : Vec Lit). AreLiteralsOf s v references literals.items) premises clauses z
 
-pub short_clauses : (s : Table) (v : TermsView) (n : ℕ) (premises : List (Vec ℕ)) (clauses : List (Vec Lit)) → AreClausesOf s v premises clauses → All (λ (references : Vec ℕ). vec_len references < n) premises → All (λ (literals : Vec Lit). vec_len literals < n) clauses
-short_clauses s v n [] [] z short = All-nil (λ (literals : Vec Lit). vec_len literals < n)
-short_clauses s v n [] (c ∷ cs) z short = absurd z
-short_clauses s v n (r ∷ rs) [] z short = absurd z
-short_clauses s v n (r ∷ rs) (c ∷ cs) z short =
+pub short_clauses : (s : Table) (v : TermsView) (n : ℕ) (f : ℕ → List ℕ) (js : List ℕ) (clauses : List (Vec Lit)) → ((j : ℕ) → length (f j) < n) → AreClausesOf s v (map f js) clauses → All (λ (literals : Vec Lit). vec_len literals < n) clauses
+short_clauses s v n f [] [] short z = All-nil (λ (literals : Vec Lit). vec_len literals < n)
+short_clauses s v n f [] (c ∷ cs) short z = absurd z
+short_clauses s v n f (j ∷ js) [] short z = absurd z
+short_clauses s v n f (j ∷ js) (c ∷ cs) short z =
     All-cons (λ (literals : Vec Lit). vec_len literals < n) c cs
-    (let same = zip_length (IsLiteralOf s v) r.items c.items z.0 in
-    let first = All-head (λ (references : Vec ℕ). vec_len references < n) r rs short in
+    (let same = zip_length (IsLiteralOf s v) (f j) c.items z.0 in
+    let first = short j in
     omega arith)
-    (short_clauses s v n rs cs z.1 (All-tail (λ (references : Vec ℕ). vec_len references < n) r rs short))
+    (short_clauses s v n f js cs short z.1)
+
+-- references that stand for terms
+pub are_terms : (s : Table) (v : TermsView) (rs : List ℕ) (ts : List Term) → AllZip (RefersTo s v) rs ts → All (IsTerm s v) rs
+are_terms s v [] [] z = All-nil (IsTerm s v)
+are_terms s v [] (t ∷ ts) z = absurd z
+are_terms s v (r ∷ rs) [] z = absurd z
+are_terms s v (r ∷ rs) (t ∷ ts) z = All-cons (IsTerm s v) r rs (record { means = t; refers = z.0 }) (are_terms s v rs ts z.1)

@@ -11,5 +11,7 @@ pub mod Standing
 pub mod Work
 pub mod Idle
 pub mod Progress
-pub mod References
+pub mod Ends
+pub mod Scans
+pub mod Steps
 pub mod TermLiterals

@@ -19,8 +19,8 @@ IsLiteralOf s v r l = (t : Term) → RefersTo s v r t → IsImage (RefersTo s v)
 abbrev pub AreLiteralsOf : Table → TermsView → List ℕ → List Lit → Type 0
 AreLiteralsOf s v = AllZip (IsLiteralOf s v)
 
-abbrev pub AreClausesOf : Table → TermsView → List (Vec ℕ) → List (Vec Lit) → Type 0
-AreClausesOf s v = AllZip (λ references literals. AreLiteralsOf s v references.items literals.items)
+abbrev pub AreClausesOf : Table → TermsView → List (List ℕ) → List (Vec Lit) → Type 0
+AreClausesOf s v = AllZip (λ references literals. AreLiteralsOf s v references literals.items)
 
 -- a literal, or its opposite
 abbrev pub turned : {A : Type 0} → Bool → Literal A → Literal A

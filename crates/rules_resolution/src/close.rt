@@ -5,7 +5,7 @@ ghost use Rattle.rules_resolution.specs.Standing.{AreInRange, HasRoom, Advances,
 
 use crate::occurrence::Occurrence;
 use crate::standing::{Standing, note_ready};
-use crate::trail::Memory;
+use pair_pool::Memory;
 
 /// Takes one occurrence from its premise's standing.
 fn close(

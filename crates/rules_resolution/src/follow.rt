@@ -1,7 +1,6 @@
-//! Unit propagation from the negated conclusion.
-ghost use Rattle.std.specs.Prelude.{◌≡◌, ◌+◌, ◌<◌, ◌≤◌, ◌^◌, [], ◌∷◌, ◌++◌, length, vec_len, All, IfOk, IfSome, IfNone, OnSome, OnOk, MatchBool, false};
+//! Unit propagation from the negated conclusion, by a table of all literals.
+ghost use Rattle.std.specs.Prelude.{◌≡◌, ◌+◌, ◌<◌, ◌≤◌, ◌^◌, [], ◌∷◌, ◌++◌, length, vec_len, All, IfOk, IfSome, IfNone, OnOk, MatchBool, false};
 ghost use Rattle.rule_model.specs.Consequence.{Contradicts, Follows, IsConflict};
-ghost use Rattle.rule_model.specs.Literals.{Entails};
 ghost use Rattle.rules_resolution.specs.Clause.{clauses_of};
 ghost use Rattle.rules_resolution.specs.Renaming.{all_literals};
 ghost use Rattle.rules_resolution.specs.Shows.{Shows};
@@ -13,16 +12,16 @@ ghost use Rattle.rules_resolution.specs.Progress.{IsSomeProgress, GoesOn, Looks}
 use crate::literal::{Lit, negate};
 use crate::naming::names_of;
 use crate::occurrence::Occurrence;
-use crate::renaming::{literal_count, rename_all, rename_clause};
+use crate::renaming::{rename_all, rename_clause};
 use crate::table::table_of;
-use crate::trail::{Memory, Trail};
+use crate::trail::Trail;
+use pair_pool::Memory;
 use crate::work::{Work, falsify, is_falsified, start};
 use std::alloc::Global;
 
-/// With fewer literals than these the atoms are taken as they are. Steps of proofs mostly have few, and so pay nothing
-/// for names. The bound was chosen, not measured: names begin to win time beyond some ten thousand literals in chains,
-/// beyond some twenty thousand in wide clauses, and at no size in random clauses.
-const FEW: u128 = 256;
+/// With fewer literals than these the atoms are taken as they are. Names begin to win time beyond some ten thousand
+/// literals in chains, beyond some twenty thousand in wide clauses, and at no size in random clauses.
+const MANY: u128 = 20_000;
 
 /// Makes all literals of the conclusion false.
 fn falsify_all(table: &[Occurrence], goal: &[Lit], work: &mut Work) -> Result<(), Memory>
@@ -180,23 +179,20 @@ fn follow_renamed(
     follow_plainly(alloc, &renamed, &renamed_goal)
 }
 
-/// Whether the conclusion `goal` follows from the premises by unit propagation, with a trail that shows it
-/// (Alethe specification, the rules `resolution` and `th_resolution`, whose pivots aren't used).
-///
-/// A clause is the set of its literals. All literals of the conclusion are made false, and then literals of
-/// premises true, each the only one of its premise that is not false. The conclusion follows where the first
-/// step contradicts itself, or where all literals of some premise become false. None is answered exactly
-/// where it doesn't follow. There are fewer than 2^32 premises, with fewer than 2^32 literals each.
-pub fn follows(alloc: Global, premises: &[Vec<Lit>], goal: &[Lit]) -> Result<Option<Trail>, Memory>
+/// Whether the conclusion follows, by a table of all literals, where there are `count`.
+pub(crate) fn follow_by_table(
+    alloc: Global,
+    premises: &[Vec<Lit>],
+    goal: &[Lit],
+    count: u128,
+) -> Result<Option<Trail>, Memory>
     requires premises { length premises.now < 2 ^ 32 }
     requires literals { All (λ clause. vec_len clause < 2 ^ 32) premises.now }
+    requires count { count ≡ length (all_literals (clauses_of premises.now) goal.now) }
     ensures shown { IfOk result (λ found. IfSome found (Shows (clauses_of premises.now) goal.now)) }
     ensures none { IfOk result (λ found. IfNone found (Follows (clauses_of premises.now) goal.now → ⊥)) }
-    // what was answered is true wherever the premises are
-    ensures sound { IfOk result (λ found. OnSome found (Entails (clauses_of premises.now) goal.now)) }
 {
-    let count = literal_count(premises, goal);
-    if count < FEW || count >= 4294967296 {
+    if count < MANY || count >= 4294967296 {
         return follow_plainly(alloc, premises, goal);
     }
     follow_renamed(alloc, premises, goal, count as usize)

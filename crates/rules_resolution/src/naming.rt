@@ -6,7 +6,7 @@ ghost use Rattle.rules_resolution.specs.Naming.{AreKeys, HasNames, IsRun, key_at
 ghost use Rattle.rules_resolution.specs.Renaming.{AreNames, all_literals};
 
 use crate::literal::Lit;
-use crate::trail::Memory;
+use pair_pool::Memory;
 use std::alloc::Global;
 
 /// An atom, and the number of a literal that has it. The literals of the premises and then those of the

@@ -4,7 +4,7 @@ ghost use Rattle.rules_resolution.specs.Clause.{clauses_of};
 ghost use Rattle.rules_resolution.specs.Renaming.{all_literals, joined, named, renamed_from, renamed_in};
 
 use crate::literal::Lit;
-use crate::trail::Memory;
+use pair_pool::Memory;
 use std::alloc::Global;
 
 /// How many literals the premises and the conclusion have together.

@@ -6,7 +6,7 @@ ghost use Rattle.rules_resolution.specs.Standing.{is_always, blank_of, blank_sta
 
 use crate::literal::Lit;
 use crate::occurrence::Occurrence;
-use crate::trail::Memory;
+use pair_pool::Memory;
 use std::alloc::Global;
 
 /// How many different literals of a premise are not false, and the sum of their places. A premise with the

@@ -5,7 +5,7 @@ ghost use Rattle.rules_resolution.specs.Table.{IsTable, all_occurrences, goal_oc
 
 use crate::literal::Lit;
 use crate::occurrence::Occurrence;
-use crate::trail::Memory;
+use pair_pool::Memory;
 use std::alloc::Global;
 
 /// Adds the occurrence of a literal, if it is no constant.

@@ -1,14 +1,9 @@
 //! Small sets of clauses, each with the answer that the definition gives by hand.
-ghost use Rattle.std.specs.Prelude.{◌≡◌, ◌<◌, ◌^◌, length, vec_len, All, IfOk, IsTrue};
-ghost use Rattle.term_pool.specs.Views.{IsTerm};
+ghost use Rattle.std.specs.Prelude.{◌<◌, ◌^◌, length, vec_len, All, IfOk, IsTrue};
 
-use crate::{Lit, entails_by_units, follows};
-use pair_pool::{Pool, Ref};
+use crate::{Lit, follows};
 use std::alloc::{AllocError, Global};
 use std::test::Fail;
-use sym_table::Symbols;
-use term_model::Op;
-use term_pool::Terms;
 
 const A: Lit = Lit::Plain {
     atom: 0,
@@ -110,8 +105,11 @@ fn a_trail_names_units_and_a_false_premise(rt: HostRuntime) -> Result<(), Fail> 
     Ok(())
 }
 
-/// How many literals a wide clause has, or implications a chain: with them the atoms get new names.
+/// How many literals a wide clause has, or implications a chain: with them the premises are not scanned.
 const MANY: u32 = 300;
+
+/// With so many the atoms get new names.
+const VERY_MANY: u32 = 10_001;
 
 /// The i-th atom's literal. Atoms are spread over all 32-bit numbers.
 fn literal(i: u32, negative: bool) -> Lit {
@@ -121,12 +119,12 @@ fn literal(i: u32, negative: bool) -> Lit {
     }
 }
 
-/// Clauses that each refute one literal of a wide clause, all but the one that is missing, and then the wide
+/// Clauses that each refute one literal of a wide clause of n, all but the one that is missing, and then the wide
 /// clause.
-fn wide(alloc: Global, missing: Option<u32>) -> Result<Vec<Vec<Lit>>, AllocError> {
+fn wide(alloc: Global, n: u32, missing: Option<u32>) -> Result<Vec<Vec<Lit>>, AllocError> {
     let mut all = Vec::new(alloc);
     let mut premises = Vec::new(alloc);
-    for i in 0..MANY {
+    for i in 0..n {
         all.push(literal(i, false))?;
         if missing != Some(i) {
             premises.push(vec![in alloc; literal(i, true)]?)?;
@@ -136,10 +134,10 @@ fn wide(alloc: Global, missing: Option<u32>) -> Result<Vec<Vec<Lit>>, AllocError
     Ok(premises)
 }
 
-/// A chain of implications, the last first, from an atom to the last one.
-fn chain(alloc: Global) -> Result<Vec<Vec<Lit>>, AllocError> {
+/// A chain of n implications, the last first, from an atom to the last one.
+fn chain(alloc: Global, n: u32) -> Result<Vec<Vec<Lit>>, AllocError> {
     let mut premises = Vec::new(alloc);
-    for i in (0..MANY).rev() {
+    for i in (0..n).rev() {
         premises.push(vec![in alloc; literal(i, true), literal(i.wrapping_add(1), false)]?)?;
     }
     premises.push(vec![in alloc; literal(0, false)]?)?;
@@ -198,9 +196,9 @@ fn answers_stay_among_many_unrelated_clauses(rt: HostRuntime) -> Result<(), Fail
 
 #[test]
 fn a_wide_clause_gives_what_is_not_refuted(rt: HostRuntime) -> Result<(), Fail> {
-    let refuted = wide(rt.alloc(), None)?;
+    let refuted = wide(rt.alloc(), MANY, None)?;
     assert_eq!(rt; unit_count(rt.alloc(), &refuted, &[])?, Some(300));
-    let premises = wide(rt.alloc(), Some(123))?;
+    let premises = wide(rt.alloc(), MANY, Some(123))?;
     assert_eq!(rt; unit_count(rt.alloc(), &premises, &[])?, None);
     assert_eq!(rt;
         unit_count(rt.alloc(), &premises, &[literal(123, false)])?,
@@ -219,7 +217,7 @@ fn a_wide_clause_gives_what_is_not_refuted(rt: HostRuntime) -> Result<(), Fail> 
 
 #[test]
 fn a_chain_needs_each_of_its_links(rt: HostRuntime) -> Result<(), Fail> {
-    let mut premises = chain(rt.alloc())?;
+    let mut premises = chain(rt.alloc(), MANY)?;
     let last = [literal(MANY, false)];
     // each of the 301 premises is a unit once, but for the one that is false in the end
     assert_eq!(rt; unit_count(rt.alloc(), &premises, &last)?, Some(300));
@@ -240,63 +238,24 @@ fn a_chain_needs_each_of_its_links(rt: HostRuntime) -> Result<(), Fail> {
     Ok(())
 }
 
-/// The term of an operator without arguments.
-fn constant(symbols: &Symbols, terms: &Terms<'_>, op: Op) -> Ref
-    ensures { IsTerm symbols.now terms.now result }
-{
-    let _leaves = symbols.count();
-    Ref::leaf(symbols.operator(op))
-}
-
-/// Whether the clause of one term follows from two clauses of two terms.
-fn follows_of_two(
-    alloc: Global,
-    symbols: &Symbols,
-    terms: &mut Terms<'_>,
-    first: (Ref, Ref),
-    second: (Ref, Ref),
-    goal: Ref,
-) -> Result<bool, Fail>
-    requires first { IsTerm symbols.now terms.old first.0 × IsTerm symbols.now terms.old first.1 }
-    requires second { IsTerm symbols.now terms.old second.0 × IsTerm symbols.now terms.old second.1 }
-    requires goal { IsTerm symbols.now terms.old goal }
-    ensures same { terms.new ≡ terms.old }
-{
-    let premises = vec![in alloc;
-        vec![in alloc; first.0, first.1]?,
-        vec![in alloc; second.0, second.1]?,
-    ]?;
-    let found = entails_by_units(alloc, symbols, terms, &premises, &[goal])
-        .ok()
-        .ok_or("out of memory")?;
-    Ok(found.is_some())
-}
-
-/// Whether `true` in a premise is heeded, each premise counts, and a conclusion that is true always follows, in clauses
-/// of `true` and `false`.
-fn answers_are_right(
-    alloc: Global,
-    symbols: &Symbols,
-    terms: &mut Terms<'_>,
-    yes: Ref,
-    no: Ref,
-) -> Result<bool, Fail>
-    requires yes { IsTerm symbols.now terms.old yes }
-    requires no { IsTerm symbols.now terms.old no }
-{
-    let heeded = !follows_of_two(alloc, symbols, terms, (no, yes), (yes, no), no)?;
-    let counted = follows_of_two(alloc, symbols, terms, (no, yes), (no, no), no)?;
-    let always = follows_of_two(alloc, symbols, terms, (no, yes), (yes, no), yes)?;
-    Ok(heeded && counted && always)
-}
-
 #[test]
-fn clauses_of_terms(rt: HostRuntime) -> Result<(), Fail> {
-    let (pool, pass) = Pool::new(rt.alloc(), 12)?;
-    let mut terms = Terms::new(&pool, pass);
-    let symbols = Symbols::new(rt.alloc())?;
-    let yes = constant(&symbols, &terms, Op::True);
-    let no = constant(&symbols, &terms, Op::False);
-    assert!(rt; answers_are_right(rt.alloc(), &symbols, &mut terms, yes, no)?);
+fn very_many_literals_get_names(rt: HostRuntime) -> Result<(), Fail> {
+    let refuted = wide(rt.alloc(), VERY_MANY, None)?;
+    assert_eq!(rt; unit_count(rt.alloc(), &refuted, &[])?, Some(10_001));
+    let premises = wide(rt.alloc(), VERY_MANY, Some(123))?;
+    assert_eq!(rt; unit_count(rt.alloc(), &premises, &[])?, None);
+    Ok(())
+}
+
+/// Few literals, of which each scan makes one true, and so more scans are wanted than there are.
+#[test]
+fn a_chain_in_the_worst_order_needs_a_table(rt: HostRuntime) -> Result<(), Fail> {
+    let mut premises = chain(rt.alloc(), 10)?;
+    assert_eq!(rt; unit_count(rt.alloc(), &premises, &[])?, None);
+    premises.push(vec![in rt.alloc(); literal(10, true), literal(11, false)]?)?;
+    assert_eq!(rt; unit_count(rt.alloc(), &premises, &[])?, None);
+    premises.push(vec![in rt.alloc(); literal(10, true), literal(11, true)]?)?;
+    // the eleven atoms from 0 to 10, and one of the last two premises
+    assert_eq!(rt; unit_count(rt.alloc(), &premises, &[])?, Some(12));
     Ok(())
 }

@@ -1,22 +1,5 @@
-//! What is answered where a clause follows, and what where memory is short.
-use std::alloc::{AllocError, AllocFailed};
+//! What is answered where a clause follows.
 use std::marker::Model;
-
-/// Memory ran out.
-#[derive(Clone, Copy, Debug, PartialEq, Eq)]
-pub struct Memory;
-
-impl From<AllocError> for Memory {
-    fn from(_error: AllocError) -> Memory {
-        Memory
-    }
-}
-
-impl<T: Drop> From<AllocFailed<T>> for Memory {
-    fn from(_error: AllocFailed<T>) -> Memory {
-        Memory
-    }
-}
 
 /// How a conclusion follows: each literal that is made true, in turn, as the place of its premise and its
 /// own place in it, both from 0; and the premise whose literals are all false in the end, or None where the

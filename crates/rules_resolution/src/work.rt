@@ -14,7 +14,7 @@ use crate::literal::Lit;
 use crate::occurrence::Occurrence;
 use crate::search::leader_of;
 use crate::standing::{Standing, ready_of, standings_of};
-use crate::trail::Memory;
+use pair_pool::Memory;
 use std::alloc::Global;
 
 /// The first occurrence of each false literal is marked. The standings count what is not false, and each

@@ -1,6 +1,6 @@
 use Rattle.std.proofs.Common.{◌≡◌, take}
 use Rattle.rules_resolution.specs.TermLiterals.{AreLiteralsOf}
-use Rattle.rules_resolution.proofs.references.literals.Given as goal
+use Rattle.rules_resolution.proofs.references.load_clause.Given as goal
 
 abbrev pub invariant-loop-r : goal.invariant-loop-r
 invariant-loop-r l =

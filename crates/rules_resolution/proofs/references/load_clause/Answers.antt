@@ -1,7 +1,7 @@
 use Rattle.std.proofs.Common.{◌∙◌}
 use Rattle.rules_resolution.specs.TermLiterals.{IsLiteralOf}
 use Rattle.rules_resolution.proofs.TermLiterals.{zip_more}
-use Rattle.rules_resolution.proofs.references.literals.Goals as goal
+use Rattle.rules_resolution.proofs.references.load_clause.Goals as goal
 
 pub loop-r-preserved : goal.loop-r-preserved
 loop-r-preserved c =
