@@ -32,13 +32,20 @@ premise_within proof i k d formed h within =
     let earlier = premise_earlier proof i (get_or (premises_at proof i) k d) line.0 formed line.1 (k, below, here) in
     omega arith
 
+-- the item at a place
+item_at : {A : Type 0} (xs : List A) (k : ℕ) → k < length xs → A
+item_at [] k h = absurd (omega (arith, h))
+item_at (x ∷ xs) zero h = x
+item_at (x ∷ xs) (suc k) h = item_at xs k (omega (arith, h))
+
 -- one clause more
-pub clauses_more : (s : Table) (v : TermsView) (f : ℕ → List ℕ) (js : List ℕ) (k d : ℕ) (old new : List (Vec Lit)) (e : Vec Lit) → k < length js → k < length new → take k new ≡ take k old
-    → AreClausesOf s v (map f (take k js)) (take k old) → AreLiteralsOf s v (f (get_or js k d)) (get_or new k e).items → AreClausesOf s v (map f (take (k + 1) js)) (take (k + 1) new)
-clauses_more s v f js k d old new e h there same before here =
+pub clauses_more : (s : Table) (v : TermsView) (f : ℕ → List ℕ) (js : List ℕ) (k d : ℕ) (old new : List (Vec Lit)) → k < length js → k < length new → take k new ≡ take k old
+    → AreClausesOf s v (map f (take k js)) (take k old) → ((e : Vec Lit) → AreLiteralsOf s v (f (get_or js k d)) (get_or new k e).items) → AreClausesOf s v (map f (take (k + 1) js)) (take (k + 1) new)
+clauses_more s v f js k d old new h there same before here =
+    let e : Vec Lit = item_at new k there in
     let left : map f (take (k + 1) js) ≡ map f (take k js) ++ f (get_or js k d) ∷ [] =
     ap (map f) (take_more js k d h) ∙ map-append f (take k js) (get_or js k d ∷ []) in
     let right : take (k + 1) new ≡ take k old ++ get_or new k e ∷ [] =
     take_more new k e there ∙ ap (λ (cs : List (Vec Lit)). cs ++ get_or new k e ∷ []) same in
     rw (left, right)
-        (zip_push (λ (references : List ℕ) (literals : Vec Lit). AreLiteralsOf s v references literals.items) (map f (take k js)) (take k old) (f (get_or js k d)) (get_or new k e) before here)
+    (zip_push (λ (references : List ℕ) (literals : Vec Lit). AreLiteralsOf s v references literals.items) (map f (take k js)) (take k old) (f (get_or js k d)) (get_or new k e) before (here e))

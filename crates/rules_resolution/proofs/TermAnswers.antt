@@ -1,27 +1,33 @@
 -- What is found of literals over references is so of the terms that the references of a proof stand for.
-use Rattle.std.proofs.Common.{◌≡◌, ◌↔◌, inl, inr, ℕ, List, [], ◌∷◌, map, sym, subst}
+use Rattle.std.proofs.Common.{◌≡◌, ◌↔◌, inl, inr, ℕ, None, Result, Ok, Err, IfOk, IfSome, IfNone, List, [], ◌∷◌, map, sym, subst}
 use Rattle.std.specs.Global.{Vec}
 use Rattle.std.specs.List.{AllZip}
 use Rattle.sym_table.specs.Table.{Table}
+use Rattle.pair_pool.specs.declared.stops.Memory.{Memory}
+use Rattle.term_model.specs.Interpretations.{Interpretation}
+use Rattle.term_model.specs.Meaning.{Valuation}
 use Rattle.term_model.specs.Terms.{Var, Term}
 use Rattle.term_pool.specs.Views.{TermsView, RefersTo}
+use Rattle.proof_store.specs.Meaning.{StandForItems}
 use Rattle.rule_model.specs.declared.literal.Literal.{Literal}
 use Rattle.rule_model.specs.declared.rules.Mode.{Mode}
 use Rattle.rule_model.specs.declared.rules.Rule.{Rule}
-use Rattle.rule_model.specs.Conditions.{Met, MeetsRule}
-use Rattle.rule_model.specs.Consequence.{Contradicts, Leads, Follows}
-use Rattle.rule_model.specs.Judged.{Judged, judged_at}
+use Rattle.rule_model.specs.Conditions.{Met, MeetsRule, KeepsTruth}
+use Rattle.rule_model.specs.Judged.{judged_at}
 use Rattle.rule_model.specs.Proofs.{Items}
-use Rattle.rule_model.specs.Reading.{rule_at, clause_at, premises_at}
+use Rattle.rule_model.specs.Reading.{rule_at, clause_at, premises_at, closes_at}
 use Rattle.rule_model.specs.Renaming.{IsOneToOne, AreImages, AreAllImages}
 use Rattle.rule_model.specs.Resolution.{as_clause, ResolvesInCheck}
 use Rattle.rule_model.proofs.Renamings.{leads_renamed, contradicts_renamed, follows_renamed}
+use Rattle.rule_model.proofs.Resolution.{check_sound}
 use Rattle.rules_resolution.specs.declared.end.End.{End}
 use Rattle.rules_resolution.specs.Clause.{clauses_of}
-use Rattle.rules_resolution.specs.Ends.{IsEnd}
+use Rattle.rules_resolution.specs.Ends.{IsEnd, trail_from}
 use Rattle.rules_resolution.specs.Literal.{Lit}
-use Rattle.rules_resolution.specs.Steps.{IsResolutionRule, premise_clauses}
+use Rattle.rules_resolution.specs.Shows.{Shows}
+use Rattle.rules_resolution.specs.Steps.{IsResolutionRule, MeetsAt, premise_clauses}
 use Rattle.rules_resolution.specs.TermLiterals.{AreLiteralsOf, AreClausesOf}
+use Rattle.rules_resolution.proofs.Ends.{follows_by_end}
 use Rattle.rules_resolution.proofs.TermLiterals.{are_images, are_all_images}
 
 -- an end says the same of clauses with other names for their atoms
@@ -50,6 +56,15 @@ end_of_terms s v one refs p i each same clauses goal units clauses_are goal_is e
     (premises_zip s v (clause_at refs) (clause_at p) (premises_at refs i) each)))
     (are_images s v (clause_at refs i) goal (clause_at p i) goal_is (each i)) end is
 
+pub ends_of_terms : (s : Table) (v : TermsView) → IsOneToOne (RefersTo s v) → (refs : Items ℕ ℕ) (i : ℕ)
+    → ((p : Items Var Term) (j : ℕ) → StandForItems s v refs p → AllZip (RefersTo s v) (clause_at refs j) (clause_at p j)) → ((p : Items Var Term) → StandForItems s v refs p → premises_at refs i ≡ premises_at p i)
+    → (clauses : List (Vec Lit)) (goal : List Lit) (units : List (ℕ × ℕ)) → AreClausesOf s v (premise_clauses refs i) clauses → AreLiteralsOf s v (clause_at refs i) goal
+    → (r : Result End Memory) → IfOk r (λ end. IsEnd end (clauses_of clauses) goal units)
+    → IfOk r (λ end. (p : Items Var Term) → StandForItems s v refs p → IsEnd end (map as_clause (premise_clauses p i)) (as_clause (clause_at p i)) units)
+ends_of_terms s v one refs i each same clauses goal units clauses_are goal_is (Err e) is = is
+ends_of_terms s v one refs i each same clauses goal units clauses_are goal_is (Ok end) is =
+    λ p stands. end_of_terms s v one refs p i (λ j. each p j stands) (same p stands) clauses goal units clauses_are goal_is end is
+
 -- what either rule of resolution asks in check mode
 pub met_is : (p : Items Var Term) (i : ℕ) → IsResolutionRule (rule_at p i) → Met (judged_at Mode.Check p i) ↔ ResolvesInCheck (premise_clauses p i) (clause_at p i)
 met_is p i (inl e) = (
@@ -60,3 +75,35 @@ met_is p i (inr e) = (
   λ met. subst (λ (rule : Rule). MeetsRule rule (judged_at Mode.Check p i)) e met,
   λ resolves. subst (λ (rule : Rule). MeetsRule rule (judged_at Mode.Check p i)) (sym e) resolves,
 )
+
+-- a step that closes nothing, for whose clause propagation has found something
+module _ (mode : Mode) (p : Items Var Term) (i : ℕ) (end : End) (units : List (ℕ × ℕ)) (check : mode ≡ Mode.Check) (is : IsEnd end (map as_clause (premise_clauses p i)) (as_clause (clause_at p i)) units) (found : end ≡ End.Stuck → ⊥) where
+  resolves : ResolvesInCheck (premise_clauses p i) (clause_at p i)
+  resolves = follows_by_end (map as_clause (premise_clauses p i)) (as_clause (clause_at p i)) units end is found
+
+  pub meets_by_end : IsResolutionRule (rule_at p i) → closes_at p i ≡ None → MeetsAt mode p i
+  meets_by_end rule none =
+      subst (λ (m : Mode). MeetsAt m p i) (sym check) (record { closes_none = none; met = (met_is p i rule).1 resolves })
+
+  pub keeps_by_end : (I : Interpretation) (r : Valuation) → KeepsTruth I r (judged_at mode p i)
+  keeps_by_end I r all = check_sound I r (premise_clauses p i) (clause_at p i) resolves all
+
+-- one for whose clause it has found nothing
+pub fails_by_end : (mode : Mode) (p : Items Var Term) (i : ℕ) (units : List (ℕ × ℕ)) → mode ≡ Mode.Check → IsEnd End.Stuck (map as_clause (premise_clauses p i)) (as_clause (clause_at p i)) units → IsResolutionRule (rule_at p i) → MeetsAt mode p i → ⊥
+fails_by_end mode p i units check is rule meets =
+    let here : MeetsAt Mode.Check p i = subst (λ (m : Mode). MeetsAt m p i) check meets in
+    is ((met_is p i rule).0 here.met)
+
+-- what the trail of an end shows of the terms
+module _ (s : Table) (v : TermsView) (refs : Items ℕ ℕ) (i : ℕ) (units : List (ℕ × ℕ)) where
+  pub shown_of_terms : (end : End) → ((p : Items Var Term) → StandForItems s v refs p → IsEnd end (map as_clause (premise_clauses p i)) (as_clause (clause_at p i)) units)
+      → IfSome (trail_from end units) (λ trail. (p : Items Var Term) → StandForItems s v refs p → Shows (map as_clause (premise_clauses p i)) (as_clause (clause_at p i)) trail)
+  shown_of_terms End.Contradiction is = λ p stands. is p stands
+  shown_of_terms (End.Conflict last) is = λ p stands. is p stands
+  shown_of_terms End.Stuck is = tt
+
+  pub none_of_terms : (end : End) → ((p : Items Var Term) → StandForItems s v refs p → IsEnd end (map as_clause (premise_clauses p i)) (as_clause (clause_at p i)) units)
+      → IfNone (trail_from end units) ((p : Items Var Term) → StandForItems s v refs p → ResolvesInCheck (premise_clauses p i) (clause_at p i) → ⊥)
+  none_of_terms End.Contradiction is = tt
+  none_of_terms (End.Conflict last) is = tt
+  none_of_terms End.Stuck is = λ p stands resolves. is p stands resolves

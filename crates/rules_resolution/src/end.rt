@@ -1,9 +1,6 @@
 //! How propagation ends.
-ghost use Rattle.std.specs.Prelude.{ℕ, List, IfSome, IfNone};
-ghost use Rattle.rule_model.specs.Consequence.{Follows};
-ghost use Rattle.rule_model.specs.declared.literal.Literal.{Literal};
-ghost use Rattle.rules_resolution.specs.Ends.{IsEnd};
-ghost use Rattle.rules_resolution.specs.Shows.{Shows};
+ghost use Rattle.std.specs.Prelude.{◌≡◌};
+ghost use Rattle.rules_resolution.specs.Ends.{trail_from};
 
 use crate::trail::Trail;
 
@@ -20,8 +17,7 @@ pub(crate) enum End {
 
 /// The trail that shows what was found, where something was.
 pub(crate) fn trail_of(end: End, units: Vec<(u32, u32)>) -> Option<Trail>
-    ensures shown { IfSome result (λ trail. (premises : List (List (Literal ℕ))) (goal : List (Literal ℕ)) → IsEnd end premises goal units.items → Shows premises goal trail) }
-    ensures none { IfNone result ((premises : List (List (Literal ℕ))) (goal : List (Literal ℕ)) → IsEnd end premises goal units.items → Follows premises goal → ⊥) }
+    ensures { result ≡ trail_from end units.items }
 {
     match end {
         End::Contradiction => Some(Trail { units, last: None }),

@@ -15,8 +15,8 @@ use crate::occurrence::Occurrence;
 use crate::renaming::{rename_all, rename_clause};
 use crate::table::table_of;
 use crate::trail::Trail;
-use pair_pool::Memory;
 use crate::work::{Work, falsify, is_falsified, start};
+use pair_pool::Memory;
 use std::alloc::Global;
 
 /// With fewer literals than these the atoms are taken as they are. Names begin to win time beyond some ten thousand

@@ -65,7 +65,14 @@ fn load_premises(
     let _count = proof.count();
     let premises = proof.premises(i);
     for (place, premise) in premises.iter().enumerate() {
-        load_at(alloc, symbols, terms, proof.clause(*premise), place, clauses)?;
+        load_at(
+            alloc,
+            symbols,
+            terms,
+            proof.clause(*premise),
+            place,
+            clauses,
+        )?;
     }
     Ok(premises.len())
 }
@@ -111,10 +118,17 @@ pub(crate) fn end_at(
         IsEnd end (map as_clause (premise_clauses p i)) (as_clause (clause_at p i)) scratch.new.units.items) }
     ensures same { terms.new ≡ terms.old }
 {
-    let count = load_premises(scratch.alloc, proof, i, symbols, terms, &mut scratch.premises)?;
-    load_clause(symbols, terms, proof.clause(i), &mut scratch.goal)?;
     proof_store::commands_correspond();
     proof_store::terms_correspond();
+    let count = load_premises(
+        scratch.alloc,
+        proof,
+        i,
+        symbols,
+        terms,
+        &mut scratch.premises,
+    )?;
+    load_clause(symbols, terms, proof.clause(i), &mut scratch.goal)?;
     let _leaves = symbols.count();
     terms.equal_exactly_where_terms_are();
     decide(

@@ -51,14 +51,13 @@ impl Scratch {
         ensures same { terms.new ≡ terms.old }
     {
         proof_store::commands_correspond();
-        rule_model::laws::resolution::resolution_is_sound();
-        if proof.closes(i).is_some() {
+        let None = proof.closes(i) else {
+            return Ok(Answer::NotMet);
+        };
+        if let End::Stuck = end_at(self, proof, i, symbols, terms)? {
             return Ok(Answer::NotMet);
         }
-        match end_at(self, proof, i, symbols, terms)? {
-            End::Stuck => Ok(Answer::NotMet),
-            _ => Ok(Answer::Met),
-        }
+        Ok(Answer::Met)
     }
 }
 

@@ -1,5 +1,11 @@
-use Rattle.rules_resolution.proofs.Ends.{sound_end}
+use Rattle.rules_resolution.proofs.Ends.{shown_by_end, none_by_end, sound_by_end}
 use Rattle.rules_resolution.proofs.decide.follows.Goals as goal
 
+pub returns-clause-shown : goal.returns-clause-shown
+returns-clause-shown c = rw c.trail_of.ensures (shown_by_end _ _ _ c.in_ok-end.end c.in_ok-end.ensures)
+
+pub returns-clause-none : goal.returns-clause-none
+returns-clause-none c = rw c.trail_of.ensures (none_by_end _ _ _ c.in_ok-end.end c.in_ok-end.ensures)
+
 pub returns-clause-sound : goal.returns-clause-sound
-returns-clause-sound c = sound_end _ _ c.in_ok-end.end _ c.trail_of.result c.trail_of.ensures.shown c.in_ok-end.ensures
+returns-clause-sound c = rw c.trail_of.ensures (sound_by_end _ _ _ c.in_ok-end.end c.in_ok-end.ensures)

@@ -1,0 +1,12 @@
+use Rattle.std.proofs.Common.{map}
+use Rattle.rule_model.specs.Reading.{clause_at}
+use Rattle.rule_model.specs.Resolution.{as_clause}
+use Rattle.rules_resolution.specs.Steps.{premise_clauses}
+use Rattle.rules_resolution.proofs.TermAnswers.{shown_of_terms, none_of_terms}
+use Rattle.rules_resolution.proofs.step.propagate.Goals as goal
+
+pub returns-clause-shown : goal.returns-clause-shown
+returns-clause-shown c = rw c.trail_of.ensures (shown_of_terms _ _ c.args.proof.now c.args.i _ c.in_ok-end.end c.in_ok-end.ensures.end)
+
+pub returns-clause-none : goal.returns-clause-none
+returns-clause-none c = rw c.trail_of.ensures (none_of_terms _ _ c.args.proof.now c.args.i _ c.in_ok-end.end c.in_ok-end.ensures.end)
