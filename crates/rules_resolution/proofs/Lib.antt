@@ -16,3 +16,4 @@ pub mod Keys
 pub mod TermLiterals
 pub mod TermAnswers
 pub mod Loading
+pub mod OneStep

@@ -1,9 +1,17 @@
-//! Small sets of clauses, each with the answer that the definition gives by hand.
-ghost use Rattle.std.specs.Prelude.{◌<◌, ◌^◌, length, vec_len, All, IfOk, IsTrue};
+//! Small sets of clauses, and steps, each with the answer that the definition gives by hand.
+ghost use Rattle.std.specs.Prelude.{◌≡◌, ◌<◌, ◌^◌, length, vec_len, All, IfOk, IsTrue};
+ghost use Rattle.term_pool.specs.Views.{IsTerm};
+ghost use Rattle.rules_resolution.specs.Single.{single};
 
-use crate::{Lit, follows};
+use crate::{Lit, Scratch, check, follows, propagate};
+use pair_pool::{Memory, Pool, Ref};
+use proof_store::{Answer, Proof, ProofBuilder, RuleStop};
+use rule_model::{Mode, Rule};
 use std::alloc::{AllocError, Global};
 use std::test::Fail;
+use sym_table::Symbols;
+use term_model::Op;
+use term_pool::Terms;
 
 const A: Lit = Lit::Plain {
     atom: 0,
@@ -257,5 +265,63 @@ fn a_chain_in_the_worst_order_needs_a_table(rt: HostRuntime) -> Result<(), Fail>
     premises.push(vec![in rt.alloc(); literal(10, true), literal(11, true)]?)?;
     // the eleven atoms from 0 to 10, and one of the last two premises
     assert_eq!(rt; unit_count(rt.alloc(), &premises, &[])?, Some(12));
+    Ok(())
+}
+
+/// The term of an operator without arguments.
+fn constant(symbols: &Symbols, terms: &Terms<'_>, op: Op) -> Ref
+    ensures { IsTerm symbols.now terms.now result }
+{
+    let _leaves = symbols.count();
+    Ref::leaf(symbols.operator(op))
+}
+
+/// The proof of one step without premises, whose clause is one literal.
+fn one_step(alloc: Global, literal: Ref) -> Result<Proof, Memory>
+    ensures { IfOk result (λ proof. proof ≡ single literal) }
+{
+    let mut builder = ProofBuilder::new(alloc);
+    builder.step(
+        b"t",
+        Rule::Resolution,
+        b"resolution",
+        &[literal],
+        &[],
+        &[],
+        &[],
+        None,
+    )?;
+    builder.finish()
+}
+
+/// Whether such a step meets its condition, by both calls, and whether it has a trail.
+fn answers(
+    alloc: Global,
+    symbols: &Symbols,
+    terms: &mut Terms<'_>,
+    literal: Ref,
+) -> Result<(Answer, Answer, bool), RuleStop>
+    requires { IsTerm symbols.now terms.old literal }
+    ensures { terms.new ≡ terms.old }
+{
+    let proof = one_step(alloc, literal)?;
+    let first = check(alloc, &proof, 0, Mode::Check, symbols, terms)?;
+    let mut scratch = Scratch::new(alloc);
+    let second = scratch.check(&proof, 0, Mode::Check, symbols, terms)?;
+    let trail = propagate(alloc, &proof, 0, symbols, terms)?;
+    Ok((first, second, trail.is_some()))
+}
+
+#[test]
+fn steps_of_one_literal(rt: HostRuntime) -> Result<(), Fail> {
+    let (pool, pass) = Pool::new(rt.alloc(), 12)?;
+    let mut terms = Terms::new(&pool, pass);
+    let symbols = Symbols::new(rt.alloc())?;
+    let yes = constant(&symbols, &terms, Op::True);
+    let met = answers(rt.alloc(), &symbols, &mut terms, yes)?;
+    assert_eq!(rt; met, (Answer::Met, Answer::Met, true));
+    let no = constant(&symbols, &terms, Op::False);
+    let not_met = answers(rt.alloc(), &symbols, &mut terms, no)?;
+    assert_eq!(rt; not_met, (Answer::NotMet, Answer::NotMet, false));
     Ok(())
 }
