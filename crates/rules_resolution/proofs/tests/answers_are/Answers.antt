@@ -1,6 +1,6 @@
 use Rattle.std.proofs.Common.{inl, refl, arith}
 use Rattle.rules_resolution.proofs.OneStep.{is_short, stands}
-use Rattle.rules_resolution.proofs.tests.answers.Goals as goal
+use Rattle.rules_resolution.proofs.tests.answers_are.Goals as goal
 
 pub check-requires-clause-index : goal.check-requires-clause-index
 check-requires-clause-index c = rw c.in_ok-proof.ensures (omega arith)
