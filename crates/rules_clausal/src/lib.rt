@@ -19,5 +19,7 @@ mod scratch;
 mod signs;
 mod sorting;
 mod stack;
+#[cfg(test)]
+mod tests;
 
 pub use checks::check;
