@@ -1,6 +1,8 @@
 //! Laws of the ids in use: they are those of the proof that is written, over references. The functions do nothing: their
 //! contracts are the laws.
 ghost use Rattle.std.specs.Prelude.{◌≡◌, ◌<◌, ◌≤◌, ◌++◌, [], ◌∷◌, ℕ, List, Bool, false, take, length, find, bytes_eq, None};
+ghost use Rattle.sexpr.specs.Items.{Item, Items as Inside};
+ghost use Rattle.term_model.specs.Terms.{Var, Term};
 ghost use Rattle.problem_text.specs.Words.{is_among};
 ghost use Rattle.rule_model.specs.Proofs.{Items, Step};
 ghost use Rattle.rule_model.specs.RuleNames.{IsSymbolName};
@@ -9,8 +11,11 @@ ghost use Rattle.rule_model.specs.Visibility.{seen, open_ids};
 ghost use Rattle.rule_model.specs.WellFormed.{IsNewId};
 ghost use Rattle.rule_model.specs.Writing.{add_assume, add_step, open_anchor, close_scope};
 ghost use Rattle.alethe_text.specs.Ids.{assumes_seen};
+ghost use Rattle.alethe_text.specs.ProofTerms.{place_in, formula_in, formulas_in};
+ghost use Rattle.alethe_text.specs.States.{ProofSettings, ProofState, in_script};
 ghost use Rattle.alethe_reader.specs.declared.ids.Found.{Found};
 ghost use Rattle.alethe_reader.specs.declared.ids.Role.TheVariants as role;
+ghost use Rattle.alethe_reader.specs.Formulas.{formula_from, formulas_from};
 ghost use Rattle.alethe_reader.specs.Ids.{IsUnused, IsUsedAt};
 ghost use Rattle.alethe_reader.specs.IdsInUse.{in_use, ids_around, ids_in, sight_at, hidden};
 
@@ -41,4 +46,12 @@ pub fn assumes_are_discharged()
     ensures outer { (scope : Scope ℕ ℕ) (id : List ℕ) (f : Found) → IsUsedAt (ids_in scope) id f → f.place < length (ids_around scope.nesting) →
         find (λ c. bytes_eq c.id id) (assumes_seen scope.nesting scope.items) ≡ None }
     ensures unused { (scope : Scope ℕ ℕ) (id : List ℕ) → IsUnused (ids_in scope) id → find (λ c. bytes_eq c.id id) (assumes_seen scope.nesting scope.items) ≡ None }
+{}
+
+/// The formulas of a proof are read in the script alone, where the variables of the open anchors are in scope.
+pub fn formulas_are_read_in_the_script()
+    ensures formula { (settings : ProofSettings) (nesting : Nesting Var Term) (i : Item) (s : ProofState) →
+        formula_in settings nesting i s ≡ in_script (formula_from i (place_in settings nesting)) s }
+    ensures formulas { (settings : ProofSettings) (nesting : Nesting Var Term) (items : Inside) (s : ProofState) →
+        formulas_in settings nesting items s ≡ in_script (formulas_from items (place_in settings nesting)) s }
 {}

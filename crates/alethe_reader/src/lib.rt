@@ -5,6 +5,11 @@
 //! `rule_model` has it.
 #![tactic(auto)]
 
+mod arguments;
+mod attributes;
+mod command_shapes;
+mod commands;
+mod formulas;
 pub mod ids;
 pub mod laws;
 
