@@ -1,12 +1,12 @@
 -- The attributes of a step by the nodes of their items.
-use Rattle.std.proofs.Common.{◌≡◌, ◌≢◌, ℕ, ◌+◌, ◌≤◌, ◌∙◌, Bool, true, false, cond, List, [], ◌∷◌, ◌++◌, Option, Some, None, is_some, refl, sym, ap, subst, arith}
+use Rattle.std.proofs.Common.{◌≡◌, ◌≢◌, ℕ, ◌+◌, ◌∙◌, Bool, true, false, cond, List, [], ◌∷◌, ◌++◌, Option, Some, None, is_some, refl, sym, ap, subst, arith}
 use Rattle.std.specs.Prelude.{codes, bytes_eq}
-use Rattle.sexpr.specs.Items.{Item, word, quoted, string, list, Items, no_items, item, place_of, symbol_name}
+use Rattle.sexpr.specs.Items.{Item, word, quoted, string, list, Items, no_items, item, symbol_name}
 use Rattle.text_items.specs.declared.keywords.Next.{Next}
 use Rattle.text_items.specs.declared.keywords.Wanted.{Wanted}
 use Rattle.text_items.specs.declared.nodes.Node.{Node}
 use Rattle.text_items.specs.ItemShapes.{Name, name_at, symbol_fault, items_of}
-use Rattle.text_items.specs.Keywords.{Known, is_spelled, keyword_of, is_it, after_known, after_keyword, after_item, next_fault, wanted_fault, misplaced, at_end, is_value, symbols_fault}
+use Rattle.text_items.specs.Keywords.{is_spelled, keyword_of, after_known, after_keyword, after_item, next_fault, wanted_fault, misplaced, at_end, is_value, symbols_fault}
 use Rattle.text_items.specs.Nodes.{IsNode, AreNodes}
 use Rattle.text_items.specs.Stepping.{IsItemAt, AreItemsFrom, AreSomeFrom, IsItemNode}
 use Rattle.text_items.proofs.NodeItems.{name_here}
@@ -167,3 +167,7 @@ module _ (s : List ℕ) (ns : List Node) where
   value_there k m node some read apart =
       let b = more_nodes s ns node.next some.1 m (subst (λ n. AreNodes s ns n some.1 m) (sym (read some.0 some.2.0 some.2.1).next) some.2.2) apart in
       (b.first, b.behind, b.here)
+
+  -- the item up to where its node says that it ends
+  pub item_here : (k : ℕ) (node : Node) → IsItemAt s ns k → ((i : Item) (n : ℕ) → IsNode s ns k i n → IsItemNode s i n node) → (i : Item) × IsNode s ns k i node.next
+  item_here k node (i, n, is) read = (i, subst (λ m. IsNode s ns k i m) (sym (read i n is).next) is)

@@ -1,5 +1,5 @@
 -- The commands of a proof by their words, and by the nodes of their items.
-use Rattle.std.proofs.Common.{◌≡◌, ◌≢◌, ℕ, ◌+◌, ◌∙◌, Bool, true, false, ◌||◌, List, [], ◌∷◌, length, Option, Some, None, is_some, unwrap_or, Result, Ok, Err, refl, sym, ap, subst, arith}
+use Rattle.std.proofs.Common.{◌≡◌, ◌≢◌, ℕ, ◌+◌, ◌∙◌, Bool, true, false, ◌||◌, List, [], length, Option, Some, None, is_some, unwrap_or, Result, Err, refl, sym, ap, subst, arith}
 use Rattle.std.specs.Prelude.{if◌then◌else◌, codes, bytes_eq, nat_le}
 use Rattle.std.specs.Option.{option_or}
 use Rattle.sexpr.specs.declared.causes.Cause.TheVariants.{BadCommand}
@@ -9,16 +9,15 @@ use Rattle.sexpr.specs.Items.{Item, word, quoted, string, list, Items, no_items,
 use Rattle.text_items.specs.declared.nodes.Node.{Node}
 use Rattle.text_items.specs.Children.{BeginWith}
 use Rattle.text_items.specs.ItemShapes.{excess, symbol_fault, items_of, name_at}
-use Rattle.text_items.specs.Keywords.{Known, is_spelled, list_fault, earlier, is_value, at_end, word_next, misplaced, repeated, lacks_keyword, attributes_fault}
+use Rattle.text_items.specs.Keywords.{Known, is_spelled, earlier, is_value, at_end, word_next, misplaced, repeated, lacks_keyword, attributes_fault}
 use Rattle.text_items.specs.Nodes.{IsNode, AreNodes}
-use Rattle.text_items.specs.Stepping.{IsItemAt, AreItemsFrom}
 use Rattle.text_items.proofs.NodeItems.{name_here}
 use Rattle.text_items.proofs.NodeSteps.{name_next}
 use Rattle.problem_text.specs.Commands.{refused}
 use Rattle.alethe_text.specs.Commands.{Command as Shape, assume, step, anchor, shaped, is_symbol_of, step_keywords, anchor_keywords, clause_fault, behind_first, attributes_of, word_fault, each_argument_fault, arguments_fault, argument_items, arguments_of, assume_shape, step_shape, anchor_shape, command_named, headed_command, command_of}
 use Rattle.alethe_reader.specs.declared.commands.Command.{Command}
 use Rattle.alethe_reader.specs.declared.commands.CommandWord.{CommandWord}
-use Rattle.alethe_reader.specs.CommandShapes.{SaysCommand, IsCommand, AreAttributes, AreArguments, unless, head_word, word_named, command_so}
+use Rattle.alethe_reader.specs.CommandShapes.{SaysCommand, IsCommand, AreArguments, unless, head_word, word_named, command_so}
 
 -- f of a choice, where each side is f of its own
 pub choice : {A B : Type 0} (f : A → B) (b : Bool) (x y : A) (u v : B) → u ≡ f x → v ≡ f y → (if b then u else v) ≡ f (if b then x else y)

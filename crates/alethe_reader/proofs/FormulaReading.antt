@@ -1,6 +1,5 @@
 -- A formula and formulas that are read, by the reading of terms.
-use Rattle.std.proofs.Common.{◌≡◌, ◌≢◌, ℕ, ◌+◌, ◌≤◌, Bool, true, false, List, [], ◌∷◌, ◌++◌, length, Result, Ok, Err, if◌then◌else◌, refl, sym, ◌∙◌, ap, subst, arith}
-use Rattle.std.specs.Prelude.{⊤, Contains}
+use Rattle.std.proofs.Common.{◌≡◌, ◌≢◌, ℕ, ◌+◌, Bool, true, false, List, [], ◌∷◌, ◌++◌, Result, Ok, Err, if◌then◌else◌, refl, sym, ◌∙◌, ap, subst}
 use Rattle.std.proofs.lemmas.List.{append_assoc, append-nil}
 use Rattle.sexpr.specs.declared.causes.Cause.TheVariants.{SortMismatch}
 use Rattle.sexpr.specs.declared.causes.Refusal.{Refusal}
@@ -22,7 +21,7 @@ use Rattle.problem_text.specs.Terms.{read_term}
 use Rattle.problem_text.specs.TypedTerms.{Typed}
 use Rattle.problem_text.proofs.Growing as growing
 use Rattle.term_expansion.specs.declared.values.Value.{Value}
-use Rattle.term_names.specs.Making.{PlacesCellsOf, LacksCellOf}
+use Rattle.term_names.specs.Making.{PlacesCellsOf}
 use Rattle.term_names.specs.Standing.{AddsNoSymbols}
 use Rattle.term_names.specs.declared.faults.ReadFault.{ReadFault}
 use Rattle.term_reader.specs.ProblemViews.{ReaderView, IsReaderOf, ReadsValue}
@@ -31,7 +30,7 @@ use Rattle.term_reader.proofs.Staying.{places_none, places_more, places_then, la
 use Rattle.alethe_text.specs.ProofTerms.{place_in, term_in, formula_in, formulas_in}
 use Rattle.alethe_text.specs.States as states
 use Rattle.alethe_text.specs.States.{ProofSettings, ProofState, ◌>>=◌, give, demand, in_script}
-use Rattle.alethe_reader.specs.Formulas.{judged, formula_from, formulas_from, with_first, WasRead, IsFormulaRead, ReadsFormula, AreFormulasRead, ReadsFormulas}
+use Rattle.alethe_reader.specs.Formulas.{judged, formula_from, formulas_from, with_first, WasRead, IsFormulaRead, ReadsFormula, AreFormulasRead}
 
 -- what was read stays read
 judged_grows : (x : Term) (i : Item) (t : Typed) (sc : Script) → growing.HasRead x sc → growing.Reads x (judged i t sc)
@@ -140,14 +139,13 @@ module _ (source : List ℕ) (nodes : List Node) where
   module _ (s z : Table) (old v w : TermsView) (r q : ReaderView) (p : Place) (refs : List ℕ) (k end : ℕ) (whole : Outcome Script (List Term)) (h : AreSoFar source nodes s old v r p refs k end whole) (adds : AddsNoSymbols s z) (keeps : KeepsTerms v w) where
     pub all_read : k ≡ end → AreFormulasRead s v r p whole refs (Ok tt)
     unfolding formulas_from
-    all_read same =
-        (
-          h.formulas ++ [],
-          h.script,
-          h.comes ∙ ap (λ (xs : Items). and_then (formulas_from xs p h.script) (behind h.formulas)) (no_nodes source nodes k h.rest end h.there same),
-          subst (λ ts. ReferToAll s v refs ts) (sym (append-nil h.formulas)) h.refer,
-          h.reader,
-        )
+    all_read same = (
+      h.formulas ++ [],
+      h.script,
+      h.comes ∙ ap (λ (xs : Items). and_then (formulas_from xs p h.script) (behind h.formulas)) (no_nodes source nodes k h.rest end h.there same),
+      subst (λ ts. ReferToAll s v refs ts) (sym (append-nil h.formulas)) h.refer,
+      h.reader,
+    )
 
     module _ (differs : k ≢ end) (result : Result ℕ ReadFault)
         (read : (i : Item) (m : ℕ) (sc : Script) (p : Place) → IsNode source nodes k i m → IsReaderOf s v r sc p → ReadsFormula z v w q p (formula_from i p sc) result) where

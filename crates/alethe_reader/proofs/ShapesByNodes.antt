@@ -5,16 +5,16 @@ use Rattle.std.specs.Option.{option_or}
 use Rattle.sexpr.specs.Items.{Item, word, quoted, string, list, Items, no_items, item, place_of, symbol_name}
 use Rattle.text_items.specs.declared.nodes.Node.{Node}
 use Rattle.text_items.specs.ItemShapes.{excess, symbol_fault, pair_fault, items_of}
-use Rattle.text_items.specs.Keywords.{is_spelled, list_fault}
+use Rattle.text_items.specs.Keywords.{is_spelled}
 use Rattle.text_items.specs.Nodes.{IsNode, AreNodes}
 use Rattle.text_items.specs.Spelling.{is_list_item}
-use Rattle.text_items.specs.Stepping.{IsItemAt, AreItemsFrom, IsItemNode, has_two, HasSecond}
+use Rattle.text_items.specs.Stepping.{IsItemAt, IsItemNode, has_two}
 use Rattle.text_items.proofs.ItemLoops.{Left, left_on, left_stop}
 use Rattle.text_items.proofs.KeywordLemmas.{Says, IsRead}
 use Rattle.text_items.proofs.NodeItems.{children}
 use Rattle.text_items.proofs.NodeSteps.{AreMore, more_nodes, no_nodes}
 use Rattle.text_items.proofs.ShapeLemmas.{passed, stays}
-use Rattle.alethe_text.specs.Commands.{is_symbol_of, clause_fault, variable_fault, assigned_fault, alone_fault, argument_fault, each_argument_fault, word_fault, arguments_fault}
+use Rattle.alethe_text.specs.Commands.{is_symbol_of, clause_fault, variable_fault, assigned_fault, alone_fault, argument_fault, each_argument_fault, arguments_fault}
 
 -- the clause and the argument by what stands in them
 abbrev clause_inside : ℕ → Items → Option ℕ

@@ -112,23 +112,20 @@ pub(crate) fn next_attribute(
 {
     let mut k = *at;
     'items: while k != end {
-        let found = attribute_from(text, nodes, k, end);
-        k = node_at(nodes, k).next;
-        if found.is_some() {
-            *at = k;
-            return found;
+        let next = node_at(nodes, k).next;
+        match attribute_from(text, nodes, k, end) {
+            Some(attribute) => {
+                *at = next;
+                return Some(attribute);
+            }
+            None => k = next,
         }
     }
     None
 }
 
 /// The attribute that the item at node `k` and the one behind it are, where they are one. The attributes end before `end`.
-fn attribute_from(
-    text: &Lexer<'_>,
-    nodes: &[Node],
-    k: usize,
-    end: usize,
-) -> Option<StepAttribute>
+fn attribute_from(text: &Lexer<'_>, nodes: &[Node], k: usize, end: usize) -> Option<StepAttribute>
     requires { AreSomeFrom (source text.now) nodes.now k end }
     ensures some { IfSome result (λ a. (attributes : List shape.Attribute) (i : Item) (next : ℕ) → spec.AreAttributes (source text.now) nodes.now k attributes end → IsNode (source text.now) nodes.now k i next → spec.HasFirstAttribute (source text.now) nodes.now a next attributes end) }
     ensures none { IfNone result ((attributes : List shape.Attribute) (i : Item) (next : ℕ) → spec.AreAttributes (source text.now) nodes.now k attributes end → IsNode (source text.now) nodes.now k i next → spec.AreAttributes (source text.now) nodes.now next attributes end) }

@@ -161,7 +161,10 @@ fn anchor(text: &Lexer<'_>, nodes: &[Node], start: u64, at: usize) -> Result<Com
     let id = take(nodes, &mut rest, nodes.len(), start)?;
     let behind = symbol_fault(text, nodes, id).or(arguments_fault(text, nodes, rest, nodes.len()));
     let own = word_fault(text, nodes, b":step", keyword).or(behind);
-    let fault = earlier(anchor_attributes_fault(text, nodes, start, at, nodes.len()), own);
+    let fault = earlier(
+        anchor_attributes_fault(text, nodes, start, at, nodes.len()),
+        own,
+    );
     let first = first_argument(nodes, rest);
     unless(
         fault,
