@@ -4,3 +4,6 @@ mod ShapesByNodes
 mod CommandsByNodes
 mod AttributesByNodes
 mod FormulaReading
+mod Fractions
+mod FigureValues
+mod CoefficientLists

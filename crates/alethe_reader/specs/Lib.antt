@@ -3,3 +3,5 @@ pub mod IdsInUse
 pub mod HeldIds
 pub mod CommandShapes
 pub mod Formulas
+pub mod Fractions
+pub mod CoefficientNodes

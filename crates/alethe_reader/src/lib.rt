@@ -7,9 +7,12 @@
 
 mod arguments;
 mod attributes;
+mod coefficients;
 mod command_shapes;
 mod commands;
+mod figures;
 mod formulas;
+mod fractions;
 pub mod ids;
 pub mod laws;
 

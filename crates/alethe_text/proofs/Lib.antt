@@ -1,7 +1,7 @@
 pub mod OneProof
 pub mod Endings
 pub mod Lists
-mod LowestTerms
+pub mod LowestTerms
 mod SymbolNames
 mod CommandNames
 pub mod Staying

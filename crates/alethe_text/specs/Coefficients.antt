@@ -72,16 +72,21 @@ numerator_spelled spelling = numeral_value (before_first (λ b. b == 47) spellin
 abbrev pub denominator_spelled : List ℕ → ℕ
 denominator_spelled spelling = numeral_value (after_first (λ b. b == 47) spelling)
 
+-- a ratio of two numerals, of which the second is not 0
+abbrev pub ratio_spelled : ℕ → List ℕ → Option Amount
+ratio_spelled place spelling =
+    if denominator_spelled spelling == 0 then None else Some (ratio place (numerator_spelled spelling) (denominator_spelled spelling))
+
 abbrev pub amount_spelled : ℕ → List ℕ → Option Amount
-amount_spelled place spelling =
-    if is_ratio spelling then
-    (if denominator_spelled spelling == 0 then None else Some (ratio place (numerator_spelled spelling) (denominator_spelled spelling)))
-    else option_map figure (figure_spelled place spelling)
+amount_spelled place spelling = if is_ratio spelling then ratio_spelled place spelling else option_map figure (figure_spelled place spelling)
+
+abbrev pub listed_amount : Item → Option Amount
+listed_amount (list place (item head (item n (item d no_items)))) = if is_symbol_of (codes "/") head then quotient_of place n d else None
+listed_amount other = None
 
 abbrev pub amount_of : Item → Option Amount
 amount_of (word place spelling) = amount_spelled place spelling
-amount_of (list place (item head (item n (item d no_items)))) = if is_symbol_of (codes "/") head then quotient_of place n d else None
-amount_of other = None
+amount_of other = listed_amount other
 
 -- what an argument of la_generic stands for, where it has the form of a coefficient
 unfoldable pub coefficient_of : Item → Option Coefficient
