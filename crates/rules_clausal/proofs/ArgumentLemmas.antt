@@ -6,13 +6,13 @@ use Rattle.term_model.specs.declared.symbols.Op.{Op}
 use Rattle.term_model.specs.Terms.{Term, Terms, numeral, variable, operation, call, let_in, term, no_terms, list_of, terms_of}
 use Rattle.term_pool.specs.Reading.{arguments_of}
 use Rattle.term_pool.specs.Views.{TermsView, RefersTo, IsTerm, ReferToAll}
-use Rattle.rules_clausal.specs.declared.signs.Sign.{Sign}
-use Rattle.rules_clausal.specs.declared.signs.Sign.TheVariants.{Itself, Negation}
+use Rattle.schema_match.specs.declared.signs.Sign.{Sign}
+use Rattle.schema_match.specs.declared.signs.Sign.TheVariants.{Itself, Negation}
 use Rattle.rules_clausal.specs.ArgumentRules.{HasArguments, HasNoArguments}
-use Rattle.rules_clausal.specs.Arguments.{HasSoMany}
-use Rattle.rules_clausal.specs.Over.{IsOver}
-use Rattle.rules_clausal.specs.Signs.{sign_of, IsSigned}
-use Rattle.rules_clausal.proofs.OverLemmas.{has_so_many}
+use Rattle.schema_match.specs.Arguments.{HasSoMany}
+use Rattle.schema_match.specs.Over.{IsOver}
+use Rattle.schema_match.specs.Signs.{sign_of, IsSigned}
+use Rattle.schema_match.proofs.OverLemmas.{has_so_many}
 
 -- a sign turns different terms into different literals
 pub one_term : (sign : Sign) (t u : Term) → sign_of sign t ≡ sign_of sign u → t ≡ u

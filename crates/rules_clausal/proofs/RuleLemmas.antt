@@ -4,10 +4,10 @@ use Rattle.term_model.specs.Terms.{Term}
 use Rattle.rule_model.specs.declared.rules.Rule.{Rule}
 use Rattle.rule_model.specs.Clausal.{schema_of, MeetsClausal}
 use Rattle.rule_model.specs.Schemas.{Schema, IsInstance, IsInstanceOf}
-use Rattle.rules_clausal.specs.declared.schemas.SchemaParts.{SchemaParts}
+use Rattle.schema_match.specs.declared.instances.SchemaParts.{SchemaParts}
 use Rattle.rules_clausal.specs.ArgumentRules.{is_over_arguments}
 use Rattle.rules_clausal.specs.Changes.{is_change}
-use Rattle.rules_clausal.specs.Schemas.{HasParts, AreSchemaParts}
+use Rattle.schema_match.specs.Schemas.{HasParts, AreSchemaParts}
 
 module _ (ps : List (List Term)) (ts : List Term) where
   instance_of : (schema : Option Schema) (parts : SchemaParts) (b : Bool) → AreSchemaParts schema (Some parts) → ((of : Schema) → HasParts of.premises of.clause parts → IsTrue b ↔ IsInstance of ps ts) → IsTrue b ↔ IsInstanceOf schema ps ts

@@ -9,8 +9,8 @@ use Rattle.rule_model.specs.Clausal.{GivesOne, GivesAll, Begins, IsGiven, MeetsC
 use Rattle.rules_clausal.specs.declared.argument_rules.ArgumentRule.{ArgumentRule}
 use Rattle.rules_clausal.specs.declared.argument_rules.Place.{Place}
 use Rattle.rules_clausal.specs.declared.argument_rules.Which.{Which}
-use Rattle.rules_clausal.specs.declared.signs.Sign.{Sign}
-use Rattle.rules_clausal.specs.Signs.{sign_of}
+use Rattle.schema_match.specs.declared.signs.Sign.{Sign}
+use Rattle.schema_match.specs.Signs.{sign_of}
 
 -- what the application and the other literals have to be
 abbrev pub Gives : Which → Op → Sign → Sign → Term → List Term → Type 0
