@@ -1,6 +1,5 @@
 pub mod SortingLemmas
 pub mod ChangeLemmas
-pub mod RuleLemmas
 pub mod CheckLemmas
 pub mod CheckAnswers
 pub mod OppositeLemmas
