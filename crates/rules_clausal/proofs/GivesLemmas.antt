@@ -10,11 +10,12 @@ use Rattle.rule_model.proofs.ArgumentLists.{list_of-terms_of}
 use Rattle.rule_model.proofs.Lists.{contains_none}
 use Rattle.rules_clausal.specs.declared.argument_rules.Which.{Which}
 use Rattle.schema_match.specs.declared.signs.Sign.{Sign}
-use Rattle.rules_clausal.specs.ArgumentRules.{Gives, HasArguments, HasNoArguments, IsOneOf}
+use Rattle.rules_clausal.specs.ArgumentRules.{Gives, IsOneOf}
+use Rattle.schema_match.specs.Arguments.{HasArguments, HasNoArguments}
 use Rattle.schema_match.specs.Premises.{IsUnit, IsNoUnit}
 use Rattle.schema_match.specs.Signs.{sign_of}
 use Rattle.schema_match.specs.Steps.{ReferToClauses}
-use Rattle.rules_clausal.proofs.ArgumentLemmas.{one_term}
+use Rattle.schema_match.proofs.ArgumentLemmas.{one_term}
 use Rattle.schema_match.proofs.PremiseLemmas.{no_premises, some_premises, unit_term, no_unit}
 use Rattle.schema_match.proofs.ReferLemmas.{refer_length}
 

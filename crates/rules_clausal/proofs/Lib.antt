@@ -3,6 +3,5 @@ pub mod ChangeLemmas
 pub mod CheckLemmas
 pub mod CheckAnswers
 pub mod OppositeLemmas
-pub mod ArgumentLemmas
 pub mod ArgumentAnswers
 pub mod GivesLemmas

@@ -13,7 +13,7 @@ use Rattle.rules_clausal.specs.Changes.{HasOpposites, NegatesOne}
 use Rattle.schema_match.specs.Over.{IsOver}
 use Rattle.schema_match.specs.Signs.{IsSigned}
 use Rattle.rules_clausal.specs.Sorting.{IsInOrder}
-use Rattle.rules_clausal.proofs.ArgumentLemmas.{one_term}
+use Rattle.schema_match.proofs.ArgumentLemmas.{one_term}
 use Rattle.schema_match.proofs.Counts.{none}
 use Rattle.schema_match.proofs.OverLemmas.{over_term}
 use Rattle.schema_match.proofs.ReferLemmas.{AreOne, contains_terms, contains_references, refer_length, refer_at}

@@ -1,23 +1,10 @@
--- Private. What `distinct` of terms of one sort stands for, by the references of its arguments.
-use Rattle.std.specs.Prelude.{◌≡◌, ◌⊎◌, ℕ, List, ◌∷◌, All}
-use Rattle.sym_table.specs.Table.{Table}
+-- Private. What `distinct` of terms of one sort stands for.
+use Rattle.std.specs.Prelude.{◌≡◌, ◌⊎◌, List, All}
 use Rattle.term_model.specs.declared.symbols.Op.{Op}
 use Rattle.term_model.specs.declared.symbols.Sort.{Sort}
 use Rattle.term_model.specs.Sorts.{IsOf}
 use Rattle.term_model.specs.Terms.{Term, operation, terms_of}
-use Rattle.term_pool.specs.Views.{TermsView, ReferToAll}
 use Rattle.rule_model.specs.Definitions.{AreInequalities, IsOfTwo, IsOfTruths, IsOfOthers}
-
--- the term is the application of the operator to one argument or more
-abbrev pub IsApplied : Op → Term → Type 0
-IsApplied op t = (first : Term) × (others : List Term) × (t ≡ operation op (terms_of (first ∷ others)))
-
--- the same, and the references are those of its arguments
-pub record HasArguments (s : Table) (v : TermsView) (op : Op) (t : Term) (items : List ℕ) : Type 0 where
-  pub first : Term
-  pub others : List Term
-  pub is : t ≡ operation op (terms_of (first ∷ others))
-  pub refer : ReferToAll s v items (first ∷ others)
 
 -- all terms are of one sort
 pub record AreOfOneSort (ts : List Term) : Type 0 where

@@ -1,18 +1,15 @@
 //! What `distinct` stands for.
 
 ghost use Rattle.std.specs.Prelude.{◌≡◌, ◌↔◌, ◌≤◌, List, All, IsTrue, IfOk, length};
-ghost use Rattle.std.specs.Bool.{OnTrue, OnFalse};
 ghost use Rattle.std.specs.List.{AllZip};
 ghost use Rattle.rule_model.specs.Definitions.{AreInequalities, IsInequality};
 ghost use Rattle.sort_check.specs.WellSorted.{IsWellSortedTerm};
 ghost use Rattle.term_model.specs.Terms.{Term};
-ghost use Rattle.term_model.specs.declared.symbols.Op.{Op};
 ghost use Rattle.term_pool.specs.Views.{IsTerm, RefersTo, ReferToAll};
-ghost use Rattle.rules_ite.specs.Distinct.{AreOfOneSort, Eliminates, HasArguments, IsApplied, IsConjunction, StandsFor};
+ghost use Rattle.rules_ite.specs.Distinct.{AreOfOneSort, Eliminates, IsConjunction, StandsFor};
 
-use crate::sides::sides_of;
 use pair_pool::{Memory, Ref};
-use schema_match::{Scratch, Slot, over, read_arguments, under_not};
+use schema_match::{Scratch, Sign, Slot, load_arguments, over, sides_of, under_not};
 use smallvec::SmallVec;
 use sort_check::sort_of;
 use std::alloc::Global;
@@ -95,29 +92,6 @@ fn are_apart(symbols: &Symbols, terms: &mut Terms<'_>, list: &[Slot], literals: 
     left.is_empty()
 }
 
-/// Whether a term is an application of an operator to one argument or more. Where it is, only its arguments are in the
-/// list afterwards, in order.
-pub(crate) fn load(
-    symbols: &Symbols,
-    terms: &mut Terms<'_>,
-    op: Op,
-    r: Ref,
-    arguments: &mut Scratch,
-) -> Result<bool, Memory>
-    requires { IsTerm symbols.now terms.old r }
-    ensures loaded { IfOk result (λ yes. OnTrue yes ((t : Term) → RefersTo symbols.now terms.old r t →
-        HasArguments symbols.now terms.old op t arguments.new.items)) }
-    ensures other { IfOk result (λ yes. OnFalse yes ((t : Term) → RefersTo symbols.now terms.old r t → ¬ IsApplied op t)) }
-    ensures same { terms.new ≡ terms.old }
-{
-    let count = over(symbols, terms, op, r).unwrap_or(0);
-    if count == 0 {
-        return Ok(false);
-    }
-    read_arguments(terms, r, count, arguments)?;
-    Ok(true)
-}
-
 /// Whether a term is the conjunction of the inequalities of each two of some terms.
 fn is_conjunction(
     alloc: Global,
@@ -133,7 +107,7 @@ fn is_conjunction(
     ensures same { terms.new ≡ terms.old }
 {
     let mut literals: Scratch = SmallVec::new(alloc);
-    if !load(symbols, terms, Op::And, whole, &mut literals)? {
+    if !load_arguments(symbols, terms, Op::And, Sign::Itself, whole, &mut literals)? {
         return Ok(false);
     }
     Ok(are_apart(symbols, terms, list, &literals))
@@ -181,7 +155,7 @@ pub(crate) fn eliminates_distinct(
     ensures same { terms.new ≡ terms.old }
 {
     let mut list: Scratch = SmallVec::new(alloc);
-    if !load(symbols, terms, Op::Distinct, left, &mut list)? {
+    if !load_arguments(symbols, terms, Op::Distinct, Sign::Itself, left, &mut list)? {
         return Ok(false);
     }
     stands_for(alloc, symbols, terms, &list, right)

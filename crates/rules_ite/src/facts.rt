@@ -6,10 +6,8 @@ ghost use Rattle.term_model.specs.Terms.{Term};
 ghost use Rattle.term_pool.specs.Views.{IsTerm, RefersTo, ReferToAll};
 ghost use Rattle.rules_ite.specs.Facts.{AreParts, Introduces, IsAbout};
 
-use crate::distinct::load;
-use crate::sides::sides_of;
 use pair_pool::{Memory, Ref};
-use schema_match::{Scratch, Slot, over};
+use schema_match::{Scratch, Sign, Slot, load_arguments, over, sides_of};
 use smallvec::SmallVec;
 use std::alloc::Global;
 use sym_table::Symbols;
@@ -134,7 +132,7 @@ pub(crate) fn introduces_choices(
     ensures same { terms.new ≡ terms.old }
 {
     let mut list: Scratch = SmallVec::new(alloc);
-    if !load(symbols, terms, Op::And, right, &mut list)? {
+    if !load_arguments(symbols, terms, Op::And, Sign::Itself, right, &mut list)? {
         return Ok(false);
     }
     let Some((first, facts)) = list.as_slice().split_first() else {

@@ -10,6 +10,5 @@ mod choices;
 mod connectives;
 mod distinct;
 mod facts;
-mod sides;
 
 pub use checks::check;

@@ -5,9 +5,12 @@ pub mod Steps
 pub mod Shapes
 pub mod Loops
 pub mod ArgumentCells
+pub mod ArgumentLemmas
 pub mod StackLemmas
 pub mod PremiseLemmas
 pub mod InstanceLemmas
 pub mod StepLemmas
 pub mod StepAnswers
 pub mod OneInstance
+pub mod FewPremises
+pub mod SideLemmas

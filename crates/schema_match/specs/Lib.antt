@@ -10,3 +10,4 @@ pub mod Reads
 pub mod Schemas
 pub mod Signs
 pub mod Premises
+pub mod Sides

@@ -1,15 +1,20 @@
 //! Arguments of applications, by the cells of their list.
 
-ghost use Rattle.std.specs.Prelude.{◌≡◌, ◌≤◌, ◌∷◌, List, length, OnOk};
+ghost use Rattle.std.specs.Prelude.{◌≡◌, ◌≤◌, ◌∷◌, List, length, IfOk, OnOk};
+ghost use Rattle.std.specs.Bool.{OnTrue, OnFalse};
 ghost use Rattle.sym_table.specs.Table.{Table};
 ghost use Rattle.term_model.specs.Terms.{Term};
 ghost use Rattle.term_pool.specs.Reading.{arguments_of};
-ghost use Rattle.term_pool.specs.Views.{RefersTo, ReferToAll};
-ghost use Rattle.schema_match.specs.Arguments.{HasSoMany};
+ghost use Rattle.term_pool.specs.Views.{IsTerm, RefersTo, ReferToAll};
+ghost use Rattle.schema_match.specs.Arguments.{HasArguments, HasNoArguments, HasSoMany};
 ghost use Rattle.schema_match.specs.ArgumentCells.{IsListOf, IsSomeList};
 
+use crate::applications::over;
 use crate::scratch::{Scratch, push};
+use crate::signs::{Sign, unsigned};
 use pair_pool::{Memory, Ref};
+use sym_table::Symbols;
+use term_model::Op;
 use term_pool::Terms;
 
 /// The first item of a list, and the rest of it.
@@ -43,4 +48,31 @@ pub fn read_arguments(
         rest = next;
     }
     Ok(())
+}
+
+/// Whether a literal is an application of an operator to one argument or more, with a sign. Where it is, only its
+/// arguments are in the list afterwards, in order.
+pub fn load_arguments(
+    symbols: &Symbols,
+    terms: &mut Terms<'_>,
+    op: Op,
+    sign: Sign,
+    literal: Ref,
+    arguments: &mut Scratch,
+) -> Result<bool, Memory>
+    requires { IsTerm symbols.now terms.old literal }
+    ensures loaded { IfOk result (λ yes. OnTrue yes ((t : Term) → RefersTo symbols.now terms.old literal t →
+        HasArguments symbols.now terms.old op sign t arguments.new.items)) }
+    ensures other { IfOk result (λ yes. OnFalse yes ((t : Term) → RefersTo symbols.now terms.old literal t → HasNoArguments op sign t)) }
+    ensures same { terms.new ≡ terms.old }
+{
+    let Some(whole) = unsigned(symbols, terms, sign, literal) else {
+        return Ok(false);
+    };
+    let count = over(symbols, terms, op, whole).unwrap_or(0);
+    if count == 0 {
+        return Ok(false);
+    }
+    read_arguments(terms, whole, count, arguments)?;
+    Ok(true)
 }

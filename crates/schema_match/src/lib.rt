@@ -13,15 +13,17 @@ mod matching;
 mod part;
 mod premises;
 mod scratch;
+mod sides;
 mod signs;
 mod stack;
 
 pub use applications::over;
-pub use arguments::read_arguments;
+pub use arguments::{load_arguments, read_arguments};
 pub use instances::{SchemaParts, is_instance, is_instance_of_one};
 pub use letters::Letters;
 pub use matching::{fits, matched};
 pub use part::Part;
 pub use premises::unit;
 pub use scratch::{Scratch, Slot, pop, push, slot_of};
+pub use sides::{equation, sides_of};
 pub use signs::{Sign, under_not, unsigned};

@@ -5,16 +5,16 @@ ghost use Rattle.term_model.specs.Flips.{equality};
 ghost use Rattle.term_model.specs.Terms.{Term};
 ghost use Rattle.term_pool.specs.Views.{IsTerm, RefersTo, ReferToAll};
 ghost use Rattle.schema_match.specs.Steps.{ReferToClauses};
-ghost use Rattle.rules_ite.specs.Sides.{AreSides, IsEquation};
+ghost use Rattle.schema_match.specs.Sides.{AreSides, IsEquation};
 
+use crate::applications::over;
 use pair_pool::Ref;
-use schema_match::over;
 use sym_table::Symbols;
 use term_model::Op;
 use term_pool::Terms;
 
 /// The two sides of an equality.
-pub(crate) fn sides_of(symbols: &Symbols, terms: &mut Terms<'_>, r: Ref) -> Option<(Ref, Ref)>
+pub fn sides_of(symbols: &Symbols, terms: &mut Terms<'_>, r: Ref) -> Option<(Ref, Ref)>
     requires { IsTerm symbols.now terms.old r }
     ensures sides { IfSome result (λ p. (t : Term) → RefersTo symbols.now terms.old r t → AreSides symbols.now terms.old p t) }
     ensures other { IfNone result ((t u w : Term) → RefersTo symbols.now terms.old r t → t ≢ equality u w) }
@@ -29,7 +29,7 @@ pub(crate) fn sides_of(symbols: &Symbols, terms: &mut Terms<'_>, r: Ref) -> Opti
 }
 
 /// The two sides of the equality that a step states, which has no premise and one literal.
-pub(crate) fn equation(
+pub fn equation(
     symbols: &Symbols,
     terms: &mut Terms<'_>,
     premises: &[&[Ref]],

@@ -1,6 +1,6 @@
 use Rattle.std.proofs.Common.{sym, ◌∙◌}
-use Rattle.rules_clausal.proofs.ArgumentLemmas.{so_many_loaded, unsigned_is_term, none_loaded, loaded}
-use Rattle.rules_clausal.proofs.argument_rules.load.Goals as goal
+use Rattle.schema_match.proofs.ArgumentLemmas.{so_many_loaded, unsigned_is_term, none_loaded, loaded}
+use Rattle.schema_match.proofs.arguments.load_arguments.Goals as goal
 
 pub returns-in_default-clause-other : goal.returns-in_default-clause-other
 returns-in_default-clause-other c t refers first others = c.in_default.ensures.other t _ refers

@@ -1,4 +1,4 @@
--- Private. Equalities of two terms, by the references of their sides.
+-- Public. Equalities of two terms, by the references of their sides.
 use Rattle.std.specs.Prelude.{◌≡◌, ℕ, List, [], ◌∷◌}
 use Rattle.sym_table.specs.Table.{Table}
 use Rattle.term_model.specs.Flips.{equality}

@@ -8,8 +8,7 @@ use Rattle.term_pool.specs.Reading.{arguments_of}
 use Rattle.term_pool.specs.Views.{TermsView, RefersTo, IsTerm, ReferToAll}
 use Rattle.schema_match.specs.declared.signs.Sign.{Sign}
 use Rattle.schema_match.specs.declared.signs.Sign.TheVariants.{Itself, Negation}
-use Rattle.rules_clausal.specs.ArgumentRules.{HasArguments, HasNoArguments}
-use Rattle.schema_match.specs.Arguments.{HasSoMany}
+use Rattle.schema_match.specs.Arguments.{HasArguments, HasNoArguments, HasSoMany}
 use Rattle.schema_match.specs.Over.{IsOver}
 use Rattle.schema_match.specs.Signs.{sign_of, IsSigned}
 use Rattle.schema_match.proofs.OverLemmas.{has_so_many}
