@@ -17,6 +17,13 @@ use sym_table::Symbols;
 use term_model::{Op, Sort};
 use term_pool::Terms;
 
+/// Whether these are the sides of an equality, in order.
+fn are_sides(sides: (Ref, Ref), left: Ref, right: Ref) -> bool
+    ensures { IsTrue result ↔ ((sides.0 ≡ left) × (sides.1 ≡ right)) }
+{
+    sides.0 == left && sides.1 == right
+}
+
 /// Whether a literal is the inequality of two terms, in either order.
 fn is_inequality(
     symbols: &Symbols,
@@ -35,13 +42,13 @@ fn is_inequality(
     let Some(inner) = under_not(symbols, terms, literal) else {
         return false;
     };
-    let Some((left, right)) = sides_of(symbols, terms, inner) else {
+    let Some(sides) = sides_of(symbols, terms, inner) else {
         return false;
     };
-    if left == one && right == other {
+    if are_sides(sides, one, other) {
         return true;
     }
-    left == other && right == one
+    are_sides(sides, other, one)
 }
 
 /// Whether literals are the inequalities of a term with each of some others, in order.

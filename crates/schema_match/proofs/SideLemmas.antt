@@ -1,7 +1,8 @@
 -- The arguments of applications to few, and the two sides of an equality.
-use Rattle.std.proofs.Common.{◌≡◌, ◌≢◌, ◌<◌, ◌≤◌, ℕ, List, [], ◌∷◌, length, get_or, All, Some, refl, sym, ◌∙◌, ap, subst, arith}
+use Rattle.std.proofs.Common.{◌≡◌, ◌≢◌, ◌<◌, ◌≤◌, ℕ, List, [], ◌∷◌, length, get_or, All, Option, Some, None, refl, sym, ◌∙◌, ap, subst, arith}
 use Rattle.std.specs.Borrow.{Bor}
 use Rattle.std.specs.List.{slice_get}
+use Rattle.std.specs.Option.{IfNone}
 use Rattle.sym_table.specs.Table.{Table}
 use Rattle.term_model.specs.declared.symbols.Op.{Op}
 use Rattle.term_model.specs.Flips.{equality}
@@ -57,6 +58,11 @@ sides_are s v left right t is first second =
       right_refers = second here.1 (rw here.2 refl);
       is = here.2;
     }
+
+-- what follows from what a clause says where there is nothing
+pub IfNone_then : {X P Q : Type 0} (o : Option X) → IfNone o P → (P → Q) → IfNone o Q
+IfNone_then None h f = f h
+IfNone_then (Some x) h f = tt
 
 -- a step that states an equality
 module _ (s : Table) (v : TermsView) (premises : List (Bor (List ℕ))) (clause : List ℕ) (ps : List (List Term)) (ts : List Term) (premises_are : ReferToClauses s v premises ps) (clause_is : ReferToAll s v clause ts) where

@@ -1,0 +1,4 @@
+pub mod CheckLemmas
+pub mod ConnectiveLemmas
+pub mod DistinctLemmas
+pub mod FactLemmas
