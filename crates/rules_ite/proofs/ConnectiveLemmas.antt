@@ -1,14 +1,13 @@
 -- Definitions of connectives as instances of schemas. That the sides of an equality are of Bool is told by the implications
 -- that stand beside it in a well-sorted clause.
 use Rattle.std.proofs.Common.{◌≡◌, ◌↔◌, ℕ, zero, suc, inl, inr, ◌⊎◌, List, [], ◌∷◌, length, get_or, Bool, true, false, IsTrue, All, Any, Some, refl, sym, ◌∙◌, ap, subst, arith}
-use Rattle.std.proofs.lemmas.List.Elements.{All-head}
+use Rattle.std.proofs.lemmas.List.Elements.{All-head, All-tail}
 use Rattle.term_model.specs.declared.symbols.Op.{Op}
 use Rattle.term_model.specs.declared.symbols.Sort.{Sort}
 use Rattle.term_model.specs.Flips.{equality}
-use Rattle.term_model.specs.Sorts.{IsOf, AreOf, at_least, when}
-use Rattle.term_model.specs.Terms.{Term, operation, term, no_terms, sort_eq}
-use Rattle.term_model.proofs.Basics.{and-left, and-right}
-use Rattle.term_model.proofs.Tests.{sort_eq_decides}
+use Rattle.term_model.specs.Sorts.{IsOf, AreOf}
+use Rattle.term_model.specs.Terms.{Term, operation, term, no_terms}
+use Rattle.term_model.proofs.Arities.{two_or_more_sort}
 use Rattle.rule_model.specs.declared.letter.Letter.{Letter}
 use Rattle.rule_model.specs.Conditions.{IsClauseOfTruths}
 use Rattle.rule_model.specs.Definitions.{connective_definitions, MeetsConnectiveDef}
@@ -19,35 +18,26 @@ use Rattle.schema_match.specs.Schemas.{IsInstanceOfOne}
 use Rattle.rules_ite.specs.Connectives.{schemas_of}
 
 -- sorts of the arguments of well-sorted terms
-truth_of : (b : Bool) (s t : Sort) → when b s ≡ Some t → b ≡ true
-truth_of true s t e = refl
-truth_of false s t e = absurd cc
-
-all_truths : (s t : Sort) → at_least 2 Sort.Bool (s ∷ t ∷ []) ≡ true → (s ≡ Sort.Bool) × (t ≡ Sort.Bool)
-all_truths Sort.Bool Sort.Bool e = (refl, refl)
-all_truths Sort.Bool Sort.Int e = absurd cc
-all_truths Sort.Bool (Sort.Declared n) e = absurd cc
-all_truths Sort.Int t e = absurd cc
-all_truths (Sort.Declared n) t e = absurd cc
-
-two_of : (op : Op) (t u : Term) (ss : List Sort) → AreOf (term t (term u no_terms)) ss → (x : Sort) × (y : Sort) × (ss ≡ x ∷ y ∷ []) × IsOf t x × IsOf u y
-two_of op t u [] h = absurd h
-two_of op t u (x ∷ []) h = absurd h.1
-two_of op t u (x ∷ y ∷ []) h = (x, y, refl, h.0, h.1.0)
-two_of op t u (x ∷ y ∷ z ∷ ss) h = absurd h.1.1
+pub two_of : (t u : Term) (ss : List Sort) → AreOf (term t (term u no_terms)) ss → (x : Sort) × (y : Sort) × (ss ≡ x ∷ y ∷ []) × IsOf t x × IsOf u y
+two_of t u [] h = absurd h
+two_of t u (x ∷ []) h = absurd h.1
+two_of t u (x ∷ y ∷ []) h = (x, y, refl, h.0, h.1.0)
+two_of t u (x ∷ y ∷ z ∷ ss) h = absurd h.1.1
 
 -- the sides of an implication and of a conjunction are of Bool
 implied : (t u : Term) (s : Sort) → IsOf (operation Op.Implies (term t (term u no_terms))) s → IsOf t Sort.Bool × IsOf u Sort.Bool
 implied t u s h =
-    let two = two_of Op.Implies t u h.sorts h.arguments in
-    let is = all_truths two.0 two.1 (rw two.2 at (truth_of (at_least 2 Sort.Bool h.sorts) Sort.Bool s h.is)) in
-    (subst (IsOf t) is.0 two.3, subst (IsOf u) is.1 two.4)
+    let two = two_of t u h.sorts h.arguments in
+    let all : All (λ a. a ≡ Sort.Bool) (two.0 ∷ two.1 ∷ []) = rw two.2 at (((two_or_more_sort Op.Implies h.sorts s (inl refl)).0 h.is).0.1) in (
+      subst (IsOf t) (All-head (λ a. a ≡ Sort.Bool) two.0 (two.1 ∷ []) all) two.3,
+      subst (IsOf u) (All-head (λ a. a ≡ Sort.Bool) two.1 [] (All-tail (λ a. a ≡ Sort.Bool) two.0 (two.1 ∷ []) all)) two.4,
+    )
 
 first_joined : (t u : Term) (s : Sort) → IsOf (operation Op.And (term t (term u no_terms))) s → (x : Sort) × IsOf t x
-first_joined t u s h = let two = two_of Op.And t u h.sorts h.arguments in (two.0, two.3)
+first_joined t u s h = let two = two_of t u h.sorts h.arguments in (two.0, two.3)
 
 right_side : (t u : Term) (s : Sort) → IsOf (equality t u) s → (x : Sort) × IsOf u x
-right_side t u s h = let two = two_of Op.Equal t u h.sorts h.arguments in (two.1, two.4)
+right_side t u s h = let two = two_of t u h.sorts h.arguments in (two.1, two.4)
 
 -- where the clause is of Bool, what the row for `=` asks besides holds
 over_truths_holds : (f : Letter → Term) → IsOf (fill f (equal (equal a b) (conj (implies a b) (implies b a)))) Sort.Bool → IsOf (f Letter.A) Sort.Bool × IsOf (f Letter.B) Sort.Bool

@@ -205,6 +205,12 @@ fact_parts t h =
     let second = equality_flips (whole_of h) h.u here.2 here.6 in
     (here.0, first.0, first.1, second.0, second.1, here.3 ∙ (ap (λ z. choice here.0 z here.2) first.2 ∙ ap (λ z. choice here.0 (equality first.0 first.1) z) second.2))
 
+pub choice_of_fact : (t : Term) → ((c u w : Term) → t ≢ choice c u w) → IsTrue false ↔ IsFactOfChoice t
+choice_of_fact t other = (λ e. absurd cc, λ h. absurd (go (fact_parts t h)))
+  where
+    go : ((c : Term) × (x : Term) × (y : Term) × (p : Term) × (q : Term) × (t ≡ choice c (equality x y) (equality p q))) → ⊥
+    go (c, x, y, p, q, e) = other c (equality x y) (equality p q) e
+
 -- what the references of a fact's parts stand for
 module _ (s : Table) (v : TermsView) (parts : ℕ × ℕ × ℕ) (t : Term) (are : AreParts s v parts t) where
   parts_same : (c u w : Term) → t ≡ choice c u w → (are.condition ≡ c) × (are.first ≡ u) × (are.second ≡ w)

@@ -45,10 +45,12 @@ fn is_inequality(
     let Some(sides) = sides_of(symbols, terms, inner) else {
         return false;
     };
-    if are_sides(sides, one, other) {
+    let here = are_sides(sides, one, other);
+    if here {
         return true;
     }
-    are_sides(sides, other, one)
+    let turned = are_sides(sides, other, one);
+    turned
 }
 
 /// Whether literals are the inequalities of a term with each of some others, in order.
@@ -68,7 +70,9 @@ fn is_apart_from(
         return false;
     }
     for (place, literal) in literals.iter().enumerate() {
-        if !is_inequality(symbols, terms, one, others[place].get(), literal.get()) {
+        let other = others[place].get();
+        let inequality = literal.get();
+        if !is_inequality(symbols, terms, one, other, inequality) {
             return false;
         }
     }
@@ -120,6 +124,28 @@ fn is_conjunction(
     Ok(are_apart(symbols, terms, list, &literals))
 }
 
+/// Whether a term is what `distinct` of three or more terms of one sort stands for.
+fn stands_for_many(
+    alloc: Global,
+    symbols: &Symbols,
+    terms: &mut Terms<'_>,
+    list: &[Slot],
+    right: Ref,
+) -> Result<bool, Memory>
+    requires right { IsTerm symbols.now terms.old right }
+    requires list { All (IsWellSortedTerm symbols.now terms.old) list.now }
+    requires many { 3 ≤ length list.now }
+    ensures stands { IfOk result (λ yes. (us : List Term) (t : Term) → ReferToAll symbols.now terms.old list.now us → AreOfOneSort us →
+        RefersTo symbols.now terms.old right t → IsTrue yes ↔ StandsFor us t) }
+    ensures same { terms.new ≡ terms.old }
+{
+    let first = list[0].get();
+    if sort_of(symbols, terms, first) == Sort::Bool {
+        return Ok(over(symbols, terms, Op::False, right) == Some(0));
+    }
+    is_conjunction(alloc, symbols, terms, list, right)
+}
+
 /// Whether a term is what `distinct` of some terms of one sort stands for.
 fn stands_for(
     alloc: Global,
@@ -134,17 +160,15 @@ fn stands_for(
         RefersTo symbols.now terms.old right t → IsTrue yes ↔ StandsFor us t) }
     ensures same { terms.new ≡ terms.old }
 {
-    match list {
-        [] => Ok(false),
-        [_one] => Ok(false),
-        [one, other] => Ok(is_inequality(symbols, terms, one.get(), other.get(), right)),
-        [first, ..] => {
-            if sort_of(symbols, terms, first.get()) == Sort::Bool {
-                return Ok(over(symbols, terms, Op::False, right) == Some(0));
-            }
-            is_conjunction(alloc, symbols, terms, list, right)
-        }
+    if list.len() < 2 {
+        return Ok(false);
     }
+    if list.len() == 2 {
+        let first = list[0].get();
+        let second = list[1].get();
+        return Ok(is_inequality(symbols, terms, first, second, right));
+    }
+    stands_for_many(alloc, symbols, terms, list, right)
 }
 
 /// Whether the sides of a well-sorted equality are a `distinct` and what it stands for.
