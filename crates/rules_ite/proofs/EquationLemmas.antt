@@ -1,5 +1,5 @@
 -- Steps that state one equality, and what their rules ask of its sides.
-use Rattle.std.proofs.Common.{◌≡◌, ◌↔◌, ℕ, List, [], ◌∷◌, length, Bool, false, IsTrue, All, refl, sym, ap, ◌∙◌, subst, arith}
+use Rattle.std.proofs.Common.{◌≡◌, ◌↔◌, inr, ℕ, List, [], ◌∷◌, Bool, false, IsTrue, All, refl, sym, ap, ◌∙◌, subst, arith}
 use Rattle.std.specs.Borrow.{Bor}
 use Rattle.std.proofs.lemmas.List.Elements.{All-cons, All-head, All-tail}
 use Rattle.sort_check.specs.WellSorted.{IsWellSortedTerm}
@@ -9,7 +9,7 @@ use Rattle.term_model.specs.declared.symbols.Sort.{Sort}
 use Rattle.term_model.specs.Flips.{equality}
 use Rattle.term_model.specs.Sorts.{IsOf, AreOf, IsWellSorted}
 use Rattle.term_model.specs.Terms.{Term, operation, terms_of}
-use Rattle.term_model.proofs.Arities.{one_sort_decides, when_decides}
+use Rattle.term_model.proofs.Arities.{equality_sort}
 use Rattle.term_pool.specs.Views.{TermsView, RefersTo, IsTerm, ReferToAll}
 use Rattle.rule_model.specs.Conditions.{IsClauseOfTruths}
 use Rattle.rule_model.specs.Definitions.{MeetsIteIntro, MeetsDistinctElim}
@@ -64,7 +64,7 @@ arguments_of_sort s (t ∷ ts) (x ∷ ss) h all =
 
 pub distinct_of_one_sort : (ts : List Term) (s : Sort) → IsOf (operation Op.Distinct (terms_of ts)) s → AreOfOneSort ts
 distinct_of_one_sort ts s h =
-    let alike = ((when_decides _ Sort.Bool s (one_sort_decides h.sorts)).0 h.is).0 in
+    let alike = ((equality_sort Op.Distinct h.sorts s (inr refl)).0 h.is).0 in
     record { sort = alike.1.0; each = arguments_of_sort alike.1.0 ts h.sorts h.arguments alike.1.1 }
 
 -- references that are terms stand for clauses
