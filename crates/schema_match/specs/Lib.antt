@@ -11,3 +11,4 @@ pub mod Schemas
 pub mod Signs
 pub mod Premises
 pub mod Sides
+pub mod Rows
