@@ -12,3 +12,4 @@ pub mod Signs
 pub mod Premises
 pub mod Sides
 pub mod Rows
+pub mod Falling
