@@ -14,3 +14,4 @@ pub mod StepAnswers
 pub mod OneInstance
 pub mod FewPremises
 pub mod SideLemmas
+pub mod MadeLemmas

@@ -13,3 +13,4 @@ pub mod Premises
 pub mod Sides
 pub mod Rows
 pub mod Falling
+pub mod Made
