@@ -13,7 +13,7 @@ use Rattle.rule_model.specs.Conditions.{IsClauseOfTruths}
 use Rattle.rule_model.specs.Definitions.{connective_definitions, MeetsConnectiveDef}
 use Rattle.rule_model.specs.Patterns.{a, b, c, equal, conj, disj, xor, implies, no, ite}
 use Rattle.rule_model.specs.Rewriting.{Row, Rewrites, over_truths, ◌⇝◌}
-use Rattle.rule_model.specs.Schemas.{fill, IsInstance}
+use Rattle.rule_model.specs.Schemas.{Pattern, fill, IsInstance}
 use Rattle.schema_match.specs.Schemas.{IsInstanceOfOne}
 use Rattle.rules_ite.specs.Connectives.{schemas_of}
 
@@ -60,7 +60,7 @@ module _ (ps : List (List Term)) (ts : List Term) where
     literals = is ∙ (ap (λ x. equality x u ∷ []) h.from ∙ ap (λ x. equality (fill h.terms row.left) x ∷ []) h.to);
   }
 
-  row_of_plain : (p q : _) → instance_of (p ⇝ q) → row_of (p ⇝ q)
+  row_of_plain : (p q : Pattern) → instance_of (p ⇝ q) → row_of (p ⇝ q)
   row_of_plain p q i = (
     fill i.terms p,
     fill i.terms q,

@@ -1,6 +1,7 @@
 -- Inequalities of each two of some terms.
 use Rattle.std.proofs.Common.{◌≡◌, ◌≢◌, ◌↔◌, ◌⊎◌, inl, inr, ◌<◌, ◌≤◌, ◌+◌, ℕ, zero, suc, List, [], ◌∷◌, ◌++◌, length, take, drop, get_or, Bool, true, false, IsTrue, All, refl, sym, ap, ◌∙◌, subst, arith, add-one}
 use Rattle.std.specs.List.{AllZip}
+use Rattle.std.proofs.lemmas.List.{drop_all}
 use Rattle.sym_table.specs.Table.{Table}
 use Rattle.term_model.specs.Flips.{equality}
 use Rattle.term_model.specs.Terms.{Term, not_of}
@@ -80,16 +81,7 @@ module _ (R : Term → Term → Type 0) where
   zip_length (u ∷ us) (l ∷ ls) h = ap suc (zip_length us ls h.1)
 
   pub zip_end : (i : ℕ) (us ls : List Term) → length us ≤ i → length ls ≤ i → AllZip R (drop i us) (drop i ls)
-  zip_end zero [] [] over other = tt
-  zip_end (suc i) [] [] over other = tt
-  zip_end i [] (l ∷ ls) over other = go i other
-    where
-      go : (i : ℕ) → length (l ∷ ls) ≤ i → AllZip R (drop i []) (drop i (l ∷ ls))
-      go zero other = absurd (omega (arith, other))
-      go (suc i) other = zip_end i [] ls (omega arith) (omega (arith, other))
-  zip_end zero (u ∷ us) ls over other = absurd (omega (arith, over))
-  zip_end (suc i) (u ∷ us) [] over other = zip_end i us [] (omega (arith, over)) (omega arith)
-  zip_end (suc i) (u ∷ us) (l ∷ ls) over other = zip_end i us ls (omega (arith, over)) (omega (arith, other))
+  zip_end i us ls over other = rw (drop_all i us over, drop_all i ls other) tt
 
 -- the inequalities of a term with the later ones stand first
 module _ (t : Term) (us ls : List Term) where

@@ -250,3 +250,46 @@ module _ (s : Table) (v : TermsView) (parts : ℕ × ℕ × ℕ) (t : Term) (are
         go : About ⊎ AboutOther → IsTrue b
         go (inl h) = absurd (no h)
         go (inr h) = test.1 h
+
+-- what the tests of one side come to
+module _ (s : Table) (v : TermsView) (parts : ℕ × ℕ × ℕ) (m c t p q : Term) (are : AreParts s v parts m) where
+  about_parts : (h : IsAbout c m t p q) → (are.condition ≡ h.condition) × (are.first ≡ h.first) × (are.second ≡ h.second)
+  about_parts h = same_parts are.condition are.first are.second h.condition h.first h.second (sym are.is ∙ h.is)
+
+  pub other_condition : (b : Bool) → IsTrue b ↔ EqualUpToFlips c are.condition → b ≡ false → IsTrue false ↔ IsAbout c m t p q
+  other_condition b test fails = (λ e. absurd cc, λ h. absurd (let holds = test.1 (rw (about_parts h).0 h.same_condition) in cc))
+
+  pub other_branch : (b : Bool) → IsTrue b ↔ EqualUpToFlips t are.first → b ≡ false → IsTrue false ↔ IsAbout c m t p q
+  other_branch b test fails = (λ e. absurd cc, λ h. absurd (let holds = test.1 (rw (about_parts h).1 h.same_first) in cc))
+
+  module _ (condition : EqualUpToFlips c are.condition) (branch : EqualUpToFlips t are.first) where
+    about : SidesFlip p q m are.second → IsAbout c m t p q
+    about h = record {
+      condition = are.condition;
+      first = are.first;
+      second = are.second;
+      is = are.is;
+      same_condition = condition;
+      same_first = branch;
+      same_second = h;
+    }
+
+    pub straight_is : EqualUpToFlips p m → EqualUpToFlips q are.second → IsAbout c m t p q
+    straight_is h k = about (inl (h, k))
+
+    pub crossed_is : (b : Bool) → ¬ (EqualUpToFlips p m × EqualUpToFlips q are.second) → EqualUpToFlips p are.second → IsTrue b ↔ EqualUpToFlips q m → IsTrue b ↔ IsAbout c m t p q
+    crossed_is b not crossed test = (λ e. about (inr (crossed, test.0 e)), λ h. go (rw (about_parts h).2 h.same_second))
+      where
+        go : SidesFlip p q m are.second → IsTrue b
+        go (inl h) = absurd (not h)
+        go (inr h) = test.1 h.1
+
+    pub neither_is : ¬ (EqualUpToFlips p m × EqualUpToFlips q are.second) → ¬ EqualUpToFlips p are.second → IsTrue false ↔ IsAbout c m t p q
+    neither_is not other = (λ e. absurd cc, λ h. absurd (go (rw (about_parts h).2 h.same_second)))
+      where
+        go : SidesFlip p q m are.second → ⊥
+        go (inl h) = not h
+        go (inr h) = other h.0
+
+pub no_choice : (m c t p q : Term) → ((d u w : Term) → m ≢ choice d u w) → IsTrue false ↔ IsAbout c m t p q
+no_choice m c t p q other = (λ e. absurd cc, λ h. absurd (other h.condition h.first h.second h.is))

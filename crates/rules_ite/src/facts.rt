@@ -53,18 +53,23 @@ fn is_about(
     let Some((condition, first, second)) = parts_of(symbols, terms, whole) else {
         return Ok(false);
     };
-    if !terms.same_up_to_flips(alloc, symbols, branch.0, condition)? {
+    let conditions = terms.same_up_to_flips(alloc, symbols, branch.0, condition)?;
+    if !conditions {
         return Ok(false);
     }
-    if !terms.same_up_to_flips(alloc, symbols, branch.1, first)? {
+    let branches = terms.same_up_to_flips(alloc, symbols, branch.1, first)?;
+    if !branches {
         return Ok(false);
     }
-    if terms.same_up_to_flips(alloc, symbols, sides.0, whole)? {
-        if terms.same_up_to_flips(alloc, symbols, sides.1, second)? {
+    let straight = terms.same_up_to_flips(alloc, symbols, sides.0, whole)?;
+    if straight {
+        let others = terms.same_up_to_flips(alloc, symbols, sides.1, second)?;
+        if others {
             return Ok(true);
         }
     }
-    if !terms.same_up_to_flips(alloc, symbols, sides.0, second)? {
+    let crossed = terms.same_up_to_flips(alloc, symbols, sides.0, second)?;
+    if !crossed {
         return Ok(false);
     }
     terms.same_up_to_flips(alloc, symbols, sides.1, whole)

@@ -19,31 +19,28 @@ module _ (s : Table) (v : TermsView) (made : List MadeTerm) (table : IsTable s) 
   pub item_term_is : (n : ℕ) (i : Item) (t : Term) → IsBefore n i → StandsBy s v made i t → item_term s v made n i ≡ Some t
   item_term_is n (Known r) t before stands = terms s r t table stands
   item_term_is zero (Made k) t before stands = absurd (omega (arith, before))
-  item_term_is (suc n) (Made k) (operation op ts) before stands = go (slice_get made k) refl ts stands
+  item_term_is (suc n) (Made k) (operation op ts) before stands = go (λ j x h. item_term_is n j x (before_less k n j before h)) (slice_get made k) refl ts stands
     where
-      one : (j : Item) (x : Term) → IsBefore k j → StandsBy s v made j x → item_term s v made n j ≡ Some x
-      one j x h st = item_term_is n j x (before_less k n j before h) st
-
-      go : (m : Option MadeTerm) → slice_get made k ≡ m → (ts : Terms) → IsMadeOf s v made m op ts → made_term s v made n m ≡ Some (operation op ts)
-      go None e ts h = absurd h
-      go (Some (Constant o)) e no_terms h = ap (λ x. Some (operation x no_terms)) h
-      go (Some (Constant o)) e (term t ts) h = absurd h
-      go (Some (Unary o i)) e (term t no_terms) h = rw (one i t (order k (Unary o i) e) h.1) (ap (λ x. Some (operation x (term t no_terms))) h.0)
-      go (Some (Unary o i)) e no_terms h = absurd h
-      go (Some (Unary o i)) e (term t (term u ts)) h = absurd h
-      go (Some (Binary o i j)) e (term t (term u no_terms)) h =
+      go : ((j : Item) (x : Term) → IsBefore k j → StandsBy s v made j x → item_term s v made n j ≡ Some x) → (m : Option MadeTerm) → slice_get made k ≡ m → (ts : Terms) → IsMadeOf s v made m op ts → made_term s v made n m ≡ Some (operation op ts)
+      go one None e ts h = absurd h
+      go one (Some (Constant o)) e no_terms h = ap (λ x. Some (operation x no_terms)) h
+      go one (Some (Constant o)) e (term t ts) h = absurd h
+      go one (Some (Unary o i)) e (term t no_terms) h = rw (one i t (order k (Unary o i) e) h.1) (ap (λ x. Some (operation x (term t no_terms))) h.0)
+      go one (Some (Unary o i)) e no_terms h = absurd h
+      go one (Some (Unary o i)) e (term t (term u ts)) h = absurd h
+      go one (Some (Binary o i j)) e (term t (term u no_terms)) h =
           (let earlier = order k (Binary o i j) e in
           rw (one i t earlier.0 h.1, one j u earlier.1 h.2) (ap (λ x. Some (operation x (term t (term u no_terms)))) h.0))
-      go (Some (Binary o i j)) e no_terms h = absurd h
-      go (Some (Binary o i j)) e (term t no_terms) h = absurd h
-      go (Some (Binary o i j)) e (term t (term u (term w ts))) h = absurd h
-      go (Some (Ternary o i j l)) e (term t (term u (term w no_terms))) h =
+      go one (Some (Binary o i j)) e no_terms h = absurd h
+      go one (Some (Binary o i j)) e (term t no_terms) h = absurd h
+      go one (Some (Binary o i j)) e (term t (term u (term w ts))) h = absurd h
+      go one (Some (Ternary o i j l)) e (term t (term u (term w no_terms))) h =
           (let earlier = order k (Ternary o i j l) e in
           rw (one i t earlier.0 h.1, one j u earlier.1 h.2, one l w earlier.2 h.3) (ap (λ x. Some (operation x (term t (term u (term w no_terms))))) h.0))
-      go (Some (Ternary o i j l)) e no_terms h = absurd h
-      go (Some (Ternary o i j l)) e (term t no_terms) h = absurd h
-      go (Some (Ternary o i j l)) e (term t (term u no_terms)) h = absurd h
-      go (Some (Ternary o i j l)) e (term t (term u (term w (term x ts)))) h = absurd h
+      go one (Some (Ternary o i j l)) e no_terms h = absurd h
+      go one (Some (Ternary o i j l)) e (term t no_terms) h = absurd h
+      go one (Some (Ternary o i j l)) e (term t (term u no_terms)) h = absurd h
+      go one (Some (Ternary o i j l)) e (term t (term u (term w (term x ts)))) h = absurd h
   item_term_is (suc n) (Made k) (numeral z) before stands = absurd stands
   item_term_is (suc n) (Made k) (variable x) before stands = absurd stands
   item_term_is (suc n) (Made k) (call f ts) before stands = absurd stands
