@@ -12,7 +12,7 @@ use Rattle.term_pool.specs.Views.{TermsView, RefersTo}
 use Rattle.rule_model.specs.Definitions.{choice, IsFactOfChoice}
 use Rattle.schema_match.specs.Over.{IsOver}
 use Rattle.schema_match.specs.Sides.{AreSides}
-use Rattle.schema_match.proofs.SideLemmas.{over_three}
+use Rattle.schema_match.proofs.SideLemmas.{over_three, first_of_three, second_of_three, third_of_three}
 use Rattle.rules_ite.specs.Facts.{AreParts, IsAbout}
 
 pub parts_are : (s : Table) (v : TermsView) (p q r : ℕ) (t : Term) → IsOver Op.Ite 3 t → ((b : Term) → slice_get (arguments_of t) 0 ≡ Some b → RefersTo s v p b) → ((b : Term) → slice_get (arguments_of t) 1 ≡ Some b → RefersTo s v q b) → ((b : Term) → slice_get (arguments_of t) 2 ≡ Some b → RefersTo s v r b) → AreParts s v (p, q, r) t
@@ -22,9 +22,9 @@ parts_are s v p q r t is first second third =
       condition = here.0;
       first = here.1;
       second = here.2;
-      condition_refers = first here.0 (rw here.3 refl);
-      first_refers = second here.1 (rw here.3 refl);
-      second_refers = third here.2 (rw here.3 refl);
+      condition_refers = first here.0 (first_of_three Op.Ite t here.0 here.1 here.2 here.3);
+      first_refers = second here.1 (second_of_three Op.Ite t here.0 here.1 here.2 here.3);
+      second_refers = third here.2 (third_of_three Op.Ite t here.0 here.1 here.2 here.3);
       is = here.3;
     }
 

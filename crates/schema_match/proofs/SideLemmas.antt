@@ -47,6 +47,22 @@ over_three op (variable x) h = absurd h
 over_three op (call f us) h = absurd h
 over_three op (let_in bs u) h = absurd h
 
+-- the arguments at their places
+first_of_two : (op : Op) (t a b : Term) → t ≡ operation op (term a (term b no_terms)) → slice_get (arguments_of t) 0 ≡ Some a
+first_of_two op t a b e = rw e refl
+
+second_of_two : (op : Op) (t a b : Term) → t ≡ operation op (term a (term b no_terms)) → slice_get (arguments_of t) 1 ≡ Some b
+second_of_two op t a b e = rw e refl
+
+pub first_of_three : (op : Op) (t a b c : Term) → t ≡ operation op (term a (term b (term c no_terms))) → slice_get (arguments_of t) 0 ≡ Some a
+first_of_three op t a b c e = rw e refl
+
+pub second_of_three : (op : Op) (t a b c : Term) → t ≡ operation op (term a (term b (term c no_terms))) → slice_get (arguments_of t) 1 ≡ Some b
+second_of_three op t a b c e = rw e refl
+
+pub third_of_three : (op : Op) (t a b c : Term) → t ≡ operation op (term a (term b (term c no_terms))) → slice_get (arguments_of t) 2 ≡ Some c
+third_of_three op t a b c e = rw e refl
+
 -- the two sides
 pub sides_are : (s : Table) (v : TermsView) (left right : ℕ) (t : Term) → IsOver Op.Equal 2 t → ((b : Term) → slice_get (arguments_of t) 0 ≡ Some b → RefersTo s v left b) → ((b : Term) → slice_get (arguments_of t) 1 ≡ Some b → RefersTo s v right b) → AreSides s v (left, right) t
 sides_are s v left right t is first second =
@@ -54,8 +70,8 @@ sides_are s v left right t is first second =
     record {
       left = here.0;
       right = here.1;
-      left_refers = first here.0 (rw here.2 refl);
-      right_refers = second here.1 (rw here.2 refl);
+      left_refers = first here.0 (first_of_two Op.Equal t here.0 here.1 here.2);
+      right_refers = second here.1 (second_of_two Op.Equal t here.0 here.1 here.2);
       is = here.2;
     }
 
