@@ -5,3 +5,4 @@ pub mod DistinctLemmas
 pub mod FactLemmas
 pub mod StandingLemmas
 pub mod EquationLemmas
+pub mod EachLemmas

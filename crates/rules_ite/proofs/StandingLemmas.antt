@@ -1,14 +1,21 @@
 -- What `distinct` of few and of many terms of one sort stands for.
 use Rattle.std.proofs.Common.{◌≡◌, ◌≢◌, ◌↔◌, ◌⊎◌, inl, inr, ◌<◌, ◌≤◌, ℕ, suc, List, [], ◌∷◌, length, Bool, true, false, IsTrue, All, refl, sym, ap, ◌∙◌, subst, arith}
 use Rattle.std.proofs.lemmas.List.Elements.{All-head}
+use Rattle.sym_table.specs.Table.{Table}
 use Rattle.term_model.specs.declared.symbols.Op.{Op}
 use Rattle.term_model.specs.declared.symbols.Sort.{Sort}
 use Rattle.term_model.specs.Sorts.{IsOf}
 use Rattle.term_model.specs.Terms.{Term, operation, no_terms, terms_of, list_of}
 use Rattle.term_model.proofs.Sorting.{one_sort}
+use Rattle.term_pool.specs.Views.{TermsView, ReferToAll}
 use Rattle.rule_model.specs.Definitions.{AreInequalities, IsInequality, IsOfTwo, IsOfTruths, IsOfOthers}
 use Rattle.rule_model.proofs.ArgumentLists.{list_of-terms_of}
+use Rattle.schema_match.proofs.ReferLemmas.{refer_length}
 use Rattle.rules_ite.specs.Distinct.{AreOfOneSort, IsConjunction, StandsFor, Eliminates}
+
+-- as many terms as references
+pub many_terms : (s : Table) (v : TermsView) (references : List ℕ) (us : List Term) → ReferToAll s v references us → 3 ≤ length references → 3 ≤ length us
+many_terms s v references us refer many = let count = refer_length s v references us refer in omega (arith, many, count)
 
 -- fewer than two terms, and two
 pub few_stand_for_none : (us : List Term) (t : Term) → length us < 2 → IsTrue false ↔ StandsFor us t
