@@ -1,7 +1,8 @@
 -- The parts are read one after the other.
-use Rattle.std.proofs.Common.{◌≡◌, ◌↔◌, ℕ, ◌<◌, ◌+◌, List, [], ◌∷◌, ◌++◌, length, reverse, drop, get_or, Bool, false, IsTrue, None, nat_eq, refl, sym, ◌∙◌, ap, subst, add-one, drop-cons}
+use Rattle.std.proofs.Common.{◌≡◌, ◌≢◌, ◌↔◌, ℕ, ◌<◌, ◌+◌, List, [], ◌∷◌, ◌++◌, length, reverse, drop, get_or, Bool, true, false, IsTrue, Option, Some, None, nat_eq, refl, sym, ◌∙◌, ap, subst, add-one, drop-cons}
 use Rattle.std.proofs.lemmas.Bool.{eqb-true, eq-eqb}
 use Rattle.std.proofs.lemmas.List.{reverse-reverse, nil_from_length}
+use Rattle.std.specs.Option.{IfSome, IfNone, is_some}
 use Rattle.sym_table.specs.Table.{Table}
 use Rattle.term_model.specs.Terms.{Term, numeral}
 use Rattle.term_pool.specs.Views.{TermsView, IsTerm, ReferToAll}
@@ -105,3 +106,15 @@ module _ (s : Table) (v : TermsView) (parts : List Part) (ps : List Pattern) (ts
 -- what is matched fits
 pub matches_fit : (s : Table) (v : TermsView) (letters : Letters) (ps : List Pattern) (ts : List Term) → Matches s v letters ps ts → Fits ps ts
 matches_fit s v letters ps ts m = (m.terms, (m.give m.terms).1 m.agrees)
+
+-- whether the stack is empty, by its length
+pub more_stack : (stack : List ℕ) (n : ℕ) (b : Bool) → n ≡ length stack → b ≡ nat_eq n 0 → b ≡ false → stack ≢ []
+more_stack stack n b count test no e = absurd (let yes = eq-eqb n 0 (count ∙ ap length e) in cc)
+
+pub no_stack : (stack : List ℕ) (n : ℕ) (b : Bool) → n ≡ length stack → b ≡ nat_eq n 0 → b ≡ true → stack ≡ []
+no_stack stack n b count test yes = nil_from_length stack (sym count ∙ eqb-true n 0 (sym test ∙ yes))
+
+-- where letters are found, the terms fit
+pub found_fits : (s : Table) (v : TermsView) (parts : List Part) (items : List ℕ) (found : Option Letters) (b : Bool) → b ≡ is_some found → IfSome found (λ letters. (ps : List Pattern) (ts : List Term) → parts ≡ parts_of ps → StackOf s v items ts → Matches s v letters ps ts) → IfNone found ((ps : List Pattern) (ts : List Term) → parts ≡ parts_of ps → StackOf s v items ts → ¬ Fits ps ts) → (ps : List Pattern) (ts : List Term) → parts ≡ parts_of ps → StackOf s v items ts → IsTrue b ↔ Fits ps ts
+found_fits s v parts items (Some letters) b is some none ps ts same refer = (λ e. matches_fit s v letters ps ts (some ps ts same refer), λ h. is)
+found_fits s v parts items None b is some none ps ts same refer = (λ e. absurd cc, λ h. absurd (none ps ts same refer h))

@@ -97,8 +97,6 @@ pub fn fits(
         StackOf symbols.now terms.old stack.old.items ts → IsTrue yes ↔ Fits ps ts) }
     ensures same { terms.new ≡ terms.old }
 {
-    match matched(symbols, terms, parts, stack)? {
-        Some(_letters) => Ok(true),
-        None => Ok(false),
-    }
+    let found = matched(symbols, terms, parts, stack)?;
+    Ok(found.is_some())
 }

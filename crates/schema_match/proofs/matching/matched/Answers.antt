@@ -3,7 +3,7 @@ use Rattle.std.proofs.lemmas.Bool.{OnTrue_at, OnFalse_at}
 use Rattle.std.proofs.lemmas.List.{drop_all}
 use Rattle.rule_model.specs.declared.letter.Letter.{Letter}
 use Rattle.schema_match.specs.declared.part.Part.TheVariants.{Any}
-use Rattle.schema_match.proofs.Loops.{left_whole, left_next, left_none, none_fit}
+use Rattle.schema_match.proofs.Loops.{left_whole, left_next, left_none, none_fit, left_over, left_matches, more_stack, no_stack}
 use Rattle.schema_match.proofs.matching.matched.Goals as goal
 
 pub loop-part-init : goal.loop-part-init
@@ -46,3 +46,16 @@ loop-part-preserved c = record {
       (rw c.loop-part.invariant.same at (OnTrue_at c.if-not-branch.false c.in_ok-step.ensures.read)) parts (drop (i + 1) parts) ts (rw c.in-Some.ensures.items at next));
 }
 
+pub returns-then-not-is_empty-clause-other : goal.returns-then-not-is_empty-clause-other
+returns-then-not-is_empty-clause-other c ps ts is refer =
+    let parts = c.args.parts.now in
+    let stack = c.loop-part.stack in
+    let left = rw (drop_all c.loop-part.part-index parts c.loop-part-test.false) at (c.loop-part.invariant.left ts refer) in
+    left_over c.args.symbols.now c.args.terms.now parts ps ts c.loop-part.letters stack.items is left (more_stack stack.items _ c.is_empty.result (search rules) c.is_empty.ensures c.if-not-is_empty.true)
+
+pub returns-clause-matched : goal.returns-clause-matched
+returns-clause-matched c ps ts is refer =
+    let parts = c.args.parts.now in
+    let stack = c.loop-part.stack in
+    let left = rw (drop_all c.loop-part.part-index parts c.loop-part-test.false) at (c.loop-part.invariant.left ts refer) in
+    left_matches c.args.symbols.now c.args.terms.now parts ps ts c.loop-part.letters stack.items is left (no_stack stack.items _ c.is_empty.result (search rules) c.is_empty.ensures c.if-not-is_empty.false)
