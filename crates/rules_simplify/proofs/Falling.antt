@@ -28,85 +28,163 @@ EachRow P [] = ⊤
 EachRow P (row ∷ rows) = P row × EachRow P rows
 
 pub not_falls : EachRow Falls not_simplify
-not_falls =
-    (λ f. (let a = some (f Letter.A) in let b = some (f Letter.B) in let c = some (f Letter.C) in omega (arith, a, b, c)),
-    (λ f. (let a = some (f Letter.A) in let b = some (f Letter.B) in let c = some (f Letter.C) in omega (arith, a, b, c)),
-    (λ f. (let a = some (f Letter.A) in let b = some (f Letter.B) in let c = some (f Letter.C) in omega (arith, a, b, c)),
-    tt)))
+not_falls = (
+  λ f. (let a = some (f Letter.A) in let b = some (f Letter.B) in let c = some (f Letter.C) in omega (arith, a, b, c)),
+  (
+    λ f. (let a = some (f Letter.A) in let b = some (f Letter.B) in let c = some (f Letter.C) in omega (arith, a, b, c)),
+    (
+      λ f. (let a = some (f Letter.A) in let b = some (f Letter.B) in let c = some (f Letter.C) in omega (arith, a, b, c)),
+      tt,
+    ),
+  ),
+)
 
 pub not_is_told : EachRow IsTold not_simplify
 not_is_told = (refl, (refl, (refl, tt)))
 
 pub implies_falls : EachRow Falls implies_simplify
-implies_falls =
-    (λ f. (let a = some (f Letter.A) in let b = some (f Letter.B) in let c = some (f Letter.C) in omega (arith, a, b, c)),
-    (λ f. (let a = some (f Letter.A) in let b = some (f Letter.B) in let c = some (f Letter.C) in omega (arith, a, b, c)),
-    (λ f. (let a = some (f Letter.A) in let b = some (f Letter.B) in let c = some (f Letter.C) in omega (arith, a, b, c)),
-    (λ f. (let a = some (f Letter.A) in let b = some (f Letter.B) in let c = some (f Letter.C) in omega (arith, a, b, c)),
-    (λ f. (let a = some (f Letter.A) in let b = some (f Letter.B) in let c = some (f Letter.C) in omega (arith, a, b, c)),
-    (λ f. (let a = some (f Letter.A) in let b = some (f Letter.B) in let c = some (f Letter.C) in omega (arith, a, b, c)),
-    (λ f. (let a = some (f Letter.A) in let b = some (f Letter.B) in let c = some (f Letter.C) in omega (arith, a, b, c)),
-    (λ f. (let a = some (f Letter.A) in let b = some (f Letter.B) in let c = some (f Letter.C) in omega (arith, a, b, c)),
-    (λ f. (let a = some (f Letter.A) in let b = some (f Letter.B) in let c = some (f Letter.C) in omega (arith, a, b, c)),
-    tt)))))))))
+implies_falls = (
+  λ f. (let a = some (f Letter.A) in let b = some (f Letter.B) in let c = some (f Letter.C) in omega (arith, a, b, c)),
+  (
+    λ f. (let a = some (f Letter.A) in let b = some (f Letter.B) in let c = some (f Letter.C) in omega (arith, a, b, c)),
+    (
+      λ f. (let a = some (f Letter.A) in let b = some (f Letter.B) in let c = some (f Letter.C) in omega (arith, a, b, c)),
+      (
+        λ f. (let a = some (f Letter.A) in let b = some (f Letter.B) in let c = some (f Letter.C) in omega (arith, a, b, c)),
+        (
+          λ f. (let a = some (f Letter.A) in let b = some (f Letter.B) in let c = some (f Letter.C) in omega (arith, a, b, c)),
+          (
+            λ f. (let a = some (f Letter.A) in let b = some (f Letter.B) in let c = some (f Letter.C) in omega (arith, a, b, c)),
+            (
+              λ f. (let a = some (f Letter.A) in let b = some (f Letter.B) in let c = some (f Letter.C) in omega (arith, a, b, c)),
+              (
+                λ f. (let a = some (f Letter.A) in let b = some (f Letter.B) in let c = some (f Letter.C) in omega (arith, a, b, c)),
+                (
+                  λ f. (let a = some (f Letter.A) in let b = some (f Letter.B) in let c = some (f Letter.C) in omega (arith, a, b, c)),
+                  tt,
+                ),
+              ),
+            ),
+          ),
+        ),
+      ),
+    ),
+  ),
+)
 
 pub implies_is_told : EachRow IsTold implies_simplify
 implies_is_told = (refl, (refl, (refl, (refl, (refl, (refl, (refl, (refl, (refl, tt)))))))))
 
 pub equiv_falls : EachRow Falls equiv_simplify
-equiv_falls =
-    (λ f. (let a = some (f Letter.A) in let b = some (f Letter.B) in let c = some (f Letter.C) in omega (arith, a, b, c)),
-    (λ f. (let a = some (f Letter.A) in let b = some (f Letter.B) in let c = some (f Letter.C) in omega (arith, a, b, c)),
-    (λ f. (let a = some (f Letter.A) in let b = some (f Letter.B) in let c = some (f Letter.C) in omega (arith, a, b, c)),
-    (λ f. (let a = some (f Letter.A) in let b = some (f Letter.B) in let c = some (f Letter.C) in omega (arith, a, b, c)),
-    (λ f. (let a = some (f Letter.A) in let b = some (f Letter.B) in let c = some (f Letter.C) in omega (arith, a, b, c)),
-    (λ f. (let a = some (f Letter.A) in let b = some (f Letter.B) in let c = some (f Letter.C) in omega (arith, a, b, c)),
-    (λ f. (let a = some (f Letter.A) in let b = some (f Letter.B) in let c = some (f Letter.C) in omega (arith, a, b, c)),
-    (λ f. (let a = some (f Letter.A) in let b = some (f Letter.B) in let c = some (f Letter.C) in omega (arith, a, b, c)),
-    tt))))))))
+equiv_falls = (
+  λ f. (let a = some (f Letter.A) in let b = some (f Letter.B) in let c = some (f Letter.C) in omega (arith, a, b, c)),
+  (
+    λ f. (let a = some (f Letter.A) in let b = some (f Letter.B) in let c = some (f Letter.C) in omega (arith, a, b, c)),
+    (
+      λ f. (let a = some (f Letter.A) in let b = some (f Letter.B) in let c = some (f Letter.C) in omega (arith, a, b, c)),
+      (
+        λ f. (let a = some (f Letter.A) in let b = some (f Letter.B) in let c = some (f Letter.C) in omega (arith, a, b, c)),
+        (
+          λ f. (let a = some (f Letter.A) in let b = some (f Letter.B) in let c = some (f Letter.C) in omega (arith, a, b, c)),
+          (
+            λ f. (let a = some (f Letter.A) in let b = some (f Letter.B) in let c = some (f Letter.C) in omega (arith, a, b, c)),
+            (
+              λ f. (let a = some (f Letter.A) in let b = some (f Letter.B) in let c = some (f Letter.C) in omega (arith, a, b, c)),
+              (
+                λ f. (let a = some (f Letter.A) in let b = some (f Letter.B) in let c = some (f Letter.C) in omega (arith, a, b, c)),
+                tt,
+              ),
+            ),
+          ),
+        ),
+      ),
+    ),
+  ),
+)
 
 pub equiv_is_told : EachRow IsTold equiv_simplify
 equiv_is_told = (refl, (refl, (refl, (refl, (refl, (refl, (refl, (refl, tt))))))))
 
 pub bool_falls : EachRow Falls bool_simplify
-bool_falls =
-    (λ f. (let a = some (f Letter.A) in let b = some (f Letter.B) in let c = some (f Letter.C) in omega (arith, a, b, c)),
-    (λ f. (let a = some (f Letter.A) in let b = some (f Letter.B) in let c = some (f Letter.C) in omega (arith, a, b, c)),
-    (λ f. (let a = some (f Letter.A) in let b = some (f Letter.B) in let c = some (f Letter.C) in omega (arith, a, b, c)),
-    (λ f. (let a = some (f Letter.A) in let b = some (f Letter.B) in let c = some (f Letter.C) in omega (arith, a, b, c)),
-    (λ f. (let a = some (f Letter.A) in let b = some (f Letter.B) in let c = some (f Letter.C) in omega (arith, a, b, c)),
-    (λ f. (let a = some (f Letter.A) in let b = some (f Letter.B) in let c = some (f Letter.C) in omega (arith, a, b, c)),
-    (λ f. (let a = some (f Letter.A) in let b = some (f Letter.B) in let c = some (f Letter.C) in omega (arith, a, b, c)),
-    tt)))))))
+bool_falls = (
+  λ f. (let a = some (f Letter.A) in let b = some (f Letter.B) in let c = some (f Letter.C) in omega (arith, a, b, c)),
+  (
+    λ f. (let a = some (f Letter.A) in let b = some (f Letter.B) in let c = some (f Letter.C) in omega (arith, a, b, c)),
+    (
+      λ f. (let a = some (f Letter.A) in let b = some (f Letter.B) in let c = some (f Letter.C) in omega (arith, a, b, c)),
+      (
+        λ f. (let a = some (f Letter.A) in let b = some (f Letter.B) in let c = some (f Letter.C) in omega (arith, a, b, c)),
+        (
+          λ f. (let a = some (f Letter.A) in let b = some (f Letter.B) in let c = some (f Letter.C) in omega (arith, a, b, c)),
+          (
+            λ f. (let a = some (f Letter.A) in let b = some (f Letter.B) in let c = some (f Letter.C) in omega (arith, a, b, c)),
+            (
+              λ f. (let a = some (f Letter.A) in let b = some (f Letter.B) in let c = some (f Letter.C) in omega (arith, a, b, c)),
+              tt,
+            ),
+          ),
+        ),
+      ),
+    ),
+  ),
+)
 
 pub bool_is_told : EachRow IsTold bool_simplify
 bool_is_told = (refl, (refl, (refl, (refl, (refl, (refl, (refl, tt)))))))
 
 pub eq_falls : EachRow Falls eq_simplify
-eq_falls =
-    (λ f. (let a = some (f Letter.A) in let b = some (f Letter.B) in let c = some (f Letter.C) in omega (arith, a, b, c)),
-    (λ f. (let a = some (f Letter.A) in let b = some (f Letter.B) in let c = some (f Letter.C) in omega (arith, a, b, c)),
-    (λ f. (let a = some (f Letter.A) in let b = some (f Letter.B) in let c = some (f Letter.C) in omega (arith, a, b, c)),
-    tt)))
+eq_falls = (
+  λ f. (let a = some (f Letter.A) in let b = some (f Letter.B) in let c = some (f Letter.C) in omega (arith, a, b, c)),
+  (
+    λ f. (let a = some (f Letter.A) in let b = some (f Letter.B) in let c = some (f Letter.C) in omega (arith, a, b, c)),
+    (
+      λ f. (let a = some (f Letter.A) in let b = some (f Letter.B) in let c = some (f Letter.C) in omega (arith, a, b, c)),
+      tt,
+    ),
+  ),
+)
 
 pub eq_is_told : EachRow IsTold eq_simplify
 eq_is_told = (refl, (refl, (refl, tt)))
 
 pub ite_falls : EachRow Falls ite_simplify
-ite_falls =
-    (λ f. (let a = some (f Letter.A) in let b = some (f Letter.B) in let c = some (f Letter.C) in let d = some (f Letter.D) in omega (arith, a, b, c, d)),
-    (λ f. (let a = some (f Letter.A) in let b = some (f Letter.B) in let c = some (f Letter.C) in let d = some (f Letter.D) in omega (arith, a, b, c, d)),
-    (λ f. (let a = some (f Letter.A) in let b = some (f Letter.B) in let c = some (f Letter.C) in let d = some (f Letter.D) in omega (arith, a, b, c, d)),
-    (λ f. (let a = some (f Letter.A) in let b = some (f Letter.B) in let c = some (f Letter.C) in let d = some (f Letter.D) in omega (arith, a, b, c, d)),
-    (λ f. (let a = some (f Letter.A) in let b = some (f Letter.B) in let c = some (f Letter.C) in let d = some (f Letter.D) in omega (arith, a, b, c, d)),
-    (λ f. (let a = some (f Letter.A) in let b = some (f Letter.B) in let c = some (f Letter.C) in let d = some (f Letter.D) in omega (arith, a, b, c, d)),
-    (λ f. (let a = some (f Letter.A) in let b = some (f Letter.B) in let c = some (f Letter.C) in let d = some (f Letter.D) in omega (arith, a, b, c, d)),
-    (λ f. (let a = some (f Letter.A) in let b = some (f Letter.B) in let c = some (f Letter.C) in let d = some (f Letter.D) in omega (arith, a, b, c, d)),
-    (λ f. (let a = some (f Letter.A) in let b = some (f Letter.B) in let c = some (f Letter.C) in let d = some (f Letter.D) in omega (arith, a, b, c, d)),
-    (λ f. (let a = some (f Letter.A) in let b = some (f Letter.B) in let c = some (f Letter.C) in let d = some (f Letter.D) in omega (arith, a, b, c, d)),
-    (λ f. (let a = some (f Letter.A) in let b = some (f Letter.B) in let c = some (f Letter.C) in let d = some (f Letter.D) in omega (arith, a, b, c, d)),
-    (λ f. (let a = some (f Letter.A) in let b = some (f Letter.B) in let c = some (f Letter.C) in let d = some (f Letter.D) in omega (arith, a, b, c, d)),
-    tt))))))))))))
+ite_falls = (
+  λ f. (let a = some (f Letter.A) in let b = some (f Letter.B) in let c = some (f Letter.C) in let d = some (f Letter.D) in omega (arith, a, b, c, d)),
+  (
+    λ f. (let a = some (f Letter.A) in let b = some (f Letter.B) in let c = some (f Letter.C) in let d = some (f Letter.D) in omega (arith, a, b, c, d)),
+    (
+      λ f. (let a = some (f Letter.A) in let b = some (f Letter.B) in let c = some (f Letter.C) in let d = some (f Letter.D) in omega (arith, a, b, c, d)),
+      (
+        λ f. (let a = some (f Letter.A) in let b = some (f Letter.B) in let c = some (f Letter.C) in let d = some (f Letter.D) in omega (arith, a, b, c, d)),
+        (
+          λ f. (let a = some (f Letter.A) in let b = some (f Letter.B) in let c = some (f Letter.C) in let d = some (f Letter.D) in omega (arith, a, b, c, d)),
+          (
+            λ f. (let a = some (f Letter.A) in let b = some (f Letter.B) in let c = some (f Letter.C) in let d = some (f Letter.D) in omega (arith, a, b, c, d)),
+            (
+              λ f. (let a = some (f Letter.A) in let b = some (f Letter.B) in let c = some (f Letter.C) in let d = some (f Letter.D) in omega (arith, a, b, c, d)),
+              (
+                λ f. (let a = some (f Letter.A) in let b = some (f Letter.B) in let c = some (f Letter.C) in let d = some (f Letter.D) in omega (arith, a, b, c, d)),
+                (
+                  λ f. (let a = some (f Letter.A) in let b = some (f Letter.B) in let c = some (f Letter.C) in let d = some (f Letter.D) in omega (arith, a, b, c, d)),
+                  (
+                    λ f. (let a = some (f Letter.A) in let b = some (f Letter.B) in let c = some (f Letter.C) in let d = some (f Letter.D) in omega (arith, a, b, c, d)),
+                    (
+                      λ f. (let a = some (f Letter.A) in let b = some (f Letter.B) in let c = some (f Letter.C) in let d = some (f Letter.D) in omega (arith, a, b, c, d)),
+                      (
+                        λ f. (let a = some (f Letter.A) in let b = some (f Letter.B) in let c = some (f Letter.C) in let d = some (f Letter.D) in omega (arith, a, b, c, d)),
+                        tt,
+                      ),
+                    ),
+                  ),
+                ),
+              ),
+            ),
+          ),
+        ),
+      ),
+    ),
+  ),
+)
 
 pub ite_is_told : EachRow IsTold ite_simplify
 ite_is_told = (refl, (refl, (refl, (refl, (refl, (refl, (refl, (refl, (refl, (refl, (refl, (refl, tt))))))))))))

@@ -150,7 +150,14 @@ fn stands_as(
         return Ok(true);
     }
     let mut arguments: Scratch = SmallVec::new(alloc);
-    if !load_arguments(symbols, terms, junction.op, Sign::Itself, right, &mut arguments)? {
+    if !load_arguments(
+        symbols,
+        terms,
+        junction.op,
+        Sign::Itself,
+        right,
+        &mut arguments,
+    )? {
         return Ok(false);
     }
     Ok(arguments.as_slice() == list)
@@ -212,7 +219,14 @@ pub(crate) fn joins(
         return comes_to(alloc, symbols, terms, junction, &[], right);
     }
     let mut arguments: Scratch = SmallVec::new(alloc);
-    if !load_arguments(symbols, terms, junction.op, Sign::Itself, left, &mut arguments)? {
+    if !load_arguments(
+        symbols,
+        terms,
+        junction.op,
+        Sign::Itself,
+        left,
+        &mut arguments,
+    )? {
         return Ok(false);
     }
     comes_to(alloc, symbols, terms, junction, &arguments, right)

@@ -32,9 +32,21 @@ pub(crate) fn not_rows() -> &'static [RowParts]
     ensures { AreRows not_simplify result.now }
 {
     &[
-        RowParts { left: &[NOT, NOT, A], right: &[A], asked: Asked::Nothing },
-        RowParts { left: &[NOT, FALSE], right: &[TRUE], asked: Asked::Nothing },
-        RowParts { left: &[NOT, TRUE], right: &[FALSE], asked: Asked::Nothing },
+        RowParts {
+            left: &[NOT, NOT, A],
+            right: &[A],
+            asked: Asked::Nothing,
+        },
+        RowParts {
+            left: &[NOT, FALSE],
+            right: &[TRUE],
+            asked: Asked::Nothing,
+        },
+        RowParts {
+            left: &[NOT, TRUE],
+            right: &[FALSE],
+            asked: Asked::Nothing,
+        },
     ]
 }
 
@@ -43,15 +55,51 @@ pub(crate) fn implies_rows() -> &'static [RowParts]
     ensures { AreRows implies_simplify result.now }
 {
     &[
-        RowParts { left: &[IMPLIES, NOT, A, NOT, B], right: &[IMPLIES, B, A], asked: Asked::Nothing },
-        RowParts { left: &[IMPLIES, FALSE, A], right: &[TRUE], asked: Asked::Nothing },
-        RowParts { left: &[IMPLIES, A, TRUE], right: &[TRUE], asked: Asked::Nothing },
-        RowParts { left: &[IMPLIES, TRUE, A], right: &[A], asked: Asked::Nothing },
-        RowParts { left: &[IMPLIES, A, FALSE], right: &[NOT, A], asked: Asked::Nothing },
-        RowParts { left: &[IMPLIES, A, A], right: &[TRUE], asked: Asked::Nothing },
-        RowParts { left: &[IMPLIES, NOT, A, A], right: &[A], asked: Asked::Nothing },
-        RowParts { left: &[IMPLIES, A, NOT, A], right: &[NOT, A], asked: Asked::Nothing },
-        RowParts { left: &[IMPLIES, IMPLIES, A, B, B], right: &[OR, A, B], asked: Asked::Nothing },
+        RowParts {
+            left: &[IMPLIES, NOT, A, NOT, B],
+            right: &[IMPLIES, B, A],
+            asked: Asked::Nothing,
+        },
+        RowParts {
+            left: &[IMPLIES, FALSE, A],
+            right: &[TRUE],
+            asked: Asked::Nothing,
+        },
+        RowParts {
+            left: &[IMPLIES, A, TRUE],
+            right: &[TRUE],
+            asked: Asked::Nothing,
+        },
+        RowParts {
+            left: &[IMPLIES, TRUE, A],
+            right: &[A],
+            asked: Asked::Nothing,
+        },
+        RowParts {
+            left: &[IMPLIES, A, FALSE],
+            right: &[NOT, A],
+            asked: Asked::Nothing,
+        },
+        RowParts {
+            left: &[IMPLIES, A, A],
+            right: &[TRUE],
+            asked: Asked::Nothing,
+        },
+        RowParts {
+            left: &[IMPLIES, NOT, A, A],
+            right: &[A],
+            asked: Asked::Nothing,
+        },
+        RowParts {
+            left: &[IMPLIES, A, NOT, A],
+            right: &[NOT, A],
+            asked: Asked::Nothing,
+        },
+        RowParts {
+            left: &[IMPLIES, IMPLIES, A, B, B],
+            right: &[OR, A, B],
+            asked: Asked::Nothing,
+        },
     ]
 }
 
@@ -60,14 +108,46 @@ pub(crate) fn equiv_rows() -> &'static [RowParts]
     ensures { AreRows equiv_simplify result.now }
 {
     &[
-        RowParts { left: &[EQUAL, NOT, A, NOT, B], right: &[EQUAL, A, B], asked: Asked::Truths },
-        RowParts { left: &[EQUAL, A, A], right: &[TRUE], asked: Asked::Truths },
-        RowParts { left: &[EQUAL, A, NOT, A], right: &[FALSE], asked: Asked::Truths },
-        RowParts { left: &[EQUAL, NOT, A, A], right: &[FALSE], asked: Asked::Truths },
-        RowParts { left: &[EQUAL, TRUE, A], right: &[A], asked: Asked::Truths },
-        RowParts { left: &[EQUAL, A, TRUE], right: &[A], asked: Asked::Truths },
-        RowParts { left: &[EQUAL, FALSE, A], right: &[NOT, A], asked: Asked::Truths },
-        RowParts { left: &[EQUAL, A, FALSE], right: &[NOT, A], asked: Asked::Truths },
+        RowParts {
+            left: &[EQUAL, NOT, A, NOT, B],
+            right: &[EQUAL, A, B],
+            asked: Asked::Truths,
+        },
+        RowParts {
+            left: &[EQUAL, A, A],
+            right: &[TRUE],
+            asked: Asked::Truths,
+        },
+        RowParts {
+            left: &[EQUAL, A, NOT, A],
+            right: &[FALSE],
+            asked: Asked::Truths,
+        },
+        RowParts {
+            left: &[EQUAL, NOT, A, A],
+            right: &[FALSE],
+            asked: Asked::Truths,
+        },
+        RowParts {
+            left: &[EQUAL, TRUE, A],
+            right: &[A],
+            asked: Asked::Truths,
+        },
+        RowParts {
+            left: &[EQUAL, A, TRUE],
+            right: &[A],
+            asked: Asked::Truths,
+        },
+        RowParts {
+            left: &[EQUAL, FALSE, A],
+            right: &[NOT, A],
+            asked: Asked::Truths,
+        },
+        RowParts {
+            left: &[EQUAL, A, FALSE],
+            right: &[NOT, A],
+            asked: Asked::Truths,
+        },
     ]
 }
 
@@ -76,13 +156,41 @@ pub(crate) fn bool_rows() -> &'static [RowParts]
     ensures { AreRows bool_simplify result.now }
 {
     &[
-        RowParts { left: &[NOT, IMPLIES, A, B], right: &[AND, A, NOT, B], asked: Asked::Nothing },
-        RowParts { left: &[NOT, OR, A, B], right: &[AND, NOT, A, NOT, B], asked: Asked::Nothing },
-        RowParts { left: &[NOT, AND, A, B], right: &[OR, NOT, A, NOT, B], asked: Asked::Nothing },
-        RowParts { left: &[IMPLIES, A, IMPLIES, B, C], right: &[IMPLIES, AND, A, B, C], asked: Asked::Nothing },
-        RowParts { left: &[IMPLIES, IMPLIES, A, B, B], right: &[OR, A, B], asked: Asked::Nothing },
-        RowParts { left: &[AND, A, IMPLIES, A, B], right: &[AND, A, B], asked: Asked::Nothing },
-        RowParts { left: &[AND, IMPLIES, A, B, A], right: &[AND, A, B], asked: Asked::Nothing },
+        RowParts {
+            left: &[NOT, IMPLIES, A, B],
+            right: &[AND, A, NOT, B],
+            asked: Asked::Nothing,
+        },
+        RowParts {
+            left: &[NOT, OR, A, B],
+            right: &[AND, NOT, A, NOT, B],
+            asked: Asked::Nothing,
+        },
+        RowParts {
+            left: &[NOT, AND, A, B],
+            right: &[OR, NOT, A, NOT, B],
+            asked: Asked::Nothing,
+        },
+        RowParts {
+            left: &[IMPLIES, A, IMPLIES, B, C],
+            right: &[IMPLIES, AND, A, B, C],
+            asked: Asked::Nothing,
+        },
+        RowParts {
+            left: &[IMPLIES, IMPLIES, A, B, B],
+            right: &[OR, A, B],
+            asked: Asked::Nothing,
+        },
+        RowParts {
+            left: &[AND, A, IMPLIES, A, B],
+            right: &[AND, A, B],
+            asked: Asked::Nothing,
+        },
+        RowParts {
+            left: &[AND, IMPLIES, A, B, A],
+            right: &[AND, A, B],
+            asked: Asked::Nothing,
+        },
     ]
 }
 
@@ -91,8 +199,20 @@ pub(crate) fn eq_rows() -> &'static [RowParts]
     ensures { AreRows eq_simplify result.now }
 {
     &[
-        RowParts { left: &[EQUAL, A, A], right: &[TRUE], asked: Asked::Nothing },
-        RowParts { left: &[EQUAL, A, B], right: &[FALSE], asked: Asked::Numbers(Related::Other, Letter::A, Letter::B) },
-        RowParts { left: &[NOT, EQUAL, A, B], right: &[FALSE], asked: Asked::Numbers(Related::Same, Letter::A, Letter::B) },
+        RowParts {
+            left: &[EQUAL, A, A],
+            right: &[TRUE],
+            asked: Asked::Nothing,
+        },
+        RowParts {
+            left: &[EQUAL, A, B],
+            right: &[FALSE],
+            asked: Asked::Numbers(Related::Other, Letter::A, Letter::B),
+        },
+        RowParts {
+            left: &[NOT, EQUAL, A, B],
+            right: &[FALSE],
+            asked: Asked::Numbers(Related::Same, Letter::A, Letter::B),
+        },
     ]
 }
