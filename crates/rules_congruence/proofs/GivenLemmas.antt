@@ -7,7 +7,7 @@ use Rattle.term_model.specs.Terms.{Term, numeral, not_of}
 use Rattle.term_pool.specs.Views.{TermsView, RefersTo}
 use Rattle.rule_model.specs.Clausal.{itself}
 use Rattle.rule_model.specs.Congruence.{denials}
-use Rattle.rules_congruence.specs.Parts.{AreSidesOf}
+use Rattle.term_parts.specs.Parts.{AreSidesOf}
 use Rattle.rules_congruence.specs.Sides.{ReferToPair, IsNoUnit, AreEqualitiesOf, nothing, one, other, IsGiven, IsUnitOf, AreDenied}
 use Rattle.rules_congruence.specs.Steps.{ReferTo, ReferToClauses}
 use Rattle.rules_congruence.proofs.Referring.{zip_push, one_zip, zip_one, zip_at, zip_next}

@@ -9,7 +9,7 @@ use Rattle.term_model.specs.Flips.{equality}
 use Rattle.term_model.specs.Terms.{Term, not_of}
 use Rattle.term_pool.specs.Views.{TermsView, RefersTo, IsTerm}
 use Rattle.rules_congruence.specs.Clauses.{clauses_of}
-use Rattle.rules_congruence.specs.Parts.{AreSidesOf}
+use Rattle.term_parts.specs.Parts.{AreSidesOf}
 use Rattle.rules_congruence.specs.Sides.{AreEqualitiesOf, nothing, one, IsGiven, AreDenied}
 use Rattle.rules_congruence.specs.Steps.{ReferTo, ReferToClauses, AreTerms}
 use Rattle.rules_congruence.proofs.Referring.{IsOneMore, zip_split}

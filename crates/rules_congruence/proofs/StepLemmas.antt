@@ -17,7 +17,7 @@ use Rattle.rule_model.specs.WellFormed.{IsWellFormed}
 use Rattle.rule_model.proofs.Standing.{premise_earlier}
 use Rattle.sym_table.specs.Table.{Table}
 use Rattle.term_model.specs.Terms.{Var, Term}
-use Rattle.term_pool.specs.Views.{TermsView, RefersTo, IsTerm}
+use Rattle.term_pool.specs.Views.{TermsView, IsTerm}
 use Rattle.rules_congruence.specs.Clauses.{clauses_of}
 use Rattle.rules_congruence.specs.Steps.{ReferTo, ReferToClauses, AreTerms, AreClauses}
 use Rattle.rules_congruence.specs.Uses.{Together}

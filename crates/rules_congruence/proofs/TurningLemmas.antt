@@ -10,7 +10,8 @@ use Rattle.term_pool.specs.Views.{TermsView, RefersTo, IsTerm}
 use Rattle.rule_model.specs.Clausal.{itself}
 use Rattle.rule_model.specs.Congruence.{TurnsRound, IsReflexive, IsSymmetric}
 use Rattle.rules_congruence.specs.Clauses.{IsUnit, IsNoUnit, IsLone, clauses_of}
-use Rattle.rules_congruence.specs.Parts.{AreSidesOf, sign_of}
+use Rattle.rules_congruence.specs.Signs.{sign_of}
+use Rattle.term_parts.specs.Parts.{AreSidesOf}
 use Rattle.rules_congruence.specs.Steps.{ReferTo, ReferToClauses, AreTerms, AreClauses}
 use Rattle.rules_congruence.specs.Turning.{AreTurned, HasEqualSides, HasTurnedSides}
 use Rattle.rules_congruence.proofs.Referring.{one_zip, zip_one, zip_none, none_zip, IsBeside}

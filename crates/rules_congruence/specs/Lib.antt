@@ -1,4 +1,4 @@
-pub mod Parts
+pub mod Signs
 pub mod Pairs
 pub mod Steps
 pub mod Clauses

@@ -7,10 +7,10 @@ ghost use Rattle.rules_congruence.specs.Sides.{IsNoUnit, IsGiven, IsUnitOf, AreD
 ghost use Rattle.rules_congruence.specs.Steps.{ReferTo, ReferToClauses, AreTerms, AreClauses};
 
 use crate::clauses::literal;
-use crate::parts::{denied_sides, sides_of};
 use pair_pool::{Memory, Ref};
 use std::alloc::Global;
 use sym_table::Symbols;
+use term_parts::{denied_sides, sides_of};
 use term_pool::Terms;
 
 /// The equalities that a step may use.

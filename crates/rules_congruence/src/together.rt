@@ -15,13 +15,13 @@ use crate::applications::{Applications, take_apart};
 use crate::clauses::{denying, literal};
 use crate::congruence::hang;
 use crate::links::table_of;
-use crate::parts::sides_of;
 use crate::sides::{Given, denied, premised};
 use crate::uses::Uses;
 use crate::using::are_used;
 use pair_pool::{Memory, Ref};
 use std::alloc::Global;
 use sym_table::Symbols;
+use term_parts::sides_of;
 use term_pool::Terms;
 
 /// Strict mode: whether the equalities, with nothing beside them, are those of the arguments in order.

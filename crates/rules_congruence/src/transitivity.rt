@@ -10,13 +10,13 @@ ghost use Rattle.rules_congruence.specs.Steps.{ReferTo, ReferToClauses, AreTerms
 ghost use Rattle.rules_congruence.specs.Ways.{IsWayBy};
 
 use crate::clauses::{denying, literal};
-use crate::parts::sides_of;
 use crate::sides::{Given, denied, premised};
 use crate::ways::{is_connected, is_path};
 use pair_pool::{Memory, Ref};
 use rule_model::Mode;
 use std::alloc::Global;
 use sym_table::Symbols;
+use term_parts::sides_of;
 use term_pool::Terms;
 
 /// Whether equalities lead from one reference to another in their order, with nothing beside them.

@@ -4,14 +4,15 @@ ghost use Rattle.std.specs.Prelude.{◌≡◌, ◌↔◌, List, IsTrue};
 ghost use Rattle.rule_model.specs.Congruence.{TurnsRound, IsReflexive, IsSymmetric};
 ghost use Rattle.term_model.specs.Terms.{Term};
 ghost use Rattle.term_pool.specs.Views.{IsTerm, RefersTo};
-ghost use Rattle.rules_congruence.specs.Parts.{sign_of};
+ghost use Rattle.rules_congruence.specs.Signs.{sign_of};
 ghost use Rattle.rules_congruence.specs.Steps.{ReferTo, ReferToClauses, AreTerms, AreClauses};
 ghost use Rattle.rules_congruence.specs.Turning.{AreTurned, HasEqualSides, HasTurnedSides};
 
 use crate::clauses::{literal, lone, unit};
-use crate::parts::{sides_of, signed_sides};
+use crate::signed::signed_sides;
 use pair_pool::Ref;
 use sym_table::Symbols;
+use term_parts::sides_of;
 use term_pool::Terms;
 
 /// Whether two references are one.

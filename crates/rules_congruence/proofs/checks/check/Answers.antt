@@ -1,8 +1,7 @@
 use Rattle.std.proofs.Common.{◌≡◌, false, refl, ◌∙◌, rules}
 use Rattle.std.specs.Option.{is_some}
 use Rattle.rule_model.specs.Judged.{judged_at}
-use Rattle.rule_model.specs.Reading.{rule_at}
-use Rattle.rules_congruence.proofs.CheckAnswers.{met_where, condition_met, closing_is_not_met}
+use Rattle.rules_congruence.proofs.CheckAnswers.{met_where}
 use Rattle.rules_congruence.proofs.checks.check.Goals as goal
 
 pub returns-then-branch-clause-met : goal.returns-then-branch-clause-met

@@ -3,7 +3,7 @@ use Rattle.std.proofs.lemmas.List.Elements.{All-head}
 use Rattle.term_model.specs.Terms.{Term}
 use Rattle.term_pool.specs.Views.{IsTerm, RefersTo}
 use Rattle.rule_model.specs.Clausal.{itself}
-use Rattle.rules_congruence.specs.Parts.{AreSidesOf}
+use Rattle.term_parts.specs.Parts.{AreSidesOf}
 use Rattle.rules_congruence.specs.Sides.{IsUnitOf}
 use Rattle.rules_congruence.specs.Steps.{ReferTo}
 use Rattle.rules_congruence.proofs.GivenLemmas.{unit_of, no_unit_of, not_one_literal}

@@ -1,4 +1,4 @@
-use Rattle.rules_congruence.proofs.parts.signed_sides.Goals as goal
+use Rattle.rules_congruence.proofs.signed.signed_sides.Goals as goal
 
 pub returns-then-denied-clause-sides : goal.returns-then-denied-clause-sides
 returns-then-denied-clause-sides c = rw c.if-denied.true c.denied_sides.ensures.sides
