@@ -1,6 +1,6 @@
 -- The ids and rules of commands are names of symbols.
 use Rattle.std.proofs.Common.{ℕ, List, [], ◌∷◌, Bool, true, false, Option, Some, None, Result, IfOk, if◌then◌else◌}
-use Rattle.std.specs.Prelude.{⊤, codes, not, ◌||◌}
+use Rattle.std.specs.Prelude.{⊤, codes}
 use Rattle.std.specs.List.{AllByRecursion}
 use Rattle.std.specs.Str.{bytes_eq}
 use Rattle.sexpr.specs.declared.causes.Refusal.{Refusal}
@@ -8,8 +8,9 @@ use Rattle.sexpr.specs.Words.{is_symbol}
 use Rattle.sexpr.specs.Items.{Item, word, quoted, string, list, Items, no_items, item}
 use Rattle.rule_model.specs.RuleNames.{IsSymbolName}
 use Rattle.text_items.specs.ItemShapes.{name_at, items_of}
+use Rattle.text_items.specs.Keywords.{is_spelled}
 use Rattle.problem_text.proofs.Outcomes.{all_joined}
-use Rattle.alethe_text.specs.Commands.{Attribute, rule, premises, arguments, discharge, Command, assume, step, anchor, shaped, is_word_of, names_in, has_word, lacks_value, step_keywords, anchor_keywords, attribute_of, attributes_of, assume_shape, step_shape, anchor_shape, command_named, command_of}
+use Rattle.alethe_text.specs.Commands.{Attribute, rule, premises, arguments, discharge, Command, assume, step, anchor, shaped, names_in, attribute_of, attribute_with, attributes_of, assume_shape, step_shape, anchor_shape, command_named, command_of}
 use Rattle.alethe_text.proofs.SymbolNames.{HasNames, HaveNames, name_is}
 
 abbrev pub IsRuleNamed : Attribute → Type 0
@@ -33,7 +34,7 @@ either false x y h k = k
 
 attribute_named : (keyword value : Item) → HasNames value → AllByRecursion IsRuleNamed (attribute_of keyword value)
 attribute_named keyword value h =
-    go (is_word_of (codes ":rule") keyword) (is_word_of (codes ":premises") keyword) (is_word_of (codes ":args") keyword) (is_word_of (codes ":discharge") keyword)
+    go (is_spelled (codes ":rule") keyword) (is_spelled (codes ":premises") keyword) (is_spelled (codes ":args") keyword) (is_spelled (codes ":discharge") keyword)
   where
     go : (a b c d : Bool) → AllByRecursion IsRuleNamed (if a then rule (name_at value) ∷ [] else if b then premises (names_in (items_of value)) ∷ [] else if c then arguments (items_of value) ∷ [] else if d then discharge (names_in (items_of value)) ∷ [] else [])
     go true b c d = (name_is value h, tt)
@@ -42,10 +43,14 @@ attribute_named keyword value h =
     go false false false true = (tt, tt)
     go false false false false = tt
 
-attributes_named : (before : Item) (items : Items) → HaveNames items → AllByRecursion IsRuleNamed (attributes_of before items)
-attributes_named before no_items h = tt
-attributes_named before (item i rest) h =
-    all_joined IsRuleNamed (attribute_of before i) (attributes_of i rest) (attribute_named before i h.0) (attributes_named i rest h.1)
+with_named : (keyword : Item) (rest : Items) → HaveNames rest → AllByRecursion IsRuleNamed (attribute_with keyword rest)
+with_named keyword no_items h = tt
+with_named keyword (item value rest) h = attribute_named keyword value h.0
+
+attributes_named : (items : Items) → HaveNames items → AllByRecursion IsRuleNamed (attributes_of items)
+attributes_named no_items h = tt
+attributes_named (item i rest) h =
+    all_joined IsRuleNamed (attribute_with i rest) (attributes_of rest) (with_named i rest h.1) (attributes_named rest h.1)
 
 assume_named : (place : ℕ) (items : Items) → HaveNames items → IfOk (assume_shape place items) IsNamed
 assume_named place no_items h = tt
@@ -55,15 +60,12 @@ assume_named place (item id (item t rest)) h = shape_named _ _ (name_is id h.0)
 step_named : (place : ℕ) (items : Items) → HaveNames items → IfOk (step_shape place items) IsNamed
 step_named place no_items h = tt
 step_named place (item id no_items) h = tt
-step_named place (item id (item clause rest)) h =
-    either (not (has_word (codes ":rule") rest) || lacks_value step_keywords clause rest) _ _ tt
-    (shape_named _ _ (name_is id h.0, attributes_named clause rest h.1.1))
+step_named place (item id (item clause rest)) h = shape_named _ _ (name_is id h.0, attributes_named rest h.1.1)
 
 anchor_named : (place : ℕ) (items : Items) → HaveNames items → IfOk (anchor_shape place items) IsNamed
 anchor_named place no_items h = tt
 anchor_named place (item keyword no_items) h = tt
-anchor_named place (item keyword (item id rest)) h =
-    either (lacks_value anchor_keywords id rest) _ _ tt (shape_named _ _ (name_is id h.1.0))
+anchor_named place (item keyword (item id rest)) h = shape_named _ _ (name_is id h.1.0)
 
 word_named : (place at : ℕ) (name : List ℕ) (items : Items) → HaveNames items → IfOk (command_named place at name items) IsNamed
 word_named place at name items h =

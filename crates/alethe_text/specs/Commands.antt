@@ -1,15 +1,15 @@
 -- Public. The commands of a proof (Alethe, "The Proof Format") and their shapes, which reach down to the terms and sorts of
 -- a command, but not into them.
-use Rattle.std.specs.Prelude.{ℕ, Bool, false, not, ◌&&◌, ◌||◌, if◌then◌else◌, List, [], ◌∷◌, ◌++◌, codes, bytes_eq, Option, Some, None, is_some, Result, Ok}
+use Rattle.std.specs.Prelude.{ℕ, Bool, true, false, if◌then◌else◌, List, [], ◌∷◌, ◌++◌, codes, bytes_eq, Option, Some, None, is_some, Result, Ok}
 use Rattle.std.specs.Option.{option_or}
 use Rattle.sexpr.specs.declared.causes.Cause.TheVariants.{UnknownCommand, BadCommand, LeftOut}
 use Rattle.sexpr.specs.declared.causes.Refusal.{Refusal}
 use Rattle.sexpr.specs.Words.{is_symbol}
 use Rattle.sexpr.specs.Items.{Item, word, quoted, string, list, Items, no_items, item, place_of, symbol_name}
+use Rattle.text_items.specs.declared.keywords.Wanted.TheVariants as wanted
 use Rattle.text_items.specs.ItemShapes.{Name, name_at, excess, symbol_fault, pair_fault, items_of}
-use Rattle.text_items.specs.Spelling.{is_keyword_item}
-use Rattle.problem_text.specs.Commands.{refused, list_fault}
-use Rattle.problem_text.specs.Words.{is_among}
+use Rattle.text_items.specs.Keywords.{Known, is_spelled, list_fault, earlier, attributes_fault}
+use Rattle.problem_text.specs.Commands.{refused}
 
 -- An attribute of a step that has an effect: its rule, its premises, its arguments, the assumes that it discharges.
 pub data Attribute : Type 0 where
@@ -31,85 +31,44 @@ pub data Command : Type 0 where
   step : Name → Items → List Attribute → Command
   anchor : ℕ → Name → List Argument → Command
 
--- the item is the symbol of this name, or one of these keywords
+-- the item is the symbol of this name
 abbrev pub is_symbol_of : List ℕ → Item → Bool
 is_symbol_of name i = bytes_eq (name_at i).name name
-
-abbrev pub spelling_of : Item → List ℕ
-spelling_of (word place spelling) = spelling
-spelling_of (quoted place spelling) = []
-spelling_of (string place spelling) = []
-spelling_of (list place items) = []
-
-abbrev pub is_word_among : List (List ℕ) → Item → Bool
-is_word_among words i = is_among words (spelling_of i)
-
-abbrev pub is_word_of : List ℕ → Item → Bool
-is_word_of spelling i = bytes_eq (spelling_of i) spelling
 
 -- a command of the right shape, or the first place where it has another
 abbrev pub shaped : Option ℕ → Command → Result Command Refusal
 shaped (Some place) c = refused BadCommand place
 shaped None c = Ok c
 
--- where a keyword, or a list of symbols, has to stand
-abbrev pub word_fault : List ℕ → Item → Option ℕ
-word_fault spelling i = if is_word_of spelling i then None else Some (place_of i)
-
-abbrev pub symbols_fault : Items → Option ℕ
-symbols_fault no_items = None
-symbols_fault (item i rest) = option_or (symbol_fault i) (symbols_fault rest)
-
-abbrev pub symbol_list_fault : Item → Option ℕ
-symbol_list_fault i = option_or (list_fault i) (symbols_fault (items_of i))
-
 abbrev pub names_in : Items → List Name
 names_in no_items = []
 names_in (item i rest) = name_at i ∷ names_in rest
 
--- The keyword with which the list ends is one of these, and lacks its value.
-abbrev pub lacks_value : List (List ℕ) → Item → Items → Bool
-lacks_value keywords last no_items = is_word_among keywords last
-lacks_value keywords before (item i rest) = lacks_value keywords i rest
-
--- the attributes of a step that have an effect: each takes a value, and stands once at most
-abbrev pub step_keywords : List (List ℕ)
-step_keywords = codes ":rule" ∷ codes ":premises" ∷ codes ":args" ∷ codes ":discharge" ∷ []
-
--- An item that may not stand behind the one before it. Behind `:rule` stands a symbol, behind `:premises` and `:discharge` a
--- list of symbols, and behind `:args` a list; behind another keyword one item of any kind, or none; and behind any of these
--- a keyword.
-abbrev pub value_fault : Item → Item → Option ℕ
-value_fault before i =
-    if is_word_of (codes ":rule") before then symbol_fault i
-    else if is_word_among (codes ":premises" ∷ codes ":discharge" ∷ []) before then symbol_list_fault i
-    else if is_word_of (codes ":args") before then list_fault i
-    else if is_keyword_item before || is_keyword_item i then None
-    else Some (place_of i)
-
--- the first fault of the attributes that stand behind an item, where these words stand before them
-abbrev pub attributes_fault : List (List ℕ) → Item → Items → Option ℕ
-attributes_fault earlier before no_items = None
-attributes_fault earlier before (item i rest) =
-    if is_word_among step_keywords i && is_word_among earlier i then Some (place_of i)
-    else option_or (value_fault before i) (attributes_fault (spelling_of i ∷ earlier) i rest)
-
-abbrev pub has_word : List ℕ → Items → Bool
-has_word spelling no_items = false
-has_word spelling (item i rest) = is_word_of spelling i || has_word spelling rest
+-- The attributes of a step that have an effect: its rule, which it needs, its premises, its arguments, and the assumes that it
+-- discharges.
+abbrev pub step_keywords : List Known
+step_keywords =
+    record { spelling = codes ":rule"; wants = wanted.Name; once = true; needed = true }
+    ∷ record { spelling = codes ":premises"; wants = wanted.Names; once = true; needed = false }
+    ∷ record { spelling = codes ":args"; wants = wanted.AnyList; once = true; needed = false }
+    ∷ record { spelling = codes ":discharge"; wants = wanted.Names; once = true; needed = false } ∷ []
 
 -- the attribute that a keyword and its value are, where it has an effect
 abbrev pub attribute_of : Item → Item → List Attribute
 attribute_of keyword value =
-    if is_word_of (codes ":rule") keyword then rule (name_at value) ∷ []
-    else if is_word_of (codes ":premises") keyword then premises (names_in (items_of value)) ∷ []
-    else if is_word_of (codes ":args") keyword then arguments (items_of value) ∷ []
-    else if is_word_of (codes ":discharge") keyword then discharge (names_in (items_of value)) ∷ []
+    if is_spelled (codes ":rule") keyword then rule (name_at value) ∷ []
+    else if is_spelled (codes ":premises") keyword then premises (names_in (items_of value)) ∷ []
+    else if is_spelled (codes ":args") keyword then arguments (items_of value) ∷ []
+    else if is_spelled (codes ":discharge") keyword then discharge (names_in (items_of value)) ∷ []
     else []
 
-abbrev pub attributes_of : Item → Items → List Attribute
-attributes_of before no_items = []
-attributes_of before (item i rest) = attribute_of before i ++ attributes_of i rest
+abbrev pub attribute_with : Item → Items → List Attribute
+attribute_with keyword no_items = []
+attribute_with keyword (item value rest) = attribute_of keyword value
+
+abbrev pub attributes_of : Items → List Attribute
+attributes_of no_items = []
+attributes_of (item i rest) = attribute_with i rest ++ attributes_of rest
 
 -- a clause is a list that begins with the symbol `cl`
 abbrev pub clause_fault : Item → Option ℕ
@@ -127,9 +86,8 @@ assume_shape place _ = refused BadCommand place
 
 abbrev pub step_shape : ℕ → Items → Result Command Refusal
 step_shape place (item id (item clause rest)) =
-    if not (has_word (codes ":rule") rest) || lacks_value step_keywords clause rest then refused BadCommand place
-    else shaped (option_or (symbol_fault id) (option_or (clause_fault clause) (attributes_fault [] clause rest)))
-    (step (name_at id) (behind_first (items_of clause)) (attributes_of clause rest))
+    shaped (earlier (attributes_fault step_keywords place rest) (option_or (symbol_fault id) (clause_fault clause)))
+    (step (name_at id) (behind_first (items_of clause)) (attributes_of rest))
 step_shape place _ = refused BadCommand place
 
 -- a variable, alone or with its sort
@@ -148,7 +106,7 @@ alone_fault place no_items = Some place
 
 abbrev pub argument_fault : Item → Option ℕ
 argument_fault (list place (item head rest)) =
-    if is_word_of (codes ":=") head then assigned_fault place rest
+    if is_spelled (codes ":=") head then assigned_fault place rest
     else if is_some (symbol_name head) then alone_fault place rest
     else Some (place_of head)
 argument_fault other = Some (place_of other)
@@ -156,6 +114,10 @@ argument_fault other = Some (place_of other)
 abbrev pub each_argument_fault : Items → Option ℕ
 each_argument_fault no_items = None
 each_argument_fault (item i rest) = option_or (argument_fault i) (each_argument_fault rest)
+
+-- where a keyword has to stand
+abbrev pub word_fault : List ℕ → Item → Option ℕ
+word_fault spelling i = if is_spelled spelling i then None else Some (place_of i)
 
 -- what may stand behind the id of an anchor
 abbrev pub arguments_fault : Items → Option ℕ
@@ -182,13 +144,17 @@ abbrev pub argument_items : Items → Items
 argument_items (item keyword (item items rest)) = items_of items
 argument_items _ = no_items
 
-abbrev pub anchor_keywords : List (List ℕ)
-anchor_keywords = codes ":step" ∷ codes ":args" ∷ []
+-- the attributes of an anchor: the id of the step that is to close it, and its arguments
+abbrev pub anchor_keywords : List Known
+anchor_keywords =
+    record { spelling = codes ":step"; wants = wanted.Name; once = true; needed = false }
+    ∷ record { spelling = codes ":args"; wants = wanted.AnyList; once = true; needed = false } ∷ []
 
+-- `:step` stands first, `:args` may stand behind it, and no other attribute.
 abbrev pub anchor_shape : ℕ → Items → Result Command Refusal
 anchor_shape place (item keyword (item id rest)) =
-    if lacks_value anchor_keywords id rest then refused BadCommand place
-    else shaped (option_or (word_fault (codes ":step") keyword) (option_or (symbol_fault id) (arguments_fault rest)))
+    shaped (earlier (attributes_fault anchor_keywords place (item keyword (item id rest)))
+    (option_or (word_fault (codes ":step") keyword) (option_or (symbol_fault id) (arguments_fault rest))))
     (anchor place (name_at id) (arguments_of (argument_items rest)))
 anchor_shape place _ = refused BadCommand place
 
