@@ -5,7 +5,7 @@ use Rattle.std.specs.Option.{option_or}
 use Rattle.sexpr.specs.declared.causes.Cause.TheVariants.{UnknownCommand, BadCommand, LeftOut}
 use Rattle.sexpr.specs.declared.causes.Refusal.{Refusal}
 use Rattle.sexpr.specs.Words.{is_symbol}
-use Rattle.sexpr.specs.Items.{Item, word, quoted, string, list, Items, no_items, item, place_of, symbol_name}
+use Rattle.sexpr.specs.Items.{Item, word, list, Items, no_items, item, place_of, symbol_name}
 use Rattle.text_items.specs.declared.keywords.Wanted.TheVariants as wanted
 use Rattle.text_items.specs.ItemShapes.{Name, name_at, excess, symbol_fault, pair_fault, items_of}
 use Rattle.text_items.specs.Keywords.{Known, is_spelled, list_fault, earlier, attributes_fault}
