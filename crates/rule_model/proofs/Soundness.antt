@@ -19,7 +19,7 @@ use Rattle.rule_model.specs.declared.statuses.Status.{Status}
 use Rattle.rule_model.specs.Clauses.{MakesClauseTrue}
 use Rattle.rule_model.specs.Closings.{AreLinkedTo, IsAssumeIn, IsSubproof, IsLetClosing, MeetsClosing, EndsIn}
 use Rattle.rule_model.specs.Commands.{Command, assume, step, closing, Line, lines_in, lines_around, lines_to, own_scope}
-use Rattle.rule_model.specs.Conditions.{has_condition, Met, MeetsWhere, IsMetAt, IsClauseOfTruths}
+use Rattle.rule_model.specs.Conditions.{Met, MeetsWhere, IsMetAt, IsClauseOfTruths}
 use Rattle.rule_model.specs.Contexts.{context_values, IsInContext}
 use Rattle.rule_model.specs.Judged.{judged_at, open_anchors, anchors_at}
 use Rattle.rule_model.specs.Proofs.{Step, Items, no_items, with_assume, with_step, with_subproof}
@@ -61,13 +61,13 @@ lines_good nesting (with_subproof items bindings proof s) good formed sorted =
     (record { around = deep; literals = sorted.3 }, tt)
 
 -- a status Ok of a step is that its condition is met
-not_assumed : (b : Bool) (rule : Rule) → is_assume rule ≡ false → kind_of b rule ≡ assumed → ⊥
-not_assumed b Rule.Assume n e = absurd cc
-not_assumed b Rule.Hole n e = absurd cc
-not_assumed b Rule.LiaGeneric n e = absurd cc
-not_assumed b Rule.RareRewrite n e = absurd cc
-not_assumed b Rule.AllSimplify n e = absurd cc
-not_assumed b rule n e = never (has_condition rule) b e
+not_assumed : (c : Checking) (rule : Rule) → is_assume rule ≡ false → kind_of c rule ≡ assumed → ⊥
+not_assumed c Rule.Assume n e = absurd cc
+not_assumed c Rule.Hole n e = absurd cc
+not_assumed c Rule.LiaGeneric n e = absurd cc
+not_assumed c Rule.RareRewrite n e = absurd cc
+not_assumed c Rule.AllSimplify n e = absurd cc
+not_assumed c rule n e = never (c.is_judged rule) c.unknown_are_holes e
   where
     never : (x b : Bool) → (if x then conditional else (if b then hole else unknown)) ≡ assumed → ⊥
     never true b e = cc
@@ -148,7 +148,7 @@ module _ (c : Checking) (proof : Items Var Term) (formed : IsWellFormed proof) (
     met_of : (s : Step Term) → rule_of l.command ≡ s.rule → HasRule s → IsStatusAt c proof i Status.Ok → IsMetAt c.mode proof i
     met_of s is has ok =
         let no_assume : is_assume (rule_at proof i) ≡ false = ap is_assume (rule_is proof i l here ∙ (is ∙ has.named)) ∙ named_no_assume s.rule_name in
-        ok_met (kind_of c.unknown_are_holes (rule_at proof i)) c proof i (not_assumed c.unknown_are_holes (rule_at proof i) no_assume) ok
+        ok_met (kind_of c (rule_at proof i)) c proof i (not_assumed c (rule_at proof i) no_assume) ok
 
     -- a command that follows from its premises wherever they are true
     follows_true : FollowsAt c.assertions proof i → (items : Items Var Term) → ((I : Interpretation) → Holds I (add_command l.scope l.command).nesting (add_command l.scope l.command).items → Holds I (add_command l.scope l.command).nesting items) → IsGood (add_command l.scope l.command).nesting → ((j : ℕ) → Contains (premises_of l.command) j → IsSeen (Opens (add_command l.scope l.command).nesting items) (lines_to l.scope) j) → IsTrueCommand c.assertions l
@@ -283,7 +283,7 @@ module _ (c : Checking) (proof : Items Var Term) (formed : IsWellFormed proof) (
   assume_true : (i : ℕ) (nesting : Nesting Var Term) (items : Items Var Term) (id : List ℕ) (t : Term) → slice_get lines i ≡ Some (record { scope = at nesting items; command = assume id t }) → TrueBelow i → IsJustified c proof i → IsTrueWhere c.assertions (at nesting (with_assume items id t)) (t ∷ [])
   assume_true i outermost items id t here below (inl ok) =
       λ I asserted holds.
-      let may = subst (λ rule. IsStatusBy (kind_of c.unknown_are_holes rule) c proof i Status.Ok) (rule_is proof i _ here) ok in
+      let may = subst (λ rule. IsStatusBy (kind_of c rule) c proof i Status.Ok) (rule_is proof i _ here) ok in
       let all = subst (All (IsAsserted c.mode c.assertions)) (clause_is proof i _ here) (may (scope_is proof i _ here)) in
       any_here (MakesTrue I []) t [] (asserted_true I c.mode c.assertions t asserted (all 0 t (omega arith)))
   assume_true i outermost items id t here below (inr other) =

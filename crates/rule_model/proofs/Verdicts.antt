@@ -74,7 +74,7 @@ module _ (c : Checking) (proof : Items Var Term) (i : ℕ) where
   status_by conditional s z h k = one_of_three s z (judged_status s h) (judged_status z k)
 
   pub one_status : (s z : Status) → IsStatusAt c proof i s → IsStatusAt c proof i z → s ≡ z
-  one_status s z h k = status_by (kind_of c.unknown_are_holes _) s z h k
+  one_status s z h k = status_by (kind_of c _) s z h k
 
 -- verdicts
 module _ (statuses : List Status) where

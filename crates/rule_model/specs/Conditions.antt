@@ -1,7 +1,7 @@
 -- Public. The condition of each rule (Alethe specification, "List of rules"), and what is asked of a step's terms and of
 -- the values of variables for a condition to keep truth. Each family of rules has a file of its own. Those of the rules
 -- whose steps close a scope are in `Closings`.
-use Rattle.std.specs.Prelude.{ℕ, Bool, true, ◌||◌, is_some, List, All, Option, Some, None}
+use Rattle.std.specs.Prelude.{ℕ, List, All, Option, Some, None}
 use Rattle.term_model.specs.declared.symbols.Sort.{Sort}
 use Rattle.term_model.specs.Interpretations.{Interpretation}
 use Rattle.term_model.specs.Meaning.{Valuation, ValuationFits}
@@ -10,10 +10,10 @@ use Rattle.term_model.specs.Terms.{Var, Term}
 use Rattle.rule_model.specs.declared.rules.Mode.{Mode}
 use Rattle.rule_model.specs.declared.rules.Rule.{Rule}
 use Rattle.rule_model.specs.Arithmetic.{MeetsFormSimplification, IsWideFormSimplification, MeetsLaDisequality, MeetsLaTotality, MeetsLaRwEq, MeetsLaGeneric, IsWideLaGeneric}
-use Rattle.rule_model.specs.Clausal.{MeetsClausal, schema_of, is_over_list}
+use Rattle.rule_model.specs.Clausal.{MeetsClausal}
 use Rattle.rule_model.specs.Clauses.{MakesClauseTrue}
 use Rattle.rule_model.specs.Closings.{MeetsClosing}
-use Rattle.rule_model.specs.Congruence.{MeetsSymm, MeetsNotSymm, MeetsTrans, MeetsCong, MeetsEqReflexive, MeetsEqSymmetric, MeetsEqTransitive, MeetsEqCongruent, MeetsEqCongruentPred, is_of_equality}
+use Rattle.rule_model.specs.Congruence.{MeetsSymm, MeetsNotSymm, MeetsTrans, MeetsCong, MeetsEqReflexive, MeetsEqSymmetric, MeetsEqTransitive, MeetsEqCongruent, MeetsEqCongruentPred}
 use Rattle.rule_model.specs.Contexts.{IsInContext}
 use Rattle.rule_model.specs.Definitions.{MeetsChoice, MeetsConnectiveDef, MeetsIteIntro, MeetsDistinctElim}
 use Rattle.rule_model.specs.Judged.{Judged, judged_at}
@@ -71,15 +71,6 @@ MeetsRule rule j = MeetsClausal rule j.premises j.clause
 -- the step meets the condition of its rule
 abbrev pub Met : Judged → Type 0
 Met j = MeetsRule j.rule j
-
--- the rules by whose condition a step is judged
-abbrev pub has_condition : Rule → Bool
-has_condition Rule.Resolution = true
-has_condition Rule.ThResolution = true
-has_condition Rule.Refl = true
-has_condition Rule.Subproof = true
-has_condition Rule.Let = true
-has_condition rule = is_some (schema_of rule) || (is_over_list rule || is_of_equality rule)
 
 -- the numbers of the step are too wide to be judged
 abbrev pub IsTooWideBy : Rule → Judged → Type 0

@@ -8,15 +8,16 @@ use Rattle.rule_model.specs.declared.rules.Rule.{Rule}
 use Rattle.rule_model.specs.declared.rules.StepCause.{StepCause}
 use Rattle.rule_model.specs.declared.statuses.Status.{Status}
 use Rattle.rule_model.specs.declared.statuses.Verdict.{Verdict}
-use Rattle.rule_model.specs.Conditions.{has_condition, IsMetAt, IsTooWideAt}
+use Rattle.rule_model.specs.Conditions.{IsMetAt, IsTooWideAt}
 use Rattle.rule_model.specs.Proofs.{Items}
 use Rattle.rule_model.specs.Reading.{rule_at, clause_at, scope_at}
 use Rattle.rule_model.specs.Scopes.{commands_in}
 
--- by what a proof is checked: the column of the conditions, whether a step of an unknown rule counts as a hole, and the
--- assertions of the problem
+-- by what a proof is checked: the column of the conditions, the rules by whose condition a step is judged, whether a step of
+-- another rule counts as a hole, and the assertions of the problem
 pub record Checking : Type 0 where
   pub mode : Mode
+  pub is_judged : Rule → Bool
   pub unknown_are_holes : Bool
   pub assertions : List Term
 
@@ -36,14 +37,13 @@ pub data Kind : Type 0 where
   unknown : Kind
   conditional : Kind
 
-abbrev pub kind_of : Bool → Rule → Kind
-kind_of unknown_are_holes Rule.Assume = assumed
-kind_of unknown_are_holes Rule.Hole = hole
-kind_of unknown_are_holes Rule.LiaGeneric = hole
-kind_of unknown_are_holes Rule.RareRewrite = hole
-kind_of unknown_are_holes Rule.AllSimplify = hole
-kind_of unknown_are_holes rule =
-    if has_condition rule then conditional else (if unknown_are_holes then hole else unknown)
+abbrev pub kind_of : Checking → Rule → Kind
+kind_of c Rule.Assume = assumed
+kind_of c Rule.Hole = hole
+kind_of c Rule.LiaGeneric = hole
+kind_of c Rule.RareRewrite = hole
+kind_of c Rule.AllSimplify = hole
+kind_of c rule = if c.is_judged rule then conditional else (if c.unknown_are_holes then hole else unknown)
 
 -- the statuses that a command of each kind may have
 abbrev pub IsStatusBy : Kind → Checking → Items Var Term → ℕ → Status → Type 0
@@ -58,7 +58,7 @@ IsStatusBy kind c proof i status = ⊥
 
 -- the status of the command at an index
 abbrev pub IsStatusAt : Checking → Items Var Term → ℕ → Status → Type 0
-IsStatusAt c proof i status = IsStatusBy (kind_of c.unknown_are_holes (rule_at proof i)) c proof i status
+IsStatusAt c proof i status = IsStatusBy (kind_of c (rule_at proof i)) c proof i status
 
 -- these are the statuses of the commands, in file order
 pub record AreStatuses (c : Checking) (proof : Items Var Term) (statuses : List Status) : Type 0 where
