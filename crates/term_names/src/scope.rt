@@ -37,11 +37,11 @@ impl Model for Scope {
 
     ghost Value = { List Scoped };
 
-    ghost use Rattle.term_names.specs.Held.{scoped, IsLinked};
+    ghost use Rattle.term_names.specs.Held.{scoped, IsHeldLinked};
 
     ghost view = { λ s. scoped s.names (reverse s.held.items) };
 
-    ghost invariant = { λ s. IsLinked s.names s.innermost.items (reverse s.held.items) };
+    ghost invariant = { λ s. IsHeldLinked s.names s.innermost.items (reverse s.held.items) };
 }
 
 impl Scope {

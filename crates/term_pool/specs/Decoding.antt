@@ -26,17 +26,17 @@ leaf_term (Some (Leaf.variable n s)) = Some (variable (record { name = n; sort =
 leaf_term (Some (Leaf.numeral z)) = numeral_of z
 
 -- a head with arguments
-abbrev pub applied : (Terms → Term) → Option Terms → Option Term
-applied f None = None
-applied f (Some ts) = Some (f ts)
+abbrev pub applied_where : (Terms → Term) → Option Terms → Option Term
+applied_where f None = None
+applied_where f (Some ts) = Some (f ts)
 
 -- the term of a cell, by its first part, and what its second part is as a list and as the rest of a let
 abbrev pub cell_term : Option Leaf → Option Terms → Option Term → Option Term
 cell_term None ts u = None
 cell_term (Some nil) ts u = None
 cell_term (Some let_head) ts u = u
-cell_term (Some (operator op)) ts u = applied (operation op) ts
-cell_term (Some (function n ss t)) ts u = applied (call (record { name = n; arguments = ss; target = t })) ts
+cell_term (Some (operator op)) ts u = applied_where (operation op) ts
+cell_term (Some (function n ss t)) ts u = applied_where (call (record { name = n; arguments = ss; target = t })) ts
 cell_term (Some (Leaf.variable n s)) ts u = None
 cell_term (Some (Leaf.numeral z)) ts u = None
 
@@ -46,10 +46,10 @@ both_terms None ts = None
 both_terms (Some t) None = None
 both_terms (Some t) (Some ts) = Some (term t ts)
 
-abbrev pub let_term : Option Bindings → Option Term → Option Term
-let_term None t = None
-let_term (Some bs) None = None
-let_term (Some bs) (Some t) = Some (let_in bs t)
+abbrev pub let_where : Option Bindings → Option Term → Option Term
+let_where None t = None
+let_where (Some bs) None = None
+let_where (Some bs) (Some t) = Some (let_in bs t)
 
 abbrev pub both_bindings : Option Leaf → Option Term → Option Bindings → Option Bindings
 both_bindings None t bs = None
@@ -79,7 +79,7 @@ abbrev mutual
 
   pub decode_let : Table → Tree → Option Term
   decode_let s (leaf k) = None
-  decode_let s (cell a b) = let_term (decode_bindings s a) (decode s b)
+  decode_let s (cell a b) = let_where (decode_bindings s a) (decode s b)
 
   pub decode_bindings : Table → Tree → Option Bindings
   decode_bindings s (leaf k) = Some no_bindings

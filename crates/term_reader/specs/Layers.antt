@@ -2,7 +2,7 @@
 use Rattle.std.specs.Prelude.{◌≡◌, ℕ, ◌+◌, ◌<◌, pos, List, true, is_some, IsTrue}
 use Rattle.sexpr.specs.Items.{Item, Items, no_items, item, symbol_name}
 use Rattle.text_items.specs.ItemShapes.{Name}
-use Rattle.problem_text.specs.Forms.{Form, faulty, number, symbol, application, let_form, annotated, Forms, form, Binds, no_binds, bind, form_of, forms_of, names_after}
+use Rattle.problem_text.specs.Forms.{Form, faulty, number, symbol, application, let_form, annotated, Forms, form, LetBinds, no_binds, bind, form_of, forms_of, names_after}
 use Rattle.problem_text.specs.NamedItems.{is_named_item}
 use Rattle.text_items.specs.declared.nodes.Node.{Node}
 use Rattle.term_reader.specs.declared.layers.Layer.{Layer}
@@ -22,7 +22,7 @@ pub record AreForms (source : List ℕ) (nodes : List Node) (k : ℕ) (fs : Form
   pub spell : forms_of what ≡ fs
 
 -- The nodes from k on, up to m, are those of pairs that spell the bindings: the bracket, the variable, and the term.
-abbrev pub AreBinds : List ℕ → List Node → ℕ → Binds → ℕ → Type 0
+abbrev pub AreBinds : List ℕ → List Node → ℕ → LetBinds → ℕ → Type 0
 AreBinds source nodes k no_binds m = k ≡ m
 AreBinds source nodes k (bind x f bs) m =
     (n : ℕ) × (k < n) × IsNameNode source nodes (k + 1) x × IsForm source nodes (k + 2) f n × AreBinds source nodes n bs m
@@ -49,7 +49,7 @@ IsLayer source nodes k (Layer.Application head first end) f m =
     (place : ℕ) × (n : Name) × (g : Form) × (gs : Forms) × (f ≡ application place n (form g gs))
     × BeginsAt nodes k place × IsNameNode source nodes head n × AreForms source nodes first (form g gs) end × (end ≡ m) × (k < first)
 IsLayer source nodes k (Layer.Let first body) f m =
-    (place : ℕ) × (bs : Binds) × (g : Form) × (f ≡ let_form place bs g)
+    (place : ℕ) × (bs : LetBinds) × (g : Form) × (f ≡ let_form place bs g)
     × BeginsAt nodes k place × AreBinds source nodes first bs body × (first < body) × IsForm source nodes body g m × (k < first)
 IsLayer source nodes k (Layer.Annotated t first end) f m =
     (place : ℕ) × (names : List Name) × (g : Form) × (f ≡ annotated place g names)

@@ -9,7 +9,7 @@ use Rattle.sexpr.specs.declared.causes.Cause.TheVariants.{BadCommand, LeftOut}
 use Rattle.sexpr.specs.Items.{Item, list, Items, item, place_of}
 use Rattle.text_items.specs.Spelling.{is_list_item}
 use Rattle.text_items.specs.ItemShapes.{Name}
-use Rattle.problem_text.specs.Forms.{Form, faulty, number, symbol, Binds, no_binds, bind}
+use Rattle.problem_text.specs.Forms.{Form, faulty, number, symbol, LetBinds, no_binds, bind}
 use Rattle.problem_text.specs.Words.{is_among, is_built_in}
 use Rattle.text_items.specs.declared.nodes.Node.{Node}
 use Rattle.term_reader.specs.declared.layers.Layer.{Layer}
@@ -68,7 +68,7 @@ pub record IsApplied (source : List ℕ) (nodes : List Node) (k first m : ℕ) :
 -- The nodes from k on, up to m, are those of these bindings, and others before them have the names `earlier`. The first
 -- pair whose variable is a built-in word or has a name that stands earlier is at node `place`; where there is none,
 -- that is m.
-abbrev pub IsFirstRepeat : List ℕ → List Node → ℕ → List (List ℕ) → Binds → ℕ → ℕ → Type 0
+abbrev pub IsFirstRepeat : List ℕ → List Node → ℕ → List (List ℕ) → LetBinds → ℕ → ℕ → Type 0
 IsFirstRepeat source nodes k earlier no_binds place m = place ≡ m
 IsFirstRepeat source nodes k earlier (bind x f bs) place m =
     ((is_built_in x.name || is_among earlier x.name) ≡ true → place ≡ k)

@@ -47,7 +47,7 @@ abbrev pub pushed : List Node → Token → ℕ → List Node
 pushed nodes t next = nodes ++ record { token = t; next = next } ∷ []
 
 -- An open list ends before node `end`. Until then its node said how many were open around it.
-pub record IsClosed (nodes : List Node) (k end : ℕ) (after : List Node) (around : ℕ) : Type 0 where
+pub record IsListClosed (nodes : List Node) (k end : ℕ) (after : List Node) (around : ℕ) : Type 0 where
   pub node : Node
   pub here : slice_get nodes k ≡ Some node
   pub set : after ≡ slice_set nodes k (record { token = node.token; next = end })
@@ -57,7 +57,7 @@ pub record IsClosed (nodes : List Node) (k end : ℕ) (after : List Node) (aroun
 -- first `inner` nodes, and of the first `now` nodes afterwards: 0 where no list is open.
 abbrev pub IsAdded : List Node → ℕ → Token → TokenKind → List Node → ℕ → Type 0
 IsAdded nodes inner t Open after now = (after ≡ pushed nodes t inner) × (now ≡ length nodes + 1)
-IsAdded nodes inner t Close after now = IsClosed nodes (inner - 1) (length nodes) after now
+IsAdded nodes inner t Close after now = IsListClosed nodes (inner - 1) (length nodes) after now
 IsAdded nodes inner t Text after now = (after ≡ pushed nodes t (length nodes + 1)) × (now ≡ inner)
 IsAdded nodes inner t Quoted after now = (after ≡ pushed nodes t (length nodes + 1)) × (now ≡ inner)
 IsAdded nodes inner t Word after now = (after ≡ pushed nodes t (length nodes + 1)) × (now ≡ inner)
