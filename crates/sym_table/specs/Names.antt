@@ -1,4 +1,4 @@
--- Public. Lists in which the place of an item is its number, and sets of names as such lists.
+-- Private. Lists in which the place of an item is its number, and sets of names as such lists.
 use Rattle.std.specs.Prelude.{◌≡◌, ◌⊎◌, ◌++◌, [], ◌∷◌, ℕ, List, map, length, slice_get, Some, Vec}
 use Rattle.std.specs.declared.alloc.Global.{Global}
 

@@ -9,7 +9,8 @@ use Rattle.std.proofs.lemmas.Slice.Eq.{bytes_eq-Decides}
 use Rattle.term_names.specs.declared.scope.Held.{Held}
 use Rattle.term_names.specs.NameNumbers.{AreApart}
 use Rattle.term_names.specs.Scope.{Scoped}
-use Rattle.term_names.specs.Held.{scoped_held, scoped, innermost_held, AreHeld, IsHeldLinked, IsNumbered}
+use Rattle.term_names.specs.Held.{scoped_held, scoped, innermost_held, AreHeld, IsHeldLinked}
+use Rattle.term_names.specs.NameNumbers.{IsNumbered}
 
 true-false : ◌≡◌ {A = Bool} true false → ⊥
 true-false e = cc

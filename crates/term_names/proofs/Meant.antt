@@ -11,7 +11,8 @@ use Rattle.term_expansion.specs.Free.{AreFreeLeaves}
 use Rattle.term_names.specs.Heads.{HeadMeans, IsMacroMeant}
 use Rattle.term_names.specs.InScope.{IsScope}
 use Rattle.term_names.specs.Known.{KnownView, macro_of, named_of}
-use Rattle.term_names.specs.LookingUp.{term_used, IsFoundMeaning, IsEntryMeant, IsSymbolMeant, meaning_of_entry, meaning_of_symbol}
+use Rattle.term_names.specs.LookingUp.{term_used, IsFoundMeaning}
+use Rattle.term_names.specs.Lookups.{IsEntryMeant, IsSymbolMeant, meaning_of_entry, meaning_of_symbol}
 use Rattle.problem_text.specs.Names.{Place, Bound, Meaning, value, macro, innermost, is_bound, meaning_of_bound, meaning_of_named, meaning_of}
 use Rattle.rule_model.specs.Replacement.{free_variables}
 use Rattle.term_names.specs.Scope.{Scoped}

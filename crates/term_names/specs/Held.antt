@@ -1,6 +1,6 @@
--- Public. How the parts of a scope are linked. Variables are listed with the innermost first; one stands at the place that is
+-- Private. How the parts of a scope are linked. Variables are listed with the innermost first; one stands at the place that is
 -- the number of those outside it.
-use Rattle.std.specs.Prelude.{◌≡◌, ℕ, ◌+◌, ◌<◌, ◌==◌, ◌⊎◌, if◌then◌else◌, List, [], ◌∷◌, ◌++◌, length, map, slice_get, slice_index_or, slice_index, Some}
+use Rattle.std.specs.Prelude.{◌≡◌, ℕ, ◌+◌, ◌<◌, ◌==◌, if◌then◌else◌, List, [], ◌∷◌, length, map, slice_index_or, slice_index}
 use Rattle.term_names.specs.declared.scope.Held.{Held}
 use Rattle.term_names.specs.Scope.{Scoped}
 
@@ -24,8 +24,3 @@ pub record IsHeldLinked (names : List (List ℕ)) (firsts : List ℕ) (held : Li
   pub one_each : length names ≡ length firsts
   pub outer : AreHeld (length names) held
   pub tops : (k : ℕ) → k < length names → slice_index firsts k ≡ innermost_held k held
-
--- The name has number k: it had it and nothing changed, or it is new and has no variable yet.
-pub record IsNumbered (old new : List (List ℕ)) (old_tops new_tops : List ℕ) (name : List ℕ) (k : ℕ) : Type 0 where
-  pub number : slice_get new k ≡ Some name
-  pub others : ((new ≡ old) × (new_tops ≡ old_tops)) ⊎ ((new ≡ old ++ name ∷ []) × (new_tops ≡ old_tops ++ 0 ∷ []))

@@ -1,13 +1,11 @@
 -- Public. The term at a reference as a function of what contracts see, for measures, which see no tree and no term.
 use Rattle.std.specs.Prelude.{◌≡◌, ℕ, ◌+◌, ◌^◌, pos, negsuc, ℤ, Option, Some, None, slice_get}
-use Rattle.std.specs.Option.{option_map_or}
 use Rattle.pair_pool.specs.Trees.{Tree, leaf, cell}
 use Rattle.pair_pool.specs.Views.{PassView}
 use Rattle.pair_pool.specs.Decoding.{tree_within}
 use Rattle.sym_table.specs.Leaf.{Leaf, operator, function, let_head, nil}
 use Rattle.sym_table.specs.Table.{Table, IsTable}
 use Rattle.term_model.specs.Terms.{Term, Terms, Bindings, numeral, variable, operation, call, let_in, no_terms, term, no_bindings, binding}
-use Rattle.term_pool.specs.Heights.{height_of}
 use Rattle.term_pool.specs.Views.{TermsView, RefersTo}
 
 -- the numeral of a whole number
@@ -100,10 +98,6 @@ tree_at pass r = tree_within pass (2 ^ 30 + pass.places) r
 -- the term that r stands for by the table; of a reference that stands for none it says nothing
 abbrev pub term_at : Table → TermsView → ℕ → Option Term
 term_at s v r = decode s (tree_at v.pass r)
-
--- its height, and 0 where there is none
-abbrev pub height_at : Table → TermsView → ℕ → ℕ
-height_at s v r = option_map_or height_of (term_at s v r) 0
 
 -- by each table, it is the term that a reference stands for
 abbrev pub HasTermsAt : TermsView → Type 0

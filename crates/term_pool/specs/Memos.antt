@@ -9,7 +9,7 @@ use Rattle.term_pool.specs.declared.heights.Visit.TheVariants.{Part, Done}
 use Rattle.term_pool.specs.Views.{IsKnownCell}
 use Rattle.term_pool.specs.Trees.{depth}
 use Rattle.term_pool.specs.CellCounts.{Has}
-use Rattle.term_pool.specs.Heights.{leaf_heights, heights_of}
+use Rattle.term_pool.specs.HeightTables.{leaf_heights, heights_of}
 use Rattle.term_pool.specs.Numbering.{HasNumber, IsPlace, IsNumbering, IsNext}
 use Rattle.term_pool.specs.Meetings.{IsNumberingOf}
 

@@ -1,16 +1,13 @@
 -- Public. Putting trees in for the leaves of a tree.
-use Rattle.std.specs.Prelude.{◌≡◌, ℕ, ◌+◌, ◌≤◌, ◌<◌, ◌^◌, ◌≢◌, ◌⊎◌, max, Bool, true, ◌&&◌, Option, Some, None, nat_eq}
+use Rattle.std.specs.Prelude.{◌≡◌, ℕ, ◌+◌, ◌≤◌, ◌<◌, max, Bool, true, ◌&&◌, Option, Some, None, nat_eq}
 use Rattle.std.specs.declared.hash.FoldHasher.{FoldHasher}
 use Rattle.std.specs.declared.hash.BuildHasherDefault.{BuildHasherDefault}
-use Rattle.std.specs.HashMap.{get, HashMap, hash_map_len}
+use Rattle.std.specs.HashMap.{get, HashMap}
 use Rattle.pair_pool.specs.Trees.{Tree, leaf, cell}
-use Rattle.pair_pool.specs.Views.{PassView, Knows, IsKnown}
+use Rattle.pair_pool.specs.Views.{PassView, Knows}
 use Rattle.term_pool.specs.declared.putting.Image.{Image}
-use Rattle.term_pool.specs.declared.putting.Visit.{Visit}
-use Rattle.term_pool.specs.declared.putting.Visit.TheVariants.{Part, Done}
 use Rattle.term_pool.specs.Trees.{IsPartOf, depth}
-use Rattle.term_pool.specs.Views.{KeepsPass}
-use Rattle.term_pool.specs.Building.{IsCellIn, PlacesOnlyIn, IsFullIn}
+use Rattle.term_pool.specs.Building.{PlacesOnlyIn, IsFullIn}
 
 -- A tree, its height as a term, that of its highest item as a list of arguments, and whether a term that stands there
 -- is marked as plain, which it is where all that is put in is.
@@ -80,16 +77,6 @@ abbrev pub image_of_leaf_or_itself : Option Image → ℕ → Image
 image_of_leaf_or_itself None k = record { term = k; height = 1; highest = 0; plain = true }
 image_of_leaf_or_itself (Some d) k = d
 
--- The images of the parts of a cell have been joined to the cell (a, b), which is r.
-abbrev pub joined_image : ℕ → Image → Image → Image
-joined_image r a b = record { term = r; height = b.highest + 1; highest = max a.height b.highest; plain = a.plain && b.plain }
-
--- one cell more is remembered, and what there was
-pub record RemembersImage (old new : CellImages) (r : ℕ) (d : Image) : Type 0 where
-  pub here : get nat_eq new r ≡ Some d
-  pub others : (q : ℕ) → q ≢ r → get nat_eq new q ≡ get nat_eq old q
-  pub size : hash_map_len new ≡ hash_map_len old + 1
-
 -- y is a cell that is a part of what x is known to be, and not all of it
 pub record IsCellUnder (pass : PassView) (x y : ℕ) : Type 0 where
   pub upper : Tree
@@ -99,16 +86,6 @@ pub record IsCellUnder (pass : PassView) (x y : ℕ) : Type 0 where
   pub known : Knows pass y (cell first second)
   pub part : IsPartOf (cell first second) upper
   pub less : depth (cell first second) < depth upper
-
--- a visit of the cell r has come to its image, or found a part of it that is yet to be visited
-abbrev pub IsImageVisit : PassView → CellImages → CellImages → ℕ → Visit → Type 0
-IsImageVisit pass old new r (Done d) = RemembersImage old new r d × (hash_map_len old < 2 ^ 64)
-IsImageVisit pass old new r (Part y) = (new ≡ old) × IsCellUnder pass r y × (get nat_eq old y ≡ None)
-
--- where the visit of r is done, its image is what r has become
-abbrev pub HasDoneImage : PassView → PassView → (ℕ → Piece) → ℕ → Visit → Type 0
-HasDoneImage old new f r (Done d) = (t : Tree) → Knows old r t → IsImageOfPiece new d (put f t)
-HasDoneImage old new f r (Part y) = Unit {0}
 
 -- nothing is placed but cells of what the known reference becomes
 abbrev pub PlacesPiece : PassView → PassView → (ℕ → Piece) → ℕ → Type 0

@@ -1,7 +1,7 @@
 -- Public. What contracts see of a `Terms`, and when a reference in it stands for a term.
 use Rattle.std.specs.Prelude.{◌≡◌, ℕ, ◌<◌, List, [], ◌∷◌, ◌++◌}
 use Rattle.pair_pool.specs.Trees.{Tree, cell}
-use Rattle.pair_pool.specs.Views.{PoolView, PassView, Knows, Grows, SeesMore, IsUnchanged}
+use Rattle.pair_pool.specs.Views.{PoolView, PassView, Knows, Grows, SeesMore}
 use Rattle.sym_table.specs.Table.{Table}
 use Rattle.term_model.specs.Terms.{Term}
 use Rattle.term_pool.specs.StandsFor.{StandsFor}
@@ -60,11 +60,6 @@ pub record HasItem (pass : PassView) (r i : ℕ) : Type 0 where
   pub tree : Tree
   pub stands : Knows pass r tree
   pub there : i < list_length tree
-
--- the pass has kept what it had, and neither placed nor learnt anything
-pub record ReadsOnly (old new : PassView) : Type 0 where
-  pub keeps : KeepsPass old new
-  pub unchanged : IsUnchanged old new
 
 -- behind the old references stand those of the items of the list, in order
 pub record AddsItems (pass : PassView) (list : ℕ) (old new : List ℕ) : Type 0 where

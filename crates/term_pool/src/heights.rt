@@ -6,7 +6,7 @@ ghost use Rattle.pair_pool.specs.Views.{IsPassOf, IsKnown, Knows};
 ghost use Rattle.term_pool.specs.Views.{IsKnownCell};
 ghost use Rattle.term_pool.specs.CellCounts.{Has};
 ghost use Rattle.term_pool.specs.Numbering.{IsPlace};
-ghost use Rattle.term_pool.specs.Heights.{leaf_heights, cell_heights, heights_of};
+ghost use Rattle.term_pool.specs.HeightTables.{leaf_heights, cell_heights, heights_of};
 ghost use Rattle.term_pool.specs.Memos.{HasHeights, HasRoomFor, IsMemo, IsNoted, IsHeightVisit};
 
 use crate::build::LET;

@@ -5,7 +5,7 @@ ghost use Rattle.pair_pool.specs.Trees.{Tree, leaf, cell};
 ghost use Rattle.pair_pool.specs.Views.{IsPassOf, Knows};
 ghost use Rattle.sym_table.specs.Leaf.{Leaf};
 ghost use Rattle.sym_table.specs.Table.{IsLeaf};
-ghost use Rattle.term_pool.specs.Reading.{leaf_shape, cell_shape, IsTermCell};
+ghost use Rattle.term_pool.specs.CellShapes.{leaf_shape, cell_shape, IsTermCell};
 
 use crate::build::LET;
 use crate::lists::{length, parts};

@@ -18,7 +18,8 @@ use Rattle.rule_model.specs.Heights.{height}
 use Rattle.problem_text.specs.Limits.{most_height}
 use Rattle.term_names.specs.Known.{KnownView, known_entry}
 use Rattle.text_items.specs.NameNodes.{BeginsAt, IsNameNode}
-use Rattle.term_reader.specs.Layers.{AreBinds, IsLayer}
+use Rattle.term_reader.specs.Layers.{AreBinds}
+use Rattle.term_reader.specs.ShapeFaults.{IsLayer}
 use Rattle.term_names.specs.Making.{PlacesCellsOf}
 use Rattle.problem_text.specs.Names.{Place, meaning_of}
 use Rattle.text_items.specs.Nodes.{IsNode}

@@ -10,7 +10,8 @@ use Rattle.term_reader.specs.declared.layers.Layer.{Layer}
 use Rattle.text_items.specs.declared.nodes.Node.{Node}
 use Rattle.text_items.specs.Nodes.{IsNode, AreNodes}
 use Rattle.text_items.specs.NameNodes.{IsNameNode}
-use Rattle.term_reader.specs.Layers.{IsForm, AreForms, AreBinds, AreAttributes, IsLayer}
+use Rattle.term_reader.specs.Layers.{IsForm, AreForms, AreBinds, AreAttributes}
+use Rattle.term_reader.specs.ShapeFaults.{IsLayer}
 use Rattle.text_items.specs.Stepping.{IsItemAt, IsItemNode}
 use Rattle.text_items.proofs.NodeSteps.{node_behind, node_inside, nodes_ordered, nodes_inside, no_nodes, more_nodes, node_read}
 

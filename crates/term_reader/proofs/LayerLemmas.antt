@@ -21,8 +21,10 @@ use Rattle.term_reader.specs.declared.layers.Layer.{Layer}
 use Rattle.text_items.specs.declared.nodes.Node.{Node}
 use Rattle.text_items.specs.Nodes.{IsNode, AreNodes}
 use Rattle.text_items.specs.NameNodes.{BeginsAt, IsNameNode}
-use Rattle.term_reader.specs.Layers.{IsForm, AreBinds, NamesAreSymbols, AreAttributes, IsLayer}
-use Rattle.term_reader.specs.Shapes.{IsSymbolLayer, IsTokenLayer, IsApplied}
+use Rattle.term_reader.specs.Layers.{IsForm, AreBinds, NamesAreSymbols, AreAttributes}
+use Rattle.term_reader.specs.ShapeFaults.{IsLayer}
+use Rattle.term_reader.specs.Shapes.{IsApplied}
+use Rattle.term_reader.specs.ShapeFaults.{IsSymbolLayer, IsTokenLayer}
 use Rattle.text_items.specs.Stepping.{BeginsItem, has_two, HasSecond}
 use Rattle.text_items.proofs.NodeSteps.{node_behind, nodes_ordered, name_node, name_next}
 use Rattle.text_items.proofs.ShapeLemmas.{IsListAt}

@@ -4,12 +4,14 @@ use Rattle.sexpr.specs.Items.{Item}
 use Rattle.sym_table.specs.Table.{Table}
 use Rattle.term_pool.specs.Views.{TermsView, KeepsTerms}
 use Rattle.problem_text.specs.Forms.{form_of}
-use Rattle.term_reader.specs.Frames.{WholeReading, AreFrames, credit}
+use Rattle.term_reader.specs.Frames.{WholeReading, AreFrames}
+use Rattle.term_reader.specs.Credits.{credit}
 use Rattle.term_names.specs.InScope.{IsScope, AreLow}
 use Rattle.term_names.specs.Making.{PlacesCellsOf}
 use Rattle.problem_text.specs.Names.{Place}
 use Rattle.text_items.specs.Nodes.{IsNode}
-use Rattle.term_reader.specs.Reading.{IsAt, HasRead, IsTurn, IsReadTerm, Goes, node_of, bound_of, IsReaderIdle, IsOutcome, ComesToTerm}
+use Rattle.term_reader.specs.Reading.{IsAt, HasRead, IsTurn, IsReadTerm, Goes, IsReaderIdle, IsOutcome, ComesToTerm}
+use Rattle.term_reader.specs.Credits.{node_of, bound_of}
 use Rattle.term_reader.specs.Resuming.{resumed}
 use Rattle.term_names.specs.Scope.{Scoped}
 use Rattle.problem_text.specs.Outcomes.{done}

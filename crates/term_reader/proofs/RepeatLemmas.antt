@@ -12,7 +12,8 @@ use Rattle.problem_text.specs.Words.{is_among, is_built_in}
 use Rattle.text_items.specs.declared.nodes.Node.{Node}
 use Rattle.text_items.specs.NameNodes.{IsNameNode}
 use Rattle.term_reader.specs.Layers.{IsForm, AreBinds}
-use Rattle.term_reader.specs.Shapes.{IsFirstRepeat, IsPair, has_name}
+use Rattle.term_reader.specs.Shapes.{IsFirstRepeat, IsPair}
+use Rattle.term_reader.specs.ShapeFaults.{has_name}
 use Rattle.term_reader.proofs.FormSteps.{AreMoreBinds, binds_more, binds_done, binds_ordered, form_ends}
 
 -- two tests that hold together are one

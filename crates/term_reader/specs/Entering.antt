@@ -8,7 +8,7 @@ use Rattle.term_names.specs.Heads.{HeadMeans}
 use Rattle.term_reader.specs.Frames.{WholeReading}
 use Rattle.problem_text.specs.Limits.{most_height}
 use Rattle.term_names.specs.Known.{KnownView}
-use Rattle.term_reader.specs.Layers.{IsLayer}
+use Rattle.term_reader.specs.ShapeFaults.{IsLayer}
 use Rattle.term_names.specs.Making.{PlacesCellsOf}
 use Rattle.problem_text.specs.Names.{Meaning}
 use Rattle.term_reader.specs.Reading.{IsAt, EndsWith, IsReadTerm}

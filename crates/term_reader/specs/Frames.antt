@@ -80,9 +80,3 @@ AreFrames source nodes g s v k (Frame.Names end ∷ fs) values leaves scope p n 
     (names : List Name) × (rest : List Waiting) × (ws ≡ naming names ∷ rest)
     × AreAttributes source nodes n names end
     × AreFrames source nodes g s v k fs values leaves scope p end rest
-
--- how many leaves the table may still get for an open form
-abbrev pub credit : List Frame → ℕ
-credit [] = 0
-credit (Frame.Bindings place from first name repeat body ∷ fs) = 2 + credit fs
-credit (f ∷ fs) = 1 + credit fs

@@ -1,12 +1,12 @@
 -- Public. A term that is being read: where the reader is, and what comes of it.
-use Rattle.std.specs.Prelude.{◌≡◌, ◌≤◌, ◌+◌, ◌*◌, ◌-◌, ℕ, List, [], length, Contains, Result, Ok, Err}
+use Rattle.std.specs.Prelude.{◌≡◌, ◌≤◌, ◌-◌, ℕ, List, [], Contains, Result, Ok, Err}
 use Rattle.pair_pool.specs.Views.{PassView}
 use Rattle.sexpr.specs.declared.causes.Refusal.{Refusal}
 use Rattle.sym_table.specs.Table.{Table}
 use Rattle.term_model.specs.Terms.{Term}
 use Rattle.term_pool.specs.Views.{TermsView}
 use Rattle.problem_text.specs.Forms.{Form}
-use Rattle.term_reader.specs.Frames.{WholeReading, AreFrames, credit}
+use Rattle.term_reader.specs.Frames.{WholeReading, AreFrames}
 use Rattle.problem_text.specs.Limits.{limited, most_height}
 use Rattle.term_names.specs.InScope.{IsScope, AreLow}
 use Rattle.term_reader.specs.Layers.{IsForm}
@@ -78,21 +78,6 @@ GoesOnReading source nodes g s v r (Err fault) = EndsWith s v.pass g.whole.resul
 pub record Goes (source : List ℕ) (nodes : List Node) (g : WholeReading) (s : Table) (old new : TermsView) (r : Reader) (result : Result Turn ReadFault) : Type 0 where
   pub step : GoesOnReading source nodes g s new r result
   pub placed : PlacesCellsOf s old.pass new.pass (IsReadTerm g.whole)
-
--- the node that a turn is at
-abbrev pub node_of : Turn → ℕ
-node_of (Turn.Read k) = k
-node_of (Turn.Use c n) = n
-
--- At most so many leaves will be in the table when the term is read: each leaf that is added has a node of its own, and an
--- open let the nodes of its brackets besides.
-abbrev pub bound_of : Table → List Node → Reader → ℕ → ℕ
-bound_of s nodes r k = length s.leaves + (length nodes - k) + credit r.frames
-
--- what is left to be done, by a count that each turn lowers
-abbrev pub effort : List Node → Reader → Turn → ℕ
-effort nodes r (Turn.Read k) = 3 * (length nodes - k) + 2 * length r.frames
-effort nodes r (Turn.Use c n) = 3 * (length nodes - n) + 2 * length r.frames + 1
 
 -- The reader holds nothing of a term, and what it holds stands for the script and the place.
 pub record IsReaderIdle (s : Table) (v : TermsView) (r : Reader) (sc : Script) (p : Place) : Type 0 where

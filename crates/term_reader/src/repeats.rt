@@ -5,7 +5,8 @@ ghost use Rattle.text_items.specs.ItemShapes.{Name};
 ghost use Rattle.problem_text.specs.Forms.{Form, LetBinds, no_binds, bind};
 ghost use Rattle.text_items.specs.NameNodes.{IsNameNode};
 ghost use Rattle.term_reader.specs.Layers.{AreBinds};
-ghost use Rattle.term_reader.specs.Shapes.{IsFirstRepeat, has_name, IsPair};
+ghost use Rattle.term_reader.specs.Shapes.{IsFirstRepeat, IsPair};
+ghost use Rattle.term_reader.specs.ShapeFaults.{has_name};
 ghost use Rattle.problem_text.specs.Words as spec;
 ghost use Rattle.term_names.specs.declared.faults.ReadFault.TheVariants as ReadFault;
 
