@@ -13,3 +13,5 @@ mod WellFormed
 mod Forms
 mod SortedReadings
 mod SortedProofs
+mod TextLengths
+mod ShortLists

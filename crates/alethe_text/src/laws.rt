@@ -1,9 +1,10 @@
 //! Laws of the definitions. The functions do nothing: their contracts are the laws.
-ghost use Rattle.std.specs.Prelude.{◌≡◌, ◌⊎◌, List, ℕ};
+ghost use Rattle.std.specs.Prelude.{◌≡◌, ◌≤◌, ◌+◌, ◌⊎◌, List, ℕ, length};
 ghost use Rattle.sexpr.specs.declared.causes.Refusal.{Refusal};
 ghost use Rattle.sexpr.specs.Form.{HasForm};
 ghost use Rattle.term_model.specs.Terms.{Var, Term};
 ghost use Rattle.rule_model.specs.Proofs.{ProofItems};
+ghost use Rattle.rule_model.specs.Reading.{clause_at, premises_at};
 ghost use Rattle.rule_model.specs.WellFormed.{IsWellFormed};
 ghost use Rattle.problem_text.specs.Scripts.{Script};
 ghost use Rattle.problem_text.specs.Soundness.{IsSound};
@@ -49,3 +50,13 @@ pub fn proofs_are_well_sorted()
     ensures script { (source : List ℕ) (settings : ProofSettings) (before : Script) (proof : ProofItems Var Term) (after : Script) →
         IsSound before → StandsForProof source settings before proof after → IsSound after }
 {}
+
+/// Whatever proof a text stands for: no clause and no list of premises is longer than the text.
+pub fn proofs_are_short()
+    ensures clauses { (source : List ℕ) (settings : ProofSettings) (before : Script) (proof : ProofItems Var Term) (after : Script) (i : ℕ) →
+        StandsForProof source settings before proof after → length (clause_at proof i) ≤ 1 + length source }
+    ensures premises { (source : List ℕ) (settings : ProofSettings) (before : Script) (proof : ProofItems Var Term) (after : Script) (i : ℕ) →
+        StandsForProof source settings before proof after → length (premises_at proof i) ≤ length source }
+{
+    tokens_are_spelled();
+}

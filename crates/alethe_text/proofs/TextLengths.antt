@@ -1,0 +1,59 @@
+-- A text has at least as many bytes as its items have tokens.
+use Rattle.std.proofs.Common.{◌≡◌, ◌≤◌, ◌<◌, ◌+◌, ◌-◌, ℕ, suc, List, [], ◌∷◌, ◌++◌, length, drop, take, refl, sym, ap, subst, arith}
+use Rattle.std.proofs.lemmas.List.{length-append, length-drop, length-take}
+use Rattle.sexpr.specs.declared.lexing.Token.{Token}
+use Rattle.sexpr.specs.declared.lexing.TokenKind.{TokenKind}
+use Rattle.sexpr.specs.declared.lexing.TokenKind.TheVariants.{Open, Close, Text, Quoted, Word}
+use Rattle.sexpr.specs.Grammar.{SkipsTo, nothing, white, comment, IsSpelling, IsSpelledNext}
+use Rattle.sexpr.specs.Tokens.{AreTokens, token_text}
+use Rattle.sexpr.specs.Items.{Item, word, quoted, string, list, Items, no_items, item, IsItem, AreItems, StandsForItems}
+use Rattle.alethe_text.proofs.SymbolNames.{AreSpelled}
+
+-- how many tokens an item has
+abbrev mutual
+  pub weight : Item → ℕ
+  weight (word place spelling) = 1
+  weight (quoted place spelling) = 1
+  weight (string place spelling) = 1
+  weight (list place items) = 2 + weights items
+
+  pub weights : Items → ℕ
+  weights no_items = 0
+  weights (item i rest) = weight i + weights rest
+
+mutual
+  item_weighs : (source : List ℕ) (i : Item) (tokens rest : List Token) → IsItem source tokens i rest → length tokens ≡ weight i + length rest
+  item_weighs source (word place spelling) tokens rest t = omega (arith, ap length t.first)
+  item_weighs source (quoted place spelling) tokens rest t = omega (arith, ap length t.first)
+  item_weighs source (string place spelling) tokens rest t = omega (arith, ap length t.first)
+  item_weighs source (list place items) tokens rest (opened, inside, after, closed, first, same, there, last) =
+      omega (arith, ap length first.first, items_weigh source items inside after there, ap length last.first)
+
+  items_weigh : (source : List ℕ) (items : Items) (tokens rest : List Token) → AreItems source tokens items rest → length tokens ≡ weights items + length rest
+  items_weigh source no_items tokens rest e = omega (arith, ap length e)
+  items_weigh source (item i others) tokens rest (after, first, there) =
+      omega (arith, item_weighs source i tokens after first, items_weigh source others after rest there)
+
+skipped : (after before : List ℕ) → SkipsTo after before → length after ≤ length before
+skipped after before (nothing) = omega arith
+skipped after before (white b rest w h) = omega (arith, skipped after rest h)
+skipped after before (comment line rest l e h) = omega (arith, skipped after rest h, length-append line rest)
+
+spelling_some : (kind : TokenKind) (spelling : List ℕ) → IsSpelling kind spelling → 0 < length spelling
+spelling_some Open spelling h = subst (λ s. 0 < length s) (sym h) (omega arith)
+spelling_some Close spelling h = subst (λ s. 0 < length s) (sym h) (omega arith)
+spelling_some Text spelling h = subst (λ s. 0 < length s) (sym h.in_quotes) (omega arith)
+spelling_some Quoted spelling h = subst (λ s. 0 < length s) (sym h.in_bars) (omega arith)
+spelling_some Word spelling h = h.some
+
+tokens_fit : AreSpelled → (text : List ℕ) (at : ℕ) (tokens : List Token) → AreTokens text at tokens → length tokens ≤ length text - at
+tokens_fit law text at [] h = omega arith
+tokens_fit law text at (t ∷ ts) h =
+    let next = law text at t h.0 in
+    let some = spelling_some t.kind (token_text text t) next.spelled in
+    let cut = length-take (t.end - t.start) (drop t.start text) in
+    omega (arith, skipped _ _ next.before, length-drop t.start text, length-drop at text, some, cut, tokens_fit law text t.end ts h.1)
+
+-- the items of a text have no more tokens than it has bytes
+pub text_weighs : AreSpelled → (source : List ℕ) (items : Items) → StandsForItems source items → weights items ≤ length source
+text_weighs law source items h = omega (arith, items_weigh source items h.tokens [] h.nested, tokens_fit law source 0 h.tokens h.read)
