@@ -1,0 +1,3 @@
+mod ShapesByNodes
+mod CommandsByNodes
+mod AttributesByNodes
