@@ -45,3 +45,7 @@ returns-in-Some-clause-later c =
 
 pub returns-clause-none : goal.returns-clause-none
 returns-clause-none c = λ attributes h. none_left (source c.args.text.now) c.args.nodes.now c.items.k c.args.end attributes (c.items.invariant.kept attributes h) c.items-test.false
+
+pub returns-in-Some-clause-inside : goal.returns-in-Some-clause-inside
+returns-in-Some-clause-inside c =
+    (further (source c.args.text.now) c.args.nodes.now c.items.k c.args.end c.node_at-next.result c.items.invariant.there c.items-test.true (c.node_at-next.ensures (source c.args.text.now))).1

@@ -9,8 +9,8 @@ use Rattle.alethe_commands.proofs.attributes.next_attribute.Given as goal
 abbrev pub invariant-items : goal.invariant-items
 invariant-items l = record {
   there : AreItemsFrom (source l.text) l.nodes l.k l.end;
-  later : l.at ≤ l.k;
-  kept : (attributes : List Attribute) → AreAttributes (source l.text) l.nodes l.at attributes l.end → AreAttributes (source l.text) l.nodes l.k attributes l.end;
+  later : l.fn.at ≤ l.k;
+  kept : (attributes : List Attribute) → AreAttributes (source l.text) l.nodes l.fn.at attributes l.end → AreAttributes (source l.text) l.nodes l.k attributes l.end;
 }
 
 abbrev pub decreases-items : goal.decreases-items
