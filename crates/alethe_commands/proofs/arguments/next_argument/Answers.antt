@@ -1,5 +1,4 @@
 -- The first argument is told, where there is one.
-use Rattle.std.proofs.Common.{arith}
 use Rattle.sexpr.specs.Source.{source}
 use Rattle.text_items.proofs.NodeSteps.{further}
 use Rattle.alethe_commands.proofs.ArgumentsByNodes.{no_arguments, argument_there, first_argument}
