@@ -1,5 +1,5 @@
 -- The rule of a step among its attributes.
-use Rattle.std.proofs.Common.{◌≡◌, ℕ, ◌∙◌, List, [], ◌∷◌, Option, Some, None, sym, ap, subst}
+use Rattle.std.proofs.Common.{◌≡◌, ℕ, ◌∙◌, List, [], ◌∷◌, Some, None, sym, ap, subst}
 use Rattle.text_items.specs.declared.nodes.Node.{Node}
 use Rattle.text_items.specs.ItemShapes.{Name}
 use Rattle.text_items.specs.NameNodes.{IsNameNode}
