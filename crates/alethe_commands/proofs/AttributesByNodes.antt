@@ -1,6 +1,7 @@
 -- The attributes of a step by the nodes of their items.
 use Rattle.std.proofs.Common.{◌≡◌, ◌≢◌, ◌≤◌, ℕ, ◌+◌, ◌∙◌, Bool, true, false, cond, List, [], ◌∷◌, ◌++◌, Option, Some, None, is_some, refl, sym, ap, subst, arith}
-use Rattle.std.specs.Prelude.{codes, bytes_eq, if◌then◌else◌, not, ◌&&◌, ◌==◌, is_ascii_digit, ⊤}
+use Rattle.std.specs.Prelude.{codes, bytes_eq, if◌then◌else◌, not, ◌&&◌, ◌==◌}
+use Rattle.std.specs.Char.{is_ascii_digit}
 use Rattle.sexpr.specs.Words.{is_keyword, is_symbol}
 use Rattle.sexpr.specs.Items.{Item, word, quoted, string, list, Items, no_items, item, symbol_name}
 use Rattle.text_items.specs.declared.keywords.Next.{Next}
