@@ -8,7 +8,7 @@ use Rattle.text_items.specs.ItemShapes.{Name}
 use Rattle.text_items.specs.Keywords.{misplaced, at_end, is_value}
 use Rattle.text_items.specs.NameNodes.{IsNameNode}
 use Rattle.text_items.specs.Nodes.{IsNode, AreNodes}
-use Rattle.alethe_text.specs.Commands.{Attribute, rule, premises, arguments, discharge, Argument, variable_alone, assigned, Command as Shape, assume, step, anchor, step_keywords, attributes_of, each_argument_fault, arguments_of}
+use Rattle.alethe_text.specs.Commands.{Attribute, rule, premises, arguments, discharge, Argument, variable_alone, assigned, Command as Shape, assume, step, anchor, step_keywords, attributes_of, each_argument_fault, arguments_in}
 use Rattle.alethe_commands.specs.declared.commands.Command.{Command}
 use Rattle.alethe_commands.specs.declared.attributes.StepAttribute.{StepAttribute}
 use Rattle.alethe_commands.specs.declared.arguments.AnchorArgument.{AnchorArgument}
@@ -62,7 +62,7 @@ pub record AreArguments (source : List ℕ) (nodes : List Node) (k : ℕ) (other
   pub items : Items
   pub there : AreNodes source nodes k items m
   pub fit : each_argument_fault items ≡ None
-  pub same : others ≡ arguments_of items
+  pub same : others ≡ arguments_in items
 
 abbrev pub IsSortNode : List ℕ → List Node → Option ℕ → Option Item → Type 0
 IsSortNode source nodes None sort = sort ≡ None

@@ -9,7 +9,7 @@ use Rattle.smtlib_reader.specs.declared.commands.Command.{Command}
 use Rattle.smtlib_reader.specs.declared.command_words.CommandWord.{CommandWord}
 use Rattle.problem_text.specs.Words.{is_among, left_out_commands}
 use Rattle.text_items.specs.ItemShapes.{Name, excess, pairs_fault}
-use Rattle.problem_text.specs.Commands.{Command as Shape, set_logic, without_effect, declare_sort, declare_fun, define_fun, assert_term, check_sat, exit, refused, shaped, assert_shape, declare_fun_shape, declare_const_shape, define_fun_shape, declare_sort_shape, set_logic_shape, attribute_shape}
+use Rattle.problem_text.specs.Commands.{ScriptCommand as Shape, set_logic, without_effect, declare_sort, declare_fun, define_fun, assert_term, check_sat, exit, refused, script_shaped, assert_shape, declare_fun_shape, declare_const_shape, define_fun_shape, declare_sort_shape, set_logic_shape, attribute_shape}
 use Rattle.text_items.specs.Nodes.{IsNode, AreNodes}
 use Rattle.text_items.specs.NameNodes.{BeginsAt, IsNameNode}
 
@@ -95,9 +95,9 @@ command_so CommandWord.DefineFun checked place word_place items = define_fun_sha
 command_so CommandWord.DeclareSort checked place word_place items = declare_sort_shape place items
 command_so CommandWord.SetLogic checked place word_place items = set_logic_shape place items
 command_so CommandWord.Attribute checked place word_place items = attribute_shape place items
-command_so CommandWord.CheckSat checked place word_place items = shaped (excess items) check_sat
-command_so CommandWord.Question checked place word_place items = shaped (excess items) without_effect
-command_so CommandWord.Exit checked place word_place items = shaped (excess items) exit
+command_so CommandWord.CheckSat checked place word_place items = script_shaped (excess items) check_sat
+command_so CommandWord.Question checked place word_place items = script_shaped (excess items) without_effect
+command_so CommandWord.Exit checked place word_place items = script_shaped (excess items) exit
 command_so CommandWord.LeftOut checked place word_place items = refused LeftOut word_place
 command_so CommandWord.Unknown checked place word_place items = refused UnknownCommand word_place
 

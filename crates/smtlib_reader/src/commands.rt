@@ -57,7 +57,7 @@ pub(crate) fn command_of(
     checked: bool,
 ) -> Result<Command, Refusal>
     requires { (i : Item) × IsNode (source text.now) nodes.now 0 i (length nodes.now) }
-    ensures { (i : Item) → IsNode (source text.now) nodes.now 0 i (length nodes.now) → IsCommand (source text.now) nodes.now result (spec.command_of checked i) }
+    ensures { (i : Item) → IsNode (source text.now) nodes.now 0 i (length nodes.now) → IsCommand (source text.now) nodes.now result (spec.script_command_of checked i) }
 {
     command_in(text, nodes, checked)
 }
@@ -65,7 +65,7 @@ pub(crate) fn command_of(
 fn command_in(text: &Lexer<'_>, nodes: &[Node], checked: bool) -> Result<Command, Refusal>
     requires spans { AreSpans (source text.now) nodes.now }
     requires some { 0 < length nodes.now }
-    ensures { (i : Item) → IsNode (source text.now) nodes.now 0 i (length nodes.now) → IsCommand (source text.now) nodes.now result (spec.command_of checked i) }
+    ensures { (i : Item) → IsNode (source text.now) nodes.now 0 i (length nodes.now) → IsCommand (source text.now) nodes.now result (spec.script_command_of checked i) }
 {
     let start = place_at(nodes, 0);
     let mut at = 1;
