@@ -1,0 +1,6 @@
+mod ShapesByNodes
+mod CommandsByNodes
+mod AttributesByNodes
+mod ArgumentsByNodes
+mod NamesByNodes
+mod RulesByNodes
