@@ -51,11 +51,11 @@ pub record HasFirstAttribute (source : List ℕ) (nodes : List Node) (said : Ste
   pub there : AreAttributes source nodes k others m
 
 -- What stands in the attribute's list lies between these nodes.
-abbrev pub IsWithin : ℕ → StepAttribute → ℕ → Type 0
-IsWithin low (StepAttribute.Rule k) high = ⊤
-IsWithin low (StepAttribute.Premises first last) high = (low ≤ first) × (last ≤ high)
-IsWithin low (StepAttribute.Arguments first last) high = (low ≤ first) × (last ≤ high)
-IsWithin low (StepAttribute.Discharge first last) high = (low ≤ first) × (last ≤ high)
+abbrev pub LiesWithin : ℕ → StepAttribute → ℕ → Type 0
+LiesWithin low (StepAttribute.Rule k) high = ⊤
+LiesWithin low (StepAttribute.Premises first last) high = (low ≤ first) × (last ≤ high)
+LiesWithin low (StepAttribute.Arguments first last) high = (low ≤ first) × (last ≤ high)
+LiesWithin low (StepAttribute.Discharge first last) high = (low ≤ first) × (last ≤ high)
 
 -- The nodes from k on, up to m, are those of an anchor's arguments, which have no fault of shape.
 pub record AreArguments (source : List ℕ) (nodes : List Node) (k : ℕ) (others : List Argument) (m : ℕ) : Type 0 where

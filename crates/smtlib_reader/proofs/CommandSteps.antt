@@ -4,7 +4,7 @@ use Rattle.std.specs.Prelude.{⊤}
 use Rattle.sexpr.specs.declared.causes.Refusal.{Refusal}
 use Rattle.sym_table.specs.Table.{Table}
 use Rattle.term_pool.specs.Views.{TermsView}
-use Rattle.smtlib_reader.specs.CommandShapes.{SaysCommand}
+use Rattle.smtlib_reader.specs.CommandShapes.{SaysScriptCommand}
 use Rattle.problem_text.specs.Commands as shape
 use Rattle.problem_text.specs.Problems.{script_performed}
 use Rattle.problem_text.specs.Outcomes.{Outcome, done}
@@ -28,7 +28,7 @@ module _ (s : Table) (v : TermsView) (d : Session) where
   performs_memory o = record { outcome = tt; placed = places_none s v.pass v.pass (IsReadBy o) refl }
 
   -- nothing is asked for
-  pub without_effect_performed : (replaces : Bool) (source : List ℕ) (nodes : List Node) (asked : Command) (c : shape.ScriptCommand) (sc : Script) → (asked ≡ Command.WithoutEffect) ⊎ (asked ≡ Command.Exit) → SaysCommand source nodes asked c → IsSession s v d sc → Performs s v v d (script_performed replaces c sc) (Ok tt)
+  pub without_effect_performed : (replaces : Bool) (source : List ℕ) (nodes : List Node) (asked : Command) (c : shape.ScriptCommand) (sc : Script) → (asked ≡ Command.WithoutEffect) ⊎ (asked ≡ Command.Exit) → SaysScriptCommand source nodes asked c → IsSession s v d sc → Performs s v v d (script_performed replaces c sc) (Ok tt)
   unfolding script_performed
   without_effect_performed replaces source nodes asked c sc (inl e) says is =
       let same : c ≡ shape.without_effect = rw e at says in

@@ -9,7 +9,7 @@ use Rattle.smtlib_reader.specs.declared.command_words.CommandWord.{CommandWord}
 use Rattle.problem_text.specs.Words.{is_among, left_out_commands}
 use Rattle.text_items.specs.ItemShapes.{items_of}
 use Rattle.problem_text.specs.Commands.{ScriptCommand as Shape, refused, script_command_named, headed_script_command, script_command_of}
-use Rattle.smtlib_reader.specs.CommandShapes.{head_word, word_named, command_so}
+use Rattle.smtlib_reader.specs.CommandShapes.{head_word, script_word_named, script_command_so}
 
 -- f of a choice, where each side is f of its own
 choice : {A B : Type 0} (f : A → B) (b : Bool) (x y : A) (u v : B) → u ≡ f x → v ≡ f y → (if b then u else v) ≡ f (if b then x else y)
@@ -17,9 +17,9 @@ choice f true x y u v p q = p
 choice f false x y u v p q = q
 
 pub by_word : (checked : Bool) (place word_place : ℕ) (name : List ℕ) (items : Items)
-    → script_command_named checked place word_place name items ≡ command_so (word_named name) checked place word_place items
+    → script_command_named checked place word_place name items ≡ script_command_so (script_word_named name) checked place word_place items
 by_word checked place word_place name items =
-    let f : CommandWord → Result Shape Refusal = λ w. command_so w checked place word_place items in
+    let f : CommandWord → Result Shape Refusal = λ w. script_command_so w checked place word_place items in
     choice f (bytes_eq name (codes "assert")) _ _ _ _ refl
     (choice f (bytes_eq name (codes "declare-fun")) _ _ _ _ refl
     (choice f (bytes_eq name (codes "declare-const")) _ _ _ _ refl
@@ -70,12 +70,12 @@ has_head checked i head items e name is =
     by_items checked i ∙ ap (inside checked (place_of i)) e ∙ by_head checked (place_of i) head items
     ∙ ap (λ o. headed checked (place_of i) (place_of head) o items) (sym is)
 
-pub with_word : (checked : Bool) (i head : Item) (items : Items) → items_of i ≡ item head items → (name : List ℕ) → Some name ≡ head_word head → (w : CommandWord) → w ≡ word_named name
-    → (p q : ℕ) → p ≡ place_of i → q ≡ place_of head → script_command_of checked i ≡ command_so w checked p q items
+pub with_word : (checked : Bool) (i head : Item) (items : Items) → items_of i ≡ item head items → (name : List ℕ) → Some name ≡ head_word head → (w : CommandWord) → w ≡ script_word_named name
+    → (p q : ℕ) → p ≡ place_of i → q ≡ place_of head → script_command_of checked i ≡ script_command_so w checked p q items
 with_word checked i head items e name is w named p q start word_start =
     has_head checked i head items e (Some name) is ∙ by_word checked (place_of i) (place_of head) name items
-    ∙ ap (λ v. command_so v checked (place_of i) (place_of head) items) (sym named)
-    ∙ ap (λ r. command_so w checked r (place_of head) items) (sym start) ∙ ap (λ r. command_so w checked p r items) (sym word_start)
+    ∙ ap (λ v. script_command_so v checked (place_of i) (place_of head) items) (sym named)
+    ∙ ap (λ r. script_command_so w checked r (place_of head) items) (sym start) ∙ ap (λ r. script_command_so w checked p r items) (sym word_start)
 
 pub without_word : (checked : Bool) (i head : Item) (items : Items) → items_of i ≡ item head items → None ≡ head_word head → (q : ℕ) → q ≡ place_of head → script_command_of checked i ≡ refused BadCommand q
 without_word checked i head items e is q word_start = has_head checked i head items e None is ∙ ap (λ r. refused {A = Shape} BadCommand r) (sym word_start)

@@ -6,7 +6,7 @@ use Rattle.sexpr.specs.Items.{Item, Items, no_items, item}
 use Rattle.sym_table.specs.Table.{Table}
 use Rattle.term_model.specs.Terms.{Term}
 use Rattle.term_pool.specs.Views.{TermsView}
-use Rattle.smtlib_reader.specs.CommandShapes.{IsCommand, SaysCommand}
+use Rattle.smtlib_reader.specs.CommandShapes.{IsScriptCommand, SaysScriptCommand}
 use Rattle.problem_text.specs.Commands.{ScriptCommand, script_command_of}
 use Rattle.text_items.specs.Nodes.{IsNode}
 use Rattle.smtlib_reader.specs.ProblemReading.{HasItems, IsFirstItem, AreLeft, ReadsCommand}
@@ -64,7 +64,7 @@ done_goes_on : (replaces : Bool) (rest : Items) (sc : Script) (o : Outcome Scrip
 done_goes_on replaces rest sc o e = ap (then_rest replaces rest) e
 
 -- No command but an exit ends the text.
-goes_further : (source : List ℕ) (nodes : List Node) (c : code.Command) (d : ScriptCommand) → (c ≡ Exit → ⊥) → SaysCommand source nodes c d → ends d ≡ false
+goes_further : (source : List ℕ) (nodes : List Node) (c : code.Command) (d : ScriptCommand) → (c ≡ Exit → ⊥) → SaysScriptCommand source nodes c d → ends d ≡ false
 goes_further source nodes (SetLogic name) d other (n, e, _) = ap ends e
 goes_further source nodes WithoutEffect d other e = ap ends e
 goes_further source nodes (DeclareSort name arity zero) d other says = ap ends says.same
@@ -74,8 +74,8 @@ goes_further source nodes (Assert t) d other (i, m, e, _) = ap ends e
 goes_further source nodes CheckSat d other e = ap ends e
 goes_further source nodes Exit d other e = absurd (other refl)
 
-is_end : (source : List ℕ) (nodes : List Node) (c : code.Command) (d : ScriptCommand) → c ≡ Exit → SaysCommand source nodes c d → ends d ≡ true
-is_end source nodes c d is says = ap ends (subst (λ (x : code.Command). SaysCommand source nodes x d) is says)
+is_end : (source : List ℕ) (nodes : List Node) (c : code.Command) (d : ScriptCommand) → c ≡ Exit → SaysScriptCommand source nodes c d → ends d ≡ true
+is_end source nodes c d is says = ap ends (subst (λ (x : code.Command). SaysScriptCommand source nodes x d) is says)
 
 -- the nodes are those of the first command that is left, and the others stand from this place on
 pub record HasFirst (source : List ℕ) (nodes : List Node) (at : ℕ) (replaces : Bool) (sc : Script) (whole : Outcome Script ⊤) : Type 0 where
@@ -100,7 +100,7 @@ nothing_left source at replaces sc whole none h =
 
 -- what the first command is found to be, where a check stands before it or none does
 abbrev IsFoundAs : List ℕ → List Node → Bool → Result code.Command Refusal → Type 0
-IsFoundAs source nodes checked r = (i : Item) → IsNode source nodes 0 i (length nodes) → IsCommand source nodes r (script_command_of checked i)
+IsFoundAs source nodes checked r = (i : Item) → IsNode source nodes 0 i (length nodes) → IsScriptCommand source nodes r (script_command_of checked i)
 
 pub command_fault : (source : List ℕ) (nodes : List Node) (at : ℕ) (replaces : Bool) (sc : Script) (whole : Outcome Script ⊤) (checked : Bool) (r : Refusal)
     → checked ≡ sc.is_checked → HasFirst source nodes at replaces sc whole → IsFoundAs source nodes checked (Err r) → whole.result ≡ Err r
@@ -111,7 +111,7 @@ command_fault source nodes at replaces sc whole checked r same h found =
 -- the shape of the first command, and what comes of it and of the others
 pub record IsShaped (source : List ℕ) (nodes : List Node) (replaces : Bool) (sc : Script) (whole : Outcome Script ⊤) (others : Items) (c : code.Command) : Type 0 where
   pub shape : ScriptCommand
-  pub says : SaysCommand source nodes c shape
+  pub says : SaysScriptCommand source nodes c shape
   pub comes : comes_of replaces sc others (Ok shape) ≡ whole
 
 pub command_read : (source : List ℕ) (nodes : List Node) (at : ℕ) (replaces : Bool) (sc : Script) (whole : Outcome Script ⊤) (checked : Bool) (c : code.Command)
@@ -174,10 +174,10 @@ some_first old new nodes slice from at replaces s v d same found (sc, whole, lef
 -- as the nodes are those of the slice
 pub found_in : (source : List ℕ) (nodes slice : List Node) (checked : Bool) (r : Result code.Command Refusal)
     → slice ≡ nodes
-    → ((i : Item) → IsNode source slice 0 i (length slice) → IsCommand source slice r (script_command_of checked i))
+    → ((i : Item) → IsNode source slice 0 i (length slice) → IsScriptCommand source slice r (script_command_of checked i))
     → IsFoundAs source nodes checked r
 found_in source nodes slice checked r same found =
-    subst (λ (x : List Node). (i : Item) → IsNode source x 0 i (length x) → IsCommand source x r (script_command_of checked i)) same found
+    subst (λ (x : List Node). (i : Item) → IsNode source x 0 i (length x) → IsScriptCommand source x r (script_command_of checked i)) same found
 
 pub ends_here : (source : List ℕ) (s : Table) (v : TermsView) (d : Session) (at : ℕ) (sc : Script) (whole : Outcome Script ⊤)
     → whole ≡ done tt sc → IsSession s v d sc → ReadsCommand source s v v d at whole (Ok false)
@@ -196,10 +196,10 @@ refused_here source s v d at whole r is = record {
 pub some_shape : (old new : List ℕ) (nodes slice more : List Node) (from at : ℕ) (replaces : Bool) (s : Table) (v : TermsView) (d : Session) (c : code.Command)
     → slice ≡ nodes → more ≡ nodes
     → ((items : Items) → HasItems old from items → IsFirstItem new nodes at items)
-    → ((i : Item) → IsNode new slice 0 i (length slice) → IsCommand new slice (Ok c) (script_command_of d.is_checked i))
+    → ((i : Item) → IsNode new slice 0 i (length slice) → IsScriptCommand new slice (Ok c) (script_command_of d.is_checked i))
     → (sc : Script) × (whole : Outcome Script ⊤) × AreLeft old replaces from sc whole × IsSession s v d sc
-    → (x : ScriptCommand) × SaysCommand new more c x
+    → (x : ScriptCommand) × SaysScriptCommand new more c x
 some_shape old new nodes slice more from at replaces s v d c same also found read (sc, whole, left, session) =
     let h = has_first old new nodes from at replaces sc whole found left in
     let shaped = command_read new nodes at replaces sc whole d.is_checked c session.is_checked h (found_in new nodes slice d.is_checked (Ok c) same read) in
-    (shaped.shape, subst (λ (x : List Node). SaysCommand new x c shaped.shape) (sym also) shaped.says)
+    (shaped.shape, subst (λ (x : List Node). SaysScriptCommand new x c shaped.shape) (sym also) shaped.says)

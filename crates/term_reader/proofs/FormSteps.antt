@@ -10,7 +10,7 @@ use Rattle.term_reader.specs.declared.layers.Layer.{Layer}
 use Rattle.text_items.specs.declared.nodes.Node.{Node}
 use Rattle.text_items.specs.Nodes.{IsNode, AreNodes}
 use Rattle.text_items.specs.NameNodes.{IsNameNode}
-use Rattle.term_reader.specs.Layers.{IsForm, AreForms, AreBinds, AreAttributes}
+use Rattle.term_reader.specs.Layers.{IsForm, AreForms, AreBinds, AreTermAttributes}
 use Rattle.term_reader.specs.ShapeFaults.{IsLayer}
 use Rattle.text_items.specs.Stepping.{IsItemAt, IsItemNode}
 use Rattle.text_items.proofs.NodeSteps.{node_behind, node_inside, nodes_ordered, nodes_inside, no_nodes, more_nodes, node_read}
@@ -109,7 +109,7 @@ binds_more s ns k no_binds m are differs = absurd (differs are)
 binds_more s ns k (bind x f bs) m (n, later, named, here, rest) differs =
     record { name = x; first = f; others = bs; next = n; split = refl; later = later; named = named; here = here; there = rest }
 
-pub attributes_ordered : (s : List ℕ) (ns : List Node) (k : ℕ) (names : List Name) (m : ℕ) → AreAttributes s ns k names m → k < m
+pub attributes_ordered : (s : List ℕ) (ns : List Node) (k : ℕ) (names : List Name) (m : ℕ) → AreTermAttributes s ns k names m → k < m
 attributes_ordered s ns k names m a = go a.there
   where
     go : AreNodes s ns k (item a.first a.others) m → k < m
@@ -224,7 +224,7 @@ binds_one s ns k (bind x f bs) (bind y g cs) m (n, later, named, here, rest) (v,
     both : (x y : Name) (f g : Form) (bs cs : LetBinds) → x ≡ y → f ≡ g → bs ≡ cs → bind x f bs ≡ bind y g cs
     both x y f g bs cs d e h = cc
 
-pub attributes_one : (s : List ℕ) (ns : List Node) (k : ℕ) (as_read others : List Name) (m : ℕ) → AreAttributes s ns k as_read m → AreAttributes s ns k others m → as_read ≡ others
+pub attributes_one : (s : List ℕ) (ns : List Node) (k : ℕ) (as_read others : List Name) (m : ℕ) → AreTermAttributes s ns k as_read m → AreTermAttributes s ns k others m → as_read ≡ others
 attributes_one s ns k as_read others m a b =
     sym a.give ∙ same a.first b.first a.others b.others (nodes_one s ns k (item a.first a.others) (item b.first b.others) m a.there b.there) ∙ b.give
   where

@@ -21,7 +21,7 @@ use Rattle.term_reader.specs.declared.layers.Layer.{Layer}
 use Rattle.text_items.specs.declared.nodes.Node.{Node}
 use Rattle.text_items.specs.Nodes.{IsNode, AreNodes}
 use Rattle.text_items.specs.NameNodes.{BeginsAt, IsNameNode}
-use Rattle.term_reader.specs.Layers.{IsForm, AreBinds, NamesAreSymbols, AreAttributes}
+use Rattle.term_reader.specs.Layers.{IsForm, AreBinds, NamesAreSymbols, AreTermAttributes}
 use Rattle.term_reader.specs.ShapeFaults.{IsLayer}
 use Rattle.term_reader.specs.Shapes.{IsApplied}
 use Rattle.term_reader.specs.ShapeFaults.{IsSymbolLayer, IsTokenLayer}
@@ -334,7 +334,7 @@ attributes_fit place first rest e =
     go false f = earliest (misplaced naming word_next (item first rest)) (repeated naming (item first rest)) f
 
 attributes_there : (s : List ℕ) (ns : List Node) (place behind end m : ℕ) (arg : Item) (rest : Items) → AreNodes s ns behind rest m → annotation_fault place (item arg rest) ≡ None → end ≡ m
-    → AreAttributes s ns behind (names_given (item arg rest)) end
+    → AreTermAttributes s ns behind (names_given (item arg rest)) end
 attributes_there s ns place behind end m arg no_items are e same = absurd cc
 attributes_there s ns place behind end m arg (item first others) are e same = record {
   first = first;
@@ -353,7 +353,7 @@ annotation_top s ns k first m behind end a none same last = (
   ap (λ o. unless_faulty o (annotated a.place (form_of a.arg) (names_given (item a.arg a.rest)))) none,
   begins_at s ns k (list a.place (item a.head (item a.arg a.rest))) m a.here,
   record { what = a.arg; there = subst (λ (v : ℕ). IsNode s ns first a.arg v) (sym same) a.arg_there; spells = refl },
-  subst (λ (v : ℕ). AreAttributes s ns v (names_given (item a.arg a.rest)) end) (sym same) (attributes_there s ns a.place a.behind end m a.arg a.rest a.rest_there none last),
+  subst (λ (v : ℕ). AreTermAttributes s ns v (names_given (item a.arg a.rest)) end) (sym same) (attributes_there s ns a.place a.behind end m a.arg a.rest a.rest_there none last),
   last,
   after_head s ns k first m a,
 )

@@ -7,7 +7,7 @@ use Rattle.problem_text.specs.Forms.{Form, Forms, LetBinds}
 use Rattle.term_names.specs.InScope.{IsScope, AreValuesBound}
 use Rattle.term_names.specs.Known.{KnownView}
 use Rattle.text_items.specs.NameNodes.{IsNameNode}
-use Rattle.term_reader.specs.Layers.{IsForm, AreForms, AreBinds, AreAttributes}
+use Rattle.term_reader.specs.Layers.{IsForm, AreForms, AreBinds, AreTermAttributes}
 use Rattle.problem_text.specs.Names.{Bound, Place, Meaning, inside}
 use Rattle.term_reader.specs.Resuming.{Waiting, arguments, bindings, body_of, naming}
 use Rattle.term_names.specs.Scope.{Scoped}
@@ -78,5 +78,5 @@ AreFrames source nodes g s v k (Frame.Body place from first ∷ fs) values leave
     × AreFrames source nodes g s v k fs (take from values) (take first leaves) around outer n rest
 AreFrames source nodes g s v k (Frame.Names end ∷ fs) values leaves scope p n ws =
     (names : List Name) × (rest : List Waiting) × (ws ≡ naming names ∷ rest)
-    × AreAttributes source nodes n names end
+    × AreTermAttributes source nodes n names end
     × AreFrames source nodes g s v k fs values leaves scope p end rest

@@ -32,7 +32,7 @@ NamesAreSymbols before no_items = Unit {0}
 NamesAreSymbols before (item i rest) = (is_named_item before ≡ true → IsTrue (is_some (symbol_name i))) × NamesAreSymbols i rest
 
 -- The nodes from k on, up to m, are those of one attribute or more, in a shape without fault, which give these names.
-pub record AreAttributes (source : List ℕ) (nodes : List Node) (k : ℕ) (names : List Name) (m : ℕ) : Type 0 where
+pub record AreTermAttributes (source : List ℕ) (nodes : List Node) (k : ℕ) (names : List Name) (m : ℕ) : Type 0 where
   pub first : Item
   pub others : Items
   pub there : AreNodes source nodes k (item first others) m

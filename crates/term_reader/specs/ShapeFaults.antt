@@ -5,7 +5,7 @@ use Rattle.problem_text.specs.Forms.{Form, faulty, number, symbol, application, 
 use Rattle.text_items.specs.declared.nodes.Node.{Node}
 use Rattle.term_reader.specs.declared.layers.Layer.{Layer}
 use Rattle.text_items.specs.NameNodes.{BeginsAt, IsNameNode}
-use Rattle.term_reader.specs.Layers.{IsForm, AreForms, AreBinds, AreAttributes}
+use Rattle.term_reader.specs.Layers.{IsForm, AreForms, AreBinds, AreTermAttributes}
 use Rattle.std.specs.List.{list_any}
 use Rattle.sexpr.specs.declared.causes.Cause.{Cause}
 use Rattle.sexpr.specs.declared.words.WordKind.{WordKind}
@@ -27,7 +27,7 @@ IsLayer source nodes k (Layer.Let first body) f m =
     × BeginsAt nodes k place × AreBinds source nodes first bs body × (first < body) × IsForm source nodes body g m × (k < first)
 IsLayer source nodes k (Layer.Annotated t first end) f m =
     (place : ℕ) × (names : List Name) × (g : Form) × (f ≡ annotated place g names)
-    × BeginsAt nodes k place × IsForm source nodes t g first × AreAttributes source nodes first names end × (end ≡ m) × (k < t)
+    × BeginsAt nodes k place × IsForm source nodes t g first × AreTermAttributes source nodes first names end × (end ≡ m) × (k < t)
 
 -- The top of the form of a symbol of this name, which stands at this place.
 abbrev pub IsSymbolLayer : ℕ → List ℕ → Layer → Form → Type 0

@@ -7,7 +7,7 @@ use Rattle.problem_text.specs.Words.{is_among, is_built_in}
 use Rattle.text_items.specs.declared.nodes.Node.{Node}
 use Rattle.text_items.specs.Nodes.{IsNode, AreNodes}
 use Rattle.text_items.specs.NameNodes.{IsNameNode}
-use Rattle.term_reader.specs.Layers.{IsForm, AreAttributes}
+use Rattle.term_reader.specs.Layers.{IsForm, AreTermAttributes}
 
 -- The first of the names stands at node `place`, and what stands from there to before node m gives the others.
 pub record IsFirstName (source : List ℕ) (nodes : List Node) (place : ℕ) (names : List Name) (m : ℕ) : Type 0 where
@@ -15,7 +15,7 @@ pub record IsFirstName (source : List ℕ) (nodes : List Node) (place : ℕ) (na
   pub others : List Name
   pub split : names ≡ name ∷ others
   pub here : IsNameNode source nodes place name
-  pub there : AreAttributes source nodes place others m
+  pub there : AreTermAttributes source nodes place others m
 
 -- Node k is a list that ends before node m. It has a head and one argument or more, of which the first is node `first`.
 pub record IsApplied (source : List ℕ) (nodes : List Node) (k first m : ℕ) : Type 0 where
