@@ -1,0 +1,149 @@
+-- The numbers of assertions.
+use Rattle.std.proofs.Common.{◌≡◌, ◌↔◌, ◌⊎◌, inl, inr, zero, suc, ℕ, Bool, true, false, ◌||◌, if◌then◌else◌, nat_eq, List, [], ◌∷◌, ◌++◌, Contains, Any, IsTrue, refl, sym, subst, arith}
+use Rattle.std.specs.List.{list_any}
+use Rattle.std.proofs.lemmas.Bool.{eqb-true, eq-eqb}
+use Rattle.std.proofs.lemmas.List.Elements.{Contains-push, Contains-push_cases}
+use Rattle.indexmap.specs.IndexSet.{insert_key}
+use Rattle.pair_pool.specs.Views.{PassView, Knows, IsOneToOne, Grows}
+use Rattle.sym_table.specs.Leaf.{operator}
+use Rattle.sym_table.specs.Table.{Table, IsTable}
+use Rattle.term_model.specs.declared.symbols.Op.{Op}
+use Rattle.term_model.specs.Flips.{EqualUpToFlips}
+use Rattle.term_model.specs.Terms.{Term}
+use Rattle.term_model.proofs.Basics.{any_here, any_later, any_cases}
+use Rattle.term_pool.specs.Pairs.{same_terms}
+use Rattle.term_pool.specs.Views.{TermsView, RefersTo, ReferToAll}
+use Rattle.term_pool.proofs.FlipLemmas.{flips_are}
+use Rattle.flip_keys.specs.declared.memory.Item.TheVariants as Item
+use Rattle.flip_keys.specs.declared.numbering.Keys.{Keys}
+use Rattle.flip_keys.specs.KeyTables.{AreKeys, IsNumbered, HasMore, Inserts, IsOfOne, HasFoundNumber, AreFound}
+use Rattle.flip_keys.proofs.EqualNumbers.{terms_both}
+use Rattle.flip_keys.proofs.Walking.{has_later}
+
+contains_none : {X : Type 0} (x : X) → Contains [] x → ⊥
+contains_none x (k, h, e) = omega (arith, h)
+
+contains_cases : {X : Type 0} (x y : X) (xs : List X) → Contains (x ∷ xs) y → (x ≡ y) ⊎ Contains xs y
+contains_cases x y xs (zero, h, e) = inl e
+contains_cases x y xs (suc k, h, e) = inr (k, omega (arith, h), e)
+
+contains_head : {X : Type 0} (x : X) (xs : List X) → Contains (x ∷ xs) x
+contains_head x xs = (0, omega arith, refl)
+
+contains_later : {X : Type 0} (x y : X) (xs : List X) → Contains xs y → Contains (x ∷ xs) y
+contains_later x y xs (k, h, e) = (suc k, omega (arith, h), e)
+
+contains_before : {X : Type 0} (xs : List X) (y x : X) → Contains xs x → Contains (xs ++ y ∷ []) x
+contains_before [] y x h = absurd (contains_none x h)
+contains_before (z ∷ xs) y x h =
+    elim (contains_cases z x xs h) [
+      | inl e ↦ subst (Contains (z ∷ (xs ++ y ∷ []))) e (contains_head z (xs ++ y ∷ []))
+      | inr later ↦ contains_later z x (xs ++ y ∷ []) (contains_before xs y x later)
+    ]
+
+-- no numbers, and one more
+pub none_found : (p : PassView) (keys : Keys) (numbers : List ℕ) → numbers ≡ [] → AreFound p keys [] numbers
+none_found p keys numbers e = record {
+  each = λ r h. absurd (contains_none r h);
+  only = λ k h. absurd (contains_none k (subst (λ ks. Contains ks k) e h));
+}
+
+module _ (p q : PassView) (old new : Keys) (grows : Grows p q) (more : HasMore old new) where
+  numbered_later : (r k : ℕ) → IsNumbered p old r k → IsNumbered q new r k
+  numbered_later r k h = has_later p q old.classes.keys new.classes.keys grows more (Item.Term r) k h
+
+  pub found_later : (references numbers : List ℕ) → AreFound p old references numbers → AreFound q new references numbers
+  found_later references numbers h = record {
+    each = λ r there. let f = h.each r there in record { number = f.number; numbered = numbered_later r f.number f.numbered; found = f.found };
+    only = λ k there. let f = h.only k there in record { reference = f.reference; there = f.there; numbered = numbered_later f.reference k f.numbered };
+  }
+
+pub one_found : (p : PassView) (keys : Keys) (references before after : List ℕ) (r k : ℕ) → AreFound p keys references before → IsNumbered p keys r k → Inserts before k after → AreFound p keys (references ++ r ∷ []) after
+one_found p keys references before after r k h numbered inserts = record {
+  each = λ x there. elim (Contains-push_cases references r x there) [
+    | inl earlier ↦ (let f = h.each x earlier in record { number = f.number; numbered = f.numbered; found = inserts.stays f.number f.found })
+    | inr e ↦ subst (HasFoundNumber p keys after) e (record { number = k; numbered = numbered; found = inserts.here })
+  ];
+  only = λ n there. elim (inserts.only n there) [
+    | inl earlier ↦ (let f = h.only n earlier in record { reference = f.reference; there = contains_before references r f.reference f.there; numbered = f.numbered })
+    | inr e ↦ subst (IsOfOne p keys (references ++ r ∷ [])) (sym e) (record { reference = r; there = Contains-push references r; numbered = numbered })
+  ];
+}
+
+-- the term at the place of a reference, and the reference at the place of a term
+module _ (s : Table) (v : TermsView) where
+  term_at : (rs : List ℕ) (ts : List Term) (P : Term → Type 0) (r : ℕ) → ReferToAll s v rs ts → Contains rs r → ((t : Term) → RefersTo s v r t → P t) → Any P ts
+  term_at [] ts P r refer there f = absurd (contains_none r there)
+  term_at (x ∷ rs) [] P r refer there f = absurd refer
+  term_at (x ∷ rs) (t ∷ ts) P r refer there f =
+      elim (contains_cases x r rs there) [
+        | inl e ↦ any_here P t ts (f t (subst (λ y. RefersTo s v y t) e refer.0))
+        | inr later ↦ any_later P t ts (term_at rs ts P r refer.1 later f)
+      ]
+
+  reference_at : (rs : List ℕ) (ts : List Term) (P : Term → Type 0) (Q : Type 0) → ReferToAll s v rs ts → Any P ts → ((r : ℕ) (t : Term) → Contains rs r → RefersTo s v r t → P t → Q) → Q
+  reference_at [] [] P Q refer (k, y, below, same, h) f = absurd (omega (arith, below))
+  reference_at [] (t ∷ ts) P Q refer any f = absurd refer
+  reference_at (x ∷ rs) [] P Q refer any f = absurd refer
+  reference_at (x ∷ rs) (t ∷ ts) P Q refer any f =
+      elim (any_cases P t ts any) [
+        | inl h ↦ f x t (contains_head x rs) refer.0 h
+        | inr h ↦ reference_at rs ts P Q refer.1 h (λ r u there. f r u (contains_later x r rs there))
+      ]
+
+  -- two references have one number exactly where their terms are equal up to flips
+  one_number : IsTable s → IsOneToOne v.pass → (keys : Keys) → AreKeys v.pass keys → (a r k l : ℕ) → IsNumbered v.pass keys a k → IsNumbered v.pass keys r l → (t u : Term) → RefersTo s v a t → RefersTo s v r u → (k ≡ l) ↔ EqualUpToFlips t u
+  one_number table one keys good a r k l p q t u left right =
+      let both = terms_both (Knows v.pass) keys.classes.keys one.one_tree one.one_reference good.apart p.tree q.tree k l p.number q.number in
+      let flips = flips_are s v 9 a r (same_terms 9 p.tree q.tree) table (table.begins 9 (operator Op.Equal) refl)
+      (λ x y known other. rw (one.one_tree a x p.tree known p.known, one.one_tree r y q.tree other q.known) refl) t u left right in
+      (λ e. flips.0 (both.0 e), λ h. both.1 (flips.1 h))
+
+  pub asserted_is : IsTable s → IsOneToOne v.pass → (keys : Keys) → AreKeys v.pass keys → (references numbers : List ℕ) → AreFound v.pass keys references numbers → (r k : ℕ) → IsNumbered v.pass keys r k → (b : Bool) → IsTrue b ↔ Contains numbers k → (ts : List Term) (t : Term) → ReferToAll s v references ts → RefersTo s v r t → IsTrue b ↔ Any (λ a. EqualUpToFlips a t) ts
+  asserted_is table one keys good references numbers found r k numbered b test ts t refer right = (
+    λ e.
+        let f = found.only k (test.0 e) in
+        term_at references ts (λ a. EqualUpToFlips a t) f.reference refer f.there
+        (λ a left. (one_number table one keys good f.reference r k k f.numbered numbered a t left right).0 refl),
+    λ any.
+        reference_at references ts (λ a. EqualUpToFlips a t) (IsTrue b) refer any
+        (λ x a there left flips.
+        let f = found.each x there in
+        let same = (one_number table one keys good x r f.number k f.numbered numbered a t left right).1 flips in
+        test.1 (subst (Contains numbers) same f.found)),
+  )
+
+-- one number more in a set
+any_of : (k : ℕ) (ks : List ℕ) → list_any (nat_eq k) ks ≡ true → Contains ks k
+any_of k [] e = absurd (cc)
+any_of k (x ∷ ks) e = go (nat_eq k x) refl e (any_of k ks)
+  where
+    go : (b : Bool) → nat_eq k x ≡ b → (b || list_any (nat_eq k) ks) ≡ true → (list_any (nat_eq k) ks ≡ true → Contains ks k) → Contains (x ∷ ks) k
+    go true h e rest = subst (λ y. Contains (y ∷ ks) k) (eqb-true k x h) (contains_head k ks)
+    go false h e rest = contains_later x k ks (rest e)
+
+of_any : (k : ℕ) (ks : List ℕ) → Contains ks k → list_any (nat_eq k) ks ≡ true
+of_any k [] h = absurd (contains_none k h)
+of_any k (x ∷ ks) h =
+    elim (contains_cases x k ks h) [
+      | inl e ↦ rw (eq-eqb k x (sym e)) refl
+      | inr later ↦ (let rest = of_any k ks later in rw rest (or_right (nat_eq k x)))
+    ]
+  where
+    or_right : (b : Bool) → (b || true) ≡ true
+    or_right true = refl
+    or_right false = refl
+
+pub has_number : (k : ℕ) (ks : List ℕ) → IsTrue (list_any (nat_eq k) ks) ↔ Contains ks k
+has_number k ks = (any_of k ks, of_any k ks)
+
+pub inserts : (ks : List ℕ) (k : ℕ) → Inserts ks k (insert_key nat_eq ks k)
+inserts ks k = go (list_any (nat_eq k) ks) refl
+  where
+    go : (b : Bool) → list_any (nat_eq k) ks ≡ b → Inserts ks k (if b then ks else ks ++ k ∷ [])
+    go true e = record { stays = λ n h. h; here = any_of k ks e; only = λ n h. inl h }
+    go false e = record {
+      stays = λ n h. contains_before ks k n h;
+      here = Contains-push ks k;
+      only = λ n h. elim (Contains-push_cases ks k n h) [ inl earlier ↦ inl earlier | inr same ↦ inr (sym same) ];
+    }
