@@ -1,0 +1,77 @@
+-- Private. What is said of one command: how its rule is judged, and its status, whatever it stands for.
+use Rattle.std.specs.Prelude.{◌≡◌, ◌↔◌, ℕ, List, All, Bool, true, false, Option, Some, None, IsTrue, ⊤}
+use Rattle.std.specs.List.{AllZip}
+use Rattle.sym_table.specs.Table.{Table}
+use Rattle.term_model.specs.Terms.{Var, Term}
+use Rattle.term_pool.specs.Views.{TermsView, RefersTo, ReferToAll}
+use Rattle.rule_model.specs.declared.rules.Rule.{Rule}
+use Rattle.rule_model.specs.declared.rules.Mode.{Mode}
+use Rattle.rule_model.specs.declared.rules.StepCause.{StepCause}
+use Rattle.rule_model.specs.declared.statuses.Status.{Status}
+use Rattle.rule_model.specs.Conditions.{IsMetAt}
+use Rattle.rule_model.specs.Proofs.{Items}
+use Rattle.rule_model.specs.Statuses.{Kind as KindOfRule, assumed, hole, unknown, conditional, kind_of, IsAsserted, MayAssume, IsStatusAt}
+use Rattle.proof_store.specs.declared.answers.Answer.{Answer}
+use Rattle.proof_store.specs.Meaning.{StandForItems}
+use Rattle.term_reader.specs.declared.flags.Flags.{Flags}
+use Rattle.step_check.specs.Judged.{is_resolution, is_clausal, is_equality, is_closing, is_judged}
+use Rattle.step_check.specs.Statuses.{checking}
+use Rattle.step_check.specs.declared.families.Family.{Family}
+use Rattle.step_check.specs.declared.kinds.Kind.{Kind}
+
+-- the rule is one of a family
+abbrev pub IsOfFamily : Family → Rule → Type 0
+IsOfFamily Family.Resolution rule = IsTrue (is_resolution rule)
+IsOfFamily Family.Clausal rule = IsTrue (is_clausal rule)
+IsOfFamily Family.Equality rule = IsTrue (is_equality rule)
+IsOfFamily Family.Closing rule = IsTrue (is_closing rule)
+
+-- the family of a rule that is judged
+abbrev pub IsFamilyOf : Rule → Option Family → Type 0
+IsFamilyOf rule None = is_judged rule ≡ false
+IsFamilyOf rule (Some family) = IsOfFamily family rule
+
+-- how the rule of a command is judged under flags
+abbrev pub IsKind : KindOfRule → Rule → Kind → Type 0
+IsKind kind rule Kind.Assumed = kind ≡ assumed
+IsKind kind rule Kind.Hole = kind ≡ hole
+IsKind kind rule Kind.Unknown = kind ≡ unknown
+IsKind kind rule (Kind.Conditional family) = (kind ≡ conditional) × IsOfFamily family rule
+
+abbrev pub IsKindOf : Flags → Rule → Kind → Type 0
+IsKindOf flags rule kind = (assertions : List Term) → IsKind (kind_of (checking flags assertions) rule) rule kind
+
+-- the answer to whether the term of a reference is an assertion, up to flips
+abbrev pub TellsAsserted : Table → TermsView → List ℕ → ℕ → Bool → Type 0
+TellsAsserted s v asserted r yes =
+    (assertions : List Term) (t : Term) → ReferToAll s v asserted assertions → RefersTo s v r t →
+    IsTrue yes ↔ IsAsserted Mode.Check assertions t
+
+-- the same of all terms of a clause
+abbrev pub TellAllAsserted : Table → TermsView → List ℕ → List ℕ → Bool → Type 0
+TellAllAsserted s v asserted clause yes =
+    (assertions ts : List Term) → ReferToAll s v asserted assertions → AllZip (RefersTo s v) clause ts →
+    IsTrue yes ↔ All (IsAsserted Mode.Check assertions) ts
+
+-- the answer to whether the command at an index may assume its term
+abbrev pub TellsAssume : Flags → Table → TermsView → List ℕ → Items ℕ ℕ → ℕ → Bool → Type 0
+TellsAssume flags s v asserted refs i yes =
+    (proof : Items Var Term) (assertions : List Term) → StandForItems s v refs proof → ReferToAll s v asserted assertions →
+    IsTrue yes ↔ MayAssume (checking flags assertions) proof i
+
+-- the answer to whether the step at an index is met
+abbrev pub TellsMet : Table → TermsView → Items ℕ ℕ → ℕ → Answer → Type 0
+TellsMet s v refs i answer =
+    (proof : Items Var Term) → StandForItems s v refs proof → (answer ≡ Answer.Met) ↔ IsMetAt Mode.Check proof i
+
+-- the status of the command at an index
+abbrev pub IsStatusOf : Flags → Table → TermsView → List ℕ → Items ℕ ℕ → ℕ → Status → Type 0
+IsStatusOf flags s v asserted refs i status =
+    (proof : Items Var Term) (assertions : List Term) → StandForItems s v refs proof → ReferToAll s v asserted assertions →
+    IsStatusAt (checking flags assertions) proof i status
+
+-- what is said of a step whose condition was judged
+abbrev pub IsStatusOfAnswer : Answer → Status → Type 0
+IsStatusOfAnswer Answer.Met status = status ≡ Status.Ok
+IsStatusOfAnswer Answer.NotMet status = status ≡ Status.Faulty StepCause.NotMet
+IsStatusOfAnswer Answer.TooWide status = status ≡ Status.Wide
