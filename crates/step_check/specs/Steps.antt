@@ -1,7 +1,8 @@
 -- Private. What is said of one command: how its rule is judged, and its status, whatever it stands for.
-use Rattle.std.specs.Prelude.{◌≡◌, ◌↔◌, ℕ, List, All, Bool, true, false, Option, Some, None, IsTrue, ⊤}
+use Rattle.std.specs.Prelude.{◌≡◌, ◌↔◌, ◌<◌, ℕ, slice_index_or, List, All, Bool, true, false, Option, Some, None, IsTrue, ⊤}
 use Rattle.std.specs.List.{AllZip}
 use Rattle.sym_table.specs.Table.{Table}
+use Rattle.term_model.specs.Flips.{EqualUpToFlips}
 use Rattle.term_model.specs.Terms.{Var, Term}
 use Rattle.term_pool.specs.Views.{TermsView, RefersTo, ReferToAll}
 use Rattle.rule_model.specs.declared.rules.Rule.{Rule}
@@ -31,9 +32,16 @@ abbrev pub IsFamilyOf : Rule → Option Family → Type 0
 IsFamilyOf rule None = is_judged rule ≡ false
 IsFamilyOf rule (Some family) = IsOfFamily family rule
 
+-- how a rule is judged that is no assume and leaves no hole by itself
+abbrev pub IsKindOfStep : Flags → Rule → Kind → Type 0
+IsKindOfStep flags rule Kind.Assumed = ⊥
+IsKindOfStep flags rule Kind.Hole = (is_judged rule ≡ false) × (flags.ignore_unknown ≡ true)
+IsKindOfStep flags rule Kind.Unknown = (is_judged rule ≡ false) × (flags.ignore_unknown ≡ false)
+IsKindOfStep flags rule (Kind.Conditional family) = IsOfFamily family rule
+
 -- how the rule of a command is judged under flags
 abbrev pub IsKind : KindOfRule → Rule → Kind → Type 0
-IsKind kind rule Kind.Assumed = kind ≡ assumed
+IsKind kind rule Kind.Assumed = rule ≡ Rule.Assume
 IsKind kind rule Kind.Hole = kind ≡ hole
 IsKind kind rule Kind.Unknown = kind ≡ unknown
 IsKind kind rule (Kind.Conditional family) = (kind ≡ conditional) × IsOfFamily family rule
@@ -43,21 +51,21 @@ IsKindOf flags rule kind = (assertions : List Term) → IsKind (kind_of (checkin
 
 -- the answer to whether the term of a reference is an assertion, up to flips
 abbrev pub TellsAsserted : Table → TermsView → List ℕ → ℕ → Bool → Type 0
-TellsAsserted s v asserted r yes =
+TellsAsserted s v asserted r told =
     (assertions : List Term) (t : Term) → ReferToAll s v asserted assertions → RefersTo s v r t →
-    IsTrue yes ↔ IsAsserted Mode.Check assertions t
+    IsTrue told ↔ IsAsserted Mode.Check assertions t
 
 -- the same of all terms of a clause
 abbrev pub TellAllAsserted : Table → TermsView → List ℕ → List ℕ → Bool → Type 0
-TellAllAsserted s v asserted clause yes =
+TellAllAsserted s v asserted clause told =
     (assertions ts : List Term) → ReferToAll s v asserted assertions → AllZip (RefersTo s v) clause ts →
-    IsTrue yes ↔ All (IsAsserted Mode.Check assertions) ts
+    IsTrue told ↔ All (IsAsserted Mode.Check assertions) ts
 
 -- the answer to whether the command at an index may assume its term
 abbrev pub TellsAssume : Flags → Table → TermsView → List ℕ → Items ℕ ℕ → ℕ → Bool → Type 0
-TellsAssume flags s v asserted refs i yes =
+TellsAssume flags s v asserted refs i told =
     (proof : Items Var Term) (assertions : List Term) → StandForItems s v refs proof → ReferToAll s v asserted assertions →
-    IsTrue yes ↔ MayAssume (checking flags assertions) proof i
+    IsTrue told ↔ MayAssume (checking flags assertions) proof i
 
 -- the answer to whether the step at an index is met
 abbrev pub TellsMet : Table → TermsView → Items ℕ ℕ → ℕ → Answer → Type 0
@@ -75,3 +83,15 @@ abbrev pub IsStatusOfAnswer : Answer → Status → Type 0
 IsStatusOfAnswer Answer.Met status = status ≡ Status.Ok
 IsStatusOfAnswer Answer.NotMet status = status ≡ Status.Faulty StepCause.NotMet
 IsStatusOfAnswer Answer.TooWide status = status ≡ Status.Wide
+
+-- none of the first assertions is the term of a reference, up to flips
+abbrev pub AreApart : Table → TermsView → List ℕ → ℕ → ℕ → Type 0
+AreApart s v asserted r n =
+    (assertions : List Term) (t : Term) → ReferToAll s v asserted assertions → RefersTo s v r t →
+    (k : ℕ) (d : Term) → k < n → ¬ EqualUpToFlips (slice_index_or assertions k d) t
+
+-- the first terms of a clause are assertions, up to flips
+abbrev pub AreAssertedTo : Table → TermsView → List ℕ → List ℕ → ℕ → Type 0
+AreAssertedTo s v asserted clause n =
+    (assertions ts : List Term) → ReferToAll s v asserted assertions → AllZip (RefersTo s v) clause ts →
+    (k : ℕ) (d : Term) → k < n → IsAsserted Mode.Check assertions (slice_index_or ts k d)

@@ -8,12 +8,19 @@ ghost use Rattle.term_pool.specs.Views.{KeepsTerms};
 ghost use Rattle.step_check.specs.Statuses.{AreAsserted, AreStatusesOf};
 
 use crate::steps::{Kept, Subject, status_at};
-use pair_pool::Memory;
-use proof_store::{Proof, RuleStop, Status, proofs_stay};
+use pair_pool::{Memory, Ref};
+use proof_store::{Proof, RuleStop, Status, commands_correspond};
 use std::alloc::Global;
 use sym_table::Symbols;
-use term_pool::{Terms, references_stay};
+use term_pool::Terms;
 use term_reader::{Flags, Problem};
+
+/// The assertions of a problem.
+fn assertions_of(problem: &Problem) -> &[Ref]
+    ensures { result.now ≡ problem.now.assertions }
+{
+    &problem.assertions
+}
 
 /// Puts a status at the end.
 fn add(list: &mut Vec<Status>, status: Status) -> Result<(), Memory>
@@ -47,11 +54,10 @@ pub fn statuses(
     ensures stop { IfErr result (λ stop. stop ≡ RuleStop.Memory) }
     ensures keeps { KeepsTerms terms.old terms.new }
 {
-    proofs_stay();
-    references_stay();
+    commands_correspond();
     let subject = Subject {
         proof,
-        assertions: problem.assertions.as_slice(),
+        assertions: assertions_of(problem),
         symbols,
         flags,
     };

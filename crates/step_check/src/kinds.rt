@@ -1,6 +1,6 @@
 //! How the rule of a command is judged.
 
-ghost use Rattle.step_check.specs.Steps.{IsKindOf};
+ghost use Rattle.step_check.specs.Steps.{IsKindOf, IsKindOfStep};
 
 use crate::families::{Family, family_of};
 use rule_model::Rule;
@@ -20,7 +20,9 @@ pub(crate) enum Kind {
 }
 
 /// How a rule is judged that leaves no hole by itself.
-fn kind_of_step(rule: Rule, flags: Flags) -> Kind {
+fn kind_of_step(rule: Rule, flags: Flags) -> Kind
+    ensures { IsKindOfStep flags rule result }
+{
     match family_of(rule) {
         Some(family) => Kind::Conditional(family),
         None if flags.ignore_unknown => Kind::Hole,
@@ -35,6 +37,6 @@ pub(crate) fn kind_of(rule: Rule, flags: Flags) -> Kind
     match rule {
         Rule::Assume => Kind::Assumed,
         Rule::Hole | Rule::LiaGeneric | Rule::RareRewrite | Rule::AllSimplify => Kind::Hole,
-        rule => kind_of_step(rule, flags),
+        _ => kind_of_step(rule, flags),
     }
 }

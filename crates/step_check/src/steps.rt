@@ -4,10 +4,11 @@ ghost use Rattle.std.specs.Prelude.{◌≡◌, ◌≢◌, ◌<◌, All, IfErr, I
 ghost use Rattle.proof_store.specs.Checks.{StandForSome};
 ghost use Rattle.proof_store.specs.declared.answers.Answer.TheVariants as Answer;
 ghost use Rattle.proof_store.specs.declared.answers.RuleStop.TheVariants as RuleStop;
+ghost use Rattle.rule_model.specs.declared.rules.Rule.TheVariants as Rule;
 ghost use Rattle.rule_model.specs.Reading.{rule_at};
 ghost use Rattle.rule_model.specs.Scopes.{commands_in};
 ghost use Rattle.rules_resolution.specs.Steps.{IsShort};
-ghost use Rattle.term_pool.specs.Views.{IsTerm, KeepsTerms};
+ghost use Rattle.term_pool.specs.Views.{IsTerm};
 ghost use Rattle.step_check.specs.Steps.{IsOfFamily, IsStatusOf, IsStatusOfAnswer, TellsAssume, TellsMet};
 
 use crate::assumes::are_asserted;
@@ -65,6 +66,7 @@ fn answer_at(
     ensures stop { IfErr result (λ stop. stop ≡ RuleStop.Memory) }
     ensures same { terms.new ≡ terms.old }
 {
+    commands_correspond();
     let proof = subject.proof;
     let symbols = subject.symbols;
     let alloc = kept.alloc;
@@ -100,8 +102,8 @@ fn may_assume(
     requires index { i < commands_in subject.now.proof.now }
     requires stand { StandForSome subject.now.symbols.now terms.old subject.now.proof.now }
     requires asserted { All (IsTerm subject.now.symbols.now terms.old) subject.now.assertions.now }
-    ensures may { IfOk result (λ yes. TellsAssume subject.now.flags subject.now.symbols.now terms.old subject.now.assertions.now subject.now.proof.now i yes) }
-    ensures keeps { KeepsTerms terms.old terms.new }
+    ensures may { IfOk result (λ told. TellsAssume subject.now.flags subject.now.symbols.now terms.old subject.now.assertions.now subject.now.proof.now i told) }
+    ensures same { terms.new ≡ terms.old }
 {
     commands_correspond();
     terms_correspond();
@@ -130,8 +132,9 @@ fn status_of_assume(
     requires stand { StandForSome subject.now.symbols.now terms.old subject.now.proof.now }
     requires asserted { All (IsTerm subject.now.symbols.now terms.old) subject.now.assertions.now }
     ensures status { IfOk result (λ status. IsStatusOf subject.now.flags subject.now.symbols.now terms.old subject.now.assertions.now subject.now.proof.now i status) }
-    ensures keeps { KeepsTerms terms.old terms.new }
+    ensures same { terms.new ≡ terms.old }
 {
+    commands_correspond();
     if may_assume(alloc, subject, i, terms)? {
         Ok(Status::Ok)
     } else {
@@ -152,7 +155,7 @@ pub(crate) fn status_at(
     requires short { IsShort subject.now.proof.now }
     ensures status { IfOk result (λ status. IsStatusOf subject.now.flags subject.now.symbols.now terms.old subject.now.assertions.now subject.now.proof.now i status) }
     ensures stop { IfErr result (λ stop. stop ≡ RuleStop.Memory) }
-    ensures keeps { KeepsTerms terms.old terms.new }
+    ensures same { terms.new ≡ terms.old }
 {
     commands_correspond();
     match kind_of(subject.proof.rule(i), subject.flags) {
