@@ -71,10 +71,7 @@ fn answer_at(
     let symbols = subject.symbols;
     let alloc = kept.alloc;
     match family {
-        Family::Resolution => {
-            kept.resolution
-                .check(proof, i, Mode::Check, symbols, terms)
-        }
+        Family::Resolution => { kept.resolution.check(proof, i, Mode::Check, symbols, terms) }
         Family::Clausal => rules_clausal::check(alloc, proof, i, Mode::Check, symbols, terms),
         Family::Equality => rules_congruence::check(alloc, proof, i, Mode::Check, symbols, terms),
         Family::Closing => rules_subproof::check(alloc, proof, i, Mode::Check, symbols, terms),

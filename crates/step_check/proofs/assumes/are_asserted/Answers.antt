@@ -16,7 +16,7 @@ pub literals-preserved : goal.literals-preserved
 literals-preserved c = (
   c.is_asserted.ensures.same ∙ c.literals.invariant.0,
   asserted_next c.args.symbols.now c.args.terms.now c.args.assertions.now c.args.clause.now c.r-item.result c.literals.r-index c.in_ok-is_asserted.field-0 c.literals.invariant.1 c.literals-test.true c.r-item.is
-  (rw c.literals.invariant.0 at c.in_ok-is_asserted.ensures.asserted) c.if-not-branch.false,
+      (rw c.literals.invariant.0 at c.in_ok-is_asserted.ensures.asserted) c.if-not-branch.false,
 )
 
 pub returns-clause-asserted : goal.returns-clause-asserted
