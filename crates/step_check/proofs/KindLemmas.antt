@@ -1,19 +1,18 @@
 -- How the rules are judged: those of a family by their condition, which never asks for numbers that are too wide.
-use Rattle.std.proofs.Common.{◌≡◌, ◌≢◌, ◌↔◌, ℕ, Bool, true, false, ◌||◌, ◌&&◌, not, ◌⊎◌, inl, inr, List, Option, Some, None, IsTrue, refl, sym, ◌∙◌, ap, subst, if◌then◌else◌}
+use Rattle.std.proofs.Common.{◌≡◌, ◌≢◌, ◌↔◌, ℕ, Bool, true, false, ◌||◌, inl, inr, List, Option, Some, None, IsTrue, refl, sym, ◌∙◌, subst, if◌then◌else◌}
 use Rattle.term_model.specs.Terms.{Var, Term}
 use Rattle.rule_model.specs.declared.rules.Mode.{Mode}
 use Rattle.rule_model.specs.declared.rules.Rule.{Rule}
 use Rattle.rule_model.specs.Closings.{MeetsClosing}
 use Rattle.rule_model.specs.Conditions.{IsMetAt, MeetsWhere, IsTooWideBy, IsTooWideWhere, IsTooWideAt}
-use Rattle.rule_model.specs.Congruence.{is_of_equality}
 use Rattle.rule_model.specs.Judged.{Judged, judged_at}
 use Rattle.rule_model.specs.Proofs.{Items}
 use Rattle.rule_model.specs.Reading.{rule_at, closes_at}
-use Rattle.rule_model.specs.Statuses.{Kind, assumed, hole, unknown, conditional, kind_of}
+use Rattle.rule_model.specs.Statuses.{assumed, hole, unknown, conditional, kind_of}
 use Rattle.rules_resolution.specs.Steps.{IsResolutionRule, MeetsAt}
 use Rattle.term_reader.specs.declared.flags.Flags.{Flags}
 use Rattle.step_check.specs.declared.families.Family.{Family}
-use Rattle.step_check.specs.Judged.{is_resolution, is_clausal, is_congruent_pred, is_equality, is_closing, is_judged}
+use Rattle.step_check.specs.Judged.{is_resolution, is_clausal, is_equality, is_closing, is_judged}
 use Rattle.step_check.specs.Statuses.{checking}
 use Rattle.step_check.specs.declared.kinds.Kind.{Kind as KindOfCommand}
 use Rattle.step_check.specs.Steps.{IsOfFamily, IsKind, IsKindOfStep}
@@ -54,10 +53,6 @@ family_is_judged Family.Resolution rule h = first_of (is_resolution rule) (is_cl
 family_is_judged Family.Clausal rule h = second_of (is_resolution rule) (is_clausal rule) (is_equality rule) (is_closing rule) h
 family_is_judged Family.Equality rule h = third_of (is_resolution rule) (is_clausal rule) (is_equality rule) (is_closing rule) h
 family_is_judged Family.Closing rule h = fourth_of (is_resolution rule) (is_clausal rule) (is_equality rule) (is_closing rule) h
-
--- a rule of no family
-pub none_is_judged : (a b c d : Bool) → a ≡ false → b ≡ false → c ≡ false → d ≡ false → a || (b || (c || d)) ≡ false
-none_is_judged a b c d p q r s = rw (p, q, r, s) refl
 
 -- rules that are judged have a condition, and the others leave a hole where the flags say so
 pub judged_is_conditional : (flags : Flags) (ts : List Term) (rule : Rule) → is_judged rule ≡ true → kind_of (checking flags ts) rule ≡ conditional
@@ -129,18 +124,3 @@ pub resolution_rule : (rule : Rule) → IsTrue (is_resolution rule) → IsResolu
 resolution_rule Rule.Resolution h = inl refl
 resolution_rule Rule.ThResolution h = inr refl
 resolution_rule _ h = absurd cc
-
-pub equality_rule : (rule : Rule) → IsTrue (is_equality rule) → IsTrue (is_of_equality rule)
-equality_rule rule h = both (is_of_equality rule) (not (is_congruent_pred rule)) h
-  where
-    both : (a b : Bool) → IsTrue (a && b) → IsTrue a
-    both true b h = refl
-    both false b h = absurd cc
-
-pub no_congruent_pred : (rule : Rule) → IsTrue (is_equality rule) → rule ≢ Rule.EqCongruentPred
-no_congruent_pred Rule.EqCongruentPred h = absurd cc
-no_congruent_pred _ h = λ e. absurd cc
-
-pub closing_rule : (rule : Rule) → IsTrue (is_closing rule) → rule ≡ Rule.Subproof
-closing_rule Rule.Subproof h = refl
-closing_rule _ h = absurd cc

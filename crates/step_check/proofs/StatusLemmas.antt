@@ -1,8 +1,7 @@
 -- The status of a command by how its rule is judged.
-use Rattle.std.proofs.Common.{◌≡◌, ◌≢◌, ◌↔◌, ℕ, Bool, true, false, List, All, IsTrue, refl, sym, ◌∙◌, subst}
+use Rattle.std.proofs.Common.{◌≡◌, ◌≢◌, ◌↔◌, ℕ, Bool, true, List, All, IsTrue, refl, sym, subst}
 use Rattle.term_model.specs.Terms.{Var, Term}
 use Rattle.rule_model.specs.declared.rules.Mode.{Mode}
-use Rattle.rule_model.specs.declared.rules.Rule.{Rule}
 use Rattle.rule_model.specs.declared.rules.StepCause.{StepCause}
 use Rattle.rule_model.specs.declared.statuses.Status.{Status}
 use Rattle.rule_model.specs.Conditions.{IsMetAt}

@@ -1,6 +1,6 @@
 -- Public. The rules by whose condition a step is judged, a line for each family; of any other rule that leaves no hole a
 -- step is one by an unknown rule.
-use Rattle.std.specs.Prelude.{Bool, true, false, ◌||◌, ◌&&◌, not}
+use Rattle.std.specs.Prelude.{Bool, true, false, ◌||◌}
 use Rattle.std.specs.Option.{is_some}
 use Rattle.rule_model.specs.declared.rules.Rule.{Rule}
 use Rattle.rule_model.specs.Clausal.{schema_of, is_over_list}
@@ -16,13 +16,9 @@ is_resolution _ = false
 abbrev pub is_clausal : Rule → Bool
 is_clausal rule = is_some (schema_of rule) || is_over_list rule
 
--- the rules of equality, but refl and eq_congruent_pred
-abbrev pub is_congruent_pred : Rule → Bool
-is_congruent_pred Rule.EqCongruentPred = true
-is_congruent_pred _ = false
-
+-- the rules of equality, but refl
 abbrev pub is_equality : Rule → Bool
-is_equality rule = is_of_equality rule && not (is_congruent_pred rule)
+is_equality rule = is_of_equality rule
 
 -- the rules that close a scope, but let
 abbrev pub is_closing : Rule → Bool

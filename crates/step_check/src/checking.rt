@@ -1,9 +1,14 @@
 //! The statuses of the commands of a proof.
 
-ghost use Rattle.std.specs.Prelude.{◌≡◌, ◌++◌, [], ◌∷◌, false, IfErr, IfOk, OnOk};
+ghost use Rattle.std.specs.Prelude.{◌≡◌, ◌++◌, [], ◌∷◌, ℕ, false, IfErr, IfOk, OnOk};
 ghost use Rattle.proof_store.specs.Checks.{StandForSome};
 ghost use Rattle.proof_store.specs.declared.answers.RuleStop.TheVariants as RuleStop;
+ghost use Rattle.proof_store.specs.Meaning.{StandForItems};
+ghost use Rattle.rule_model.specs.Conditions.{IsClauseOfTruths};
+ghost use Rattle.rule_model.specs.Proofs.{Items};
+ghost use Rattle.rule_model.specs.Reading.{clause_at};
 ghost use Rattle.rules_resolution.specs.Steps.{IsShort};
+ghost use Rattle.term_model.specs.Terms.{Var, Term};
 ghost use Rattle.term_pool.specs.Views.{KeepsTerms};
 ghost use Rattle.step_check.specs.Statuses.{AreAsserted, AreStatusesOf};
 
@@ -36,7 +41,7 @@ fn add(list: &mut Vec<Status>, status: Status) -> Result<(), Memory>
 /// step by a rule that leaves a hole is a Hole. A step by a rule that is judged here is Ok exactly where it meets the rule's
 /// condition, and else faulty. Any other rule is an unknown one, and its steps are holes where the flags say so.
 ///
-/// The proof's terms and the assertions are known to the pass, and no clause and no list of premises has 2^32 items. Refuses
+/// The proof's terms and the assertions are known to the pass, literals are terms of Bool, and no clause and no list of premises has 2^32 items. Refuses
 /// want of memory alone, and places no cell. It takes the time that the rules take.
 pub fn statuses(
     alloc: Global,
@@ -50,6 +55,7 @@ pub fn statuses(
     requires stand { StandForSome symbols.now terms.old proof.now }
     requires asserted { AreAsserted symbols.now terms.old problem.now.assertions }
     requires short { IsShort proof.now }
+    requires sorted { (of : Items Var Term) (i : ℕ) → StandForItems symbols.now terms.old proof.now of → IsClauseOfTruths (clause_at of i) }
     ensures statuses { IfOk result (λ list. AreStatusesOf flags symbols.now terms.old problem.now.assertions proof.now list.items) }
     ensures stop { IfErr result (λ stop. stop ≡ RuleStop.Memory) }
     ensures keeps { KeepsTerms terms.old terms.new }

@@ -90,7 +90,7 @@ fn is_clausal(rule: Rule) -> bool
     has_schema(rule) || is_over_list(rule)
 }
 
-/// Whether a rule is one of equality that is decided.
+/// Whether a rule is one of equality, but refl.
 fn is_equality(rule: Rule) -> bool
     ensures { result ≡ is_equality rule }
 {
@@ -104,6 +104,7 @@ fn is_equality(rule: Rule) -> bool
             | Rule::EqSymmetric
             | Rule::EqTransitive
             | Rule::EqCongruent
+            | Rule::EqCongruentPred
     )
 }
 

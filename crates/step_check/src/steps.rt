@@ -2,12 +2,16 @@
 
 ghost use Rattle.std.specs.Prelude.{◌≡◌, ◌≢◌, ◌<◌, All, IfErr, IfOk};
 ghost use Rattle.proof_store.specs.Checks.{StandForSome};
+ghost use Rattle.proof_store.specs.Meaning.{StandForItems};
 ghost use Rattle.proof_store.specs.declared.answers.Answer.TheVariants as Answer;
 ghost use Rattle.proof_store.specs.declared.answers.RuleStop.TheVariants as RuleStop;
 ghost use Rattle.rule_model.specs.declared.rules.Rule.TheVariants as Rule;
-ghost use Rattle.rule_model.specs.Reading.{rule_at};
+ghost use Rattle.rule_model.specs.Conditions.{IsClauseOfTruths};
+ghost use Rattle.rule_model.specs.Proofs.{Items};
+ghost use Rattle.rule_model.specs.Reading.{clause_at, rule_at};
 ghost use Rattle.rule_model.specs.Scopes.{commands_in};
 ghost use Rattle.rules_resolution.specs.Steps.{IsShort};
+ghost use Rattle.term_model.specs.Terms.{Var, Term};
 ghost use Rattle.term_pool.specs.Views.{IsTerm};
 ghost use Rattle.step_check.specs.Steps.{IsOfFamily, IsStatusOf, IsStatusOfAnswer, TellsAssume, TellsMet};
 
@@ -61,6 +65,7 @@ fn answer_at(
     requires family { IsOfFamily family (rule_at subject.now.proof.now i) }
     requires stand { StandForSome subject.now.symbols.now terms.old subject.now.proof.now }
     requires short { IsShort subject.now.proof.now }
+    requires sorted { (of : Items Var Term) → StandForItems subject.now.symbols.now terms.old subject.now.proof.now of → IsClauseOfTruths (clause_at of i) }
     ensures met { IfOk result (λ answer. TellsMet subject.now.symbols.now terms.old subject.now.proof.now i answer) }
     ensures narrow { IfOk result (λ answer. answer ≢ Answer.TooWide) }
     ensures stop { IfErr result (λ stop. stop ≡ RuleStop.Memory) }
@@ -150,6 +155,7 @@ pub(crate) fn status_at(
     requires stand { StandForSome subject.now.symbols.now terms.old subject.now.proof.now }
     requires asserted { All (IsTerm subject.now.symbols.now terms.old) subject.now.assertions.now }
     requires short { IsShort subject.now.proof.now }
+    requires sorted { (of : Items Var Term) → StandForItems subject.now.symbols.now terms.old subject.now.proof.now of → IsClauseOfTruths (clause_at of i) }
     ensures status { IfOk result (λ status. IsStatusOf subject.now.flags subject.now.symbols.now terms.old subject.now.assertions.now subject.now.proof.now i status) }
     ensures stop { IfErr result (λ stop. stop ≡ RuleStop.Memory) }
     ensures same { terms.new ≡ terms.old }

@@ -9,6 +9,10 @@ status_at-requires-clause-asserted c =
     rw (c.commands.invariant.0, c.assertions_of.ensures)
     (refer_terms c.args.symbols.now c.args.terms.now c.args.problem.now.assertions c.requires.asserted.assertions c.requires.asserted.refer)
 
+pub status_at-requires-clause-sorted : goal.status_at-requires-clause-sorted
+status_at-requires-clause-sorted c of stand =
+    c.requires.sorted of c.commands.i (rw c.commands.invariant.0 at stand)
+
 pub commands-preserved : goal.commands-preserved
 commands-preserved c = (
   c.status_at.ensures.same ∙ c.commands.invariant.0,

@@ -1,4 +1,4 @@
-use Rattle.std.proofs.Common.{◌↔◌, subst}
+use Rattle.std.proofs.Common.{subst}
 use Rattle.std.proofs.lemmas.Result.{IfOk-weaker}
 use Rattle.rule_model.specs.declared.rules.Mode.{Mode}
 use Rattle.rule_model.specs.Reading.{rule_at}

@@ -1,5 +1,4 @@
-use Rattle.std.proofs.Common.{◌≡◌, ◌∙◌, [], sym, subst, true}
-use Rattle.rule_model.specs.Reading.{rule_at}
+use Rattle.std.proofs.Common.{◌∙◌, [], sym, subst}
 use Rattle.step_check.specs.Steps.{IsOfFamily}
 use Rattle.step_check.proofs.steps.status_at.Goals as goal
 
