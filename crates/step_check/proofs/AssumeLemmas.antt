@@ -5,10 +5,11 @@ use Rattle.std.proofs.lemmas.Bool.{cases_lt}
 use Rattle.sym_table.specs.Table.{Table}
 use Rattle.term_model.specs.Flips.{EqualUpToFlips}
 use Rattle.term_model.specs.Terms.{Term, numeral}
+use Rattle.pair_pool.specs.Views.{IsKnown}
 use Rattle.term_pool.specs.Views.{TermsView, RefersTo, IsTerm, ReferToAll}
 use Rattle.rule_model.specs.declared.rules.Mode.{Mode}
 use Rattle.rule_model.specs.Statuses.{IsAsserted}
-use Rattle.step_check.specs.Steps.{AreApart, AreAssertedTo}
+use Rattle.step_check.specs.Steps.{AreAssertedTo}
 
 pub false_is : {P : Type 0} → ¬ P → IsTrue false ↔ P
 false_is n = (λ e. absurd cc, λ h. absurd (n h))
@@ -37,34 +38,9 @@ module _ (s : Table) (v : TermsView) where
   refer_terms rs ts h k d below =
       record { means = get_or ts k (numeral 0); refers = refer_at rs ts k d (numeral 0) h below }
 
-  -- an assertion that is the term, and one more that is not
-  pub asserted_here : (rs : List ℕ) (r q k : ℕ) (ts : List Term) (t : Term) (told : Bool) → ReferToAll s v rs ts → RefersTo s v r t → k < length rs → q ≡ get_or rs k q → ((a b : Term) → RefersTo s v q a → RefersTo s v r b → IsTrue told ↔ EqualUpToFlips a b) → told ≡ true → IsAsserted Mode.Check ts t
-  asserted_here rs r q k ts t told all one below is tells e =
-      let a = get_or ts k (numeral 0) in
-      let here = subst (λ x. RefersTo s v x a) (sym is) (refer_at rs ts k q (numeral 0) all below) in
-      let long = refer_length rs ts all in
-      let same : get_or ts k a ≡ a = get_or_any ts k a (numeral 0) (omega (arith, long, below)) in
-      (k, a, omega (arith, long, below), same, (tells a t here one).0 e)
-    where
-      get_or_any : (xs : List Term) (k : ℕ) (d e : Term) → k < length xs → get_or xs k d ≡ get_or xs k e
-      get_or_any [] k d e below = absurd (omega (arith, below))
-      get_or_any (x ∷ xs) zero d e below = refl
-      get_or_any (x ∷ xs) (suc k) d e below = get_or_any xs k d e (omega (arith, below))
-
-  pub apart_next : (rs : List ℕ) (r q n : ℕ) (told : Bool) → AreApart s v rs r n → n < length rs → q ≡ get_or rs n q → ((a b : Term) → RefersTo s v q a → RefersTo s v r b → IsTrue told ↔ EqualUpToFlips a b) → told ≡ false → AreApart s v rs r (n + 1)
-  apart_next rs r q n told apart within is tells e ts t all one k d below flips =
-      elim (cases_lt k n) [
-        | inl under ↦ apart ts t all one k d under flips
-        | inr after ↦ (let same : k ≡ n = omega (arith, below, after) in
-            let here = subst (λ x. RefersTo s v x (get_or ts n d)) (sym is) (refer_at rs ts n q d all within) in
-            let met = (tells (get_or ts n d) t here one).1 (subst (λ j. EqualUpToFlips (get_or ts j d) t) same flips) in
-            let clash = sym e ∙ met in cc)
-      ]
-
-  pub apart_all : (rs : List ℕ) (r n : ℕ) (ts : List Term) (t : Term) → AreApart s v rs r n → length rs ≤ n → ReferToAll s v rs ts → RefersTo s v r t → ¬ IsAsserted Mode.Check ts t
-  apart_all rs r n ts t apart long all one (k, a, below, is, flips) =
-      let same = refer_length rs ts all in
-      apart ts t all one k a (omega (arith, below, same, long)) (subst (λ x. EqualUpToFlips x t) (sym is) flips)
+  -- what the pass knows
+  pub known : (w : TermsView) (r : ℕ) → w ≡ v → IsTerm s v r → IsKnown w.pass r
+  known w r same t = rw same (record { tree = t.refers.tree; stands = t.refers.known })
 
   -- the terms of a clause
   pub zip_terms : (rs : List ℕ) (ts : List Term) → AllZip (RefersTo s v) rs ts → All (IsTerm s v) rs

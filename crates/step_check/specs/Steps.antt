@@ -1,5 +1,5 @@
 -- Private. What is said of one command: how its rule is judged, and its status, whatever it stands for.
-use Rattle.std.specs.Prelude.{◌≡◌, ◌↔◌, ◌<◌, ℕ, slice_index_or, List, All, Bool, true, false, Option, Some, None, IsTrue}
+use Rattle.std.specs.Prelude.{◌≡◌, ◌↔◌, ◌<◌, ℕ, slice_index_or, List, All, Bool, true, false, Option, Some, None, IsTrue, ⊤}
 use Rattle.std.specs.List.{AllZip}
 use Rattle.sym_table.specs.Table.{Table}
 use Rattle.term_model.specs.Flips.{EqualUpToFlips}
@@ -11,7 +11,7 @@ use Rattle.rule_model.specs.declared.rules.StepCause.{StepCause}
 use Rattle.rule_model.specs.declared.statuses.Status.{Status}
 use Rattle.rule_model.specs.Conditions.{IsMetAt}
 use Rattle.rule_model.specs.Proofs.{Items}
-use Rattle.rule_model.specs.Statuses.{Kind as KindOfRule, hole, unknown, conditional, kind_of, IsAsserted, MayAssume, IsStatusAt}
+use Rattle.rule_model.specs.Statuses.{Kind as KindOfRule, assumed, hole, unknown, conditional, kind_of, IsAsserted, MayAssume, IsStatusAt}
 use Rattle.proof_store.specs.declared.answers.Answer.{Answer}
 use Rattle.proof_store.specs.Meaning.{StandForItems}
 use Rattle.term_reader.specs.declared.flags.Flags.{Flags}
@@ -49,13 +49,7 @@ IsKind kind rule (Kind.Conditional family) = (kind ≡ conditional) × IsOfFamil
 abbrev pub IsKindOf : Flags → Rule → Kind → Type 0
 IsKindOf flags rule kind = (assertions : List Term) → IsKind (kind_of (checking flags assertions) rule) rule kind
 
--- the answer to whether the term of a reference is an assertion, up to flips
-abbrev pub TellsAsserted : Table → TermsView → List ℕ → ℕ → Bool → Type 0
-TellsAsserted s v asserted r told =
-    (assertions : List Term) (t : Term) → ReferToAll s v asserted assertions → RefersTo s v r t →
-    IsTrue told ↔ IsAsserted Mode.Check assertions t
-
--- the same of all terms of a clause
+-- the answer to whether all terms of a clause are assertions, up to flips
 abbrev pub TellAllAsserted : Table → TermsView → List ℕ → List ℕ → Bool → Type 0
 TellAllAsserted s v asserted clause told =
     (assertions ts : List Term) → ReferToAll s v asserted assertions → AllZip (RefersTo s v) clause ts →
@@ -83,12 +77,6 @@ abbrev pub IsStatusOfAnswer : Answer → Status → Type 0
 IsStatusOfAnswer Answer.Met status = status ≡ Status.Ok
 IsStatusOfAnswer Answer.NotMet status = status ≡ Status.Faulty StepCause.NotMet
 IsStatusOfAnswer Answer.TooWide status = status ≡ Status.Wide
-
--- none of the first assertions is the term of a reference, up to flips
-abbrev pub AreApart : Table → TermsView → List ℕ → ℕ → ℕ → Type 0
-AreApart s v asserted r n =
-    (assertions : List Term) (t : Term) → ReferToAll s v asserted assertions → RefersTo s v r t →
-    (k : ℕ) (d : Term) → k < n → ¬ EqualUpToFlips (slice_index_or assertions k d) t
 
 -- the first terms of a clause are assertions, up to flips
 abbrev pub AreAssertedTo : Table → TermsView → List ℕ → List ℕ → ℕ → Type 0

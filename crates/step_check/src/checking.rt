@@ -13,8 +13,10 @@ ghost use Rattle.term_pool.specs.Views.{KeepsTerms};
 ghost use Rattle.step_check.specs.Statuses.{AreAsserted, AreStatusesOf};
 
 use crate::steps::{Kept, Subject, status_at};
+use flip_keys::Assertions;
 use pair_pool::{Memory, Ref};
 use proof_store::{Proof, RuleStop, Status, commands_correspond};
+use rules_resolution::Scratch;
 use std::alloc::Global;
 use sym_table::Symbols;
 use term_pool::Terms;
@@ -63,11 +65,14 @@ pub fn statuses(
     commands_correspond();
     let subject = Subject {
         proof,
-        assertions: assertions_of(problem),
         symbols,
         flags,
     };
-    let mut kept = Kept::new(alloc);
+    let mut kept = Kept {
+        alloc,
+        resolution: Scratch::new(alloc),
+        asserted: Assertions::new(alloc, terms, assertions_of(problem))?,
+    };
     let mut list = Vec::new(alloc);
     'commands: for i in 0..proof.count() {
         let status = status_at(&subject, i, &mut kept, terms)?;

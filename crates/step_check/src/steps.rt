@@ -1,6 +1,7 @@
 //! The status of one command.
 
-ghost use Rattle.std.specs.Prelude.{◌≡◌, ◌≢◌, ◌<◌, All, IfErr, IfOk};
+ghost use Rattle.std.specs.Prelude.{◌≡◌, ◌≢◌, ◌<◌, IfErr, IfOk, OnOk};
+ghost use Rattle.flip_keys.specs.Assertions.{references_of, IsReady};
 ghost use Rattle.proof_store.specs.Checks.{StandForSome};
 ghost use Rattle.proof_store.specs.Meaning.{StandForItems};
 ghost use Rattle.proof_store.specs.declared.answers.Answer.TheVariants as Answer;
@@ -12,13 +13,13 @@ ghost use Rattle.rule_model.specs.Reading.{clause_at, rule_at};
 ghost use Rattle.rule_model.specs.Scopes.{commands_in};
 ghost use Rattle.rules_resolution.specs.Steps.{IsShort};
 ghost use Rattle.term_model.specs.Terms.{Var, Term};
-ghost use Rattle.term_pool.specs.Views.{IsTerm};
 ghost use Rattle.step_check.specs.Steps.{IsOfFamily, IsStatusOf, IsStatusOfAnswer, TellsAssume, TellsMet};
 
 use crate::assumes::are_asserted;
 use crate::families::Family;
 use crate::kinds::{Kind, kind_of};
-use pair_pool::{Memory, Ref};
+use flip_keys::Assertions;
+use pair_pool::Memory;
 use proof_store::{Answer, Proof, RuleStop, Status, commands_correspond, terms_correspond};
 use rule_model::{Mode, StepCause};
 use rules_resolution::Scratch;
@@ -31,7 +32,6 @@ use term_reader::Flags;
 #[derive(Clone, Copy)]
 pub(crate) struct Subject<'a> {
     pub(crate) proof: &'a Proof,
-    pub(crate) assertions: &'a [Ref],
     pub(crate) symbols: &'a Symbols,
     pub(crate) flags: Flags,
 }
@@ -41,16 +41,7 @@ pub(crate) struct Subject<'a> {
 pub(crate) struct Kept {
     pub(crate) alloc: Global,
     pub(crate) resolution: Scratch,
-}
-
-impl Kept {
-    /// Nothing is kept yet. Takes no memory.
-    pub(crate) fn new(alloc: Global) -> Kept {
-        Kept {
-            alloc,
-            resolution: Scratch::new(alloc),
-        }
-    }
+    pub(crate) asserted: Assertions,
 }
 
 /// Whether the step at an index, whose rule is of a family, meets its condition.
@@ -58,7 +49,8 @@ fn answer_at(
     subject: &Subject<'_>,
     family: Family,
     i: u32,
-    kept: &mut Kept,
+    alloc: Global,
+    resolution: &mut Scratch,
     terms: &mut Terms<'_>,
 ) -> Result<Answer, RuleStop>
     requires index { i < commands_in subject.now.proof.now }
@@ -74,9 +66,8 @@ fn answer_at(
     commands_correspond();
     let proof = subject.proof;
     let symbols = subject.symbols;
-    let alloc = kept.alloc;
     match family {
-        Family::Resolution => { kept.resolution.check(proof, i, Mode::Check, symbols, terms) }
+        Family::Resolution => { resolution.check(proof, i, Mode::Check, symbols, terms) }
         Family::Clausal => rules_clausal::check(alloc, proof, i, Mode::Check, symbols, terms),
         Family::Equality => rules_congruence::check(alloc, proof, i, Mode::Check, symbols, terms),
         Family::Closing => rules_subproof::check(alloc, proof, i, Mode::Check, symbols, terms),
@@ -96,15 +87,17 @@ fn status_of(answer: Answer) -> Status
 
 /// Whether the assume at an index may stand: in the outermost scope only where its term is asserted.
 fn may_assume(
-    alloc: Global,
+    asserted: &mut Assertions,
     subject: &Subject<'_>,
     i: u32,
     terms: &mut Terms<'_>,
 ) -> Result<bool, Memory>
     requires index { i < commands_in subject.now.proof.now }
     requires stand { StandForSome subject.now.symbols.now terms.old subject.now.proof.now }
-    requires asserted { All (IsTerm subject.now.symbols.now terms.old) subject.now.assertions.now }
-    ensures may { IfOk result (λ told. TellsAssume subject.now.flags subject.now.symbols.now terms.old subject.now.assertions.now subject.now.proof.now i told) }
+    requires ready { IsReady terms.old asserted.old }
+    ensures may { IfOk result (λ told. TellsAssume subject.now.flags subject.now.symbols.now terms.old (references_of asserted.old) subject.now.proof.now i told) }
+    ensures references { references_of asserted.new ≡ references_of asserted.old }
+    ensures ready { OnOk result (IsReady terms.new asserted.new) }
     ensures same { terms.new ≡ terms.old }
 {
     commands_correspond();
@@ -113,18 +106,12 @@ fn may_assume(
     if proof.scope_of(i) != 0 {
         return Ok(true);
     }
-    are_asserted(
-        alloc,
-        subject.assertions,
-        subject.symbols,
-        terms,
-        proof.clause(i),
-    )
+    are_asserted(asserted, subject.symbols, terms, proof.clause(i))
 }
 
 /// The status of the assume at an index.
 fn status_of_assume(
-    alloc: Global,
+    asserted: &mut Assertions,
     subject: &Subject<'_>,
     i: u32,
     terms: &mut Terms<'_>,
@@ -132,12 +119,14 @@ fn status_of_assume(
     requires index { i < commands_in subject.now.proof.now }
     requires assume { rule_at subject.now.proof.now i ≡ Rule.Assume }
     requires stand { StandForSome subject.now.symbols.now terms.old subject.now.proof.now }
-    requires asserted { All (IsTerm subject.now.symbols.now terms.old) subject.now.assertions.now }
-    ensures status { IfOk result (λ status. IsStatusOf subject.now.flags subject.now.symbols.now terms.old subject.now.assertions.now subject.now.proof.now i status) }
+    requires ready { IsReady terms.old asserted.old }
+    ensures status { IfOk result (λ status. IsStatusOf subject.now.flags subject.now.symbols.now terms.old (references_of asserted.old) subject.now.proof.now i status) }
+    ensures references { references_of asserted.new ≡ references_of asserted.old }
+    ensures ready { OnOk result (IsReady terms.new asserted.new) }
     ensures same { terms.new ≡ terms.old }
 {
     commands_correspond();
-    if may_assume(alloc, subject, i, terms)? {
+    if may_assume(asserted, subject, i, terms)? {
         Ok(Status::Ok)
     } else {
         Ok(Status::Faulty(StepCause::NotAsserted))
@@ -153,18 +142,27 @@ pub(crate) fn status_at(
 ) -> Result<Status, RuleStop>
     requires index { i < commands_in subject.now.proof.now }
     requires stand { StandForSome subject.now.symbols.now terms.old subject.now.proof.now }
-    requires asserted { All (IsTerm subject.now.symbols.now terms.old) subject.now.assertions.now }
+    requires ready { IsReady terms.old kept.old.asserted }
     requires short { IsShort subject.now.proof.now }
     requires sorted { (of : Items Var Term) → StandForItems subject.now.symbols.now terms.old subject.now.proof.now of → IsClauseOfTruths (clause_at of i) }
-    ensures status { IfOk result (λ status. IsStatusOf subject.now.flags subject.now.symbols.now terms.old subject.now.assertions.now subject.now.proof.now i status) }
+    ensures status { IfOk result (λ status. IsStatusOf subject.now.flags subject.now.symbols.now terms.old (references_of kept.old.asserted) subject.now.proof.now i status) }
     ensures stop { IfErr result (λ stop. stop ≡ RuleStop.Memory) }
+    ensures references { references_of kept.new.asserted ≡ references_of kept.old.asserted }
+    ensures ready { OnOk result (IsReady terms.new kept.new.asserted) }
     ensures same { terms.new ≡ terms.old }
 {
     commands_correspond();
     match kind_of(subject.proof.rule(i), subject.flags) {
-        Kind::Assumed => Ok(status_of_assume(kept.alloc, subject, i, terms)?),
+        Kind::Assumed => Ok(status_of_assume(&mut kept.asserted, subject, i, terms)?),
         Kind::Hole => Ok(Status::Hole),
         Kind::Unknown => Ok(Status::Faulty(StepCause::UnknownRule)),
-        Kind::Conditional(family) => Ok(status_of(answer_at(subject, family, i, kept, terms)?)),
+        Kind::Conditional(family) => Ok(status_of(answer_at(
+            subject,
+            family,
+            i,
+            kept.alloc,
+            &mut kept.resolution,
+            terms,
+        )?)),
     }
 }
