@@ -6,10 +6,10 @@ use Rattle.rule_model.specs.declared.rules.Rule.{Rule}
 use Rattle.rule_model.specs.Closings.{MeetsClosing}
 use Rattle.rule_model.specs.Conditions.{IsMetAt, MeetsWhere, IsTooWideBy, IsTooWideWhere, IsTooWideAt}
 use Rattle.rule_model.specs.Judged.{Judged, judged_at}
-use Rattle.rule_model.specs.Proofs.{Items}
+use Rattle.rule_model.specs.Proofs.{ProofItems}
 use Rattle.rule_model.specs.Reading.{rule_at, closes_at}
-use Rattle.rule_model.specs.Statuses.{assumed, hole, unknown, conditional, kind_of}
-use Rattle.rules_resolution.specs.Steps.{IsResolutionRule, MeetsAt}
+use Rattle.rule_model.specs.Statuses.{assumed, hole, unknown, conditional, kind_of_rule}
+use Rattle.rules_resolution.specs.Steps.{IsResolutionRule, MeetsResolutionAt}
 use Rattle.term_reader.specs.declared.flags.Flags.{Flags}
 use Rattle.step_check.specs.declared.families.Family.{Family}
 use Rattle.step_check.specs.Judged.{is_resolution, is_clausal, is_equality, is_closing, is_judged}
@@ -55,7 +55,7 @@ family_is_judged Family.Equality rule h = third_of (is_resolution rule) (is_clau
 family_is_judged Family.Closing rule h = fourth_of (is_resolution rule) (is_clausal rule) (is_equality rule) (is_closing rule) h
 
 -- rules that are judged have a condition, and the others leave a hole where the flags say so
-pub judged_is_conditional : (flags : Flags) (ts : List Term) (rule : Rule) → is_judged rule ≡ true → kind_of (checking flags ts) rule ≡ conditional
+pub judged_is_conditional : (flags : Flags) (ts : List Term) (rule : Rule) → is_judged rule ≡ true → kind_of_rule (checking flags ts) rule ≡ conditional
 judged_is_conditional flags ts Rule.Assume e = absurd cc
 judged_is_conditional flags ts Rule.Hole e = absurd cc
 judged_is_conditional flags ts Rule.LiaGeneric e = absurd cc
@@ -70,7 +70,7 @@ pub record IsPlain (rule : Rule) : Type 0 where
   pub no_rare : rule ≢ Rule.RareRewrite
   pub no_all : rule ≢ Rule.AllSimplify
 
-pub other_is_not : (flags : Flags) (ts : List Term) (rule : Rule) → IsPlain rule → is_judged rule ≡ false → kind_of (checking flags ts) rule ≡ (if flags.ignore_unknown then hole else unknown)
+pub other_is_not : (flags : Flags) (ts : List Term) (rule : Rule) → IsPlain rule → is_judged rule ≡ false → kind_of_rule (checking flags ts) rule ≡ (if flags.ignore_unknown then hole else unknown)
 other_is_not flags ts Rule.Assume p e = absurd (p.no_assume refl)
 other_is_not flags ts Rule.Hole p e = absurd (p.no_hole refl)
 other_is_not flags ts Rule.LiaGeneric p e = absurd (p.no_lia refl)
@@ -78,10 +78,10 @@ other_is_not flags ts Rule.RareRewrite p e = absurd (p.no_rare refl)
 other_is_not flags ts Rule.AllSimplify p e = absurd (p.no_all refl)
 other_is_not flags ts rule p e = if_false (is_judged rule) conditional (if flags.ignore_unknown then hole else unknown) e
 
-pub assume_is_assumed : (flags : Flags) (ts : List Term) (rule : Rule) → rule ≡ Rule.Assume → kind_of (checking flags ts) rule ≡ assumed
-assume_is_assumed flags ts rule e = subst (λ r. kind_of (checking flags ts) r ≡ assumed) (sym e) refl
+pub assume_is_assumed : (flags : Flags) (ts : List Term) (rule : Rule) → rule ≡ Rule.Assume → kind_of_rule (checking flags ts) rule ≡ assumed
+assume_is_assumed flags ts rule e = subst (λ r. kind_of_rule (checking flags ts) r ≡ assumed) (sym e) refl
 
-pub step_is_kind : (flags : Flags) (ts : List Term) (rule : Rule) (kind : KindOfCommand) → IsPlain rule → IsKindOfStep flags rule kind → IsKind (kind_of (checking flags ts) rule) rule kind
+pub step_is_kind : (flags : Flags) (ts : List Term) (rule : Rule) (kind : KindOfCommand) → IsPlain rule → IsKindOfStep flags rule kind → IsKind (kind_of_rule (checking flags ts) rule) rule kind
 step_is_kind flags ts rule KindOfCommand.Assumed p h = absurd h
 step_is_kind flags ts rule KindOfCommand.Hole p h =
     other_is_not flags ts rule p h.0 ∙ if_true flags.ignore_unknown hole unknown h.1
@@ -99,7 +99,7 @@ never_wide Rule.UnaryMinusSimplify j e = absurd cc
 never_wide Rule.LaGeneric j e = absurd cc
 never_wide _ j e = λ h. h
 
-module _ (mode : Mode) (proof : Items Var Term) (i : ℕ) where
+module _ (mode : Mode) (proof : ProofItems Var Term) (i : ℕ) where
   wide_where : (k : Option ℕ) → is_judged (rule_at proof i) ≡ true → ¬ IsTooWideWhere mode proof i k
   wide_where None e = never_wide (rule_at proof i) (judged_at mode proof i) e
   wide_where (Some k) e = λ h. h
@@ -112,11 +112,11 @@ module _ (mode : Mode) (proof : Items Var Term) (i : ℕ) where
   no_closing k (inl e) h = subst (λ rule. MeetsClosing mode rule proof i k) e h
   no_closing k (inr e) h = subst (λ rule. MeetsClosing mode rule proof i k) e h
 
-  meets_where : (k : Option ℕ) → closes_at proof i ≡ k → IsResolutionRule (rule_at proof i) → MeetsAt mode proof i ↔ MeetsWhere mode proof i k
+  meets_where : (k : Option ℕ) → closes_at proof i ≡ k → IsResolutionRule (rule_at proof i) → MeetsResolutionAt mode proof i ↔ MeetsWhere mode proof i k
   meets_where None e rule = (λ m. m.met, λ m. record { closes_none = e; met = m })
   meets_where (Some k) e rule = (λ m. let none = m.closes_none in absurd cc, λ m. absurd (no_closing k rule m))
 
-  pub resolution_is_met : IsResolutionRule (rule_at proof i) → MeetsAt mode proof i ↔ IsMetAt mode proof i
+  pub resolution_is_met : IsResolutionRule (rule_at proof i) → MeetsResolutionAt mode proof i ↔ IsMetAt mode proof i
   resolution_is_met rule = meets_where (closes_at proof i) refl rule
 
 -- what the crates of the rules ask for

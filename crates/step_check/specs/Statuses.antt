@@ -5,7 +5,7 @@ use Rattle.term_model.specs.Terms.{Var, Term}
 use Rattle.term_pool.specs.Views.{TermsView, ReferToAll}
 use Rattle.rule_model.specs.declared.rules.Mode.{Mode}
 use Rattle.rule_model.specs.declared.statuses.Status.{Status}
-use Rattle.rule_model.specs.Proofs.{Items}
+use Rattle.rule_model.specs.Proofs.{ProofItems}
 use Rattle.rule_model.specs.Statuses.{Checking, AreStatuses}
 use Rattle.proof_store.specs.Meaning.{StandForItems}
 use Rattle.term_reader.specs.declared.flags.Flags.{Flags}
@@ -27,7 +27,7 @@ pub record AreAsserted (s : Table) (v : TermsView) (refs : List ℕ) : Type 0 wh
   pub refer : ReferToAll s v refs assertions
 
 -- The statuses of the commands of the proof for which the references stand, with the assertions for which they stand.
-abbrev pub AreStatusesOf : Flags → Table → TermsView → List ℕ → Items ℕ ℕ → List Status → Type 0
+abbrev pub AreStatusesOf : Flags → Table → TermsView → List ℕ → ProofItems ℕ ℕ → List Status → Type 0
 AreStatusesOf flags s v asserted refs statuses =
-    (proof : Items Var Term) (assertions : List Term) → StandForItems s v refs proof → ReferToAll s v asserted assertions →
+    (proof : ProofItems Var Term) (assertions : List Term) → StandForItems s v refs proof → ReferToAll s v asserted assertions →
     AreStatuses (checking flags assertions) proof statuses

@@ -10,8 +10,8 @@ use Rattle.rule_model.specs.declared.rules.Mode.{Mode}
 use Rattle.rule_model.specs.declared.rules.StepCause.{StepCause}
 use Rattle.rule_model.specs.declared.statuses.Status.{Status}
 use Rattle.rule_model.specs.Conditions.{IsMetAt}
-use Rattle.rule_model.specs.Proofs.{Items}
-use Rattle.rule_model.specs.Statuses.{Kind as KindOfRule, assumed, hole, unknown, conditional, kind_of, IsAsserted, MayAssume, IsStatusAt}
+use Rattle.rule_model.specs.Proofs.{ProofItems}
+use Rattle.rule_model.specs.Statuses.{Kind as KindOfRule, assumed, hole, unknown, conditional, kind_of_rule, IsAsserted, MayAssume, IsStatusAt}
 use Rattle.proof_store.specs.declared.answers.Answer.{Answer}
 use Rattle.proof_store.specs.Meaning.{StandForItems}
 use Rattle.term_reader.specs.declared.flags.Flags.{Flags}
@@ -47,7 +47,7 @@ IsKind kind rule Kind.Unknown = kind ≡ unknown
 IsKind kind rule (Kind.Conditional family) = (kind ≡ conditional) × IsOfFamily family rule
 
 abbrev pub IsKindOf : Flags → Rule → Kind → Type 0
-IsKindOf flags rule kind = (assertions : List Term) → IsKind (kind_of (checking flags assertions) rule) rule kind
+IsKindOf flags rule kind = (assertions : List Term) → IsKind (kind_of_rule (checking flags assertions) rule) rule kind
 
 -- the answer to whether all terms of a clause are assertions, up to flips
 abbrev pub TellAllAsserted : Table → TermsView → List ℕ → List ℕ → Bool → Type 0
@@ -56,20 +56,20 @@ TellAllAsserted s v asserted clause told =
     IsTrue told ↔ All (IsAsserted Mode.Check assertions) ts
 
 -- the answer to whether the command at an index may assume its term
-abbrev pub TellsAssume : Flags → Table → TermsView → List ℕ → Items ℕ ℕ → ℕ → Bool → Type 0
+abbrev pub TellsAssume : Flags → Table → TermsView → List ℕ → ProofItems ℕ ℕ → ℕ → Bool → Type 0
 TellsAssume flags s v asserted refs i told =
-    (proof : Items Var Term) (assertions : List Term) → StandForItems s v refs proof → ReferToAll s v asserted assertions →
+    (proof : ProofItems Var Term) (assertions : List Term) → StandForItems s v refs proof → ReferToAll s v asserted assertions →
     IsTrue told ↔ MayAssume (checking flags assertions) proof i
 
 -- the answer to whether the step at an index is met
-abbrev pub TellsMet : Table → TermsView → Items ℕ ℕ → ℕ → Answer → Type 0
+abbrev pub TellsMet : Table → TermsView → ProofItems ℕ ℕ → ℕ → Answer → Type 0
 TellsMet s v refs i answer =
-    (proof : Items Var Term) → StandForItems s v refs proof → (answer ≡ Answer.Met) ↔ IsMetAt Mode.Check proof i
+    (proof : ProofItems Var Term) → StandForItems s v refs proof → (answer ≡ Answer.Met) ↔ IsMetAt Mode.Check proof i
 
 -- the status of the command at an index
-abbrev pub IsStatusOf : Flags → Table → TermsView → List ℕ → Items ℕ ℕ → ℕ → Status → Type 0
+abbrev pub IsStatusOf : Flags → Table → TermsView → List ℕ → ProofItems ℕ ℕ → ℕ → Status → Type 0
 IsStatusOf flags s v asserted refs i status =
-    (proof : Items Var Term) (assertions : List Term) → StandForItems s v refs proof → ReferToAll s v asserted assertions →
+    (proof : ProofItems Var Term) (assertions : List Term) → StandForItems s v refs proof → ReferToAll s v asserted assertions →
     IsStatusAt (checking flags assertions) proof i status
 
 -- what is said of a step whose condition was judged

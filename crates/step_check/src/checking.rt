@@ -5,7 +5,7 @@ ghost use Rattle.proof_store.specs.Checks.{StandForSome};
 ghost use Rattle.proof_store.specs.declared.answers.RuleStop.TheVariants as RuleStop;
 ghost use Rattle.proof_store.specs.Meaning.{StandForItems};
 ghost use Rattle.rule_model.specs.Conditions.{IsClauseOfTruths};
-ghost use Rattle.rule_model.specs.Proofs.{Items};
+ghost use Rattle.rule_model.specs.Proofs.{ProofItems};
 ghost use Rattle.rule_model.specs.Reading.{clause_at};
 ghost use Rattle.rules_resolution.specs.Steps.{IsShort};
 ghost use Rattle.term_model.specs.Terms.{Var, Term};
@@ -57,7 +57,7 @@ pub fn statuses(
     requires stand { StandForSome symbols.now terms.old proof.now }
     requires asserted { AreAsserted symbols.now terms.old problem.now.assertions }
     requires short { IsShort proof.now }
-    requires sorted { (of : Items Var Term) (i : ℕ) → StandForItems symbols.now terms.old proof.now of → IsClauseOfTruths (clause_at of i) }
+    requires sorted { (of : ProofItems Var Term) (i : ℕ) → StandForItems symbols.now terms.old proof.now of → IsClauseOfTruths (clause_at of i) }
     ensures statuses { IfOk result (λ list. AreStatusesOf flags symbols.now terms.old problem.now.assertions proof.now list.items) }
     ensures stop { IfErr result (λ stop. stop ≡ RuleStop.Memory) }
     ensures keeps { KeepsTerms terms.old terms.new }

@@ -8,7 +8,7 @@ ghost use Rattle.proof_store.specs.declared.answers.Answer.TheVariants as Answer
 ghost use Rattle.proof_store.specs.declared.answers.RuleStop.TheVariants as RuleStop;
 ghost use Rattle.rule_model.specs.declared.rules.Rule.TheVariants as Rule;
 ghost use Rattle.rule_model.specs.Conditions.{IsClauseOfTruths};
-ghost use Rattle.rule_model.specs.Proofs.{Items};
+ghost use Rattle.rule_model.specs.Proofs.{ProofItems};
 ghost use Rattle.rule_model.specs.Reading.{clause_at, rule_at};
 ghost use Rattle.rule_model.specs.Scopes.{commands_in};
 ghost use Rattle.rules_resolution.specs.Steps.{IsShort};
@@ -57,7 +57,7 @@ fn answer_at(
     requires family { IsOfFamily family (rule_at subject.now.proof.now i) }
     requires stand { StandForSome subject.now.symbols.now terms.old subject.now.proof.now }
     requires short { IsShort subject.now.proof.now }
-    requires sorted { (of : Items Var Term) → StandForItems subject.now.symbols.now terms.old subject.now.proof.now of → IsClauseOfTruths (clause_at of i) }
+    requires sorted { (of : ProofItems Var Term) → StandForItems subject.now.symbols.now terms.old subject.now.proof.now of → IsClauseOfTruths (clause_at of i) }
     ensures met { IfOk result (λ answer. TellsMet subject.now.symbols.now terms.old subject.now.proof.now i answer) }
     ensures narrow { IfOk result (λ answer. answer ≢ Answer.TooWide) }
     ensures stop { IfErr result (λ stop. stop ≡ RuleStop.Memory) }
@@ -144,7 +144,7 @@ pub(crate) fn status_at(
     requires stand { StandForSome subject.now.symbols.now terms.old subject.now.proof.now }
     requires ready { IsReady terms.old kept.old.asserted }
     requires short { IsShort subject.now.proof.now }
-    requires sorted { (of : Items Var Term) → StandForItems subject.now.symbols.now terms.old subject.now.proof.now of → IsClauseOfTruths (clause_at of i) }
+    requires sorted { (of : ProofItems Var Term) → StandForItems subject.now.symbols.now terms.old subject.now.proof.now of → IsClauseOfTruths (clause_at of i) }
     ensures status { IfOk result (λ status. IsStatusOf subject.now.flags subject.now.symbols.now terms.old (references_of kept.old.asserted) subject.now.proof.now i status) }
     ensures stop { IfErr result (λ stop. stop ≡ RuleStop.Memory) }
     ensures references { references_of kept.new.asserted ≡ references_of kept.old.asserted }
