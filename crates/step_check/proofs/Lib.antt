@@ -1,0 +1,4 @@
+pub mod KindLemmas
+pub mod StatusLemmas
+pub mod AssumeLemmas
+pub mod ListLemmas

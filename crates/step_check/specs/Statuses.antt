@@ -1,0 +1,33 @@
+-- Public. What the statuses of a proof's commands are asked by: the flags and the problem's assertions.
+use Rattle.std.specs.Prelude.{ℕ, List}
+use Rattle.sym_table.specs.Table.{Table}
+use Rattle.term_model.specs.Terms.{Var, Term}
+use Rattle.term_pool.specs.Views.{TermsView, ReferToAll}
+use Rattle.rule_model.specs.declared.rules.Mode.{Mode}
+use Rattle.rule_model.specs.declared.statuses.Status.{Status}
+use Rattle.rule_model.specs.Proofs.{ProofItems}
+use Rattle.rule_model.specs.Statuses.{Checking, AreStatuses}
+use Rattle.proof_store.specs.Meaning.{StandForItems}
+use Rattle.term_reader.specs.declared.flags.Flags.{Flags}
+use Rattle.step_check.specs.Judged.{is_judged}
+
+-- The check that flags ask for: in check mode, by the rules that are judged, a step by another rule being a hole where the
+-- flags say so.
+abbrev pub checking : Flags → List Term → Checking
+checking flags assertions = record {
+  mode = Mode.Check;
+  is_judged = is_judged;
+  unknown_are_holes = flags.ignore_unknown;
+  assertions = assertions;
+}
+
+-- the references stand for assertions
+pub record AreAsserted (s : Table) (v : TermsView) (refs : List ℕ) : Type 0 where
+  pub assertions : List Term
+  pub refer : ReferToAll s v refs assertions
+
+-- The statuses of the commands of the proof for which the references stand, with the assertions for which they stand.
+abbrev pub AreStatusesOf : Flags → Table → TermsView → List ℕ → ProofItems ℕ ℕ → List Status → Type 0
+AreStatusesOf flags s v asserted refs statuses =
+    (proof : ProofItems Var Term) (assertions : List Term) → StandForItems s v refs proof → ReferToAll s v asserted assertions →
+    AreStatuses (checking flags assertions) proof statuses

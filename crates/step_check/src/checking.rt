@@ -1,0 +1,82 @@
+//! The statuses of the commands of a proof.
+
+ghost use Rattle.std.specs.Prelude.{◌≡◌, ◌++◌, [], ◌∷◌, ℕ, false, IfErr, IfOk, OnOk};
+ghost use Rattle.proof_store.specs.Checks.{StandForSome};
+ghost use Rattle.proof_store.specs.declared.answers.RuleStop.TheVariants as RuleStop;
+ghost use Rattle.proof_store.specs.Meaning.{StandForItems};
+ghost use Rattle.rule_model.specs.Conditions.{IsClauseOfTruths};
+ghost use Rattle.rule_model.specs.Proofs.{ProofItems};
+ghost use Rattle.rule_model.specs.Reading.{clause_at};
+ghost use Rattle.rules_resolution.specs.Steps.{IsShort};
+ghost use Rattle.term_model.specs.Terms.{Var, Term};
+ghost use Rattle.term_pool.specs.Views.{KeepsTerms};
+ghost use Rattle.step_check.specs.Statuses.{AreAsserted, AreStatusesOf};
+
+use crate::steps::{Kept, Subject, status_at};
+use flip_keys::Assertions;
+use pair_pool::{Memory, Ref};
+use proof_store::{Proof, RuleStop, Status, commands_correspond};
+use rules_resolution::Scratch;
+use std::alloc::Global;
+use sym_table::Symbols;
+use term_pool::Terms;
+use term_reader::{Flags, Problem};
+
+/// The assertions of a problem.
+fn assertions_of(problem: &Problem) -> &[Ref]
+    ensures { result.now ≡ problem.now.assertions }
+{
+    &problem.assertions
+}
+
+/// Puts a status at the end.
+fn add(list: &mut Vec<Status>, status: Status) -> Result<(), Memory>
+    ensures { OnOk result (list.new.items ≡ list.old.items ++ status ∷ []) }
+{
+    list.push(status)?;
+    Ok(())
+}
+
+/// The status of each command of a proof, in file order, as `rule_model` defines it in check mode.
+///
+/// An outermost assume is Ok exactly where its term is an assertion of the problem, up to flips, and an inner one always. A
+/// step by a rule that leaves a hole is a Hole. A step by a rule that is judged here is Ok exactly where it meets the rule's
+/// condition, and else faulty. Any other rule is an unknown one, and its steps are holes where the flags say so.
+///
+/// The proof's terms and the assertions are known to the pass, literals are terms of Bool, and no clause and no list of premises has 2^32 items. Refuses
+/// want of memory alone, and places no cell. It takes the time that the rules take.
+pub fn statuses(
+    alloc: Global,
+    proof: &Proof,
+    problem: &Problem,
+    symbols: &Symbols,
+    flags: Flags,
+    terms: &mut Terms<'_>,
+) -> Result<Vec<Status>, RuleStop>
+    requires lax { flags.strict ≡ false }
+    requires stand { StandForSome symbols.now terms.old proof.now }
+    requires asserted { AreAsserted symbols.now terms.old problem.now.assertions }
+    requires short { IsShort proof.now }
+    requires sorted { (of : ProofItems Var Term) (i : ℕ) → StandForItems symbols.now terms.old proof.now of → IsClauseOfTruths (clause_at of i) }
+    ensures statuses { IfOk result (λ list. AreStatusesOf flags symbols.now terms.old problem.now.assertions proof.now list.items) }
+    ensures stop { IfErr result (λ stop. stop ≡ RuleStop.Memory) }
+    ensures keeps { KeepsTerms terms.old terms.new }
+{
+    commands_correspond();
+    let subject = Subject {
+        proof,
+        symbols,
+        flags,
+    };
+    let mut kept = Kept {
+        alloc,
+        resolution: Scratch::new(alloc),
+        asserted: Assertions::new(alloc, terms, assertions_of(problem))?,
+    };
+    let mut list = Vec::new(alloc);
+    'commands: for i in 0..proof.count() {
+        let status = status_at(&subject, i, &mut kept, terms)?;
+        add(&mut list, status)?;
+    }
+    Ok(list)
+}

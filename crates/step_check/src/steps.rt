@@ -1,0 +1,168 @@
+//! The status of one command.
+
+ghost use Rattle.std.specs.Prelude.{◌≡◌, ◌≢◌, ◌<◌, IfErr, IfOk, OnOk};
+ghost use Rattle.flip_keys.specs.Assertions.{references_of, IsReady};
+ghost use Rattle.proof_store.specs.Checks.{StandForSome};
+ghost use Rattle.proof_store.specs.Meaning.{StandForItems};
+ghost use Rattle.proof_store.specs.declared.answers.Answer.TheVariants as Answer;
+ghost use Rattle.proof_store.specs.declared.answers.RuleStop.TheVariants as RuleStop;
+ghost use Rattle.rule_model.specs.declared.rules.Rule.TheVariants as Rule;
+ghost use Rattle.rule_model.specs.Conditions.{IsClauseOfTruths};
+ghost use Rattle.rule_model.specs.Proofs.{ProofItems};
+ghost use Rattle.rule_model.specs.Reading.{clause_at, rule_at};
+ghost use Rattle.rule_model.specs.Scopes.{commands_in};
+ghost use Rattle.rules_resolution.specs.Steps.{IsShort};
+ghost use Rattle.term_model.specs.Terms.{Var, Term};
+ghost use Rattle.step_check.specs.Steps.{IsOfFamily, IsStatusOf, IsStatusOfAnswer, TellsAssume, TellsMet};
+
+use crate::assumes::are_asserted;
+use crate::families::Family;
+use crate::kinds::{Kind, kind_of};
+use flip_keys::Assertions;
+use pair_pool::Memory;
+use proof_store::{Answer, Proof, RuleStop, Status, commands_correspond, terms_correspond};
+use rule_model::{Mode, StepCause};
+use rules_resolution::Scratch;
+use std::alloc::Global;
+use sym_table::Symbols;
+use term_pool::Terms;
+use term_reader::Flags;
+
+/// What is checked, and how.
+#[derive(Clone, Copy)]
+pub(crate) struct Subject<'a> {
+    pub(crate) proof: &'a Proof,
+    pub(crate) symbols: &'a Symbols,
+    pub(crate) flags: Flags,
+}
+
+/// What a check keeps from step to step.
+#[derive(Drop)]
+pub(crate) struct Kept {
+    pub(crate) alloc: Global,
+    pub(crate) resolution: Scratch,
+    pub(crate) asserted: Assertions,
+}
+
+/// Whether the step at an index, whose rule is of a family, meets its condition.
+fn answer_at(
+    subject: &Subject<'_>,
+    family: Family,
+    i: u32,
+    alloc: Global,
+    resolution: &mut Scratch,
+    terms: &mut Terms<'_>,
+) -> Result<Answer, RuleStop>
+    requires index { i < commands_in subject.now.proof.now }
+    requires family { IsOfFamily family (rule_at subject.now.proof.now i) }
+    requires stand { StandForSome subject.now.symbols.now terms.old subject.now.proof.now }
+    requires short { IsShort subject.now.proof.now }
+    requires sorted { (of : ProofItems Var Term) → StandForItems subject.now.symbols.now terms.old subject.now.proof.now of → IsClauseOfTruths (clause_at of i) }
+    ensures met { IfOk result (λ answer. TellsMet subject.now.symbols.now terms.old subject.now.proof.now i answer) }
+    ensures narrow { IfOk result (λ answer. answer ≢ Answer.TooWide) }
+    ensures stop { IfErr result (λ stop. stop ≡ RuleStop.Memory) }
+    ensures same { terms.new ≡ terms.old }
+{
+    commands_correspond();
+    let proof = subject.proof;
+    let symbols = subject.symbols;
+    match family {
+        Family::Resolution => { resolution.check(proof, i, Mode::Check, symbols, terms) }
+        Family::Clausal => rules_clausal::check(alloc, proof, i, Mode::Check, symbols, terms),
+        Family::Equality => rules_congruence::check(alloc, proof, i, Mode::Check, symbols, terms),
+        Family::Closing => rules_subproof::check(alloc, proof, i, Mode::Check, symbols, terms),
+    }
+}
+
+/// The status of a step that is judged by its rule's condition.
+fn status_of(answer: Answer) -> Status
+    ensures { IsStatusOfAnswer answer result }
+{
+    match answer {
+        Answer::Met => Status::Ok,
+        Answer::NotMet => Status::Faulty(StepCause::NotMet),
+        Answer::TooWide => Status::Wide,
+    }
+}
+
+/// Whether the assume at an index may stand: in the outermost scope only where its term is asserted.
+fn may_assume(
+    asserted: &mut Assertions,
+    subject: &Subject<'_>,
+    i: u32,
+    terms: &mut Terms<'_>,
+) -> Result<bool, Memory>
+    requires index { i < commands_in subject.now.proof.now }
+    requires stand { StandForSome subject.now.symbols.now terms.old subject.now.proof.now }
+    requires ready { IsReady terms.old asserted.old }
+    ensures may { IfOk result (λ told. TellsAssume subject.now.flags subject.now.symbols.now terms.old (references_of asserted.old) subject.now.proof.now i told) }
+    ensures references { references_of asserted.new ≡ references_of asserted.old }
+    ensures ready { OnOk result (IsReady terms.new asserted.new) }
+    ensures same { terms.new ≡ terms.old }
+{
+    commands_correspond();
+    terms_correspond();
+    let proof = subject.proof;
+    if proof.scope_of(i) != 0 {
+        return Ok(true);
+    }
+    are_asserted(asserted, subject.symbols, terms, proof.clause(i))
+}
+
+/// The status of the assume at an index.
+fn status_of_assume(
+    asserted: &mut Assertions,
+    subject: &Subject<'_>,
+    i: u32,
+    terms: &mut Terms<'_>,
+) -> Result<Status, Memory>
+    requires index { i < commands_in subject.now.proof.now }
+    requires assume { rule_at subject.now.proof.now i ≡ Rule.Assume }
+    requires stand { StandForSome subject.now.symbols.now terms.old subject.now.proof.now }
+    requires ready { IsReady terms.old asserted.old }
+    ensures status { IfOk result (λ status. IsStatusOf subject.now.flags subject.now.symbols.now terms.old (references_of asserted.old) subject.now.proof.now i status) }
+    ensures references { references_of asserted.new ≡ references_of asserted.old }
+    ensures ready { OnOk result (IsReady terms.new asserted.new) }
+    ensures same { terms.new ≡ terms.old }
+{
+    commands_correspond();
+    if may_assume(asserted, subject, i, terms)? {
+        Ok(Status::Ok)
+    } else {
+        Ok(Status::Faulty(StepCause::NotAsserted))
+    }
+}
+
+/// The status of the command at an index.
+pub(crate) fn status_at(
+    subject: &Subject<'_>,
+    i: u32,
+    kept: &mut Kept,
+    terms: &mut Terms<'_>,
+) -> Result<Status, RuleStop>
+    requires index { i < commands_in subject.now.proof.now }
+    requires stand { StandForSome subject.now.symbols.now terms.old subject.now.proof.now }
+    requires ready { IsReady terms.old kept.old.asserted }
+    requires short { IsShort subject.now.proof.now }
+    requires sorted { (of : ProofItems Var Term) → StandForItems subject.now.symbols.now terms.old subject.now.proof.now of → IsClauseOfTruths (clause_at of i) }
+    ensures status { IfOk result (λ status. IsStatusOf subject.now.flags subject.now.symbols.now terms.old (references_of kept.old.asserted) subject.now.proof.now i status) }
+    ensures stop { IfErr result (λ stop. stop ≡ RuleStop.Memory) }
+    ensures references { references_of kept.new.asserted ≡ references_of kept.old.asserted }
+    ensures ready { OnOk result (IsReady terms.new kept.new.asserted) }
+    ensures same { terms.new ≡ terms.old }
+{
+    commands_correspond();
+    match kind_of(subject.proof.rule(i), subject.flags) {
+        Kind::Assumed => Ok(status_of_assume(&mut kept.asserted, subject, i, terms)?),
+        Kind::Hole => Ok(Status::Hole),
+        Kind::Unknown => Ok(Status::Faulty(StepCause::UnknownRule)),
+        Kind::Conditional(family) => Ok(status_of(answer_at(
+            subject,
+            family,
+            i,
+            kept.alloc,
+            &mut kept.resolution,
+            terms,
+        )?)),
+    }
+}
