@@ -1,0 +1,5 @@
+pub mod LowestTerms
+pub mod FigureValues
+pub mod CoefficientLists
+pub mod ListShapes
+pub mod WordKinds

@@ -1,0 +1,6 @@
+pub mod Trial
+pub mod Readings
+pub mod Fractions
+pub mod Amounts
+pub mod Prefixes
+pub mod Three
