@@ -6,6 +6,8 @@ use Rattle.sexpr.specs.Items.{Item, Items, no_items, item}
 use Rattle.rule_model.specs.Proofs.{Fraction}
 use Rattle.problem_text.specs.Sorts.{chained}
 use Rattle.alethe_text.specs.Coefficients.{coefficient_of, coefficient_read, coefficients_from}
+use Rattle.coefficients.specs.Readings.{AreCoefficients}
+use Rattle.coefficients.specs.declared.trial.Ratio.{Ratio}
 use Rattle.coefficients.specs.Prefixes.{so_far, with_one, behind}
 
 abbrev then_rest : Option Fraction → Option (List Fraction) → Option (List Fraction)
@@ -46,3 +48,7 @@ pub all_read : (read : Option (List Fraction)) → behind read (coefficients_fro
 unfolding coefficients_from
 all_read None = refl
 all_read (Some qs) = ap (λ xs. Ok (Some xs)) (append-nil qs)
+
+pub finished : (all : Bool) (qs : List Ratio) (r : Result (Option (List Fraction)) Refusal) → r ≡ Ok (so_far all qs) → AreCoefficients qs (Ok all) r
+finished true qs r e = e
+finished false qs r e = e

@@ -1,8 +1,7 @@
 -- The number of the digits before a point and behind it.
-use Rattle.std.proofs.Common.{◌≡◌, ℕ, zero, suc, ◌+◌, ◌-◌, ◌*◌, ◌^◌, ◌≤◌, ◌==◌, ◌∙◌, arith, ℤ, pos, false, Option, Some, None, inl, inr, subst, List, [], ◌∷◌, ◌++◌, length, fold, sym, ap}
+use Rattle.std.proofs.Common.{◌≡◌, ℕ, zero, suc, ◌+◌, ◌-◌, ◌*◌, ◌^◌, ◌≤◌, ◌==◌, ◌∙◌, arith, false, Option, Some, None, inl, inr, subst, List, [], ◌∷◌, ◌++◌, length, fold, sym, ap}
 use Rattle.std.proofs.Math.Nat.{add-mul, mul_assoc, mul_comm, mul-one, pow-succ', one-le-pow, zero-mul, le-mul_of_pos_right}
 use Rattle.std.proofs.lemmas.List.Sums.{fold-append}
-use Rattle.std.specs.Prelude.{unsigned_abs}
 use Rattle.std.proofs.lemmas.Bool.Decides.{nat_tests}
 use Rattle.sexpr.specs.Words.{numeral_value}
 use Rattle.coefficients.specs.Fractions.{IsNarrowPair}
@@ -61,9 +60,6 @@ joined whole den all rest before after e f g h =
     let j = value_joined before after in
     let p : whole * den ≡ numeral_value before * 10 ^ length after = ap (λ n. n * den) e ∙ ap (λ n. numeral_value before * n) f in
     omega (arith, j, p, g, h)
-
-pub magnitude : (r : ℕ) (v : ℤ) (n : ℕ) → r ≡ unsigned_abs v → v ≡ pos n → r ≡ n
-magnitude r v n e f = e ∙ ap unsigned_abs f
 
 -- one of the parts is too wide
 pub none_num : (o : Option Pair) (a b : ℕ) → o ≡ None → 2 ^ 127 ≤ a → IsNarrowPair o (a, b)

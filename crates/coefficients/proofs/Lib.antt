@@ -3,3 +3,4 @@ pub mod FigureValues
 pub mod CoefficientLists
 pub mod ListShapes
 pub mod WordKinds
+pub mod AmountLemmas

@@ -124,24 +124,24 @@ no_ratio w BitLiteral e r = (kind_told w (Some BitLiteral) e).0
 -- The figure that is made is the one that is spelled.
 figure_is : (w : List ℕ) (f : text.Figure) (c : Figure) (before after : List ℕ) → figure_spelled f.place w ≡ Some f → numeral_value (before ++ after) ≡ f.digits → length after ≡ f.behind_point
     → c.place ≡ f.place → c.is_zero ≡ (numeral_value (before ++ after) == 0) → IsNarrowPair c.parts (numeral_value (before ++ after), 10 ^ length after) → IsFigureFound (Some c) (figure_spelled f.place w)
-figure_is w f c before after e digits len place zero parts =
+figure_is w f c before after e digits len place none parts =
     ( f,
     e,
     record {
       place = place;
-      zero = zero ∙ ap (λ n. n == 0) digits;
+      zero = none ∙ ap (λ n. n == 0) digits;
       parts = subst (λ n. IsNarrowPair c.parts (f.digits, 10 ^ n)) len (subst (λ n. IsNarrowPair c.parts (n, 10 ^ length after)) digits parts);
     } )
 
 pub numeral_is : (place : ℕ) (w : List ℕ) (c : Figure) (after : List ℕ) → word_kind w ≡ Some Numeral → after ≡ []
     → c.place ≡ place → c.is_zero ≡ (numeral_value (w ++ after) == 0) → IsNarrowPair c.parts (numeral_value (w ++ after), 10 ^ length after) → IsFigureFound (Some c) (figure_spelled place w)
-numeral_is place w c after e none here zero parts =
+numeral_is place w c after e empty here none parts =
     let h = kind_told w (Some Numeral) e in
-    figure_is w (record { place = place; digits = numeral_value w; behind_point = 0 }) c w after (rw h.1 refl) (ap (λ r. numeral_value (w ++ r)) none ∙ ap numeral_value (append-nil w)) (ap length none) here zero parts
+    figure_is w (record { place = place; digits = numeral_value w; behind_point = 0 }) c w after (rw h.1 refl) (ap (λ r. numeral_value (w ++ r)) empty ∙ ap numeral_value (append-nil w)) (ap length empty) here none parts
 
 pub decimal_is : (place : ℕ) (w : List ℕ) (c : Figure) (before after : List ℕ) → word_kind w ≡ Some Decimal → before ≡ before_point w → after ≡ after_point w
     → c.place ≡ place → c.is_zero ≡ (numeral_value (before ++ after) == 0) → IsNarrowPair c.parts (numeral_value (before ++ after), 10 ^ length after) → IsFigureFound (Some c) (figure_spelled place w)
-decimal_is place w c before after e front rest here zero parts =
+decimal_is place w c before after e front rest here none parts =
     let h = kind_told w (Some Decimal) e in
     figure_is w (record { place = place; digits = numeral_value (before_point w ++ after_point w); behind_point = length (after_point w) }) c before after
-    (rw (h.1, h.2) refl) (ap (λ r. numeral_value (r ++ after)) front ∙ ap (λ r. numeral_value (before_point w ++ r)) rest) (ap length rest) here zero parts
+    (rw (h.1, h.2) refl) (ap (λ r. numeral_value (r ++ after)) front ∙ ap (λ r. numeral_value (before_point w ++ r)) rest) (ap length rest) here none parts

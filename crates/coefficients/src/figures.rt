@@ -4,7 +4,7 @@ ghost use Rattle.std.specs.List.{position_or_len};
 ghost use Rattle.sexpr.specs.Words.{numeral_value};
 ghost use Rattle.alethe_text.specs.Coefficients as text;
 ghost use Rattle.coefficients.specs.Amounts.{IsFigureFound};
-ghost use Rattle.coefficients.specs.Fractions.{IsNarrowPair};
+ghost use Rattle.coefficients.specs.Fractions.{IsNarrow, IsNarrowPair};
 
 use crate::fractions::{Pair, power_of_ten, product, sum};
 use sexpr::{WordKind, word_kind};
@@ -38,8 +38,8 @@ pub(crate) fn figure_spelled(place: u64, word: &[u8]) -> Option<Figure>
 pub(crate) fn ratio_parts(above: &[u8], below: &[u8]) -> Option<Pair>
     ensures { IsNarrowPair result (numeral_value above.now, numeral_value below.now) }
 {
-    let num = numeral(above)?.unsigned_abs();
-    let den = numeral(below)?.unsigned_abs();
+    let num = natural(above)?;
+    let den = natural(below)?;
     Some(Pair { num, den })
 }
 
@@ -76,14 +76,23 @@ pub(crate) fn is_zero(digits: &[u8]) -> bool
     }
 }
 
+/// The number that digits stand for, and None where it is above 2^127 - 1.
+fn natural(digits: &[u8]) -> Option<u128>
+    ensures { IsNarrow result (numeral_value digits.now) }
+{
+    let value = numeral(digits)?;
+    Some(value.unsigned_abs())
+}
+
 /// The number of the digits over the power of ten that has a zero for each digit behind the point.
 fn parts(before: &[u8], after: &[u8]) -> Option<Pair>
     ensures { IsNarrowPair result (numeral_value (before.now ++ after.now), 10 ^ length after.now) }
 {
     let den = power_of_ten(after.len())?;
-    let whole = numeral(before)?.unsigned_abs();
-    let rest = numeral(after)?.unsigned_abs();
-    let num = sum(product(whole, den)?, rest)?;
+    let whole = natural(before)?;
+    let rest = natural(after)?;
+    let above = product(whole, den)?;
+    let num = sum(above, rest)?;
     Some(Pair { num, den })
 }
 

@@ -1,5 +1,5 @@
 //! What an amount stands for, or its first number that is too wide.
-ghost use Rattle.std.specs.Prelude.{◌≡◌, Bool, Some};
+ghost use Rattle.std.specs.Prelude.{◌≡◌, false, Some};
 ghost use Rattle.alethe_text.specs.Coefficients as spec;
 ghost use Rattle.coefficients.specs.Amounts.{IsPlain, IsQuotient, IsAmount, IsFigure, amount_read_as, narrowed};
 
