@@ -8,6 +8,8 @@ use Rattle.problem_text.specs.Sorts.{chained}
 use Rattle.alethe_text.specs.Coefficients.{coefficient_of, coefficient_read, coefficients_from}
 use Rattle.coefficients.specs.Readings.{AreCoefficients}
 use Rattle.coefficients.specs.declared.trial.Ratio.{Ratio}
+use Rattle.std.specs.Result.{IsErrAnd}
+use Rattle.coefficients.specs.declared.stops.Stop.{Stop}
 use Rattle.coefficients.specs.Prefixes.{so_far, with_one, behind}
 
 abbrev then_rest : Option Fraction → Option (List Fraction) → Option (List Fraction)
@@ -52,3 +54,7 @@ all_read (Some qs) = ap (λ xs. Ok (Some xs)) (append-nil qs)
 pub finished : (all : Bool) (qs : List Ratio) (r : Result (Option (List Fraction)) Refusal) → r ≡ Ok (so_far all qs) → AreCoefficients qs (Ok all) r
 finished true qs r e = e
 finished false qs r e = e
+
+pub fault_said : (qs : List Ratio) (r : Result Bool Stop) (refusal : Refusal) (expected : Result (Option (List Fraction)) Refusal) → IsErrAnd r (λ f. f ≡ Stop.Text refusal) → expected ≡ Err refusal → AreCoefficients qs r expected
+fault_said qs (Ok all) refusal expected h e = absurd h
+fault_said qs (Err f) refusal expected h e = subst (λ f. AreCoefficients qs (Err f) expected) (sym h) e

@@ -4,3 +4,4 @@ pub mod CoefficientLists
 pub mod ListShapes
 pub mod WordKinds
 pub mod AmountLemmas
+pub mod QuotientReading

@@ -83,3 +83,7 @@ amount_read_as (Err refusal) = Err refusal
 abbrev pub narrowed : ℕ → Option Pair → Result Pair Refusal
 narrowed place (Some p) = Ok p
 narrowed place None = Err (record { cause = WideNumber; at = place })
+
+abbrev pub pair_read : Bool → ℕ → Option Pair → Result (Option Fraction) Refusal
+pair_read negative place (Some p) = Ok (Some (text.signed negative (p.num, p.den)))
+pair_read negative place None = Err (record { cause = WideNumber; at = place })

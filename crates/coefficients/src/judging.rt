@@ -1,7 +1,7 @@
 //! What an amount stands for, or its first number that is too wide.
-ghost use Rattle.std.specs.Prelude.{◌≡◌, false, Some};
+ghost use Rattle.std.specs.Prelude.{◌≡◌, ◌<◌, ◌^◌, false, Some, IfSome};
 ghost use Rattle.alethe_text.specs.Coefficients as spec;
-ghost use Rattle.coefficients.specs.Amounts.{IsPlain, IsQuotient, IsAmount, IsFigure, amount_read_as, narrowed};
+ghost use Rattle.coefficients.specs.Amounts.{IsPlain, IsQuotient, IsAmount, IsFigure, amount_read_as, pair_read, narrowed};
 
 use crate::amounts::Amount;
 use crate::figures::Figure;
@@ -49,7 +49,15 @@ fn read_quotient(
 {
     let above = narrow_parts(num.place, num.parts)?;
     let below = narrow_parts(den.place, den.parts)?;
-    let pair = narrow_parts(place, quotient(above, below))?;
+    read_pair(negative, place, quotient(above, below))
+}
+
+/// The coefficient that a fraction is with this sign, or the place of its bracket where a part is above 2^127 - 1.
+fn read_pair(negative: bool, place: u64, parts: Option<Pair>) -> Result<Ratio, Refusal>
+    requires { IfSome parts (λ p. (p.num < 2 ^ 127) × (p.den < 2 ^ 127)) }
+    ensures { amount_read_as result ≡ pair_read negative place parts }
+{
+    let pair = narrow_parts(place, parts)?;
     Ok(signed(negative, pair))
 }
 
