@@ -7,7 +7,7 @@ use Rattle.rule_model.specs.Proofs.{Fraction}
 use Rattle.problem_text.specs.Sorts.{chained}
 use Rattle.alethe_text.specs.Coefficients.{coefficient_of, coefficient_read, coefficients_from}
 use Rattle.coefficients.specs.Readings.{AreCoefficients}
-use Rattle.coefficients.specs.declared.trial.Ratio.{Ratio}
+use Rattle.proof_store.specs.declared.answers.Ratio.{Ratio}
 use Rattle.std.specs.Result.{IsErrAnd}
 use Rattle.coefficients.specs.declared.stops.Stop.{Stop}
 use Rattle.coefficients.specs.Prefixes.{so_far, with_one, behind}

@@ -6,8 +6,8 @@ use Rattle.sexpr.specs.declared.causes.Refusal.{Refusal}
 use Rattle.rule_model.specs.Proofs.{Fraction}
 use Rattle.text_items.specs.declared.nodes.Node.{Node}
 use Rattle.text_items.specs.Nodes.{IsNode}
-use Rattle.coefficients.specs.Trial.{fraction_of}
-use Rattle.coefficients.specs.declared.trial.Ratio.{Ratio}
+use Rattle.proof_store.specs.Ratios.{fraction_of}
+use Rattle.proof_store.specs.declared.answers.Ratio.{Ratio}
 use Rattle.alethe_text.specs.Commands.{is_symbol_of}
 use Rattle.alethe_text.specs.Coefficients as text
 use Rattle.alethe_text.specs.Coefficients.{width_fault, is_negative, parts_of, figure_of, divisor_of, quotient_of, numerator_spelled, denominator_spelled}

@@ -1,4 +1,3 @@
-pub mod Trial
 pub mod Readings
 pub mod Fractions
 pub mod Amounts

@@ -2,8 +2,8 @@
 use Rattle.std.specs.Prelude.{Bool, true, false, List, [], ◌∷◌, ◌++◌, map, Option, Some, None, option_map, option_and_then, Result, Ok, Err}
 use Rattle.sexpr.specs.declared.causes.Refusal.{Refusal}
 use Rattle.rule_model.specs.Proofs.{Fraction}
-use Rattle.coefficients.specs.Trial.{fraction_of}
-use Rattle.coefficients.specs.declared.trial.Ratio.{Ratio}
+use Rattle.proof_store.specs.Ratios.{fraction_of}
+use Rattle.proof_store.specs.declared.answers.Ratio.{Ratio}
 
 -- what was read so far, where all of it are coefficients
 abbrev pub so_far : Bool → List Ratio → Option (List Fraction)

@@ -2,8 +2,8 @@
 use Rattle.std.specs.Prelude.{◌≡◌, Bool, true, false, ⊤, List, map, Option, Some, None, Result, Ok, Err}
 use Rattle.sexpr.specs.declared.causes.Refusal.{Refusal}
 use Rattle.rule_model.specs.Proofs.{Fraction}
-use Rattle.coefficients.specs.Trial.{fraction_of}
-use Rattle.coefficients.specs.declared.trial.Ratio.{Ratio}
+use Rattle.proof_store.specs.Ratios.{fraction_of}
+use Rattle.proof_store.specs.declared.answers.Ratio.{Ratio}
 use Rattle.coefficients.specs.declared.stops.Stop.{Stop}
 
 -- All arguments are coefficients and were read, or one of them is none; or the reading stopped at a number that is too wide, or

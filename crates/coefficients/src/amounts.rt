@@ -12,7 +12,7 @@ use crate::figures::{Figure, behind, figure_spelled, is_zero, position_of, ratio
 use crate::fractions::Pair;
 use crate::judging::read_amount;
 use crate::shapes::{is_symbol, opposite, three};
-use crate::trial::Ratio;
+use proof_store::Ratio;
 use sexpr::{Lexer, Refusal, TokenKind, WordKind, word_kind};
 use text_items::nodes::Node;
 use text_items::shapes::{is_list, node_at};

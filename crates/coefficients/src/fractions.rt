@@ -1,11 +1,11 @@
 //! Fractions of natural numbers below 2^127, and their lowest terms.
 ghost use Rattle.std.specs.Prelude.{◌≡◌, ◌*◌, ◌+◌, ◌^◌, ◌<◌};
 ghost use Rattle.std.specs.Int.{IsGcd};
-ghost use Rattle.coefficients.specs.Trial.{fraction_of};
+ghost use Rattle.proof_store.specs.Ratios.{fraction_of};
 ghost use Rattle.alethe_text.specs.Coefficients as text;
 ghost use Rattle.coefficients.specs.Fractions.{IsNarrow, IsPair, IsNarrowPair};
 
-use crate::trial::Ratio;
+use proof_store::Ratio;
 
 /// A numerator over a denominator.
 #[derive(Clone, Copy)]

@@ -6,7 +6,7 @@ ghost use Rattle.coefficients.specs.Amounts.{IsPlain, IsQuotient, IsAmount, IsFi
 use crate::amounts::Amount;
 use crate::figures::Figure;
 use crate::fractions::{Pair, lowest, quotient, signed};
-use crate::trial::Ratio;
+use proof_store::Ratio;
 use sexpr::{Cause, Refusal};
 use text_items::refusals::refused;
 

@@ -17,7 +17,6 @@ mod judging;
 mod reading;
 mod shapes;
 pub mod stops;
-pub mod trial;
 
 pub use reading::coefficients_at;
 pub use stops::Stop;

@@ -5,14 +5,14 @@ ghost use Rattle.sexpr.specs.Source.{source};
 ghost use Rattle.text_items.specs.Nodes.{AreNodes};
 ghost use Rattle.text_items.specs.Stepping.{AreItemsFrom};
 ghost use Rattle.alethe_text.specs.Coefficients as spec;
-ghost use Rattle.coefficients.specs.Trial.{fraction_of};
+ghost use Rattle.proof_store.specs.Ratios.{fraction_of};
 ghost use Rattle.coefficients.specs.Prefixes.{so_far, with_one};
 ghost use Rattle.coefficients.specs.Readings.{AreCoefficients};
 ghost use Rattle.coefficients.specs.declared.stops.Stop.TheVariants as Stop;
 
 use crate::amounts::coefficient_at;
 use crate::stops::Stop;
-use crate::trial::Ratio;
+use proof_store::Ratio;
 use sexpr::Lexer;
 use text_items::nodes::Node;
 use text_items::shapes::node_at;

@@ -4,7 +4,7 @@ use Rattle.sexpr.specs.Source.{source}
 use Rattle.text_items.proofs.ItemLoops.{left_start, left_on, left_stop, left_end}
 use Rattle.text_items.proofs.NodeSteps.{first_at, others_from, further}
 use Rattle.alethe_text.specs.Coefficients.{coefficients_from}
-use Rattle.coefficients.specs.Trial.{fraction_of}
+use Rattle.proof_store.specs.Ratios.{fraction_of}
 use Rattle.coefficients.specs.Prefixes.{so_far, behind}
 use Rattle.coefficients.proofs.CoefficientLists.{read_one, read_fault, all_read, finished, fault_said}
 use Rattle.coefficients.proofs.reading.coefficients_at.Goals as goal
