@@ -4,7 +4,7 @@ use Rattle.std.specs.Prelude.{codes}
 use Rattle.std.specs.List.{position_or_len}
 use Rattle.std.proofs.lemmas.Bool.Decides.{nat_tests}
 use Rattle.std.proofs.Math.Nat.{one-le-pow}
-use Rattle.sexpr.specs.Words.{is_ratio, numeral_value, word_kind}
+use Rattle.sexpr.specs.Words.{numeral_value, word_kind}
 use Rattle.sexpr.specs.declared.words.WordKind.{WordKind}
 use Rattle.sexpr.specs.declared.words.WordKind.TheVariants.{Ratio}
 use Rattle.sexpr.specs.Items.{Item, Items, no_items, item}
@@ -37,16 +37,17 @@ narrow_said a b place h k =
     ap (λ x. if x || is_wide b then Some place else None) (wide_no a h) ∙ ap (λ x. if x then Some place else None) (wide_no b k)
 
 pub plain_figure : (c : Figure) (o : Option text.Figure) → IsFigureFound (Some c) o → IsAmountFound (Some (Amount.Plain c.place c.parts)) (option_map text.figure o)
-plain_figure c o (f, e, is) =
-    ( text.figure f,
-    ap (option_map text.figure) e,
-    record {
-      positive = refl;
-      over = one-le-pow f.behind_point 10 (omega arith);
-      narrow = is.parts;
-      fault = λ h. wide_said f.digits (10 ^ f.behind_point) f.place h ∙ ap Some (sym is.place);
-      none = λ h k. narrow_said f.digits (10 ^ f.behind_point) f.place h k;
-    } )
+plain_figure c o (f, e, is) = (
+  text.figure f,
+  ap (option_map text.figure) e,
+  record {
+    positive = refl;
+    over = one-le-pow f.behind_point 10 (omega arith);
+    narrow = is.parts;
+    fault = λ h. wide_said f.digits (10 ^ f.behind_point) f.place h ∙ ap Some (sym is.place);
+    none = λ h k. narrow_said f.digits (10 ^ f.behind_point) f.place h k;
+  },
+)
 
 some_number : (n : ℕ) → (n == 0) ≡ false → 0 < n
 some_number n e = grind (arith, nat_tests)
@@ -56,16 +57,17 @@ pub ratio_is : (place : ℕ) (w : List ℕ) (slash : ℕ) (below : List ℕ) (pa
 ratio_is place w slash below parts e rest some narrow =
     let d : numeral_value below ≡ denominator_spelled w = ap numeral_value (rest ∙ ap (λ n. drop (n + 1) w) e) in
     let n : numeral_value (take slash w) ≡ numerator_spelled w = ap (λ k. numeral_value (take k w)) e in
-    let z : (denominator_spelled w == 0) ≡ false = ap (λ k. k == 0) (sym d) ∙ some in
-    ( text.ratio place (numerator_spelled w) (denominator_spelled w),
-    ap (λ b. if b then None else Some (text.ratio place (numerator_spelled w) (denominator_spelled w))) z,
-    record {
-      positive = refl;
-      over = some_number (denominator_spelled w) z;
-      narrow = subst (λ k. IsNarrowPair parts (numerator_spelled w, k)) d (subst (λ k. IsNarrowPair parts (k, numeral_value below)) n narrow);
-      fault = λ h. wide_said (numerator_spelled w) (denominator_spelled w) place h;
-      none = λ h k. narrow_said (numerator_spelled w) (denominator_spelled w) place h k;
-    } )
+    let z : (denominator_spelled w == 0) ≡ false = ap (λ k. k == 0) (sym d) ∙ some in (
+      text.ratio place (numerator_spelled w) (denominator_spelled w),
+      ap (λ b. if b then None else Some (text.ratio place (numerator_spelled w) (denominator_spelled w))) z,
+      record {
+        positive = refl;
+        over = some_number (denominator_spelled w) z;
+        narrow = subst (λ k. IsNarrowPair parts (numerator_spelled w, k)) d (subst (λ k. IsNarrowPair parts (k, numeral_value below)) n narrow);
+        fault = λ h. wide_said (numerator_spelled w) (denominator_spelled w) place h;
+        none = λ h k. narrow_said (numerator_spelled w) (denominator_spelled w) place h k;
+      },
+    )
 
 abbrev spelled_by : ℕ → List ℕ → Bool → Option text.Amount
 spelled_by place w b = if b then ratio_spelled place w else option_map text.figure (figure_spelled place w)
@@ -83,10 +85,11 @@ pub quotient_made : (place : ℕ) (negative : Bool) (num den : Figure) (n d : It
     → IsAmountFound (Some (Amount.Quotient place negative num den)) (divided place negative n d)
 quotient_made place negative num den n d (f, e, is) (g, e2, is2) some =
     let z : (g.digits == 0) ≡ false = sym is2.zero ∙ some in
-    let v : divisor_of d ≡ Some g = ap (option_and_then (λ (h : text.Figure). if h.digits == 0 then None else Some h)) e2 ∙ ap (λ b. if b then None else Some g) z in
-    ( text.quotient place negative f g,
-    ap (option_and_then (λ h. option_map (text.quotient place negative h) (divisor_of d))) e ∙ ap (option_map (text.quotient place negative f)) v,
-    record { above = f; below = g; same = refl; num_is = is; den_is = is2; some = some_number g.digits z } )
+    let v : divisor_of d ≡ Some g = ap (option_and_then (λ (h : text.Figure). if h.digits == 0 then None else Some h)) e2 ∙ ap (λ b. if b then None else Some g) z in (
+      text.quotient place negative f g,
+      ap (option_and_then (λ h. option_map (text.quotient place negative h) (divisor_of d))) e ∙ ap (option_map (text.quotient place negative f)) v,
+      record { above = f; below = g; same = refl; num_is = is; den_is = is2; some = some_number g.digits z },
+    )
 
 abbrev quotient_by : ℕ → Item → Item → Option Item → Option text.Amount
 quotient_by place n d o = elim o [ Some m ↦ divided place true m d | None ↦ divided place false n d ]

@@ -1,5 +1,5 @@
 -- What a quotient stands for.
-use Rattle.std.proofs.Common.{◌≡◌, ◌⊎◌, ℕ, ◌*◌, ◌^◌, ◌<◌, ◌≤◌, ◌==◌, ◌∙◌, arith, Bool, true, false, Option, Some, None, Result, Ok, Err, IfSome, refl, sym, ap, subst, if◌then◌else◌, ◌||◌}
+use Rattle.std.proofs.Common.{◌≡◌, ℕ, ◌*◌, ◌^◌, ◌<◌, ◌∙◌, arith, Bool, true, false, Option, Some, None, Result, Ok, IfSome, refl, sym, ap, subst, if◌then◌else◌, ◌||◌}
 use Rattle.std.specs.Option.{option_or}
 use Rattle.std.proofs.Math.Nat.{one-le-pow}
 use Rattle.sexpr.specs.declared.causes.Cause.TheVariants.{WideNumber}
@@ -8,7 +8,7 @@ use Rattle.rule_model.specs.Proofs.{Fraction}
 use Rattle.problem_text.specs.Commands.{refused}
 use Rattle.alethe_text.specs.Coefficients as text
 use Rattle.alethe_text.specs.Coefficients.{is_wide, figure_fault, width_fault, parts_of, lowest, coefficient_read}
-use Rattle.coefficients.specs.Fractions.{IsPair, IsNarrowPair}
+use Rattle.coefficients.specs.Fractions.{IsNarrowPair}
 use Rattle.coefficients.specs.Amounts.{IsFigure, narrowed, pair_read}
 use Rattle.coefficients.specs.declared.fractions.Pair.{Pair}
 use Rattle.coefficients.specs.declared.figures.Figure.{Figure}

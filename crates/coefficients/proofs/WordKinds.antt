@@ -1,13 +1,12 @@
 -- The kinds of words, and which numbers they spell.
-use Rattle.std.proofs.Common.{◌≡◌, ◌≢◌, ℕ, zero, suc, ◌<◌, ◌≤◌, arith, Bool, true, false, not, ◌&&◌, ◌==◌, cond, eqb, List, [], ◌∷◌, length, take, get_or, ◌++◌, ◌^◌, Option, Some, None, inl, inr, refl, sym, ap, ◌∙◌, subst, eqb-true, eq-eqb}
+use Rattle.std.proofs.Common.{◌≡◌, ℕ, zero, suc, arith, Bool, true, false, not, ◌&&◌, ◌==◌, cond, eqb, List, [], ◌∷◌, length, take, get_or, ◌++◌, ◌^◌, Option, Some, None, inl, inr, refl, sym, ap, ◌∙◌, subst, eqb-true, eq-eqb}
 use Rattle.std.specs.List.{position_or_len, prefix_len, list_all, after_first}
 use Rattle.std.specs.Char.{is_ascii_digit}
-use Rattle.std.proofs.lemmas.Bool.{and_parts, cases_lt}
 use Rattle.std.proofs.lemmas.List.{append-nil}
 use Rattle.sexpr.specs.declared.words.WordKind.{WordKind}
 use Rattle.sexpr.specs.declared.words.WordKind.TheVariants.{Symbol, Keyword, BitLiteral, Numeral, Decimal, Ratio}
 use Rattle.sexpr.proofs.NumberForms.{is_digits-from_numeral, prefix_len-digits, decimal_none, ratio_none}
-use Rattle.sexpr.specs.Words.{is_digits, is_numeral, is_decimal, is_ratio, is_keyword, is_bit_literal, is_symbol, numeral_value, word_kind}
+use Rattle.sexpr.specs.Words.{is_digits, is_numeral, is_decimal, is_ratio, is_symbol, numeral_value, word_kind}
 use Rattle.alethe_text.specs.Coefficients as text
 use Rattle.alethe_text.specs.Coefficients.{figure_spelled, before_point, after_point}
 use Rattle.coefficients.specs.Fractions.{IsNarrowPair}
@@ -62,10 +61,11 @@ abbrev IsNone : Bool → Bool → Bool → Type 0
 IsNone numeral decimal ratio = (ratio ≡ false) × (numeral ≡ false) × (decimal ≡ false)
 
 no_number : (b : ℕ) (w : List ℕ) → is_ascii_digit b ≡ false → IsNone (is_numeral (b ∷ w)) (is_decimal (b ∷ w)) (is_ratio (b ∷ w))
-no_number b w e =
-    ( ap (λ x. x && is_numeral (after_first (λ b. b == 47) (b ∷ w))) (no_front (position_or_len (λ b. b == 47) (b ∷ w)) b w e),
-    no_numeral b w e,
-    ap (λ x. x && is_digits (after_first (λ b. b == 46) (b ∷ w))) (no_front (position_or_len (λ b. b == 46) (b ∷ w)) b w e) )
+no_number b w e = (
+  ap (λ x. x && is_numeral (after_first (λ b. b == 47) (b ∷ w))) (no_front (position_or_len (λ b. b == 47) (b ∷ w)) b w e),
+  no_numeral b w e,
+  ap (λ x. x && is_digits (after_first (λ b. b == 46) (b ∷ w))) (no_front (position_or_len (λ b. b == 46) (b ∷ w)) b w e),
+)
 
 symbol_no_digit : (d k l : Bool) → (not d && not k && not l) ≡ true → d ≡ false
 symbol_no_digit false k l h = refl
@@ -124,14 +124,15 @@ no_ratio w BitLiteral e r = (kind_told w (Some BitLiteral) e).0
 -- The figure that is made is the one that is spelled.
 figure_is : (w : List ℕ) (f : text.Figure) (c : Figure) (before after : List ℕ) → figure_spelled f.place w ≡ Some f → numeral_value (before ++ after) ≡ f.digits → length after ≡ f.behind_point
     → c.place ≡ f.place → c.is_zero ≡ (numeral_value (before ++ after) == 0) → IsNarrowPair c.parts (numeral_value (before ++ after), 10 ^ length after) → IsFigureFound (Some c) (figure_spelled f.place w)
-figure_is w f c before after e digits len place none parts =
-    ( f,
-    e,
-    record {
-      place = place;
-      zero = none ∙ ap (λ n. n == 0) digits;
-      parts = subst (λ n. IsNarrowPair c.parts (f.digits, 10 ^ n)) len (subst (λ n. IsNarrowPair c.parts (n, 10 ^ length after)) digits parts);
-    } )
+figure_is w f c before after e digits len place none parts = (
+  f,
+  e,
+  record {
+    place = place;
+    zero = none ∙ ap (λ n. n == 0) digits;
+    parts = subst (λ n. IsNarrowPair c.parts (f.digits, 10 ^ n)) len (subst (λ n. IsNarrowPair c.parts (n, 10 ^ length after)) digits parts);
+  },
+)
 
 pub numeral_is : (place : ℕ) (w : List ℕ) (c : Figure) (after : List ℕ) → word_kind w ≡ Some Numeral → after ≡ []
     → c.place ≡ place → c.is_zero ≡ (numeral_value (w ++ after) == 0) → IsNarrowPair c.parts (numeral_value (w ++ after), 10 ^ length after) → IsFigureFound (Some c) (figure_spelled place w)

@@ -36,12 +36,7 @@ fn read_plain(negative: bool, place: u64, parts: Option<Pair>) -> Result<Ratio, 
 }
 
 /// The coefficient that a quotient is, with the sign of the whole.
-fn read_quotient(
-    negative: bool,
-    place: u64,
-    num: Figure,
-    den: Figure,
-) -> Result<Ratio, Refusal>
+fn read_quotient(negative: bool, place: u64, num: Figure, den: Figure) -> Result<Ratio, Refusal>
     requires num { (f : spec.Figure) × IsFigure num f }
     requires den { (f : spec.Figure) × IsFigure den f }
     requires some { den.is_zero ≡ false }

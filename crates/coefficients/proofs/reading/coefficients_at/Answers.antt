@@ -1,7 +1,7 @@
 -- Each argument adds a coefficient, or is none, or has a number that is too wide.
-use Rattle.std.proofs.Common.{arith, refl, sym, ap, ◌∙◌, Err, option_map}
+use Rattle.std.proofs.Common.{arith, sym, ap, ◌∙◌, Err, option_map}
 use Rattle.sexpr.specs.Source.{source}
-use Rattle.text_items.proofs.ItemLoops.{left_start, left_on, left_stop, left_end}
+use Rattle.text_items.proofs.ItemLoops.{left_on, left_stop, left_end}
 use Rattle.text_items.proofs.NodeSteps.{first_at, others_from, further}
 use Rattle.alethe_text.specs.Coefficients.{coefficients_from}
 use Rattle.proof_store.specs.Ratios.{fraction_of}

@@ -1,6 +1,6 @@
 -- A list of two items, of which the first is a minus.
 use Rattle.sexpr.specs.Source.{source}
-use Rattle.coefficients.proofs.ListShapes.{inside, items_inside, head_of, second_at, is_opposite}
+use Rattle.coefficients.proofs.ListShapes.{inside, items_inside, is_opposite}
 use Rattle.coefficients.proofs.shapes.opposite.Goals as goal
 
 pub second-requires : goal.second-requires
