@@ -2,12 +2,12 @@
 use Rattle.std.specs.Prelude.{Bool, true, false, List, [], ◌∷◌, ◌++◌, map, Option, Some, None, option_map, option_and_then, Result, Ok, Err}
 use Rattle.sexpr.specs.declared.causes.Refusal.{Refusal}
 use Rattle.rule_model.specs.Proofs.{Fraction}
-use Rattle.proof_store.specs.Ratios.{fraction_of}
+use Rattle.proof_store.specs.Ratios.{fraction_of_ratio}
 use Rattle.proof_store.specs.declared.answers.Ratio.{Ratio}
 
 -- what was read so far, where all of it are coefficients
 abbrev pub so_far : Bool → List Ratio → Option (List Fraction)
-so_far true qs = Some (map fraction_of qs)
+so_far true qs = Some (map fraction_of_ratio qs)
 so_far false qs = None
 
 -- the coefficients before, and one more or an argument that is none

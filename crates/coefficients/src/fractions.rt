@@ -1,7 +1,7 @@
 //! Fractions of natural numbers below 2^127, and their lowest terms.
 ghost use Rattle.std.specs.Prelude.{◌≡◌, ◌*◌, ◌+◌, ◌^◌, ◌<◌};
 ghost use Rattle.std.specs.Int.{IsGcd};
-ghost use Rattle.proof_store.specs.Ratios.{fraction_of};
+ghost use Rattle.proof_store.specs.Ratios.{fraction_of_ratio};
 ghost use Rattle.alethe_text.specs.Coefficients as text;
 ghost use Rattle.coefficients.specs.Fractions.{IsNarrow, IsPair, IsNarrowPair};
 
@@ -113,7 +113,7 @@ pub(crate) fn quotient(above: Pair, below: Pair) -> Option<Pair>
 pub(crate) fn signed(negative: bool, p: Pair) -> Ratio
     requires num { p.num < 2 ^ 127 }
     requires den { p.den < 2 ^ 127 }
-    ensures { fraction_of result ≡ text.signed negative (p.num, p.den) }
+    ensures { fraction_of_ratio result ≡ text.signed negative (p.num, p.den) }
 {
     let num = p.num as i128;
     Ratio::Plain {

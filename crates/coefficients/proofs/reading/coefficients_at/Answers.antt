@@ -4,7 +4,7 @@ use Rattle.sexpr.specs.Source.{source}
 use Rattle.text_items.proofs.ItemLoops.{left_on, left_stop, left_end}
 use Rattle.text_items.proofs.NodeSteps.{first_at, others_from, further}
 use Rattle.alethe_text.specs.Coefficients.{coefficients_from}
-use Rattle.proof_store.specs.Ratios.{fraction_of}
+use Rattle.proof_store.specs.Ratios.{fraction_of_ratio}
 use Rattle.coefficients.specs.Prefixes.{so_far, behind}
 use Rattle.coefficients.proofs.CoefficientLists.{read_one, read_fault, all_read, finished, fault_said}
 use Rattle.coefficients.proofs.reading.coefficients_at.Goals as goal
@@ -27,7 +27,7 @@ arguments-preserved c = record {
       left_on (source c.args.text.now) c.args.nodes.now c.arguments.k c.args.end _ (λ rest. behind (so_far c.arguments.all c.arguments.ratios.items) (coefficients_from rest)) (λ rest. behind (so_far c.in_ok-all.all c.keep.new.ratios.items) (coefficients_from rest))
       c.node_at-k.result (c.arguments.invariant.comes items are) c.arguments-test.true (c.node_at-k.ensures (source c.args.text.now))
       (λ i n others at.
-      read_one (so_far c.arguments.all c.arguments.ratios.items) i others (option_map fraction_of c.in_ok-found.found) (sym (c.in_ok-found.ensures i n at))
+      read_one (so_far c.arguments.all c.arguments.ratios.items) i others (option_map fraction_of_ratio c.in_ok-found.found) (sym (c.in_ok-found.ensures i n at))
       ∙ ap (λ r. behind r (coefficients_from others)) (sym c.in_ok-all.ensures.kept));
 }
 
