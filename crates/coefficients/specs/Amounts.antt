@@ -51,9 +51,9 @@ IsAmountFound None o = o ≡ None
 IsAmountFound (Some c) o = (a : text.Amount) × (o ≡ Some a) × IsAmount c a
 
 -- the item, where there is one, begins at the node
-abbrev pub IsItemFound : List ℕ → List Node → Option ℕ → Option Item → Type 0
-IsItemFound source nodes None o = o ≡ None
-IsItemFound source nodes (Some k) o = (i : Item) × (m : ℕ) × (o ≡ Some i) × IsNode source nodes k i m
+abbrev pub IsItemThere : List ℕ → List Node → Option ℕ → Option Item → Type 0
+IsItemThere source nodes None o = o ≡ None
+IsItemThere source nodes (Some k) o = (i : Item) × (m : ℕ) × (o ≡ Some i) × IsNode source nodes k i m
 
 -- what ratios and lists spell
 abbrev pub ratio_spelled : ℕ → List ℕ → Option text.Amount
@@ -67,8 +67,8 @@ quotient_among place other = None
 abbrev pub divided : ℕ → Bool → Item → Item → Option text.Amount
 divided place negative n d = option_and_then (λ f. option_map (text.quotient place negative f) (divisor_of d)) (figure_of n)
 
-abbrev pub with_sign : Bool → Option text.Amount → Option text.Coefficient
-with_sign negative o = option_map (λ (a : text.Amount). record { negative = negative; amount = a }) o
+abbrev pub with_minus : Bool → Option text.Amount → Option text.Coefficient
+with_minus negative o = option_map (λ (a : text.Amount). record { negative = negative; amount = a }) o
 
 -- what a coefficient was read as
 abbrev pub read_as : Result (Option Ratio) Refusal → Result (Option Fraction) Refusal

@@ -17,6 +17,6 @@ with_one (Some qs) None = None
 with_one (Some qs) (Some q) = Some (qs ++ q ∷ [])
 
 -- Some arguments were read, all of them coefficients or not, and then others.
-abbrev pub behind : Option (List Fraction) → Result (Option (List Fraction)) Refusal → Result (Option (List Fraction)) Refusal
-behind read (Ok others) = Ok (option_and_then (λ qs. option_map (λ rest. qs ++ rest) others) read)
-behind read (Err refusal) = Err refusal
+abbrev pub behind_prefix : Option (List Fraction) → Result (Option (List Fraction)) Refusal → Result (Option (List Fraction)) Refusal
+behind_prefix read (Ok others) = Ok (option_and_then (λ qs. option_map (λ rest. qs ++ rest) others) read)
+behind_prefix read (Err refusal) = Err refusal

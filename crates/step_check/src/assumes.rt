@@ -1,7 +1,7 @@
 //! Whether what is assumed is asserted by the problem.
 
 ghost use Rattle.std.specs.Prelude.{◌≡◌, All, IfOk, OnOk};
-ghost use Rattle.flip_keys.specs.Assertions.{references_of, IsReady};
+ghost use Rattle.flip_keys.specs.Assertions.{references_of, AreAssertionsReady};
 ghost use Rattle.term_pool.specs.Views.{IsTerm};
 ghost use Rattle.step_check.specs.Steps.{TellAllAsserted};
 
@@ -18,10 +18,10 @@ pub(crate) fn are_asserted(
     clause: &[Ref],
 ) -> Result<bool, Memory>
     requires clause { All (IsTerm symbols.now terms.old) clause.now }
-    requires ready { IsReady terms.old asserted.old }
+    requires ready { AreAssertionsReady terms.old asserted.old }
     ensures asserted { IfOk result (λ told. TellAllAsserted symbols.now terms.old (references_of asserted.old) clause.now told) }
     ensures references { references_of asserted.new ≡ references_of asserted.old }
-    ensures ready { OnOk result (IsReady terms.new asserted.new) }
+    ensures ready { OnOk result (AreAssertionsReady terms.new asserted.new) }
     ensures same { terms.new ≡ terms.old }
 {
     'literals: for r in clause {

@@ -1,7 +1,7 @@
 //! The status of one command.
 
 ghost use Rattle.std.specs.Prelude.{◌≡◌, ◌≢◌, ◌<◌, IfErr, IfOk, OnOk};
-ghost use Rattle.flip_keys.specs.Assertions.{references_of, IsReady};
+ghost use Rattle.flip_keys.specs.Assertions.{references_of, AreAssertionsReady};
 ghost use Rattle.proof_store.specs.Checks.{StandForSome};
 ghost use Rattle.proof_store.specs.Meaning.{StandForItems};
 ghost use Rattle.proof_store.specs.declared.answers.Answer.TheVariants as Answer;
@@ -94,10 +94,10 @@ fn may_assume(
 ) -> Result<bool, Memory>
     requires index { i < commands_in subject.now.proof.now }
     requires stand { StandForSome subject.now.symbols.now terms.old subject.now.proof.now }
-    requires ready { IsReady terms.old asserted.old }
+    requires ready { AreAssertionsReady terms.old asserted.old }
     ensures may { IfOk result (λ told. TellsAssume subject.now.flags subject.now.symbols.now terms.old (references_of asserted.old) subject.now.proof.now i told) }
     ensures references { references_of asserted.new ≡ references_of asserted.old }
-    ensures ready { OnOk result (IsReady terms.new asserted.new) }
+    ensures ready { OnOk result (AreAssertionsReady terms.new asserted.new) }
     ensures same { terms.new ≡ terms.old }
 {
     commands_correspond();
@@ -119,10 +119,10 @@ fn status_of_assume(
     requires index { i < commands_in subject.now.proof.now }
     requires assume { rule_at subject.now.proof.now i ≡ Rule.Assume }
     requires stand { StandForSome subject.now.symbols.now terms.old subject.now.proof.now }
-    requires ready { IsReady terms.old asserted.old }
+    requires ready { AreAssertionsReady terms.old asserted.old }
     ensures status { IfOk result (λ status. IsStatusOf subject.now.flags subject.now.symbols.now terms.old (references_of asserted.old) subject.now.proof.now i status) }
     ensures references { references_of asserted.new ≡ references_of asserted.old }
-    ensures ready { OnOk result (IsReady terms.new asserted.new) }
+    ensures ready { OnOk result (AreAssertionsReady terms.new asserted.new) }
     ensures same { terms.new ≡ terms.old }
 {
     commands_correspond();
@@ -142,13 +142,13 @@ pub(crate) fn status_at(
 ) -> Result<Status, RuleStop>
     requires index { i < commands_in subject.now.proof.now }
     requires stand { StandForSome subject.now.symbols.now terms.old subject.now.proof.now }
-    requires ready { IsReady terms.old kept.old.asserted }
+    requires ready { AreAssertionsReady terms.old kept.old.asserted }
     requires short { IsShort subject.now.proof.now }
     requires sorted { (of : ProofItems Var Term) → StandForItems subject.now.symbols.now terms.old subject.now.proof.now of → IsClauseOfTruths (clause_at of i) }
     ensures status { IfOk result (λ status. IsStatusOf subject.now.flags subject.now.symbols.now terms.old (references_of kept.old.asserted) subject.now.proof.now i status) }
     ensures stop { IfErr result (λ stop. stop ≡ RuleStop.Memory) }
     ensures references { references_of kept.new.asserted ≡ references_of kept.old.asserted }
-    ensures ready { OnOk result (IsReady terms.new kept.new.asserted) }
+    ensures ready { OnOk result (AreAssertionsReady terms.new kept.new.asserted) }
     ensures same { terms.new ≡ terms.old }
 {
     commands_correspond();

@@ -1,5 +1,5 @@
 use Rattle.std.proofs.Common.{◌≡◌}
-use Rattle.flip_keys.specs.Assertions.{references_of, IsReady}
+use Rattle.flip_keys.specs.Assertions.{references_of, AreAssertionsReady}
 use Rattle.step_check.specs.Steps.{AreAssertedTo}
 use Rattle.step_check.proofs.assumes.are_asserted.Given as goal
 
@@ -7,5 +7,5 @@ abbrev pub invariant-literals : goal.invariant-literals
 invariant-literals l =
     (l.terms ≡ l.initial.terms)
     × (references_of l.asserted ≡ references_of l.initial.asserted)
-    × IsReady l.terms l.asserted
+    × AreAssertionsReady l.terms l.asserted
     × AreAssertedTo l.symbols l.initial.terms (references_of l.initial.asserted) l.clause l.r-index
