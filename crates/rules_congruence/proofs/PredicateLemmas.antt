@@ -66,7 +66,6 @@ pub right_sort : (t u : Term) → IsOf (equality t u) Sort.Bool → IsOf t Sort.
 right_sort t u h left =
     let sorts = equal_sorts t u h in subst (IsOf u) (one_sort t sorts.sort Sort.Bool sorts.first left) sorts.second
 
-
 pub truths_by : {P : Type 0} (how : Head → List (List Term) → List Term → List Term → Type 0) (ps : List (List Term)) (t u : Term) → IsOf t Sort.Bool → IsOf u Sort.Bool → P ↔ AreCongruent how ps t u → P ↔ AreCongruentTruths how ps t u
 truths_by how ps t u left right both = (
   λ h. record { left_sort = left; right_sort = right; congruent = both.0 h },

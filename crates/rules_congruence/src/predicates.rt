@@ -152,14 +152,7 @@ fn meets_given(
     let Some(given) = denied(alloc, symbols, terms, split.0)? else {
         return Ok(false);
     };
-    gives_other(
-        alloc,
-        uses,
-        symbols,
-        terms,
-        &given,
-        (split.1, split.2),
-    )
+    gives_other(alloc, uses, symbols, terms, &given, (split.1, split.2))
 }
 
 /// eq_congruent_pred: whether the clause equates two predicates, or denies one and has the other, after denying the
