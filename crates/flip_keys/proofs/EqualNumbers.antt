@@ -8,15 +8,15 @@ use Rattle.term_pool.specs.Pairs.{same_tree, same_terms, same_lists, crossed}
 use Rattle.term_pool.specs.StandsFor.{nil_tree}
 use Rattle.term_pool.proofs.PairLemmas.{tree_refl, tree_same, terms_refl}
 use Rattle.flip_keys.specs.declared.classes.Class.{Class}
-use Rattle.flip_keys.specs.Classes.{least, most, side_class, is_pair, is_equality, IsAlone, pick, IsTermNumber, IsListNumber, IsSidesNumber}
-use Rattle.flip_keys.specs.Numbers.{IsAt, KeepsNumbers}
+use Rattle.flip_keys.specs.Classes.{least, most, side_class, is_pair, is_equality_list, IsAlone, pick, IsTermNumber, IsListNumber, IsSidesNumber}
+use Rattle.flip_keys.specs.Numbers.{IsNumberedAt, KeepsNumbers}
 
 -- a cell that is a term, where it is known whether it is a let and whether it is an equality of two terms
 abbrev pub IsCellNumber : (ℕ → Tree → Type 0) → List Class → Bool → Bool → Tree → Tree → ℕ → Type 0
 IsCellNumber K C x z a c k =
     pick x (IsAlone K C (cell a c) k)
     (pick z (IsSidesNumber K C c k)
-    ((r : ℕ) × (n : ℕ) × K r a × IsListNumber K C c n × IsAt C k (Class.Application r n)))
+    ((r : ℕ) × (n : ℕ) × K r a × IsListNumber K C c n × IsNumberedAt C k (Class.Application r n)))
 
 -- as classes and references come to be more
 module _ (K J : ℕ → Tree → Type 0) (C D : List Class) (knows : (r : ℕ) (t : Tree) → K r t → J r t) (keeps : KeepsNumbers C D) where
@@ -30,7 +30,7 @@ module _ (K J : ℕ → Tree → Type 0) (C D : List Class) (knows : (r : ℕ) (
   mutual
     pub term_later : (t : Tree) (k : ℕ) → IsTermNumber K C t k → IsTermNumber J D t k
     term_later (leaf j) k h = alone_later (leaf j) k h
-    term_later (cell a c) k h = go (is_let_head a) (is_equality a c) (λ n. list_later c n) (sides_later c k) h
+    term_later (cell a c) k h = go (is_let_head a) (is_equality_list a c) (λ n. list_later c n) (sides_later c k) h
       where
         go : (x z : Bool) → ((n : ℕ) → IsListNumber K C c n → IsListNumber J D c n) → (IsSidesNumber K C c k → IsSidesNumber J D c k) → IsCellNumber K C x z a c k → IsCellNumber J D x z a c k
         go true z list sides h = alone_later (cell a c) k h
@@ -121,19 +121,19 @@ lists_pair (cell a (cell c e)) (cell b (leaf k)) h = absurd (false_true (and_tru
 lists_pair (cell a (cell c e)) (cell b (cell d r)) h =
     lists_end e r (and_true _ _ (and_true (same_terms 9 a b) (same_lists 9 (cell c e) (cell d r)) h).1).1
 
-equality_is : (a c : Tree) → is_equality a c ≡ true → (a ≡ leaf 9) × (is_pair c ≡ true)
+equality_is : (a c : Tree) → is_equality_list a c ≡ true → (a ≡ leaf 9) × (is_pair c ≡ true)
 equality_is a c e = let both = and_true (same_tree a (leaf 9)) (is_pair c) e in (tree_same a (leaf 9) both.0, both.1)
 
-no_equality : (c : Tree) → is_pair c ≡ true → is_equality (leaf 9) c ≡ true
+no_equality : (c : Tree) → is_pair c ≡ true → is_equality_list (leaf 9) c ≡ true
 no_equality c e = rw e refl
 
 -- Where a reference has one tree and a tree one reference, and a class one number, two trees have one number exactly where
 -- they are equal up to flips.
 module _ (K : ℕ → Tree → Type 0) (C : List Class) (one_tree : (r : ℕ) (s t : Tree) → K r s → K r t → s ≡ t) (one_reference : (p q : ℕ) (t : Tree) → K p t → K q t → p ≡ q) (apart : AreApart C) where
-  class_is : (k l : ℕ) (c d : Class) → IsAt C k c → IsAt C l d → k ≡ l → c ≡ d
+  class_is : (k l : ℕ) (c d : Class) → IsNumberedAt C k c → IsNumberedAt C l d → k ≡ l → c ≡ d
   class_is k l c d h i e = let f : Some c ≡ Some d = sym h ∙ ap (slice_get C) e ∙ i in cc
 
-  unlike : {P : Type 0} (k l : ℕ) (c d : Class) → IsAt C k c → IsAt C l d → c ≢ d → ¬ P → (k ≡ l) ↔ P
+  unlike : {P : Type 0} (k l : ℕ) (c d : Class) → IsNumberedAt C k c → IsNumberedAt C l d → c ≢ d → ¬ P → (k ≡ l) ↔ P
   unlike k l c d h i other none = (λ e. absurd (other (class_is k l c d h i e)), λ p. absurd (none p))
 
   alone_both : (t u : Tree) (k l : ℕ) → IsAlone K C t k → IsAlone K C u l → (k ≡ l) ↔ (t ≡ u)
@@ -144,16 +144,16 @@ module _ (K : ℕ → Tree → Type 0) (C : List Class) (one_tree : (r : ℕ) (s
         one_tree q.reference t u (subst (λ r. K r t) g p.known) q.known,
     λ e.
         let g = one_reference p.reference q.reference u (subst (K p.reference) e p.known) q.known in
-        apart k l (Class.Alone q.reference) (subst (λ r. IsAt C k (Class.Alone r)) g p.class) q.class,
+        apart k l (Class.Alone q.reference) (subst (λ r. IsNumberedAt C k (Class.Alone r)) g p.class) q.class,
   )
 
   -- a term that is not alone
   record IsOther (l : ℕ) : Type 0 where
     class : Class
-    here : IsAt C l class
+    here : IsNumberedAt C l class
     other : (r : ℕ) → Class.Alone r ≢ class
 
-  sides_class : (c : Tree) (k : ℕ) → IsSidesNumber K C c k → (m : ℕ) × (n : ℕ) × IsAt C k (side_class m n)
+  sides_class : (c : Tree) (k : ℕ) → IsSidesNumber K C c k → (m : ℕ) × (n : ℕ) × IsNumberedAt C k (side_class m n)
   sides_class (leaf j) k h = absurd h
   sides_class (cell a (leaf j)) k h = absurd h
   sides_class (cell a (cell b end)) k h = (h.0, h.1, h.4)
@@ -170,7 +170,7 @@ module _ (K : ℕ → Tree → Type 0) (C : List Class) (one_tree : (r : ℕ) (s
   other_alone t k l p q none = unlike k l p.class (Class.Alone q.reference) p.here q.class (λ e. p.other q.reference (sym e)) none
 
   leaf_cell : (t a c : Tree) (k l : ℕ) → t ≢ cell a c → IsAlone K C t k → IsTermNumber K C (cell a c) l → k ≡ l → ⊥
-  leaf_cell t a c k l differ p q = go (is_let_head a) (is_equality a c) q
+  leaf_cell t a c k l differ p q = go (is_let_head a) (is_equality_list a c) q
     where
       go : (x z : Bool) → IsCellNumber K C x z a c l → k ≡ l → ⊥
       go true z h e = differ ((alone_both t (cell a c) k l p h).0 e)
@@ -201,17 +201,17 @@ module _ (K : ℕ → Tree → Type 0) (C : List Class) (one_tree : (r : ℕ) (s
                 let second = and_true (same_terms 9 b d) (same_lists 9 e r) first.1 in
                 let f = (ac p.0 q.0 p.2 q.2).1 first.0 in
                 let g = (bd p.1 q.1 p.3 q.3).1 second.0 in
-                apart k l (side_class q.0 q.1) (subst (λ m. IsAt C k (side_class m q.1)) f (subst (λ n. IsAt C k (side_class p.0 n)) g p.4)) q.4)
+                apart k l (side_class q.0 q.1) (subst (λ m. IsNumberedAt C k (side_class m q.1)) f (subst (λ n. IsNumberedAt C k (side_class p.0 n)) g p.4)) q.4)
             | inr cross ↦ (
                 let both = and_true (same_terms 9 a d) (same_terms 9 b c) (and_true (same_tree e nil_tree && same_tree r nil_tree) (same_terms 9 a d && same_terms 9 b c) cross).1 in
                 let f = (ad p.0 q.1 p.2 q.3).1 both.0 in
                 let g = (bc p.1 q.0 p.3 q.2).1 both.1 in
-                let here = subst (λ m. IsAt C k (side_class m q.0)) f (subst (λ n. IsAt C k (side_class p.0 n)) g p.4) in
-                apart k l (side_class q.0 q.1) (subst (λ x. IsAt C k x) (turned_class q.1 q.0) here) q.4)
+                let here = subst (λ m. IsNumberedAt C k (side_class m q.0)) f (subst (λ n. IsNumberedAt C k (side_class p.0 n)) g p.4) in
+                apart k l (side_class q.0 q.1) (subst (λ x. IsNumberedAt C k x) (turned_class q.1 q.0) here) q.4)
           ]
 
   cells_both : (a c b d : Tree) (k l : ℕ) → ((m n : ℕ) → IsListNumber K C c m → IsListNumber K C d n → (m ≡ n) ↔ (same_lists 9 c d ≡ true)) → (is_pair c ≡ true → is_pair d ≡ true → IsSidesNumber K C c k → IsSidesNumber K C d l → (k ≡ l) ↔ ((same_lists 9 c d || crossed 9 c d) ≡ true)) → IsTermNumber K C (cell a c) k → IsTermNumber K C (cell b d) l → (k ≡ l) ↔ (same_terms 9 (cell a c) (cell b d) ≡ true)
-  cells_both a c b d k l lists sides = go (is_let_head a) refl (is_let_head b) refl (is_equality a c) refl (is_equality b d) refl
+  cells_both a c b d k l lists sides = go (is_let_head a) refl (is_let_head b) refl (is_equality_list a c) refl (is_equality_list b d) refl
     where
       parts : same_terms 9 (cell a c) (cell b d) ≡ true → (same_tree a b ≡ true) × ((if is_let_head a then same_tree c d else (same_lists 9 c d || (same_tree a (leaf 9) && crossed 9 c d))) ≡ true)
       parts h = and_true (same_tree a b) _ h
@@ -231,14 +231,14 @@ module _ (K : ℕ → Tree → Type 0) (C : List Class) (one_tree : (r : ℕ) (s
             | inr f ↦ (let both = and_true (same_tree a (leaf 9)) (crossed 9 c d) f in inr (tree_same a (leaf 9) both.0, both.1))
           ]
 
-      pairs : is_let_head a ≡ false → same_terms 9 (cell a c) (cell b d) ≡ true → is_equality a c ≡ is_equality b d
+      pairs : is_let_head a ≡ false → same_terms 9 (cell a c) (cell b d) ≡ true → is_equality_list a c ≡ is_equality_list b d
       pairs e h =
           elim (behind e h) [
             | inl f ↦ (let same = heads h in let lists = lists_pair c d f in rw (same, lists) refl)
             | inr f ↦ (let same = heads h in let both = crossed_pair c d f.1 in let one = both.0 in let two = both.1 in rw (same, one, two) refl)
           ]
 
-      go : (x : Bool) → is_let_head a ≡ x → (y : Bool) → is_let_head b ≡ y → (z : Bool) → is_equality a c ≡ z → (w : Bool) → is_equality b d ≡ w → IsCellNumber K C x z a c k → IsCellNumber K C y w b d l → (k ≡ l) ↔ (same_terms 9 (cell a c) (cell b d) ≡ true)
+      go : (x : Bool) → is_let_head a ≡ x → (y : Bool) → is_let_head b ≡ y → (z : Bool) → is_equality_list a c ≡ z → (w : Bool) → is_equality_list b d ≡ w → IsCellNumber K C x z a c k → IsCellNumber K C y w b d l → (k ≡ l) ↔ (same_terms 9 (cell a c) (cell b d) ≡ true)
       go true ex true ey z ez w ew p q =
           let both = alone_both (cell a c) (cell b d) k l p q in (
             λ e. subst (λ t. same_terms 9 (cell a c) t ≡ true) (both.0 e) (terms_refl 9 (cell a c)),
@@ -274,8 +274,8 @@ module _ (K : ℕ → Tree → Type 0) (C : List Class) (one_tree : (r : ℕ) (s
               | inl f ↦ (
                   let head = one_reference p.0 q.0 b (subst (K p.0) (heads h) p.2) q.2 in
                   let list = (lists p.1 q.1 p.3 q.3).1 f in
-                  apart k l (Class.Application q.0 q.1) (subst (λ r. IsAt C k (Class.Application r q.1)) head (subst (λ n. IsAt C k (Class.Application p.0 n)) list p.4)) q.4)
-              | inr f ↦ absurd (let both = crossed_pair c d f.1 in let clash = sym ez ∙ subst (λ t. is_equality t c ≡ true) (sym f.0) (no_equality c both.0) in cc)
+                  apart k l (Class.Application q.0 q.1) (subst (λ r. IsNumberedAt C k (Class.Application r q.1)) head (subst (λ n. IsNumberedAt C k (Class.Application p.0 n)) list p.4)) q.4)
+              | inr f ↦ absurd (let both = crossed_pair c d f.1 in let clash = sym ez ∙ subst (λ t. is_equality_list t c ≡ true) (sym f.0) (no_equality c both.0) in cc)
             ],
       )
 
@@ -292,7 +292,7 @@ module _ (K : ℕ → Tree → Type 0) (C : List Class) (one_tree : (r : ℕ) (s
         let both = and_true (same_terms 9 a b) (same_lists 9 c d) h in
         let first = (terms p.0 q.0 p.2 q.2).1 both.0 in
         let rest = (lists p.1 q.1 p.3 q.3).1 both.1 in
-        apart k l (Class.Arguments q.0 q.1) (subst (λ r. IsAt C k (Class.Arguments r q.1)) first (subst (λ n. IsAt C k (Class.Arguments p.0 n)) rest p.4)) q.4,
+        apart k l (Class.Arguments q.0 q.1) (subst (λ r. IsNumberedAt C k (Class.Arguments r q.1)) first (subst (λ n. IsNumberedAt C k (Class.Arguments p.0 n)) rest p.4)) q.4,
   )
 
   mutual

@@ -16,7 +16,7 @@ use Rattle.term_pool.specs.Views.{TermsView, RefersTo, ReferToAll}
 use Rattle.term_pool.proofs.FlipLemmas.{flips_are}
 use Rattle.flip_keys.specs.declared.memory.Item.TheVariants as Item
 use Rattle.flip_keys.specs.declared.numbering.Keys.{Keys}
-use Rattle.flip_keys.specs.KeyTables.{AreKeys, IsNumbered, HasMore, Inserts, IsOfOne, HasFoundNumber, AreFound}
+use Rattle.flip_keys.specs.KeyTables.{AreClassKeys, HasKeyNumber, HasMore, InsertsNumber, IsOfOne, HasFoundNumber, AreFound}
 use Rattle.flip_keys.proofs.EqualNumbers.{terms_both}
 use Rattle.flip_keys.proofs.Walking.{has_later}
 
@@ -49,7 +49,7 @@ none_found p keys numbers e = record {
 }
 
 module _ (p q : PassView) (old new : Keys) (grows : Grows p q) (more : HasMore old new) where
-  numbered_later : (r k : ℕ) → IsNumbered p old r k → IsNumbered q new r k
+  numbered_later : (r k : ℕ) → HasKeyNumber p old r k → HasKeyNumber q new r k
   numbered_later r k h = has_later p q old.classes.keys new.classes.keys grows more (Item.Term r) k h
 
   pub found_later : (references numbers : List ℕ) → AreFound p old references numbers → AreFound q new references numbers
@@ -58,7 +58,7 @@ module _ (p q : PassView) (old new : Keys) (grows : Grows p q) (more : HasMore o
     only = λ k there. let f = h.only k there in record { reference = f.reference; there = f.there; numbered = numbered_later f.reference k f.numbered };
   }
 
-pub one_found : (p : PassView) (keys : Keys) (references before after : List ℕ) (r k : ℕ) → AreFound p keys references before → IsNumbered p keys r k → Inserts before k after → AreFound p keys (references ++ r ∷ []) after
+pub one_found : (p : PassView) (keys : Keys) (references before after : List ℕ) (r k : ℕ) → AreFound p keys references before → HasKeyNumber p keys r k → InsertsNumber before k after → AreFound p keys (references ++ r ∷ []) after
 one_found p keys references before after r k h numbered inserts = record {
   each = λ x there. elim (Contains-push_cases references r x there) [
     | inl earlier ↦ (let f = h.each x earlier in record { number = f.number; numbered = f.numbered; found = inserts.stays f.number f.found })
@@ -92,14 +92,14 @@ module _ (s : Table) (v : TermsView) where
       ]
 
   -- two references have one number exactly where their terms are equal up to flips
-  one_number : IsTable s → IsOneToOne v.pass → (keys : Keys) → AreKeys v.pass keys → (a r k l : ℕ) → IsNumbered v.pass keys a k → IsNumbered v.pass keys r l → (t u : Term) → RefersTo s v a t → RefersTo s v r u → (k ≡ l) ↔ EqualUpToFlips t u
+  one_number : IsTable s → IsOneToOne v.pass → (keys : Keys) → AreClassKeys v.pass keys → (a r k l : ℕ) → HasKeyNumber v.pass keys a k → HasKeyNumber v.pass keys r l → (t u : Term) → RefersTo s v a t → RefersTo s v r u → (k ≡ l) ↔ EqualUpToFlips t u
   one_number table one keys good a r k l p q t u left right =
       let both = terms_both (Knows v.pass) keys.classes.keys one.one_tree one.one_reference good.apart p.tree q.tree k l p.number q.number in
       let flips = flips_are s v 9 a r (same_terms 9 p.tree q.tree) table (table.begins 9 (operator Op.Equal) refl)
       (λ x y known other. rw (one.one_tree a x p.tree known p.known, one.one_tree r y q.tree other q.known) refl) t u left right in
       (λ e. flips.0 (both.0 e), λ h. both.1 (flips.1 h))
 
-  pub asserted_is : IsTable s → IsOneToOne v.pass → (keys : Keys) → AreKeys v.pass keys → (references numbers : List ℕ) → AreFound v.pass keys references numbers → (r k : ℕ) → IsNumbered v.pass keys r k → (b : Bool) → IsTrue b ↔ Contains numbers k → (ts : List Term) (t : Term) → ReferToAll s v references ts → RefersTo s v r t → IsTrue b ↔ Any (λ a. EqualUpToFlips a t) ts
+  pub asserted_is : IsTable s → IsOneToOne v.pass → (keys : Keys) → AreClassKeys v.pass keys → (references numbers : List ℕ) → AreFound v.pass keys references numbers → (r k : ℕ) → HasKeyNumber v.pass keys r k → (b : Bool) → IsTrue b ↔ Contains numbers k → (ts : List Term) (t : Term) → ReferToAll s v references ts → RefersTo s v r t → IsTrue b ↔ Any (λ a. EqualUpToFlips a t) ts
   asserted_is table one keys good references numbers found r k numbered b test ts t refer right = (
     λ e.
         let f = found.only k (test.0 e) in
@@ -137,10 +137,10 @@ of_any k (x ∷ ks) h =
 pub has_number : (k : ℕ) (ks : List ℕ) → IsTrue (list_any (nat_eq k) ks) ↔ Contains ks k
 has_number k ks = (any_of k ks, of_any k ks)
 
-pub inserts : (ks : List ℕ) (k : ℕ) → Inserts ks k (insert_key nat_eq ks k)
+pub inserts : (ks : List ℕ) (k : ℕ) → InsertsNumber ks k (insert_key nat_eq ks k)
 inserts ks k = go (list_any (nat_eq k) ks) refl
   where
-    go : (b : Bool) → list_any (nat_eq k) ks ≡ b → Inserts ks k (if b then ks else ks ++ k ∷ [])
+    go : (b : Bool) → list_any (nat_eq k) ks ≡ b → InsertsNumber ks k (if b then ks else ks ++ k ∷ [])
     go true e = record { stays = λ n h. h; here = any_of k ks e; only = λ n h. inl h }
     go false e = record {
       stays = λ n h. contains_before ks k n h;

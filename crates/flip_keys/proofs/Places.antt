@@ -2,13 +2,13 @@
 use Rattle.std.proofs.Common.{inl, inr, ℕ, List, [], ◌∷◌}
 use Rattle.sym_table.specs.Names.{AreApart, PlacesItem}
 use Rattle.sym_table.proofs.Lists.{slice_get-left, slice_get-last, AreApart-push}
-use Rattle.flip_keys.specs.Numbers.{IsAt, KeepsNumbers}
+use Rattle.flip_keys.specs.Numbers.{IsNumberedAt, KeepsNumbers}
 
 pub place_keeps : {X : Type 0} (old new : List X) (k : ℕ) (x : X) → PlacesItem old new k x → KeepsNumbers old new
 place_keeps old new k x (inl h) j y e = rw h.1 e
 place_keeps old new k x (inr h) j y e = rw h.2 (slice_get-left old (x ∷ []) j y e)
 
-pub place_here : {X : Type 0} (old new : List X) (k : ℕ) (x : X) → PlacesItem old new k x → IsAt new k x
+pub place_here : {X : Type 0} (old new : List X) (k : ℕ) (x : X) → PlacesItem old new k x → IsNumberedAt new k x
 place_here old new k x (inl h) = rw h.1 h.0
 place_here old new k x (inr h) = rw (h.1, h.2) (slice_get-last old x)
 

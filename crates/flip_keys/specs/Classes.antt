@@ -5,7 +5,7 @@ use Rattle.term_pool.specs.Heights.{is_let_head}
 use Rattle.term_pool.specs.Pairs.{same_tree}
 use Rattle.term_pool.specs.StandsFor.{nil_tree}
 use Rattle.flip_keys.specs.declared.classes.Class.{Class}
-use Rattle.flip_keys.specs.Numbers.{IsAt}
+use Rattle.flip_keys.specs.Numbers.{IsNumberedAt}
 
 -- the lower of two numbers, and the higher one
 abbrev pub least : ℕ → ℕ → ℕ
@@ -25,14 +25,14 @@ is_pair (cell a (leaf k)) = false
 is_pair (cell a (cell b end)) = same_tree end nil_tree
 
 -- the head and the list of arguments are those of an equality of two terms. The leaf of `=` is 9 in every table.
-abbrev pub is_equality : Tree → Tree → Bool
-is_equality head list = same_tree head (leaf 9) && is_pair list
+abbrev pub is_equality_list : Tree → Tree → Bool
+is_equality_list head list = same_tree head (leaf 9) && is_pair list
 
 -- by the relation of references to trees, and the classes by their numbers: the tree is of the class of its own reference
 pub record IsAlone (K : ℕ → Tree → Type 0) (C : List Class) (t : Tree) (k : ℕ) : Type 0 where
   pub reference : ℕ
   pub known : K reference t
-  pub class : IsAt C k (Class.Alone reference)
+  pub class : IsNumberedAt C k (Class.Alone reference)
 
 abbrev pub pick : Bool → Type 0 → Type 0 → Type 0
 pick true A B = A
@@ -44,18 +44,18 @@ abbrev mutual
   IsTermNumber K C (leaf j) k = IsAlone K C (leaf j) k
   IsTermNumber K C (cell head list) k =
       pick (is_let_head head) (IsAlone K C (cell head list) k)
-      (pick (is_equality head list) (IsSidesNumber K C list k)
-      ((r : ℕ) × (n : ℕ) × K r head × IsListNumber K C list n × IsAt C k (Class.Application r n)))
+      (pick (is_equality_list head list) (IsSidesNumber K C list k)
+      ((r : ℕ) × (n : ℕ) × K r head × IsListNumber K C list n × IsNumberedAt C k (Class.Application r n)))
 
   -- and as a list of terms
   pub IsListNumber : (ℕ → Tree → Type 0) → List Class → Tree → ℕ → Type 0
   IsListNumber K C (leaf j) k = IsAlone K C (leaf j) k
   IsListNumber K C (cell first rest) k =
-      (m : ℕ) × (n : ℕ) × IsTermNumber K C first m × IsListNumber K C rest n × IsAt C k (Class.Arguments m n)
+      (m : ℕ) × (n : ℕ) × IsTermNumber K C first m × IsListNumber K C rest n × IsNumberedAt C k (Class.Arguments m n)
 
   -- and of an equality of the two terms of a list
   pub IsSidesNumber : (ℕ → Tree → Type 0) → List Class → Tree → ℕ → Type 0
   IsSidesNumber K C (leaf j) k = ⊥
   IsSidesNumber K C (cell a (leaf j)) k = ⊥
   IsSidesNumber K C (cell a (cell b end)) k =
-      (m : ℕ) × (n : ℕ) × IsTermNumber K C a m × IsTermNumber K C b n × IsAt C k (side_class m n)
+      (m : ℕ) × (n : ℕ) × IsTermNumber K C a m × IsTermNumber K C b n × IsNumberedAt C k (side_class m n)

@@ -7,16 +7,16 @@ use Rattle.flip_keys.specs.declared.classes.Class.{Class}
 use Rattle.flip_keys.specs.declared.memory.Item.{Item}
 use Rattle.flip_keys.specs.declared.numbering.Keys.{Keys}
 use Rattle.flip_keys.specs.Numbers.{KeepsNumbers}
-use Rattle.flip_keys.specs.Walks.{HasNumber, AreNumbers, Remembers}
+use Rattle.flip_keys.specs.Walks.{HasClassNumber, AreNumbers, RemembersItem}
 
 -- a class has one number, and what is remembered is right
-pub record AreKeys (pass : PassView) (keys : Keys) : Type 0 where
+pub record AreClassKeys (pass : PassView) (keys : Keys) : Type 0 where
   pub apart : AreApart keys.classes.keys
   pub numbers : AreNumbers pass keys.classes.keys keys.memo
 
 -- the term of the reference has this number
-abbrev pub IsNumbered : PassView → Keys → ℕ → ℕ → Type 0
-IsNumbered pass keys r k = HasNumber pass keys.classes.keys (Item.Term r) k
+abbrev pub HasKeyNumber : PassView → Keys → ℕ → ℕ → Type 0
+HasKeyNumber pass keys r k = HasClassNumber pass keys.classes.keys (Item.Term r) k
 
 -- classes keep their numbers
 abbrev pub HasMore : Keys → Keys → Type 0
@@ -25,11 +25,11 @@ HasMore old new = KeepsNumbers old.classes.keys new.classes.keys
 -- an item has been given the number of its class
 pub record Settles (old new : Keys) (x : Item) (class : Class) (k : ℕ) : Type 0 where
   pub found : PlacesItem old.classes.keys new.classes.keys k class
-  pub noted : Remembers old.memo new.memo x k
+  pub noted : RemembersItem old.memo new.memo x k
   pub few : hash_map_len old.memo < 2 ^ 64
 
 -- a number is there, and nothing else has come
-pub record Inserts (old : List ℕ) (k : ℕ) (new : List ℕ) : Type 0 where
+pub record InsertsNumber (old : List ℕ) (k : ℕ) (new : List ℕ) : Type 0 where
   pub stays : (n : ℕ) → Contains old n → Contains new n
   pub here : Contains new k
   pub only : (n : ℕ) → Contains new n → Contains old n ⊎ (n ≡ k)
@@ -38,12 +38,12 @@ pub record Inserts (old : List ℕ) (k : ℕ) (new : List ℕ) : Type 0 where
 pub record IsOfOne (pass : PassView) (keys : Keys) (references : List ℕ) (k : ℕ) : Type 0 where
   pub reference : ℕ
   pub there : Contains references reference
-  pub numbered : IsNumbered pass keys reference k
+  pub numbered : HasKeyNumber pass keys reference k
 
 -- the reference's number is among the numbers
 pub record HasFoundNumber (pass : PassView) (keys : Keys) (numbers : List ℕ) (r : ℕ) : Type 0 where
   pub number : ℕ
-  pub numbered : IsNumbered pass keys r number
+  pub numbered : HasKeyNumber pass keys r number
   pub found : Contains numbers number
 
 -- the numbers are those of the references

@@ -2,9 +2,9 @@
 use Rattle.std.specs.Prelude.{◌≡◌, ℕ, List, slice_get, Some}
 
 -- the item of this number
-abbrev pub IsAt : {X : Type 0} → List X → ℕ → X → Type 0
-IsAt xs k x = slice_get xs k ≡ Some x
+abbrev pub IsNumberedAt : {X : Type 0} → List X → ℕ → X → Type 0
+IsNumberedAt xs k x = slice_get xs k ≡ Some x
 
 -- what has a number keeps it
 abbrev pub KeepsNumbers : {X : Type 0} → List X → List X → Type 0
-KeepsNumbers {X} old new = (k : ℕ) (x : X) → IsAt old k x → IsAt new k x
+KeepsNumbers {X} old new = (k : ℕ) (x : X) → IsNumberedAt old k x → IsNumberedAt new k x

@@ -5,8 +5,8 @@ ghost use Rattle.pair_pool.specs.Views.{IsKnown};
 ghost use Rattle.term_model.specs.Flips.{EqualUpToFlips};
 ghost use Rattle.term_model.specs.Terms.{Term};
 ghost use Rattle.term_pool.specs.Views.{RefersTo, ReferToAll};
-ghost use Rattle.flip_keys.specs.KeyTables.{AreKeys, Inserts, AreFound};
-ghost use Rattle.flip_keys.specs.Assertions.{references_of, IsReady};
+ghost use Rattle.flip_keys.specs.KeyTables.{AreClassKeys, InsertsNumber, AreFound};
+ghost use Rattle.flip_keys.specs.Assertions.{references_of, AreAssertionsReady};
 
 use crate::numbering::Keys;
 use indexmap::IndexSet;
@@ -26,7 +26,7 @@ pub struct Assertions {
 
 /// Adds a number to a set.
 fn add(numbers: &mut IndexSet<usize>, number: usize) -> Result<(), Memory>
-    ensures { OnOk result (Inserts numbers.old.keys number numbers.new.keys) }
+    ensures { OnOk result (InsertsNumber numbers.old.keys number numbers.new.keys) }
 {
     numbers.insert(number)?;
     Ok(())
@@ -40,9 +40,9 @@ fn number_all(
     references: &[Ref],
 ) -> Result<IndexSet<usize>, Memory>
     requires known { All (IsKnown terms.old.pass) references.now }
-    requires keys { AreKeys terms.old.pass keys.old }
+    requires keys { AreClassKeys terms.old.pass keys.old }
     ensures found { IfOk result (λ numbers. AreFound terms.old.pass keys.new references.now numbers.keys) }
-    ensures keys { OnOk result (AreKeys terms.old.pass keys.new) }
+    ensures keys { OnOk result (AreClassKeys terms.old.pass keys.new) }
     ensures same { terms.new ≡ terms.old }
 {
     let mut numbers = IndexSet::new(alloc);
@@ -65,7 +65,7 @@ impl Assertions {
     ) -> Result<Assertions, Memory>
         requires { All (IsKnown terms.old.pass) references.now }
         ensures references { IfOk result (λ a. references_of a ≡ references.now) }
-        ensures ready { IfOk result (IsReady terms.new) }
+        ensures ready { IfOk result (AreAssertionsReady terms.new) }
         ensures same { terms.new ≡ terms.old }
     {
         let mut keys = Keys::new(alloc);
@@ -91,11 +91,11 @@ impl Assertions {
         r: Ref,
     ) -> Result<bool, Memory>
         requires known { IsKnown terms.old.pass r }
-        requires ready { IsReady terms.old self.old }
+        requires ready { AreAssertionsReady terms.old self.old }
         ensures asserted { IfOk result (λ yes. (ts : List Term) (t : Term) → ReferToAll symbols.now terms.old (references_of self.old) ts →
             RefersTo symbols.now terms.old r t → IsTrue yes ↔ Any (λ a. EqualUpToFlips a t) ts) }
         ensures references { references_of self.new ≡ references_of self.old }
-        ensures ready { OnOk result (IsReady terms.new self.new) }
+        ensures ready { OnOk result (AreAssertionsReady terms.new self.new) }
         ensures same { terms.new ≡ terms.old }
     {
         let _leaves = symbols.count();

@@ -2,7 +2,7 @@
 
 ghost use Rattle.std.specs.Prelude.{◌≡◌, ◌<◌, ◌^◌, None, OnOk};
 ghost use Rattle.std.specs.HashMap.{hash_map_len};
-ghost use Rattle.flip_keys.specs.Walks.{remembered, Remembers, IsBoth};
+ghost use Rattle.flip_keys.specs.Walks.{number_remembered, RemembersItem, IsBoth};
 
 use pair_pool::{Memory, Ref};
 use std::collections::HashMap;
@@ -25,7 +25,7 @@ pub(crate) enum Both {
 
 /// The number that an item was given.
 pub(crate) fn look(memo: &HashMap<Item, usize>, item: &Item) -> Option<usize>
-    ensures { result ≡ remembered memo.now item.now }
+    ensures { result ≡ number_remembered memo.now item.now }
 {
     memo.get(item).copied()
 }
@@ -43,14 +43,14 @@ pub(crate) fn numbers_of(memo: &HashMap<Item, usize>, one: Item, other: Item) ->
     Both::Numbers(first, second)
 }
 
-/// Remembers the number of an item.
+/// RemembersItem the number of an item.
 pub(crate) fn note(
     memo: &mut HashMap<Item, usize>,
     item: &Item,
     number: usize,
 ) -> Result<(), Memory>
-    requires { remembered memo.old item.now ≡ None }
-    ensures noted { OnOk result (Remembers memo.old memo.new item.now number) }
+    requires { number_remembered memo.old item.now ≡ None }
+    ensures noted { OnOk result (RemembersItem memo.old memo.new item.now number) }
     ensures few { hash_map_len memo.old < 2 ^ 64 }
 {
     let _count = memo.len();

@@ -3,8 +3,8 @@
 ghost use Rattle.std.specs.Prelude.{◌≡◌, None, IfOk, OnOk};
 ghost use Rattle.pair_pool.specs.Views.{IsKnown};
 ghost use Rattle.pair_pool.specs.Views.{PassView};
-ghost use Rattle.flip_keys.specs.Walks.{remembered};
-ghost use Rattle.flip_keys.specs.KeyTables.{AreKeys, IsNumbered, HasMore, Settles};
+ghost use Rattle.flip_keys.specs.Walks.{number_remembered};
+ghost use Rattle.flip_keys.specs.KeyTables.{AreClassKeys, HasKeyNumber, HasMore, Settles};
 ghost use Rattle.flip_keys.specs.declared.memory.Item.TheVariants as Item;
 
 use crate::classes::{Class, number};
@@ -26,7 +26,7 @@ pub(crate) struct Keys {
 impl Keys {
     /// No classes.
     pub(crate) fn new(alloc: Global) -> Keys
-        ensures { (pass : PassView) → AreKeys pass result }
+        ensures { (pass : PassView) → AreClassKeys pass result }
     {
         Keys {
             classes: IndexSet::new(alloc),
@@ -36,7 +36,7 @@ impl Keys {
 
     /// Gives an item the number of its class.
     fn settle(&mut self, item: &Item, class: Class) -> Result<usize, Memory>
-        requires { remembered self.old.memo item.now ≡ None }
+        requires { number_remembered self.old.memo item.now ≡ None }
         ensures settled { IfOk result (λ k. Settles self.old self.new item.now class k) }
     {
         let number = number(&mut self.classes, class)?;
@@ -53,9 +53,9 @@ impl Keys {
         r: Ref,
     ) -> Result<usize, Memory>
         requires known { IsKnown terms.old.pass r }
-        requires keys { AreKeys terms.old.pass self.old }
-        ensures number { IfOk result (λ k. IsNumbered terms.old.pass self.new r k) }
-        ensures keys { OnOk result (AreKeys terms.old.pass self.new) }
+        requires keys { AreClassKeys terms.old.pass self.old }
+        ensures number { IfOk result (λ k. HasKeyNumber terms.old.pass self.new r k) }
+        ensures keys { OnOk result (AreClassKeys terms.old.pass self.new) }
         ensures more { OnOk result (HasMore self.old self.new) }
         ensures same { terms.new ≡ terms.old }
     {

@@ -3,7 +3,7 @@
 ghost use Rattle.std.specs.Prelude.{◌≡◌};
 ghost use Rattle.pair_pool.specs.Views.{IsKnown};
 ghost use Rattle.term_pool.specs.Views.{IsKnownCell};
-ghost use Rattle.flip_keys.specs.Walks.{reference_of, HasOtherHead, IsVisit, AreItems, AreSides};
+ghost use Rattle.flip_keys.specs.Walks.{item_reference, HasOtherHead, IsItemVisit, AreListItems, AreEqualitySides};
 ghost use Rattle.flip_keys.specs.declared.memory.Item.TheVariants as Item;
 
 use crate::classes::{Class, sides};
@@ -25,7 +25,7 @@ pub(crate) enum Visit {
 /// The two items of a list that has two.
 fn two_items(terms: &mut Terms<'_>, list: Ref) -> Option<(Ref, Ref)>
     requires { IsKnown terms.old.pass list }
-    ensures items { AreItems terms.old.pass list result }
+    ensures items { AreListItems terms.old.pass list result }
     ensures same { terms.new ≡ terms.old }
 {
     terms.one_to_one();
@@ -48,7 +48,7 @@ fn two_items(terms: &mut Terms<'_>, list: Ref) -> Option<(Ref, Ref)>
 fn sides_by(terms: &mut Terms<'_>, head: Ref, list: Ref) -> Option<(Ref, Ref)>
     requires head { IsKnown terms.old.pass head }
     requires list { IsKnown terms.old.pass list }
-    ensures sides { AreSides terms.old.pass head list result }
+    ensures sides { AreEqualitySides terms.old.pass head list result }
     ensures same { terms.new ≡ terms.old }
 {
     terms.one_to_one();
@@ -62,7 +62,7 @@ fn sides_by(terms: &mut Terms<'_>, head: Ref, list: Ref) -> Option<(Ref, Ref)>
 /// A visit of a list of terms.
 fn visit_list(terms: &mut Terms<'_>, memo: &HashMap<Item, usize>, r: Ref) -> Visit
     requires { IsKnown terms.old.pass r }
-    ensures visit { IsVisit terms.old.pass memo.now (Item.List r) result }
+    ensures visit { IsItemVisit terms.old.pass memo.now (Item.List r) result }
     ensures same { terms.new ≡ terms.old }
 {
     terms.one_to_one();
@@ -81,7 +81,7 @@ fn visit_list(terms: &mut Terms<'_>, memo: &HashMap<Item, usize>, r: Ref) -> Vis
 fn visit_application(terms: &mut Terms<'_>, memo: &HashMap<Item, usize>, r: Ref) -> Visit
     requires cell { IsKnownCell terms.old.pass r }
     requires head { HasOtherHead terms.old.pass r }
-    ensures visit { IsVisit terms.old.pass memo.now (Item.Term r) result }
+    ensures visit { IsItemVisit terms.old.pass memo.now (Item.Term r) result }
     ensures same { terms.new ≡ terms.old }
 {
     terms.one_to_one();
@@ -102,7 +102,7 @@ fn visit_application(terms: &mut Terms<'_>, memo: &HashMap<Item, usize>, r: Ref)
 /// A visit of a term.
 fn visit_term(terms: &mut Terms<'_>, memo: &HashMap<Item, usize>, r: Ref) -> Visit
     requires { IsKnown terms.old.pass r }
-    ensures visit { IsVisit terms.old.pass memo.now (Item.Term r) result }
+    ensures visit { IsItemVisit terms.old.pass memo.now (Item.Term r) result }
     ensures same { terms.new ≡ terms.old }
 {
     terms.one_to_one();
@@ -118,8 +118,8 @@ fn visit_term(terms: &mut Terms<'_>, memo: &HashMap<Item, usize>, r: Ref) -> Vis
 
 /// A visit of an item.
 pub(crate) fn visit_item(terms: &mut Terms<'_>, memo: &HashMap<Item, usize>, item: &Item) -> Visit
-    requires { IsKnown terms.old.pass (reference_of item.now) }
-    ensures visit { IsVisit terms.old.pass memo.now item.now result }
+    requires { IsKnown terms.old.pass (item_reference item.now) }
+    ensures visit { IsItemVisit terms.old.pass memo.now item.now result }
     ensures same { terms.new ≡ terms.old }
 {
     match item {

@@ -2,7 +2,7 @@
 use Rattle.std.proofs.Common.{◌≡◌, ◌≢◌, ◌↔◌, ◌⊎◌, inl, inr, ℕ, Bool, true, false, List, [], ◌∷◌, ◌++◌, refl, sym, ap, ◌∙◌, subst, All, IsTrue}
 use Rattle.std.specs.Borrow.{Bor}
 use Rattle.std.proofs.lemmas.List.Elements.{All-nil, All-cons, All-head, All-tail}
-use Rattle.rule_model.specs.Clausal.{itself}
+use Rattle.rule_model.specs.Clausal.{as_it_stands}
 use Rattle.rule_model.specs.Conditions.{IsClauseOfTruths}
 use Rattle.rule_model.specs.Congruence.{Equates, Implies, IsImplied, AreCongruent, AreCongruentTruths, units, denials, Denies, Head}
 use Rattle.rule_model.proofs.Joining.{equal_sorts}
@@ -52,7 +52,7 @@ module _ (s : Table) (v : TermsView) where
       go (q ∷ rs) h = go rs (All-tail (IsTruth s v) q (rs ++ r ∷ []) h)
 
   -- the sides of a literal
-  pub left_sorted : (r : ℕ) (p : ℕ × ℕ) → IsTruth s v r → ((t : Term) → RefersTo s v r t → AreSidesOf s v itself p t) → IsWellSortedTerm s v p.0
+  pub left_sorted : (r : ℕ) (p : ℕ × ℕ) → IsTruth s v r → ((t : Term) → RefersTo s v r t → AreSidesOf s v as_it_stands p t) → IsWellSortedTerm s v p.0
   left_sorted r p h sides =
       let both = sides h.means h.refers in
       let sorts = equal_sorts both.left both.right (subst (λ t. IsOf t Sort.Bool) both.is h.of) in

@@ -1,9 +1,9 @@
 use Rattle.std.proofs.Common.{◌≡◌, take}
-use Rattle.flip_keys.specs.KeyTables.{AreKeys, AreFound}
+use Rattle.flip_keys.specs.KeyTables.{AreClassKeys, AreFound}
 use Rattle.flip_keys.proofs.assertions.number_all.Given as goal
 
 abbrev pub invariant-references : goal.invariant-references
 invariant-references l =
     (l.terms ≡ l.fn.terms)
-    × AreKeys l.fn.terms.pass l.keys
+    × AreClassKeys l.fn.terms.pass l.keys
     × AreFound l.fn.terms.pass l.keys (take l.r-index l.references) l.numbers.keys

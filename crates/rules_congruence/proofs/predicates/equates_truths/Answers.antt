@@ -1,5 +1,5 @@
 use Rattle.std.proofs.Common.{◌≡◌, ◌↔◌, ◌∷◌, [], ◌∙◌, List, IsTrue, false, sym, subst}
-use Rattle.rule_model.specs.Clausal.{itself}
+use Rattle.rule_model.specs.Clausal.{as_it_stands}
 use Rattle.rule_model.specs.Congruence.{Equates, AreCongruent, AreCongruentTruths}
 use Rattle.term_model.specs.declared.symbols.Sort.{Sort}
 use Rattle.term_model.specs.Sorts.{IsOf}
@@ -49,8 +49,8 @@ returns-clause-equates c =
 
 pub are_congruent-requires-clause-left : goal.are_congruent-requires-clause-left
 are_congruent-requires-clause-left c =
-    rw (c.is_truth.ensures.same, c.sides_of.ensures.same) (left_is_term c.args.symbols.now c.args.terms.now itself c.args.literal c.in-Some.sides (truth_is_term c.args.symbols.now c.args.terms.now c.args.literal c.requires) c.in-Some.ensures.sides)
+    rw (c.is_truth.ensures.same, c.sides_of.ensures.same) (left_is_term c.args.symbols.now c.args.terms.now as_it_stands c.args.literal c.in-Some.sides (truth_is_term c.args.symbols.now c.args.terms.now c.args.literal c.requires) c.in-Some.ensures.sides)
 
 pub are_congruent-requires-clause-right : goal.are_congruent-requires-clause-right
 are_congruent-requires-clause-right c =
-    rw (c.is_truth.ensures.same, c.sides_of.ensures.same) (right_is_term c.args.symbols.now c.args.terms.now itself c.args.literal c.in-Some.sides (truth_is_term c.args.symbols.now c.args.terms.now c.args.literal c.requires) c.in-Some.ensures.sides)
+    rw (c.is_truth.ensures.same, c.sides_of.ensures.same) (right_is_term c.args.symbols.now c.args.terms.now as_it_stands c.args.literal c.in-Some.sides (truth_is_term c.args.symbols.now c.args.terms.now c.args.literal c.requires) c.in-Some.ensures.sides)

@@ -1,7 +1,7 @@
 use Rattle.std.proofs.Common.{refl, sym, ◌∙◌, subst}
 use Rattle.term_pool.proofs.Ways.{none_left}
 use Rattle.flip_keys.specs.declared.memory.Item.{Item}
-use Rattle.flip_keys.specs.Walks.{HasNumber}
+use Rattle.flip_keys.specs.Walks.{HasClassNumber}
 use Rattle.flip_keys.proofs.Walking.{same_keeps, walk_known, walk_new, walk_start, walk_down, walk_up, walk_end, settled_more, settled_here, settled_keys}
 use Rattle.flip_keys.proofs.numbering.Keys.number.Goals as goal
 
@@ -45,7 +45,7 @@ returns-in-None-clause-number c =
     let known = walk_known _ _ _ _ _ c.items.invariant.1 in
     let settles = c.in_ok-number-in-Done.ensures.settled in
     let root = walk_end _ _ _ _ _ (none_left _ _ _ c.in-None.ensures.cases.0 c.in-None.ensures.rest c.in-None.ensures.items) c.items.invariant.1 in
-    subst (λ (x : Item). HasNumber c.args.terms.now.pass c.settle.new.self.classes.keys x c.in_ok-number-in-Done.number) root
+    subst (λ (x : Item). HasClassNumber c.args.terms.now.pass c.settle.new.self.classes.keys x c.in_ok-number-in-Done.number) root
     (settled_here c.args.terms.now.pass c.items.self c.settle.new.self c.items.at c.in-Done.class c.in_ok-number-in-Done.number c.items.invariant.2 visit known settles)
 
 pub returns-in-None-clause-keys : goal.returns-in-None-clause-keys

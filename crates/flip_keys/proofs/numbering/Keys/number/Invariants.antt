@@ -1,7 +1,7 @@
 use Rattle.std.proofs.Common.{◌≡◌, ◌+◌, ◌-◌, ◌*◌, ◌^◌, ◌++◌, ◌∷◌, [], vec_len}
 use Rattle.std.specs.HashMap.{hash_map_len}
 use Rattle.flip_keys.specs.declared.memory.Item.TheVariants as Item
-use Rattle.flip_keys.specs.KeyTables.{AreKeys, HasMore}
+use Rattle.flip_keys.specs.KeyTables.{AreClassKeys, HasMore}
 use Rattle.flip_keys.proofs.Walking.{IsWalk}
 use Rattle.flip_keys.proofs.numbering.Keys.number.Given as goal
 
@@ -9,7 +9,7 @@ abbrev pub invariant-items : goal.invariant-items
 invariant-items l =
     (l.terms ≡ l.fn.terms)
     × IsWalk l.fn.terms.pass l.self.memo (Item.Term l.fn.r) (l.way.items ++ l.at ∷ [])
-    × AreKeys l.fn.terms.pass l.self
+    × AreClassKeys l.fn.terms.pass l.self
     × HasMore l.fn.self l.self
 
 abbrev pub decreases-items : goal.decreases-items
