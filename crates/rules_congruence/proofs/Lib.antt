@@ -11,5 +11,6 @@ pub mod ApplicationLemmas
 pub mod UseLemmas
 pub mod CongruenceLemmas
 pub mod TogetherLemmas
+pub mod PredicateLemmas
 pub mod StepLemmas
 pub mod CheckAnswers

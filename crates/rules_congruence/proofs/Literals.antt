@@ -45,7 +45,7 @@ same_last {X} (v ∷ xs) (w ∷ ys) x y e =
     let head : v ≡ w = cc in
     (rw (head, rest.0) refl, rest.1)
 
-same_denials : (es fs : List (Term × Term)) → denials es ≡ denials fs → es ≡ fs
+pub same_denials : (es fs : List (Term × Term)) → denials es ≡ denials fs → es ≡ fs
 same_denials [] [] e = refl
 same_denials [] (f ∷ fs) e = absurd (cc)
 same_denials (p ∷ es) [] e = absurd (cc)

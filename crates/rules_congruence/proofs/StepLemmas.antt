@@ -8,7 +8,7 @@ use Rattle.rule_model.specs.declared.rules.Mode.{Mode}
 use Rattle.rule_model.specs.declared.rules.Rule.{Rule}
 use Rattle.rule_model.specs.Commands.{Line, entry_of, lines_in}
 use Rattle.rule_model.specs.Conditions.{MeetsRule, Met}
-use Rattle.rule_model.specs.Congruence.{IsOfEquality, Equates, Denies, AreCongruent, MeetsCong, MeetsEqCongruent}
+use Rattle.rule_model.specs.Congruence.{IsOfEquality, Equates, Denies, AreCongruent, MeetsCong, MeetsEqCongruent, MeetsEqCongruentPred}
 use Rattle.rule_model.specs.Judged.{Judged, judged_at}
 use Rattle.rule_model.specs.Proofs.{ProofItems}
 use Rattle.rule_model.specs.Reading.{clause_at, premises_at, premises_of, rule_at}
@@ -19,6 +19,7 @@ use Rattle.sym_table.specs.Table.{Table}
 use Rattle.term_model.specs.Terms.{Var, Term}
 use Rattle.term_pool.specs.Views.{TermsView, IsTerm}
 use Rattle.rules_congruence.specs.Clauses.{clauses_of}
+use Rattle.rules_congruence.specs.Predicates.{GivesPredicate}
 use Rattle.rules_congruence.specs.Steps.{ReferTo, ReferToClauses, AreTerms, AreClauses}
 use Rattle.rules_congruence.specs.Uses.{Together}
 use Rattle.rules_congruence.specs.Rules.{uses_of, denied_uses_of, MeetsEquality}
@@ -96,18 +97,18 @@ met_by mode of i rule b is equality test =
     let both : IsTrue b ↔ MeetsRule rule (judged_at mode of i) = (λ h. meets.1 (test.0 h), λ h. test.1 (meets.0 h)) in
     subst (λ r. IsTrue b ↔ MeetsRule r (judged_at mode of i)) is both
 
--- the rules that are decided are all but one
-pub none_left : (mode : Mode) (rule : Rule) (ps : List (List Term)) (ts : List Term) → rule ≢ Rule.EqCongruentPred → rule ≢ Rule.Symm → rule ≢ Rule.NotSymm → rule ≢ Rule.EqReflexive → rule ≢ Rule.EqSymmetric → rule ≢ Rule.Trans → rule ≢ Rule.EqTransitive → rule ≢ Rule.Cong → rule ≢ Rule.EqCongruent → ¬ MeetsEquality mode rule ps ts
-none_left mode Rule.EqCongruentPred ps ts pred a b c d e f g h met = pred refl
-none_left mode Rule.Symm ps ts pred a b c d e f g h met = a refl
-none_left mode Rule.NotSymm ps ts pred a b c d e f g h met = b refl
-none_left mode Rule.EqReflexive ps ts pred a b c d e f g h met = c refl
-none_left mode Rule.EqSymmetric ps ts pred a b c d e f g h met = d refl
-none_left mode Rule.Trans ps ts pred a b c d e f g h met = e refl
-none_left mode Rule.EqTransitive ps ts pred a b c d e f g h met = f refl
-none_left mode Rule.Cong ps ts pred a b c d e f g h met = g refl
-none_left mode Rule.EqCongruent ps ts pred a b c d e f g h met = h refl
-none_left mode _ ps ts pred a b c d e f g h met = met
+-- no other rule is of the family
+pub none_left : (mode : Mode) (rule : Rule) (ps : List (List Term)) (ts : List Term) → rule ≢ Rule.Symm → rule ≢ Rule.NotSymm → rule ≢ Rule.EqReflexive → rule ≢ Rule.EqSymmetric → rule ≢ Rule.Trans → rule ≢ Rule.EqTransitive → rule ≢ Rule.Cong → rule ≢ Rule.EqCongruent → rule ≢ Rule.EqCongruentPred → ¬ MeetsEquality mode rule ps ts
+none_left mode Rule.EqCongruentPred ps ts a b c d e f g h i met = i refl
+none_left mode Rule.Symm ps ts a b c d e f g h i met = a refl
+none_left mode Rule.NotSymm ps ts a b c d e f g h i met = b refl
+none_left mode Rule.EqReflexive ps ts a b c d e f g h i met = c refl
+none_left mode Rule.EqSymmetric ps ts a b c d e f g h i met = d refl
+none_left mode Rule.Trans ps ts a b c d e f g h i met = e refl
+none_left mode Rule.EqTransitive ps ts a b c d e f g h i met = f refl
+none_left mode Rule.Cong ps ts a b c d e f g h i met = g refl
+none_left mode Rule.EqCongruent ps ts a b c d e f g h i met = h refl
+none_left mode _ ps ts a b c d e f g h i met = met
 
 -- how equalities are used, by the mode
 pub cong_by : (mode : Mode) (b : Bool) (ps : List (List Term)) (ts : List Term) → IsTrue b ↔ Equates (AreCongruent (Together (uses_of mode))) ps ts → IsTrue b ↔ MeetsCong mode ps ts
@@ -117,3 +118,7 @@ cong_by Mode.Strict b ps ts h = h
 pub eq_congruent_by : (mode : Mode) (b : Bool) (ps : List (List Term)) (ts : List Term) → IsTrue b ↔ Denies (Equates (AreCongruent (Together (denied_uses_of mode)))) ps ts → IsTrue b ↔ MeetsEqCongruent mode ps ts
 eq_congruent_by Mode.Check b ps ts h = h
 eq_congruent_by Mode.Strict b ps ts h = h
+
+pub eq_congruent_pred_by : (mode : Mode) (b : Bool) (ps : List (List Term)) (ts : List Term) → IsTrue b ↔ Denies (GivesPredicate (denied_uses_of mode)) ps ts → IsTrue b ↔ MeetsEqCongruentPred mode ps ts
+eq_congruent_pred_by Mode.Check b ps ts h = h
+eq_congruent_pred_by Mode.Strict b ps ts h = h

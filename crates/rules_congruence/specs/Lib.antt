@@ -8,4 +8,5 @@ pub mod Links
 pub mod Ways
 pub mod Applications
 pub mod Uses
+pub mod Predicates
 pub mod Rules

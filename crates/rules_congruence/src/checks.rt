@@ -5,8 +5,7 @@ ghost use Rattle.proof_store.specs.Checks.{KeepsTruthAt, StandForSome};
 ghost use Rattle.proof_store.specs.Meaning.{StandForItems};
 ghost use Rattle.proof_store.specs.declared.answers.Answer.TheVariants as Answer;
 ghost use Rattle.proof_store.specs.declared.answers.RuleStop.TheVariants as RuleStop;
-ghost use Rattle.rule_model.specs.declared.rules.Rule.TheVariants as Rule;
-ghost use Rattle.rule_model.specs.Conditions.{IsMetAt, Met};
+ghost use Rattle.rule_model.specs.Conditions.{IsClauseOfTruths, IsMetAt, Met};
 ghost use Rattle.rule_model.specs.Congruence.{IsOfEquality};
 ghost use Rattle.rule_model.specs.Judged.{judged_at};
 ghost use Rattle.rule_model.specs.Proofs.{ProofItems};
@@ -14,9 +13,11 @@ ghost use Rattle.rule_model.specs.Reading.{clause_at, premises_at, rule_at};
 ghost use Rattle.rule_model.specs.Scopes.{commands_in};
 ghost use Rattle.term_model.specs.Terms.{Var, Term};
 ghost use Rattle.rules_congruence.specs.Clauses.{clauses_of};
-ghost use Rattle.rules_congruence.specs.Steps.{ReferTo, ReferToClauses, AreTerms, AreClauses};
+ghost use Rattle.rules_congruence.specs.Predicates.{AreTruths};
+ghost use Rattle.rules_congruence.specs.Steps.{ReferTo, ReferToClauses, AreClauses};
 ghost use Rattle.rules_congruence.specs.Rules.{uses_of, denied_uses_of, MeetsEquality};
 
+use crate::predicates::meets_eq_congruent_pred;
 use crate::together::{meets_cong, meets_eq_congruent};
 use crate::transitivity::{meets_eq_transitive, meets_trans};
 use crate::turning::{is_reflexive, is_symmetric, turns_round};
@@ -39,7 +40,7 @@ fn uses_of(mode: Mode) -> Uses
     }
 }
 
-/// How eq_congruent uses the equalities that its clause denies.
+/// How eq_congruent and eq_congruent_pred use the equalities that their clauses deny.
 fn denied_uses_of(mode: Mode) -> Uses
     ensures { result ≡ denied_uses_of mode }
 {
@@ -80,8 +81,7 @@ fn meets(
     step: Clauses<'_>,
 ) -> Result<bool, Memory>
     requires premises { AreClauses symbols.now terms.old step.premises.now }
-    requires clause { AreTerms symbols.now terms.old step.clause.now }
-    requires decided { rule ≢ Rule.EqCongruentPred }
+    requires clause { AreTruths symbols.now terms.old step.clause.now }
     ensures met { IfOk result (λ yes. (ps : List (List Term)) (ts : List Term) → ReferToClauses symbols.now terms.old step.entry.premises.now ps →
         ReferTo symbols.now terms.old step.entry.clause.now ts → IsTrue yes ↔ MeetsEquality mode rule ps ts) }
     ensures same { terms.new ≡ terms.old }
@@ -106,6 +106,16 @@ fn meets(
                 clause,
             )
         }
+        Rule::EqCongruentPred => {
+            meets_eq_congruent_pred(
+                alloc,
+                denied_uses_of(mode),
+                symbols,
+                terms,
+                premises,
+                clause,
+            )
+        }
         _ => Ok(false),
     }
 }
@@ -121,8 +131,8 @@ fn meets_at(
 ) -> Result<bool, Memory>
     requires index { i < commands_in proof.now }
     requires equality { IsOfEquality (rule_at proof.now i) }
-    requires decided { rule_at proof.now i ≢ Rule.EqCongruentPred }
     requires stand { StandForSome symbols.now terms.old proof.now }
+    requires sorted { (of : ProofItems Var Term) → StandForItems symbols.now terms.old proof.now of → IsClauseOfTruths (clause_at of i) }
     ensures meets { IfOk result (λ yes. (of : ProofItems Var Term) → StandForItems symbols.now terms.old proof.now of → IsTrue yes ↔ Met (judged_at mode of i)) }
     ensures same { terms.new ≡ terms.old }
 {
@@ -143,11 +153,11 @@ fn meets_at(
 }
 
 /// Whether the step at an index meets the condition of its rule (Alethe specification, "List of rules"): `symm`,
-/// `not_symm`, `trans`, `cong`, `eq_reflexive`, `eq_symmetric`, `eq_transitive` or `eq_congruent`, in the stricter or the
-/// wider reading that the mode asks for. A step that closes a scope meets none of these rules. `eq_congruent_pred`, of the
-/// same family, is not decided.
+/// `not_symm`, `trans`, `cong`, `eq_reflexive`, `eq_symmetric`, `eq_transitive`, `eq_congruent` or `eq_congruent_pred`, in
+/// the stricter or the wider reading that the mode asks for. A step that closes a scope meets none of these rules.
 ///
-/// The step's own arguments are not looked at. Places no cell, and refuses want of memory alone.
+/// The step's clause has to be of terms of Bool. Its own arguments are not looked at. Places no cell, and refuses want of
+/// memory alone.
 pub fn check(
     alloc: Global,
     proof: &Proof,
@@ -158,8 +168,8 @@ pub fn check(
 ) -> Result<Answer, RuleStop>
     requires index { i < commands_in proof.now }
     requires equality { IsOfEquality (rule_at proof.now i) }
-    requires decided { rule_at proof.now i ≢ Rule.EqCongruentPred }
     requires stand { StandForSome symbols.now terms.old proof.now }
+    requires sorted { (of : ProofItems Var Term) → StandForItems symbols.now terms.old proof.now of → IsClauseOfTruths (clause_at of i) }
     ensures met { IfOk result (λ answer. (of : ProofItems Var Term) → StandForItems symbols.now terms.old proof.now of → (answer ≡ Answer.Met) ↔ IsMetAt mode of i) }
     ensures narrow { IfOk result (λ answer. answer ≢ Answer.TooWide) }
     // under every interpretation and values of variables that make the premises true, the clause of a step that is met is

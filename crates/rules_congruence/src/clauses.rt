@@ -52,6 +52,23 @@ pub(crate) fn denying<'a>(premises: &[&[Ref]], clause: &'a [Ref]) -> Option<(&'a
     Some((front, *last))
 }
 
+/// The same of a step that has two literals or more: those before the last two, and these.
+pub(crate) fn denying_two<'a>(
+    premises: &[&[Ref]],
+    clause: &'a [Ref],
+) -> Option<(&'a [Ref], Ref, Ref)>
+    ensures split { IfSome result (λ p. (clauses_of premises.now ≡ []) × (clause.now ≡ (p.0.now ++ p.1 ∷ []) ++ p.2 ∷ [])) }
+    ensures other { IfNone result ((front : List ℕ) (q r : ℕ) → clauses_of premises.now ≡ [] → clause.now ≢ (front ++ q ∷ []) ++ r ∷ []) }
+{
+    let Some(split) = denying(premises, clause) else {
+        return None;
+    };
+    let Some((first, front)) = split.0.split_last() else {
+        return None;
+    };
+    Some((front, *first, split.1))
+}
+
 /// The reference at a place.
 pub(crate) fn item(list: &[Ref], place: usize) -> Ref
     requires { place < length list.now }

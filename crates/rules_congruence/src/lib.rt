@@ -11,6 +11,7 @@ mod checks;
 mod clauses;
 mod congruence;
 mod links;
+mod predicates;
 mod sides;
 mod signed;
 mod together;

@@ -79,7 +79,7 @@ fn together(
 }
 
 /// Whether two terms are applications of one head whose arguments hang together by the equalities.
-fn are_congruent(
+pub(crate) fn are_congruent(
     alloc: Global,
     uses: Uses,
     symbols: &Symbols,

@@ -1,6 +1,6 @@
 use Rattle.std.proofs.lemmas.Result.{IfOk-weaker}
 use Rattle.rules_congruence.proofs.PartLemmas.{false_is}
-use Rattle.rules_congruence.proofs.StepLemmas.{none_left, cong_by, eq_congruent_by}
+use Rattle.rules_congruence.proofs.StepLemmas.{none_left, cong_by, eq_congruent_by, eq_congruent_pred_by}
 use Rattle.rules_congruence.proofs.checks.meets.Goals as goal
 
 pub returns-in-Symm-clause-met : goal.returns-in-Symm-clause-met
@@ -31,6 +31,11 @@ returns-in-EqCongruent-clause-met c =
     rw c.in-EqCongruent.is
     (IfOk-weaker c.meets_eq_congruent.result _ _ (λ b test ps ts premises clause. eq_congruent_by c.args.mode b ps ts (test ps ts premises clause)) (rw c.denied_uses_of.ensures at c.meets_eq_congruent.ensures.met))
 
+pub returns-in-EqCongruentPred-clause-met : goal.returns-in-EqCongruentPred-clause-met
+returns-in-EqCongruentPred-clause-met c =
+    rw c.in-EqCongruentPred.is
+    (IfOk-weaker c.meets_eq_congruent_pred.result _ _ (λ b test ps ts premises clause. eq_congruent_pred_by c.args.mode b ps ts (test ps ts premises clause)) (rw c.denied_uses_of-in-EqCongruentPred.ensures at c.meets_eq_congruent_pred.ensures.met))
+
 pub returns-in_default-clause-met : goal.returns-in_default-clause-met
 returns-in_default-clause-met c ps ts premises clause =
-    false_is (none_left c.args.mode c.args.rule ps ts c.requires.decided c.in_default.not-Symm c.in_default.not-NotSymm c.in_default.not-EqReflexive c.in_default.not-EqSymmetric c.in_default.not-Trans c.in_default.not-EqTransitive c.in_default.not-Cong c.in_default.not-EqCongruent)
+    false_is (none_left c.args.mode c.args.rule ps ts c.in_default.not-Symm c.in_default.not-NotSymm c.in_default.not-EqReflexive c.in_default.not-EqSymmetric c.in_default.not-Trans c.in_default.not-EqTransitive c.in_default.not-Cong c.in_default.not-EqCongruent c.in_default.not-EqCongruentPred)

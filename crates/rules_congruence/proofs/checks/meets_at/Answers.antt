@@ -1,9 +1,9 @@
-use Rattle.std.proofs.Common.{◌≢◌, ◌∙◌, ap, sym, subst}
+use Rattle.std.proofs.Common.{◌∙◌, ap, sym, subst}
 use Rattle.std.proofs.lemmas.Result.{IfOk-weaker}
-use Rattle.rule_model.specs.declared.rules.Rule.{Rule}
 use Rattle.rule_model.specs.Congruence.{IsOfEquality}
 use Rattle.rules_congruence.specs.Clauses.{clauses_of}
-use Rattle.rules_congruence.proofs.StepLemmas.{are_terms, are_clauses, step_refers, met_by}
+use Rattle.rules_congruence.proofs.PredicateLemmas.{are_truths}
+use Rattle.rules_congruence.proofs.StepLemmas.{are_clauses, step_refers, met_by}
 use Rattle.rules_congruence.proofs.checks.meets_at.Goals as goal
 
 pub meets-requires-clause-premises : goal.meets-requires-clause-premises
@@ -24,7 +24,7 @@ meets-requires-clause-clause c =
     let i = c.args.i in
     let step = step_refers s v refs c.requires.stand.proof i c.as_slice-premises.result.now c.clause-clause.result.now (λ j. c.terms_correspond.ensures.clause s v refs c.requires.stand.proof j c.requires.stand.stand)
     (c.commands_correspond.ensures.premises s v refs c.requires.stand.proof i c.requires.stand.stand) (ap clauses_of c.as_slice-premises.ensures.value ∙ c.in_ok-list.ensures) c.clause-clause.ensures in
-    are_terms s v _ _ step.1
+    are_truths s v _ _ step.1 (c.requires.sorted c.requires.stand.proof c.requires.stand.stand)
 
 pub returns-clause-meets : goal.returns-clause-meets
 returns-clause-meets c =
@@ -36,6 +36,3 @@ returns-clause-meets c =
     let step = step_refers s v refs of i c.as_slice-premises.result.now c.clause-clause.result.now (λ j. c.terms_correspond.ensures.clause s v refs of j stand)
     (c.commands_correspond.ensures.premises s v refs of i stand) (ap clauses_of c.as_slice-premises.ensures.value ∙ c.in_ok-list.ensures) c.clause-clause.ensures in
     met_by c.args.mode of i c.rule-rule.result b (c.rule-rule.ensures ∙ c.commands_correspond.ensures.rule s v refs of i stand) (subst IsOfEquality (sym c.rule-rule.ensures) c.requires.equality) (test _ _ step.0 step.1)) c.meets.ensures.met
-
-pub meets-requires-clause-decided : goal.meets-requires-clause-decided
-meets-requires-clause-decided c = subst (λ rule. rule ≢ Rule.EqCongruentPred) (sym c.rule-rule.ensures) c.requires.decided
