@@ -1,5 +1,6 @@
 pub mod Discharged
 pub mod Scanning
+pub mod Deeper
 pub mod Zips
 pub mod Fronts
 pub mod Begins

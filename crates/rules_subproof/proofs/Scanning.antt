@@ -50,3 +50,12 @@ module _ (proof : ProofItems ℕ ℕ) (i k : ℕ) (list : List ℕ) where
 
   pub not_known : (n : ℕ) → n < i → ((scope_at proof n ≡ k) × (is_assume (rule_at proof n) ≡ true)) → ¬ Contains list n → ¬ ((j : ℕ) → IsAssumeIn proof i k j → Contains list j)
   not_known n below one none all = none (all n (record { before = below; scope = one.0; assume = one.1 }))
+
+  -- what stands inside a scope that a command closes does not stand directly around it
+  pub known_back : (n b : ℕ) → k ≤ scope_at proof n → ((m : ℕ) → b ≤ m → m < n → scope_at proof n < scope_at proof m) → AreKnown n → AreKnown b
+  known_back n b inside skipped known j h a = go (below_or j n)
+    where
+      go : (n ≤ j) ⊎ (j < n) → Contains list j
+      go (inl later) = known j later a
+      go (inr earlier) =
+          let deeper = skipped j h earlier in let scope = a.scope in absurd (omega arith)
