@@ -7,6 +7,7 @@ use Rattle.term_reader.specs.declared.layers.Layer.{Layer}
 use Rattle.text_items.specs.NameNodes.{BeginsAt, IsNameNode}
 use Rattle.term_reader.specs.Layers.{IsForm, AreForms, AreBinds, AreTermAttributes}
 use Rattle.std.specs.List.{list_any}
+use denote.Bor.{Bor}
 use Rattle.sexpr.specs.declared.causes.Cause.{Cause}
 use Rattle.sexpr.specs.declared.words.WordKind.{WordKind}
 use Rattle.sexpr.specs.declared.words.WordKind.TheVariants.{BitLiteral, Numeral, Decimal}
