@@ -1,3 +1,4 @@
 pub mod Ids
 pub mod IdsInUse
 pub mod HeldIds
+pub mod CommandItems
