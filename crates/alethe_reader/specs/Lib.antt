@@ -1,3 +1,5 @@
 pub mod Ids
 pub mod IdsInUse
 pub mod HeldIds
+pub mod Sessions
+pub mod Answers

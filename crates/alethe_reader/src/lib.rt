@@ -7,5 +7,7 @@
 
 pub mod ids;
 pub mod laws;
+pub mod session;
 
 pub use ids::Ids;
+pub use session::Session;
