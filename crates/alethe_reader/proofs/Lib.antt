@@ -1,2 +1,4 @@
 mod IdLemmas
 pub mod IdsInUse
+pub mod Answering
+mod ItemsApart

@@ -2,3 +2,5 @@ pub mod Ids
 pub mod IdsInUse
 pub mod HeldIds
 pub mod CommandItems
+pub mod Sessions
+pub mod Answers

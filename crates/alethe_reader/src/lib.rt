@@ -8,5 +8,7 @@
 mod command_items;
 pub mod ids;
 pub mod laws;
+pub mod session;
 
 pub use ids::Ids;
+pub use session::Session;
