@@ -5,6 +5,7 @@
 //! `rule_model` has it.
 #![tactic(auto)]
 
+pub mod bound;
 mod command_items;
 pub mod ids;
 pub mod laws;
