@@ -1,4 +1,3 @@
 mod IdLemmas
 pub mod IdsInUse
 pub mod Answering
-mod ItemsApart

@@ -1,7 +1,8 @@
 pub mod Ids
 pub mod IdsInUse
 pub mod HeldIds
-pub mod CommandItems
+pub mod Reading
+pub mod TextReading
 pub mod Bound
 pub mod Sessions
 pub mod Answers

@@ -6,10 +6,12 @@
 #![tactic(auto)]
 
 pub mod bound;
-mod command_items;
 pub mod ids;
 pub mod laws;
+mod performing;
+mod proof_reading;
 pub mod session;
+mod text_reading;
 
 pub use ids::Ids;
 pub use session::Session;

@@ -15,7 +15,7 @@ use Rattle.text_items.specs.Nodes.{IsNode}
 use Rattle.text_items.specs.declared.nodes.Node.{Node}
 use Rattle.alethe_text.specs.Commands.{is_symbol_of}
 use Rattle.alethe_text.specs.ProofTexts.{behind_answer, commands_in, is_list_of_commands}
-use Rattle.alethe_reader.specs.CommandItems.{HasItems, IsEnd, IsFirst, IsFound, behind_list, is_close, is_bracket}
+use Rattle.alethe_items.specs.TextItems.{HasItems, IsEnd, IsFirst, IsFound, behind_list, is_close, is_bracket}
 
 -- what reading one token tells of the tokens that are left
 abbrev Begins : Read → List Token → Type 0

@@ -1,4 +1,4 @@
--- Private. A proof's text that is being read, command by command: they stand by themselves or in one list.
+-- Public. A proof's text that is being read, item by item: its commands stand by themselves or in one list.
 use Rattle.std.specs.Prelude.{◌≡◌, ℕ, Bool, true, false, if◌then◌else◌, List, [], length}
 use Rattle.sexpr.specs.declared.lexing.Token.{Token}
 use Rattle.sexpr.specs.declared.lexing.TokenKind.{TokenKind}
