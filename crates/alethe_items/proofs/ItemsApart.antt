@@ -1,5 +1,5 @@
 -- The items of a proof's text, the first one after the other, and how they begin.
-use Rattle.std.proofs.Common.{◌≡◌, ◌≢◌, refl, sym, ◌∙◌, ap, subst, ℕ, List, [], ◌∷◌, length, Bool, true, false, Ok, Err, Option, Some, None, bytes_eq, unwrap_or}
+use Rattle.std.proofs.Common.{◌≡◌, ◌≢◌, refl, sym, ◌∙◌, ap, subst, ℕ, List, [], ◌∷◌, length, Bool, true, false, Ok, Err, Option, Some, None, bytes_eq, unwrap_or, if◌then◌else◌}
 use Rattle.std.specs.Prelude.{codes}
 use Rattle.sexpr.specs.declared.causes.Refusal.{Refusal}
 use Rattle.sexpr.specs.declared.lexing.Lexer.{Lexer}
@@ -12,10 +12,11 @@ use Rattle.sexpr.specs.Tokens.{Read, next_token, AreTokens, token_text}
 use Rattle.text_items.specs.ItemShapes.{name_at, excess, items_of}
 use Rattle.text_items.specs.Lexers.{GoesOnWith}
 use Rattle.text_items.specs.Nodes.{IsNode}
+use Rattle.text_items.specs.Spelling.{is_list_item}
 use Rattle.text_items.specs.declared.nodes.Node.{Node}
 use Rattle.alethe_text.specs.Commands.{is_symbol_of}
 use Rattle.alethe_text.specs.ProofTexts.{behind_answer, commands_in, is_list_of_commands}
-use Rattle.alethe_items.specs.TextItems.{HasItems, IsEnd, IsFirst, IsFound, behind_list, is_close, is_bracket}
+use Rattle.alethe_items.specs.TextItems.{HasItems, IsEnd, IsFirst, IsFound, behind_list, is_open, is_close, is_bracket, begins_bracket}
 
 -- what reading one token tells of the tokens that are left
 abbrev Begins : Read → List Token → Type 0
@@ -32,6 +33,10 @@ not_faulty (t ∷ ts) r h = cc h
 
 pub no_fault : (text : List ℕ) (at : ℕ) (in_list : Bool) (items behind : Items) (r : Refusal) → next_token text at ≡ Err r → HasItems text in_list at items behind → ⊥
 no_fault text at in_list items behind r is h = not_faulty h.tokens r (subst (λ (x : Read). Begins x h.tokens) is (begins text at h.tokens h.read))
+
+-- another name for the text and the place
+pub moved : (text more : List ℕ) (at to : ℕ) {items : Items} → more ≡ text → to ≡ at → HasItems text false at items no_items → HasItems more false to items no_items
+moved text more at to {items} e f h = subst (λ (x : List ℕ). HasItems x false to items no_items) (sym e) (subst (λ (n : ℕ). HasItems text false n items no_items) (sym f) h)
 
 -- no item begins without a token, nor with a closing bracket
 no_token : (text : List ℕ) (i : Item) (rest : List Token) → IsItem text [] i rest → ⊥
@@ -205,7 +210,7 @@ spelled_as text t after (quoted place spelling) rest h =
     ap (λ (x : Token). name_of (name_spelled x.kind (token_text text x))) e ∙ rw (h.same_kind, h.same_spelling) refl
 spelled_as text t after (string place spelling) rest h =
     let e = same_first t h.token after rest h.first in
-    ap (λ (x : Token). name_of (name_spelled x.kind (token_text text x))) e ∙ rw (h.same_kind, h.same_spelling) refl
+    ap (λ (x : Token). name_of (name_spelled x.kind (token_text text x))) e ∙ rw h.same_kind refl
 spelled_as text t after (list place items) rest (open_bracket, inside, behind, close_bracket, h, _, _, _) =
     let e = same_first t open_bracket after inside h.first in
     ap (λ (x : Token). name_of (name_spelled x.kind (token_text text x))) e ∙ rw h.same_kind refl
@@ -237,6 +242,22 @@ module _ (text : List ℕ) (at : ℕ) (t : Token) (items : Items) (is : next_tok
       let w = starts text false at t items no_items is h in
       split_with text false t items no_items w.tokens w.after (by_itself items w.tokens w.after w.nested w.end.0) w.read w.nested w.end
 
+  other_end : (others : Items) (middle after : List Token) → AreItems text middle others after → IsEnd text false after no_items → AreItems text middle others []
+  other_end others middle after rest end = subst (λ (x : List Token). AreItems text middle others x) end.0 rest
+
+  next_is : (tokens : List Token) (v : Token) (rest : List Token) → tokens ≡ v ∷ rest → AreTokens text t.end tokens → next_token text t.end ≡ Ok (Some v)
+  next_is tokens v rest e read = (subst (λ (x : List Token). AreTokens text t.end x) e read).0
+
+  is_list_first : (i : Item) → is_bracket (kind_of i) ≡ is_list_item i
+  is_list_first (word place spelling) = refl
+  is_list_first (quoted place spelling) = refl
+  is_list_first (string place spelling) = refl
+  is_list_first (list place inside) = refl
+
+  begins_with : (head : Item) (tokens mid : List Token) → IsItem text tokens head mid → AreTokens text t.end tokens → begins_bracket (next_token text t.end) ≡ is_list_item head
+  begins_with head [] mid here read = absurd (no_token text head mid here)
+  begins_with head (v ∷ vs) mid here read = ap begins_bracket read.0 ∙ (ap is_bracket (first_kind text v vs head mid here) ∙ is_list_first head)
+
   left_behind : (i : Item) (others : Items) (b : Bool) → is_symbol_of (codes "unsat") i ≡ b → behind_answer (item i others) ≡ (if b then others else item i others)
   left_behind i others b e = rw e refl
 
@@ -257,6 +278,66 @@ module _ (text : List ℕ) (at : ℕ) (t : Token) (items : Items) (is : next_tok
   pub first_at : Some t.start ≡ excess items
   first_at = let p = begins_item in ap Some (first_place text t p.tokens p.first p.middle p.here) ∙ ap excess (sym p.same)
 
+  -- a list begins with a bracket, and within it stands another bracket or no item
+  list_with : (i : Item) (others : Items) (tokens middle after : List Token) → AreTokens text t.end tokens → IsItem text (t ∷ tokens) i middle → AreItems text middle others after → IsEnd text false after no_items → is_open t.kind ≡ true
+      → (is_list_of_commands i ≡ begins_bracket (next_token text t.end)) × HasItems text true t.end (items_of i) others
+  list_with (word place spelling) others tokens middle after read here rest end opens = absurd (let e = sym (ap is_open (first_kind text t tokens (word place spelling) middle here)) ∙ opens in cc)
+  list_with (quoted place spelling) others tokens middle after read here rest end opens = absurd (let e = sym (ap is_open (first_kind text t tokens (quoted place spelling) middle here)) ∙ opens in cc)
+  list_with (string place spelling) others tokens middle after read here rest end opens = absurd (let e = sym (ap is_open (first_kind text t tokens (string place spelling) middle here)) ∙ opens in cc)
+  list_with (list place no_items) others tokens middle after read (open_bracket, inside, closing, close_bracket, h, _, nested, g) rest end opens =
+      let same : tokens ≡ close_bracket ∷ middle = same_rest t open_bracket tokens inside h.first ∙ (nested ∙ g.first) in
+      (sym (ap begins_bracket (next_is tokens close_bracket middle same read) ∙ ap is_bracket g.same_kind),
+       record { tokens = tokens; after = close_bracket ∷ middle; read = read; nested = same; end = (close_bracket, middle, record { first = refl; same_kind = g.same_kind }, other_end others middle after rest end) })
+  list_with (list place (item head more)) others tokens middle after read (open_bracket, inside, closing, close_bracket, h, _, (mid, first_here, then_more), g) rest end opens =
+      let same : tokens ≡ inside = same_rest t open_bracket tokens inside h.first in
+      let first_there : IsItem text tokens head mid = subst (λ (x : List Token). IsItem text x head mid) (sym same) first_here in
+      (sym (begins_with head tokens mid first_there read),
+       record {
+         tokens = tokens;
+         after = closing;
+         read = read;
+         nested = (mid, first_there, then_more);
+         end = (close_bracket, middle, record { first = g.first; same_kind = g.same_kind }, other_end others middle after rest end);
+       })
+
+  opens_no_list : (i : Item) (tokens middle : List Token) → IsItem text (t ∷ tokens) i middle → is_open t.kind ≡ false → is_list_of_commands i ≡ false
+  opens_no_list (word place spelling) tokens middle here opens = refl
+  opens_no_list (quoted place spelling) tokens middle here opens = refl
+  opens_no_list (string place spelling) tokens middle here opens = refl
+  opens_no_list (list place inside) tokens middle here opens = absurd (let e = sym (ap is_open (first_kind text t tokens (list place inside) middle here)) ∙ opens in cc)
+
+  commands_with : (i : Item) (others : Items) (b : Bool) → is_list_of_commands i ≡ b → commands_in (item i others) ≡ (if b then items_of i else item i others)
+  commands_with i others b e = rw e refl
+
+  behind_with : (i : Item) (others : Items) (b : Bool) → is_list_of_commands i ≡ b → behind_list (item i others) ≡ (if b then others else no_items)
+  behind_with i others b e = rw e refl
+
+  by_themselves : (i : Item) (others : Items) → items ≡ item i others → is_list_of_commands i ≡ false → HasItems text false at (commands_in items) (behind_list items)
+  by_themselves i others same no_list =
+      subst (λ (x : Items). HasItems text false at x (behind_list items)) (same ∙ sym (ap commands_in same ∙ commands_with i others false no_list))
+      (subst (λ (x : Items). HasItems text false at items x) (sym (ap behind_list same ∙ behind_with i others false no_list)) h)
+
+  pub no_bracket : is_open t.kind ≡ false → HasItems text false at (commands_in items) (behind_list items)
+  no_bracket opens = let p = begins_item in by_themselves p.first p.others p.same (opens_no_list p.first p.tokens p.middle p.here opens)
+
+  pub no_list : is_open t.kind ≡ true → begins_bracket (next_token text t.end) ≡ false → HasItems text false at (commands_in items) (behind_list items)
+  no_list opens e =
+      let p = begins_item in
+      by_themselves p.first p.others p.same ((list_with p.first p.others p.tokens p.middle p.after p.read p.here p.rest p.end opens).0 ∙ e)
+
+  pub in_a_list : is_open t.kind ≡ true → begins_bracket (next_token text t.end) ≡ true → HasItems text true t.end (commands_in items) (behind_list items)
+  in_a_list opens e =
+      let p = begins_item in
+      let w = list_with p.first p.others p.tokens p.middle p.after p.read p.here p.rest p.end opens in
+      let is = w.0 ∙ e in
+      subst (λ (x : Items). HasItems text true t.end x (behind_list items)) (sym (ap commands_in p.same ∙ commands_with p.first p.others true is))
+      (subst (λ (x : Items). HasItems text true t.end (items_of p.first) x) (sym (ap behind_list p.same ∙ behind_with p.first p.others true is)) w.1)
+
 -- a text without items has no answer and no list
 pub nothing_skipped : (text : List ℕ) (at : ℕ) (items : Items) → items ≡ no_items → HasItems text false at items no_items → HasItems text false at (behind_answer items) no_items
 nothing_skipped text at items none h = subst (λ (x : Items). HasItems text false at x no_items) (none ∙ sym (ap behind_answer none)) h
+
+pub nothing_entered : (text : List ℕ) (at : ℕ) (items : Items) → items ≡ no_items → HasItems text false at items no_items → HasItems text false at (commands_in items) (behind_list items)
+nothing_entered text at items none h =
+    subst (λ (x : Items). HasItems text false at x (behind_list items)) (none ∙ sym (ap commands_in none))
+    (subst (λ (x : Items). HasItems text false at items x) (sym (ap behind_list none)) h)

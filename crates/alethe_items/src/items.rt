@@ -3,10 +3,10 @@
 ghost use Rattle.std.specs.Prelude.{◌≡◌, ◌≤◌, ◌<◌, ◌+◌, length, codes, bytes_eq, unwrap_or, [], IsTrue, IfOk, true, false};
 ghost use Rattle.sexpr.specs.Items.{Items, no_items, name_spelled};
 ghost use Rattle.sexpr.specs.Source as at;
-ghost use Rattle.sexpr.specs.Tokens.{token_text};
+ghost use Rattle.sexpr.specs.Tokens.{next_token, token_text};
 ghost use Rattle.text_items.specs.ItemShapes as shape;
 ghost use Rattle.alethe_text.specs.ProofTexts.{behind_answer, commands_in};
-ghost use Rattle.alethe_items.specs.TextItems.{HasItems, IsFound, behind_list, is_close, is_bracket};
+ghost use Rattle.alethe_items.specs.TextItems.{HasItems, IsFound, behind_list, is_open, is_close, is_bracket, begins_bracket};
 
 use sexpr::{Lexer, Token, TokenKind, symbol_name};
 use std::alloc::AllocError;
@@ -17,6 +17,24 @@ fn is_close(token: Token) -> bool
     ensures { result ≡ is_close token.kind }
 {
     token.kind == TokenKind::Close
+}
+
+/// Whether a token opens a list.
+fn is_open(token: Token) -> bool
+    ensures { result ≡ is_open token.kind }
+{
+    token.kind == TokenKind::Open
+}
+
+/// Whether the next token is a bracket.
+fn begins_bracket(lexer: Lexer<'_>) -> bool
+    ensures { result ≡ begins_bracket (next_token (at.source lexer.entry) (at.position lexer.entry)) }
+{
+    let mut ahead = lexer;
+    match ahead.next() {
+        Ok(Some(token)) => is_bracket(token),
+        _ => false,
+    }
 }
 
 /// Whether a token opens or closes a list.
@@ -65,21 +83,14 @@ pub fn enter_list(lexer: &mut Lexer<'_>) -> bool
     ensures behind { at.position lexer.old ≤ at.position lexer.new }
     ensures inside { at.position lexer.old ≤ length (at.source lexer.old) → at.position lexer.new ≤ length (at.source lexer.old) }
 {
-    let mut ahead = *lexer;
-    let Ok(found) = ahead.next() else {
+    let mut within = *lexer;
+    let Ok(found) = within.next() else {
         unreachable!()
     };
     let Some(first) = found else {
         return false;
     };
-    if first.kind != TokenKind::Open {
-        return false;
-    }
-    let within = ahead;
-    let Ok(Some(second)) = ahead.next() else {
-        unreachable!()
-    };
-    if !is_bracket(second) {
+    if !is_open(first) || !begins_bracket(within) {
         return false;
     }
     *lexer = within;
@@ -110,12 +121,16 @@ pub fn next_item(lexer: &mut Lexer<'_>, in_list: bool, nodes: &mut Vec<Node>) ->
 }
 
 /// The place of the next item, where there is one.
-pub fn excess(mut lexer: Lexer<'_>) -> Option<u64>
+pub fn excess(lexer: Lexer<'_>) -> Option<u64>
     requires { (items : Items) × HasItems (at.source lexer) false (at.position lexer) items no_items }
-    ensures { (items : Items) → HasItems (at.source lexer) false (at.position lexer) items no_items → result ≡ shape.excess items }
+    ensures { (items : Items) → HasItems (at.source lexer.entry) false (at.position lexer.entry) items no_items → result ≡ shape.excess items }
 {
-    let Ok(found) = lexer.next() else {
+    let mut ahead = lexer;
+    let Ok(found) = ahead.next() else {
         unreachable!()
     };
-    found.map(|first| first.start)
+    match found {
+        Some(first) => Some(first.start),
+        None => None,
+    }
 }

@@ -1,0 +1,6 @@
+use Rattle.std.proofs.Common.{sym, ◌∙◌, ap, Ok}
+use Rattle.alethe_items.proofs.ItemsApart.{no_fault, text_ends, first_at}
+use Rattle.alethe_items.proofs.items.excess.Goals as goal
+
+pub unreachable-requires : goal.unreachable-requires
+unreachable-requires c = let (items, h) = c.requires in no_fault _ _ _ items _ _ (sym c.next.ensures.exact ∙ c.in_default.is) h
