@@ -1,12 +1,12 @@
 -- The items of a proof's text, the first one after the other, and how they begin.
-use Rattle.std.proofs.Common.{◌≡◌, ◌≢◌, refl, sym, ◌∙◌, ap, subst, ℕ, List, [], ◌∷◌, length, Bool, true, false, Ok, Err, Option, Some, None, bytes_eq, unwrap_or, if◌then◌else◌}
+use Rattle.std.proofs.Common.{◌≡◌, refl, sym, ◌∙◌, ap, subst, ℕ, List, [], ◌∷◌, length, Bool, true, false, Ok, Err, Option, Some, None, bytes_eq, unwrap_or, if◌then◌else◌}
 use Rattle.std.specs.Prelude.{codes}
 use Rattle.sexpr.specs.declared.causes.Refusal.{Refusal}
 use Rattle.sexpr.specs.declared.lexing.Lexer.{Lexer}
 use Rattle.sexpr.specs.declared.lexing.Token.{Token}
 use Rattle.sexpr.specs.declared.lexing.TokenKind.{TokenKind}
 use Rattle.sexpr.specs.declared.lexing.TokenKind.TheVariants.{Open, Close, Text, Quoted, Word}
-use Rattle.sexpr.specs.Items.{Item, word, quoted, string, list, Items, no_items, item, place_of, symbol_name, name_spelled, IsBracket, IsItem, AreItems, StandsForItems}
+use Rattle.sexpr.specs.Items.{Item, word, quoted, string, list, Items, no_items, item, place_of, name_spelled, IsItem, AreItems}
 use Rattle.sexpr.specs.Source.{source, position}
 use Rattle.sexpr.specs.Tokens.{Read, next_token, AreTokens, token_text}
 use Rattle.text_items.specs.ItemShapes.{name_at, excess, items_of}
@@ -16,7 +16,7 @@ use Rattle.text_items.specs.Spelling.{is_list_item}
 use Rattle.text_items.specs.declared.nodes.Node.{Node}
 use Rattle.alethe_text.specs.Commands.{is_symbol_of}
 use Rattle.alethe_text.specs.ProofTexts.{behind_answer, commands_in, is_list_of_commands}
-use Rattle.alethe_items.specs.TextItems.{HasItems, IsEnd, IsFirst, IsFound, behind_list, is_open, is_close, is_bracket, begins_bracket}
+use Rattle.alethe_items.specs.TextItems.{HasItems, IsEnd, IsFirst, behind_list, is_open, is_close, is_bracket, begins_bracket}
 
 -- what reading one token tells of the tokens that are left
 abbrev Begins : Read → List Token → Type 0
@@ -194,7 +194,7 @@ item_found l m text in_list at t nodes e same behind is opens here left items ot
       split = p.same;
       here = here p.first p.middle goes;
       left = same_text (source l) (source m) in_list (position m) p.others others same
-      (record { tokens = p.middle; after = p.after; read = subst (λ (x : List ℕ). AreTokens x (position m) p.middle) same (left p.first p.middle goes); nested = p.rest; end = p.end });
+          (record { tokens = p.middle; after = p.after; read = subst (λ (x : List ℕ). AreTokens x (position m) p.middle) same (left p.first p.middle goes); nested = p.rest; end = p.end });
     }
 
 -- the answer of the solver, where the text begins with it
@@ -285,20 +285,22 @@ module _ (text : List ℕ) (at : ℕ) (t : Token) (items : Items) (is : next_tok
   list_with (quoted place spelling) others tokens middle after read here rest end opens = absurd (let e = sym (ap is_open (first_kind text t tokens (quoted place spelling) middle here)) ∙ opens in cc)
   list_with (string place spelling) others tokens middle after read here rest end opens = absurd (let e = sym (ap is_open (first_kind text t tokens (string place spelling) middle here)) ∙ opens in cc)
   list_with (list place no_items) others tokens middle after read (open_bracket, inside, closing, close_bracket, h, _, nested, g) rest end opens =
-      let same : tokens ≡ close_bracket ∷ middle = same_rest t open_bracket tokens inside h.first ∙ (nested ∙ g.first) in
-      (sym (ap begins_bracket (next_is tokens close_bracket middle same read) ∙ ap is_bracket g.same_kind),
-       record { tokens = tokens; after = close_bracket ∷ middle; read = read; nested = same; end = (close_bracket, middle, record { first = refl; same_kind = g.same_kind }, other_end others middle after rest end) })
+      let same : tokens ≡ close_bracket ∷ middle = same_rest t open_bracket tokens inside h.first ∙ (nested ∙ g.first) in (
+        sym (ap begins_bracket (next_is tokens close_bracket middle same read) ∙ ap is_bracket g.same_kind),
+        record { tokens = tokens; after = close_bracket ∷ middle; read = read; nested = same; end = (close_bracket, middle, record { first = refl; same_kind = g.same_kind }, other_end others middle after rest end) },
+      )
   list_with (list place (item head more)) others tokens middle after read (open_bracket, inside, closing, close_bracket, h, _, (mid, first_here, then_more), g) rest end opens =
       let same : tokens ≡ inside = same_rest t open_bracket tokens inside h.first in
-      let first_there : IsItem text tokens head mid = subst (λ (x : List Token). IsItem text x head mid) (sym same) first_here in
-      (sym (begins_with head tokens mid first_there read),
-       record {
-         tokens = tokens;
-         after = closing;
-         read = read;
-         nested = (mid, first_there, then_more);
-         end = (close_bracket, middle, record { first = g.first; same_kind = g.same_kind }, other_end others middle after rest end);
-       })
+      let first_there : IsItem text tokens head mid = subst (λ (x : List Token). IsItem text x head mid) (sym same) first_here in (
+        sym (begins_with head tokens mid first_there read),
+        record {
+          tokens = tokens;
+          after = closing;
+          read = read;
+          nested = (mid, first_there, then_more);
+          end = (close_bracket, middle, record { first = g.first; same_kind = g.same_kind }, other_end others middle after rest end);
+        },
+      )
 
   opens_no_list : (i : Item) (tokens middle : List Token) → IsItem text (t ∷ tokens) i middle → is_open t.kind ≡ false → is_list_of_commands i ≡ false
   opens_no_list (word place spelling) tokens middle here opens = refl

@@ -98,7 +98,11 @@ pub fn enter_list(lexer: &mut Lexer<'_>) -> bool
 }
 
 /// Reads the next command of a text into the nodes, and answers whether there was one. Refuses want of memory alone.
-pub fn next_item(lexer: &mut Lexer<'_>, in_list: bool, nodes: &mut Vec<Node>) -> Result<bool, AllocError>
+pub fn next_item(
+    lexer: &mut Lexer<'_>,
+    in_list: bool,
+    nodes: &mut Vec<Node>,
+) -> Result<bool, AllocError>
     requires { (items : Items) × (behind : Items) × HasItems (at.source lexer.old) in_list (at.position lexer.old) items behind }
     ensures item { (items behind : Items) → HasItems (at.source lexer.old) in_list (at.position lexer.old) items behind → IfOk result (IsFound (at.source lexer.new) in_list nodes.new.items (at.position lexer.new) items behind) }
     ensures source { at.source lexer.new ≡ at.source lexer.old }

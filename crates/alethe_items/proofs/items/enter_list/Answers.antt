@@ -1,6 +1,5 @@
-use Rattle.std.proofs.Common.{sym, ◌∙◌, ap, Ok}
-use Rattle.sexpr.specs.Tokens.{place_after}
-use Rattle.alethe_items.proofs.ItemsApart.{no_fault, text_ends, nothing_entered, no_bracket, no_list, in_a_list, moved}
+use Rattle.std.proofs.Common.{sym, ◌∙◌}
+use Rattle.alethe_items.proofs.ItemsApart.{no_fault}
 use Rattle.alethe_items.proofs.items.enter_list.Goals as goal
 
 pub unreachable-requires : goal.unreachable-requires

@@ -1,5 +1,5 @@
-use Rattle.std.proofs.Common.{sym, ◌∙◌, ap, Ok}
-use Rattle.alethe_items.proofs.ItemsApart.{no_fault, text_ends, first_at}
+use Rattle.std.proofs.Common.{sym, ◌∙◌}
+use Rattle.alethe_items.proofs.ItemsApart.{no_fault}
 use Rattle.alethe_items.proofs.items.excess.Goals as goal
 
 pub unreachable-requires : goal.unreachable-requires

@@ -1,5 +1,4 @@
-use Rattle.std.proofs.Common.{sym, ◌∙◌, ap, subst, Ok}
-use Rattle.sexpr.specs.Source.{source}
+use Rattle.std.proofs.Common.{sym, ◌∙◌, ap, Ok}
 use Rattle.sexpr.specs.Tokens.{place_after}
 use Rattle.alethe_items.proofs.ItemsApart.{no_fault, text_ends, list_ends, some_item, item_found, moved}
 use Rattle.alethe_items.proofs.items.next_item.Goals as goal

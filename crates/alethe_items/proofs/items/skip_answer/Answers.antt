@@ -1,6 +1,5 @@
-use Rattle.std.proofs.Common.{sym, ◌∙◌, ap, Ok}
-use Rattle.sexpr.specs.Tokens.{place_after}
-use Rattle.alethe_items.proofs.ItemsApart.{no_fault, nothing_skipped, answer_skipped, no_answer, moved}
+use Rattle.std.proofs.Common.{sym, ◌∙◌}
+use Rattle.alethe_items.proofs.ItemsApart.{no_fault}
 use Rattle.alethe_items.proofs.items.skip_answer.Goals as goal
 
 pub unreachable-requires : goal.unreachable-requires
