@@ -56,9 +56,9 @@ module _ (settings : ProofSettings) (n : Name) (i : Item) (p : ProofState) where
 
       -- the assume is added, and its id put in use
       pub is_assumed : (s : Table) (e : Session) → IsSession s v settings e p → Keeps s z → KeepsTerms v w
-          → d.builder ≡ add_assume e.builder n.name c → d.ids ≡ e.ids ++ in_use n.name Assume (next_index e.builder) ∷ [] → d.anchors ≡ e.anchors → d.images ≡ e.images
+          → d.builder ≡ add_assume e.builder n.name c → d.ids ≡ e.ids ++ in_use n.name Assume (next_index e.builder) ∷ [] → d.anchors ≡ e.anchors → d.bound ≡ e.bound
           → Answers z v w (StandsAfter z w settings d) (assume_read settings n i p) (Ok tt)
-      is_assumed s e session table terms built used anchors images =
+      is_assumed s e session table terms built used anchors bound =
           same_outcome (judged (Ok tt) new_id)
           (goes assumed keeps_assumed h (adds_none z).keeps (keeps_none w) (λ t q k. answers tt (record q { scope = add_assume q.scope n.name t }) refl refl (record { session = after t q k })))
         where
@@ -76,6 +76,6 @@ module _ (settings : ProofSettings) (n : Name) (i : Item) (p : ProofState) where
               places = rw (anchors, k.behind.anchors) before.places;
               starts_kept = rw (anchors, built) before.starts_kept;
               counts_kept = rw (anchors, built) before.counts_kept;
-              images = rw (images, k.behind.scope) before.images;
+              bound = rw (bound, k.behind.scope) before.bound;
             };
           }

@@ -6,3 +6,4 @@ pub mod TermAnswers
 mod JudgedIds
 pub mod WrittenStays
 mod AssumeReading
+mod ItemsApart

@@ -14,6 +14,8 @@ use Rattle.alethe_text.specs.States.{ProofState}
 use Rattle.alethe_reader.specs.declared.ids.Role.{Role}
 use Rattle.alethe_reader.specs.declared.ids.Role.TheVariants.{Assume, Step, Anchor}
 use Rattle.alethe_reader.specs.declared.session.Session.{Session}
+use Rattle.alethe_reader.specs.Bound.{AreBound, images_in}
+use Rattle.alethe_reader.specs.declared.bound.BoundVariables.{BoundVariables}
 use Rattle.alethe_reader.specs.Ids.{Used}
 use Rattle.alethe_reader.specs.IdsInUse.{in_use, own_ids, ids_around, ids_in}
 use Rattle.alethe_reader.specs.Sessions.{StandForNesting, IsWritten}
@@ -40,6 +42,9 @@ module _ (s z : Table) (v w : TermsView) (table : Keeps s z) (terms : KeepsTerms
     bindings_stay anchor.bindings other.bindings h.1.1.1,
   )
 
+  bound_stays : (b : BoundVariables) (n : Nesting Var Term) → AreBound s v b n → AreBound z w b n
+  bound_stays b n h = record { names = h.names; images = bindings_stay b.images.items (images_in n) h.images; apart = h.apart }
+
   pub written_stays : (d : Session) (p : ProofState) → IsWritten s v d p → IsWritten z w d p
   written_stays d p h = record {
     nesting = nesting_stays d.builder.nesting p.scope.nesting h.nesting;
@@ -48,7 +53,7 @@ module _ (s z : Table) (v w : TermsView) (table : Keeps s z) (terms : KeepsTerms
     places = h.places;
     starts_kept = h.starts_kept;
     counts_kept = h.counts_kept;
-    images = bindings_stay d.images.items _ h.images;
+    bound = bound_stays d.bound p.scope.nesting h.bound;
   }
 
 -- the ids in use, by references and by terms

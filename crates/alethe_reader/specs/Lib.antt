@@ -1,6 +1,8 @@
 pub mod Ids
 pub mod IdsInUse
 pub mod HeldIds
+pub mod CommandItems
+pub mod Bound
 pub mod Sessions
 pub mod Answers
 pub mod ReadTerms

@@ -4,13 +4,12 @@ use Rattle.std.specs.List.{AllZip}
 use Rattle.sym_table.specs.Table.{Table}
 use Rattle.term_model.specs.Terms.{Var, Term}
 use Rattle.term_pool.specs.Views.{TermsView}
-use Rattle.rule_model.specs.Contexts.{put_in_each, images}
-use Rattle.rule_model.specs.Judged.{open_anchors}
 use Rattle.rule_model.specs.Scopes.{Nesting, outermost, inside, at}
 use Rattle.proof_store.specs.Meaning.{IsBindingOf, StandForItems}
 use Rattle.term_reader.specs.ProblemViews.{ReaderView, IsReaderOf}
 use Rattle.alethe_text.specs.ProofTerms.{place_in}
 use Rattle.alethe_text.specs.States.{ProofSettings, ProofState}
+use Rattle.alethe_reader.specs.Bound.{AreBound}
 use Rattle.alethe_reader.specs.IdsInUse.{ids_in}
 use Rattle.alethe_reader.specs.declared.session.Session.{Session}
 
@@ -32,11 +31,6 @@ abbrev pub counts : Nesting ℕ ℕ → List ℕ
 counts outermost = []
 counts (inside around before anchor) = counts around ++ length anchor.bindings ∷ []
 
--- the images of the variables that the open anchors bind, those of the outermost one first
-abbrev pub images_in : Nesting Var Term → List (Var × Term)
-images_in outermost = []
-images_in (inside around before anchor) = images_in around ++ put_in_each (images (open_anchors around)) anchor.bindings
-
 -- The proof as far as it is written, the ids in use and the open anchors are those of the state.
 pub record IsWritten (s : Table) (v : TermsView) (d : Session) (p : ProofState) : Type 0 where
   pub nesting : StandForNesting s v d.builder.nesting p.scope.nesting
@@ -45,7 +39,7 @@ pub record IsWritten (s : Table) (v : TermsView) (d : Session) (p : ProofState) 
   pub places : map (λ a. a.place) d.anchors.items ≡ p.anchors
   pub starts_kept : map (λ a. a.ids) d.anchors.items ≡ starts d.builder.nesting
   pub counts_kept : map (λ a. a.variables) d.anchors.items ≡ counts d.builder.nesting
-  pub images : AllZip (IsBindingOf s v) d.images.items (images_in p.scope.nesting)
+  pub bound : AreBound s v d.bound p.scope.nesting
 
 -- what was read of a proof, in which nothing is judged strictly, stands for the state
 pub record IsSession (s : Table) (v : TermsView) (settings : ProofSettings) (d : Session) (p : ProofState) : Type 0 where

@@ -1,5 +1,5 @@
 //! Assumes of a proof (Alethe specification, "The Proof Format").
-ghost use Rattle.std.specs.Prelude.{◌≡◌, ◌≤◌, ◌<◌, ◌^◌, ◌+◌, ◌-◌, ℕ, length, ⊤};
+ghost use Rattle.std.specs.Prelude.{◌≡◌, ◌≤◌, ◌<◌, ◌^◌, ◌+◌, ◌-◌, ℕ, length, OnOk};
 ghost use Rattle.sexpr.specs.Items.{Item};
 ghost use Rattle.sexpr.specs.Source.{source};
 ghost use Rattle.term_pool.specs.Views.{KeepsTerms};
@@ -47,8 +47,8 @@ pub fn read_assume(
     ensures few { length symbols.new.leaves ≤ length symbols.old.leaves + (length nodes.now - term) }
     ensures symbols { AddsNoSymbols symbols.old symbols.new }
     ensures keeps { KeepsTerms terms.old terms.new }
-    ensures indices { next_index session.new.builder ≤ next_index session.old.builder + 1 }
-    ensures scopes { next_scope session.new.builder ≤ next_scope session.old.builder }
+    ensures commands { OnOk result (next_index session.new.builder ≡ next_index session.old.builder + 1) }
+    ensures scopes { OnOk result (next_scope session.new.builder ≡ next_scope session.old.builder) }
 {
     let id = named_at(text, nodes, id);
     judge_id(&session.ids, id, Cause::BadAnchor)?;

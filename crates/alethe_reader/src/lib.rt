@@ -11,6 +11,8 @@
 #![tactic(auto)]
 
 mod assuming;
+pub mod bound;
+mod command_items;
 mod formulas;
 pub mod ids;
 mod judging;

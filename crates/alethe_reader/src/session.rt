@@ -1,5 +1,6 @@
 //! A proof that is being read.
 
+use crate::bound::BoundVariables;
 use crate::ids::Ids;
 use pair_pool::Ref;
 use proof_store::{ProofBuilder, Ratio};
@@ -26,13 +27,13 @@ pub struct StepParts {
 }
 
 /// What was read of a proof: the names, the proof as far as it is written, the ids in use, the anchors that are open, the
-/// outermost first, and the images of the variables that they bind, in order.
+/// outermost first, and the variables that they bind.
 #[derive(Drop)]
 pub struct Session<'a> {
     pub reader: TermReader<'a>,
     pub builder: ProofBuilder,
     pub ids: Ids,
     pub anchors: Vec<OpenAnchor>,
-    pub images: Vec<(u32, Ref)>,
+    pub bound: BoundVariables,
     pub parts: StepParts,
 }

@@ -1,0 +1,5 @@
+mod ShapesByNodes
+mod CommandsByNodes
+mod AttributesByNodes
+mod ArgumentsByNodes
+mod NamesByNodes

@@ -1,0 +1,58 @@
+-- The head of the item is its word, and the other items are judged by it.
+use Rattle.std.proofs.Common.{◌∙◌, length, Err, sym, ap, subst, rules}
+use Rattle.sexpr.specs.Source.{source}
+use Rattle.text_items.specs.ItemShapes.{items_of}
+use Rattle.text_items.proofs.NodeItems.{children}
+use Rattle.alethe_commands.specs.CommandNodes.{IsCommand}
+use Rattle.alethe_commands.proofs.CommandsByNodes.{lacks_word, with_word, without_word}
+use Rattle.alethe_commands.proofs.commands.command_of.Goals as goal
+
+pub node_at-word_start-requires : goal.node_at-word_start-requires
+node_at-word_start-requires c =
+    let text = source c.args.text.now in
+    let nodes = c.args.nodes.now in
+    let (i, is) = c.requires in
+    let t = c.in_ok-head.ensures.taken text (items_of i) (children text nodes 0 i (length nodes) is) in
+    (text, (t.first, _, t.here))
+
+pub head_word-requires : goal.head_word-requires
+head_word-requires c =
+    let text = source c.args.text.now in
+    let nodes = c.args.nodes.now in
+    let (i, is) = c.requires in
+    let t = c.in_ok-head.ensures.taken text (items_of i) (children text nodes 0 i (length nodes) is) in
+    (t.first, _, t.here)
+
+pub command_so-requires : goal.command_so-requires
+command_so-requires c =
+    let text = source c.args.text.now in
+    let nodes = c.args.nodes.now in
+    let (i, is) = c.requires in
+    let t = c.in_ok-head.ensures.taken text (items_of i) (children text nodes 0 i (length nodes) is) in
+    (t.others, t.there)
+
+pub returns-in_err-head : goal.returns-in_err-head
+returns-in_err-head c = λ i is.
+    let text = source c.args.text.now in
+    let nodes = c.args.nodes.now in
+    let t = c.in_err-head.ensures.taken text (items_of i) (children text nodes 0 i (length nodes) is) in
+    let e = lacks_word i t.0 _ (c.node_at-start.ensures text i (length nodes) is).start c.in_err-head.field-0.0 t.1 in
+    search rules
+
+pub returns-in-Some : goal.returns-in-Some
+returns-in-Some c = λ i is.
+    let text = source c.args.text.now in
+    let nodes = c.args.nodes.now in
+    let t = c.in_ok-head.ensures.taken text (items_of i) (children text nodes 0 i (length nodes) is) in
+    subst (λ q. IsCommand text nodes c.command_so.result q)
+    (sym (with_word i t.first t.others t.same _ (c.in-Some.ensures t.first _ t.here) c.word_named.result c.word_named.ensures
+    _ _ (c.node_at-start.ensures text i (length nodes) is).start (c.node_at-word_start.ensures text t.first _ t.here).start))
+    (c.command_so.ensures t.others t.there)
+
+pub returns-in-None : goal.returns-in-None
+returns-in-None c = λ i is.
+    let text = source c.args.text.now in
+    let nodes = c.args.nodes.now in
+    let t = c.in_ok-head.ensures.taken text (items_of i) (children text nodes 0 i (length nodes) is) in
+    without_word i t.first t.others t.same (c.in-None.ensures t.first _ t.here) _ (c.node_at-word_start.ensures text t.first _ t.here).start
+    ∙ ap Err (sym c.bad_command.ensures)

@@ -1,0 +1,2 @@
+pub mod CommandNodes
+pub mod CommandShapes

@@ -1,0 +1,184 @@
+//! The attributes of steps and of anchors (Alethe specification, "The Syntax"), told by their nodes.
+ghost use Rattle.std.specs.Prelude.{◌≡◌, ◌<◌, ◌≤◌, ℕ, List, [], Some, None, IfSome, IfNone};
+ghost use Rattle.sexpr.specs.Items.{Item, Items};
+ghost use Rattle.sexpr.specs.Source.{source};
+ghost use Rattle.text_items.specs.Keywords as keywords;
+ghost use Rattle.text_items.specs.Nodes.{IsNode, AreNodes};
+ghost use Rattle.text_items.specs.Stepping.{IsItemAt, AreItemsFrom, AreSomeFrom};
+ghost use Rattle.alethe_text.specs.Commands as shape;
+ghost use Rattle.alethe_commands.specs.CommandNodes.{AreAttributes, HasFirstAttribute};
+ghost use Rattle.alethe_commands.specs.CommandShapes as spec;
+
+use sexpr::Lexer;
+use text_items::keywords::{Keyword, Wanted, attributes_fault, keyword_at};
+use text_items::nodes::Node;
+use text_items::shapes::node_at;
+
+/// An attribute of a step that has an effect, by the node of its rule's name, or by those of what stands in its list, from
+/// `first` to before `end`.
+#[derive(Clone, Copy)]
+pub enum StepAttribute {
+    Rule(usize),
+    Premises { first: usize, end: usize },
+    Arguments { first: usize, end: usize },
+    Discharge { first: usize, end: usize },
+}
+
+/// What an attribute's keyword asks for.
+#[derive(Clone, Copy)]
+enum AttributeWord {
+    Rule,
+    Premises,
+    Arguments,
+    Discharge,
+}
+
+const RULE: Keyword<'static> = Keyword {
+    spelling: b":rule",
+    wants: Wanted::Name,
+    once: true,
+    needed: true,
+};
+
+const PREMISES: Keyword<'static> = Keyword {
+    spelling: b":premises",
+    wants: Wanted::Names,
+    once: true,
+    needed: false,
+};
+
+const ARGUMENTS: Keyword<'static> = Keyword {
+    spelling: b":args",
+    wants: Wanted::AnyList,
+    once: true,
+    needed: false,
+};
+
+const DISCHARGE: Keyword<'static> = Keyword {
+    spelling: b":discharge",
+    wants: Wanted::Names,
+    once: true,
+    needed: false,
+};
+
+const STEP: Keyword<'static> = Keyword {
+    spelling: b":step",
+    wants: Wanted::Name,
+    once: true,
+    needed: false,
+};
+
+/// The first fault of a step's attributes, which stand from `first` to before `end`. The step begins at `place`.
+pub(crate) fn step_attributes_fault(
+    text: &Lexer<'_>,
+    nodes: &[Node],
+    place: u64,
+    first: usize,
+    end: usize,
+) -> Option<u64>
+    requires { AreItemsFrom (source text.now) nodes.now first end }
+    ensures { (items : Items) → AreNodes (source text.now) nodes.now first items end → result ≡ keywords.attributes_fault shape.step_keywords place items }
+{
+    let known = [RULE, PREMISES, ARGUMENTS, DISCHARGE];
+    attributes_fault(text, nodes, &known, place, first, end)
+}
+
+/// The first fault of an anchor's attributes, which stand from `first` to before `end`, as a list of attributes. The anchor
+/// begins at `place`.
+pub(crate) fn anchor_attributes_fault(
+    text: &Lexer<'_>,
+    nodes: &[Node],
+    place: u64,
+    first: usize,
+    end: usize,
+) -> Option<u64>
+    requires { AreItemsFrom (source text.now) nodes.now first end }
+    ensures { (items : Items) → AreNodes (source text.now) nodes.now first items end → result ≡ keywords.attributes_fault shape.anchor_keywords place items }
+{
+    attributes_fault(text, nodes, &[STEP, ARGUMENTS], place, first, end)
+}
+
+/// The next of a step's attributes that stand from `at` to before `end` and have no fault of shape. The others stand behind
+/// `at` then. An attribute without effect is passed.
+pub fn next_attribute(
+    text: &Lexer<'_>,
+    nodes: &[Node],
+    at: &mut usize,
+    end: usize,
+) -> Option<StepAttribute>
+    requires { (attributes : List shape.Attribute) × AreAttributes (source text.now) nodes.now at.old attributes end }
+    ensures some { IfSome result (λ a. (attributes : List shape.Attribute) → AreAttributes (source text.now) nodes.now at.old attributes end → HasFirstAttribute (source text.now) nodes.now a at.new attributes end) }
+    ensures none { IfNone result ((attributes : List shape.Attribute) → AreAttributes (source text.now) nodes.now at.old attributes end → attributes ≡ []) }
+    ensures later { IfSome result (λ _. at.old < at.new) }
+    ensures inside { IfSome result (λ _. at.new ≤ end) }
+{
+    let mut k = *at;
+    'items: while k != end {
+        let next = node_at(nodes, k).next;
+        match attribute_from(text, nodes, k, end) {
+            Some(attribute) => {
+                *at = next;
+                return Some(attribute);
+            }
+            None => k = next,
+        }
+    }
+    None
+}
+
+/// The attribute that the item at node `k` and the one behind it are, where they are one. The attributes end before `end`.
+fn attribute_from(text: &Lexer<'_>, nodes: &[Node], k: usize, end: usize) -> Option<StepAttribute>
+    requires { AreSomeFrom (source text.now) nodes.now k end }
+    ensures some { IfSome result (λ a. (attributes : List shape.Attribute) (i : Item) (next : ℕ) → AreAttributes (source text.now) nodes.now k attributes end → IsNode (source text.now) nodes.now k i next → HasFirstAttribute (source text.now) nodes.now a next attributes end) }
+    ensures none { IfNone result ((attributes : List shape.Attribute) (i : Item) (next : ℕ) → AreAttributes (source text.now) nodes.now k attributes end → IsNode (source text.now) nodes.now k i next → AreAttributes (source text.now) nodes.now next attributes end) }
+{
+    let value = node_at(nodes, k).next;
+    if value == end {
+        return None;
+    }
+    match word_at(text, nodes, k) {
+        Some(word) => Some(attribute_at(nodes, word, value)),
+        None => None,
+    }
+}
+
+/// What the item at a node asks for, where it is the keyword of an attribute that has an effect.
+fn word_at(text: &Lexer<'_>, nodes: &[Node], k: usize) -> Option<AttributeWord>
+    requires { IsItemAt (source text.now) nodes.now k }
+    ensures { (i : Item) (m : ℕ) → IsNode (source text.now) nodes.now k i m → result ≡ spec.attribute_word (keywords.keyword_of i) }
+{
+    match keyword_at(text, nodes, k) {
+        Some(word) => word_named(word),
+        None => None,
+    }
+}
+
+fn word_named(word: &[u8]) -> Option<AttributeWord>
+    ensures { result ≡ spec.attribute_word (Some word.now) }
+{
+    if b":rule".as_slice() == word {
+        Some(AttributeWord::Rule)
+    } else if b":premises".as_slice() == word {
+        Some(AttributeWord::Premises)
+    } else if b":args".as_slice() == word {
+        Some(AttributeWord::Arguments)
+    } else if b":discharge".as_slice() == word {
+        Some(AttributeWord::Discharge)
+    } else {
+        None
+    }
+}
+
+/// The attribute of a word, whose value is at node `k`.
+fn attribute_at(nodes: &[Node], word: AttributeWord, k: usize) -> StepAttribute
+    requires { (text : List ℕ) × IsItemAt text nodes.now k }
+    ensures { (text : List ℕ) (i : Item) (m : ℕ) → IsNode text nodes.now k i m → result ≡ spec.attribute_nodes word k m }
+{
+    let (first, end) = (k + 1, node_at(nodes, k).next);
+    match word {
+        AttributeWord::Rule => StepAttribute::Rule(k),
+        AttributeWord::Premises => StepAttribute::Premises { first, end },
+        AttributeWord::Arguments => StepAttribute::Arguments { first, end },
+        AttributeWord::Discharge => StepAttribute::Discharge { first, end },
+    }
+}

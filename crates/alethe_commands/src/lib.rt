@@ -1,0 +1,25 @@
+//! The commands of an Alethe proof, each told by the nodes of one top item.
+//!
+//! What a command is, or which fault of its shape is its first, is defined in `alethe_text`, on nested items. Here the same is
+//! told from the flat nodes of `text_items`: [`command_of`] answers where the parts of a command stand, down to its terms and
+//! sorts, or the refusal; [`next_attribute`], [`next_argument`] and [`next_name`] step over what stands in it. Nothing is
+//! copied, and no nesting of a text takes stack.
+//!
+//! - `commands`: assumes, steps and anchors. `attributes`: the rule of a step, its premises, arguments and what it discharges.
+//!   `arguments`: the arguments of an anchor. `names`: names in a list. `command_shapes`: what an item is, and the faults of
+//!   shape.
+//!
+//! What a contract sees: `specs/CommandNodes`, which nodes say which command, attribute, argument or names.
+#![tactic(auto)]
+
+pub mod arguments;
+pub mod attributes;
+pub mod command_shapes;
+pub mod commands;
+pub mod names;
+
+pub use arguments::{AnchorArgument, argument_at, next_argument};
+pub use attributes::{StepAttribute, next_attribute};
+pub use command_shapes::{is_spelled, is_symbol};
+pub use commands::{Command, command_of};
+pub use names::next_name;

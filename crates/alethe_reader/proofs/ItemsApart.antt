@@ -1,0 +1,262 @@
+-- The items of a proof's text, the first one after the other, and how they begin.
+use Rattle.std.proofs.Common.{◌≡◌, ◌≢◌, refl, sym, ◌∙◌, ap, subst, ℕ, List, [], ◌∷◌, length, Bool, true, false, Ok, Err, Option, Some, None, bytes_eq, unwrap_or}
+use Rattle.std.specs.Prelude.{codes}
+use Rattle.sexpr.specs.declared.causes.Refusal.{Refusal}
+use Rattle.sexpr.specs.declared.lexing.Lexer.{Lexer}
+use Rattle.sexpr.specs.declared.lexing.Token.{Token}
+use Rattle.sexpr.specs.declared.lexing.TokenKind.{TokenKind}
+use Rattle.sexpr.specs.declared.lexing.TokenKind.TheVariants.{Open, Close, Text, Quoted, Word}
+use Rattle.sexpr.specs.Items.{Item, word, quoted, string, list, Items, no_items, item, place_of, symbol_name, name_spelled, IsBracket, IsItem, AreItems, StandsForItems}
+use Rattle.sexpr.specs.Source.{source, position}
+use Rattle.sexpr.specs.Tokens.{Read, next_token, AreTokens, token_text}
+use Rattle.text_items.specs.ItemShapes.{name_at, excess, items_of}
+use Rattle.text_items.specs.Lexers.{GoesOnWith}
+use Rattle.text_items.specs.Nodes.{IsNode}
+use Rattle.text_items.specs.declared.nodes.Node.{Node}
+use Rattle.alethe_text.specs.Commands.{is_symbol_of}
+use Rattle.alethe_text.specs.ProofTexts.{behind_answer, commands_in, is_list_of_commands}
+use Rattle.alethe_reader.specs.CommandItems.{HasItems, IsEnd, IsFirst, IsFound, behind_list, is_close, is_bracket}
+
+-- what reading one token tells of the tokens that are left
+abbrev Begins : Read → List Token → Type 0
+Begins r [] = r ≡ Ok None
+Begins r (t ∷ ts) = r ≡ Ok (Some t)
+
+begins : (text : List ℕ) (at : ℕ) (tokens : List Token) → AreTokens text at tokens → Begins (next_token text at) tokens
+begins text at [] h = h
+begins text at (t ∷ ts) h = h.0
+
+not_faulty : (tokens : List Token) (r : Refusal) → Begins (Err r) tokens → ⊥
+not_faulty [] r h = cc h
+not_faulty (t ∷ ts) r h = cc h
+
+pub no_fault : (text : List ℕ) (at : ℕ) (in_list : Bool) (items behind : Items) (r : Refusal) → next_token text at ≡ Err r → HasItems text in_list at items behind → ⊥
+no_fault text at in_list items behind r is h = not_faulty h.tokens r (subst (λ (x : Read). Begins x h.tokens) is (begins text at h.tokens h.read))
+
+-- no item begins without a token, nor with a closing bracket
+no_token : (text : List ℕ) (i : Item) (rest : List Token) → IsItem text [] i rest → ⊥
+no_token text (word place spelling) rest h = cc h.first
+no_token text (quoted place spelling) rest h = cc h.first
+no_token text (string place spelling) rest h = cc h.first
+no_token text (list place items) rest (open_bracket, inside, after, close_bracket, h, _, _, _) = cc h.first
+
+-- the kind of the first token of an item
+abbrev kind_of : Item → TokenKind
+kind_of (word place spelling) = Word
+kind_of (quoted place spelling) = Quoted
+kind_of (string place spelling) = Text
+kind_of (list place items) = Open
+
+same_first : (t u : Token) (after rest : List Token) → t ∷ after ≡ u ∷ rest → t ≡ u
+same_first t u after rest e = cc e
+
+same_rest : (t u : Token) (after rest : List Token) → t ∷ after ≡ u ∷ rest → after ≡ rest
+same_rest t u after rest e = cc e
+
+first_kind : (text : List ℕ) (t : Token) (after : List Token) (i : Item) (rest : List Token) → IsItem text (t ∷ after) i rest → t.kind ≡ kind_of i
+first_kind text t after (word place spelling) rest h = ap (λ (x : Token). x.kind) (same_first t h.token after rest h.first) ∙ h.same_kind
+first_kind text t after (quoted place spelling) rest h = ap (λ (x : Token). x.kind) (same_first t h.token after rest h.first) ∙ h.same_kind
+first_kind text t after (string place spelling) rest h = ap (λ (x : Token). x.kind) (same_first t h.token after rest h.first) ∙ h.same_kind
+first_kind text t after (list place items) rest (open_bracket, inside, behind, close_bracket, h, _, _, _) =
+    ap (λ (x : Token). x.kind) (same_first t open_bracket after inside h.first) ∙ h.same_kind
+
+first_place : (text : List ℕ) (t : Token) (after : List Token) (i : Item) (rest : List Token) → IsItem text (t ∷ after) i rest → t.start ≡ place_of i
+first_place text t after (word place spelling) rest h = ap (λ (x : Token). x.start) (same_first t h.token after rest h.first) ∙ h.same_place
+first_place text t after (quoted place spelling) rest h = ap (λ (x : Token). x.start) (same_first t h.token after rest h.first) ∙ h.same_place
+first_place text t after (string place spelling) rest h = ap (λ (x : Token). x.start) (same_first t h.token after rest h.first) ∙ h.same_place
+first_place text t after (list place items) rest (open_bracket, inside, behind, close_bracket, h, is, _, _) =
+    ap (λ (x : Token). x.start) (same_first t open_bracket after inside h.first) ∙ is
+
+closes_not : (i : Item) → is_close (kind_of i) ≡ false
+closes_not (word place spelling) = refl
+closes_not (quoted place spelling) = refl
+closes_not (string place spelling) = refl
+closes_not (list place items) = refl
+
+no_item_closes : (text : List ℕ) (t : Token) (after : List Token) (i : Item) (rest : List Token) → IsItem text (t ∷ after) i rest → is_close t.kind ≡ true → ⊥
+no_item_closes text t after i rest h is = let e = ap is_close (first_kind text t after i rest h) ∙ closes_not i in cc
+
+-- the text is at its end
+ends_at : (text : List ℕ) (in_list : Bool) (at : ℕ) (items behind : Items) (after : List Token) → next_token text at ≡ Ok None → AreItems text [] items after → IsEnd text in_list after behind
+    → (items ≡ no_items) × HasItems text false at behind no_items
+ends_at text in_list at (item i others) behind after is (mid, h, _) end = absurd (no_token text i mid h)
+ends_at text false at no_items behind after is nested (_, none) =
+    (refl, subst (λ (x : Items). HasItems text false at x no_items) (sym none) (record { tokens = []; after = []; read = is; nested = refl; end = (refl, refl) }))
+ends_at text true at no_items behind after is nested (bracket, rest, h, _) = absurd (let e = nested ∙ h.first in cc)
+
+at_end : (text : List ℕ) (in_list : Bool) (at : ℕ) (items behind : Items) (tokens after : List Token) → next_token text at ≡ Ok None → Begins (Ok None) tokens → AreItems text tokens items after → IsEnd text in_list after behind
+    → (items ≡ no_items) × HasItems text false at behind no_items
+at_end text in_list at items behind [] after is h nested end = ends_at text in_list at items behind after is nested end
+at_end text in_list at items behind (t ∷ ts) after is h nested end = absurd (cc h)
+
+pub text_ends : (text : List ℕ) (in_list : Bool) (at : ℕ) (items behind : Items) → next_token text at ≡ Ok None → HasItems text in_list at items behind
+    → (items ≡ no_items) × HasItems text false at behind no_items
+text_ends text in_list at items behind is h =
+    at_end text in_list at items behind h.tokens h.after is (subst (λ (x : Read). Begins x h.tokens) is (begins text at h.tokens h.read)) h.nested h.end
+
+-- The rest of the text is this token and then these.
+record StartsWith (text : List ℕ) (in_list : Bool) (t : Token) (items behind : Items) : Type 0 where
+  tokens : List Token
+  after : List Token
+  read : AreTokens text t.end tokens
+  nested : AreItems text (t ∷ tokens) items after
+  end : IsEnd text in_list after behind
+
+starts_at : (text : List ℕ) (in_list : Bool) (at : ℕ) (t : Token) (items behind : Items) (tokens after : List Token)
+    → Begins (Ok (Some t)) tokens → AreTokens text at tokens → AreItems text tokens items after → IsEnd text in_list after behind → StartsWith text in_list t items behind
+starts_at text in_list at t items behind [] after h read nested end = absurd (cc h)
+starts_at text in_list at t items behind (u ∷ us) after h read nested end =
+    let e : t ≡ u = cc h in
+    subst (λ (x : Token). StartsWith text in_list x items behind) (sym e) (record { tokens = us; after = after; read = read.1; nested = nested; end = end })
+
+starts : (text : List ℕ) (in_list : Bool) (at : ℕ) (t : Token) (items behind : Items) → next_token text at ≡ Ok (Some t) → HasItems text in_list at items behind → StartsWith text in_list t items behind
+starts text in_list at t items behind is h =
+    starts_at text in_list at t items behind h.tokens h.after (subst (λ (x : Read). Begins x h.tokens) is (begins text at h.tokens h.read)) h.read h.nested h.end
+
+-- the token closes the list
+closed_with : (text : List ℕ) (in_list : Bool) (t : Token) (items behind : Items) (tokens after : List Token) → is_close t.kind ≡ true → AreTokens text t.end tokens → AreItems text (t ∷ tokens) items after → IsEnd text in_list after behind
+    → (items ≡ no_items) × HasItems text false t.end behind no_items
+closed_with text in_list t (item i others) behind tokens after is read (mid, h, _) end = absurd (no_item_closes text t tokens i mid h is)
+closed_with text false t no_items behind tokens after is read nested (none, _) = absurd (let e = nested ∙ none in cc)
+closed_with text true t no_items behind tokens after is read nested (bracket, rest, h, inside) =
+    let e = same_rest t bracket tokens rest (nested ∙ h.first) in
+    (refl, record { tokens = rest; after = []; read = subst (λ (x : List Token). AreTokens text t.end x) e read; nested = inside; end = (refl, refl) })
+
+pub list_ends : (text : List ℕ) (in_list : Bool) (at : ℕ) (t : Token) (items behind : Items) → next_token text at ≡ Ok (Some t) → is_close t.kind ≡ true → HasItems text in_list at items behind
+    → (items ≡ no_items) × HasItems text false t.end behind no_items
+list_ends text in_list at t items behind is closes h =
+    let w = starts text in_list at t items behind is h in
+    closed_with text in_list t items behind w.tokens w.after closes w.read w.nested w.end
+
+-- the token is the first of the first item
+pub record IsSplit (text : List ℕ) (in_list : Bool) (t : Token) (items behind : Items) : Type 0 where
+  pub first : Item
+  pub others : Items
+  pub same : items ≡ item first others
+  pub tokens : List Token
+  pub middle : List Token
+  pub after : List Token
+  pub read : AreTokens text t.end tokens
+  pub here : IsItem text (t ∷ tokens) first middle
+  pub rest : AreItems text middle others after
+  pub end : IsEnd text in_list after behind
+
+split_with : (text : List ℕ) (in_list : Bool) (t : Token) (items behind : Items) (tokens after : List Token) → is_close t.kind ≡ false → AreTokens text t.end tokens → AreItems text (t ∷ tokens) items after → IsEnd text in_list after behind
+    → IsSplit text in_list t items behind
+split_with text in_list t (item i others) behind tokens after is read (mid, h, rest) end =
+    record { first = i; others = others; same = refl; tokens = tokens; middle = mid; after = after; read = read; here = h; rest = rest; end = end }
+split_with text false t no_items behind tokens after is read nested (none, _) = absurd (let e = nested ∙ none in cc)
+split_with text true t no_items behind tokens after is read nested (bracket, rest, h, inside) =
+    absurd (let e = ap (λ (x : Token). is_close x.kind) (same_first t bracket tokens rest (nested ∙ h.first)) ∙ ap is_close h.same_kind in cc)
+
+pub splits : (text : List ℕ) (in_list : Bool) (at : ℕ) (t : Token) (items behind : Items) → next_token text at ≡ Ok (Some t) → is_close t.kind ≡ false → HasItems text in_list at items behind → IsSplit text in_list t items behind
+splits text in_list at t items behind is opens h =
+    let w = starts text in_list at t items behind is h in
+    split_with text in_list t items behind w.tokens w.after opens w.read w.nested w.end
+
+-- the lexer that gave the token last stands in the first item
+pub stands_in : (l : Lexer) (in_list : Bool) (t : Token) (items behind : Items) (h : IsSplit (source l) in_list t items behind) → position l ≡ t.end → GoesOnWith l t h.first h.middle
+stands_in l in_list t items behind h at = record {
+  after = h.tokens;
+  read = subst (λ (n : ℕ). AreTokens (source l) n h.tokens) (sym at) h.read;
+  item = h.here;
+}
+
+same_text : (text more : List ℕ) (in_list : Bool) (at : ℕ) (items behind : Items) → more ≡ text → HasItems text in_list at items behind → HasItems more in_list at items behind
+same_text text more in_list at items behind e h = subst (λ (x : List ℕ). HasItems x in_list at items behind) (sym e) h
+
+splits_by : (l : Lexer) (text : List ℕ) (in_list : Bool) (at : ℕ) (t : Token) → source l ≡ text → next_token text at ≡ Ok (Some t) → is_close t.kind ≡ false → (items behind : Items) → HasItems text in_list at items behind
+    → IsSplit (source l) in_list t items behind
+splits_by l text in_list at t e is opens items behind h =
+    splits (source l) in_list at t items behind (ap (λ x. next_token x at) e ∙ is) opens (same_text text (source l) in_list at items behind e h)
+
+pub some_item : (l : Lexer) (text : List ℕ) (in_list : Bool) (at : ℕ) (t : Token) → source l ≡ text → position l ≡ t.end → next_token text at ≡ Ok (Some t) → is_close t.kind ≡ false
+    → (items : Items) × (behind : Items) × HasItems text in_list at items behind → (i : Item) × (rest : List Token) × GoesOnWith l t i rest
+some_item l text in_list at t e behind is opens (items, others, h) =
+    let p = splits_by l text in_list at t e is opens items others h in (p.first, p.middle, stands_in l in_list t items others p behind)
+
+-- the nodes are those of the first item, and the lexer stands behind it
+pub item_found : (l m : Lexer) (text : List ℕ) (in_list : Bool) (at : ℕ) (t : Token) (nodes : List Node) → source l ≡ text → source m ≡ source l → position l ≡ t.end → next_token text at ≡ Ok (Some t) → is_close t.kind ≡ false
+    → ((i : Item) (rest : List Token) → GoesOnWith l t i rest → IsNode (source m) nodes 0 i (length nodes))
+    → ((i : Item) (rest : List Token) → GoesOnWith l t i rest → AreTokens (source m) (position m) rest)
+    → (items behind : Items) → HasItems text in_list at items behind → IsFirst (source m) in_list nodes (position m) items behind
+item_found l m text in_list at t nodes e same behind is opens here left items others h =
+    let p = splits_by l text in_list at t e is opens items others h in
+    let goes = stands_in l in_list t items others p behind in
+    record {
+      first = p.first;
+      others = p.others;
+      split = p.same;
+      here = here p.first p.middle goes;
+      left = same_text (source l) (source m) in_list (position m) p.others others same
+      (record { tokens = p.middle; after = p.after; read = subst (λ (x : List ℕ). AreTokens x (position m) p.middle) same (left p.first p.middle goes); nested = p.rest; end = p.end });
+    }
+
+-- the answer of the solver, where the text begins with it
+abbrev name_of : Option (List ℕ) → List ℕ
+name_of n = unwrap_or n []
+
+spelled_as : (text : List ℕ) (t : Token) (after : List Token) (i : Item) (rest : List Token) → IsItem text (t ∷ after) i rest → name_of (name_spelled t.kind (token_text text t)) ≡ (name_at i).name
+spelled_as text t after (word place spelling) rest h =
+    let e = same_first t h.token after rest h.first in
+    ap (λ (x : Token). name_of (name_spelled x.kind (token_text text x))) e ∙ rw (h.same_kind, h.same_spelling) refl
+spelled_as text t after (quoted place spelling) rest h =
+    let e = same_first t h.token after rest h.first in
+    ap (λ (x : Token). name_of (name_spelled x.kind (token_text text x))) e ∙ rw (h.same_kind, h.same_spelling) refl
+spelled_as text t after (string place spelling) rest h =
+    let e = same_first t h.token after rest h.first in
+    ap (λ (x : Token). name_of (name_spelled x.kind (token_text text x))) e ∙ rw (h.same_kind, h.same_spelling) refl
+spelled_as text t after (list place items) rest (open_bracket, inside, behind, close_bracket, h, _, _, _) =
+    let e = same_first t open_bracket after inside h.first in
+    ap (λ (x : Token). name_of (name_spelled x.kind (token_text text x))) e ∙ rw h.same_kind refl
+
+alone : (text : List ℕ) (t : Token) (after : List Token) (i : Item) (rest : List Token) → IsItem text (t ∷ after) i rest → is_symbol_of (codes "unsat") i ≡ true → rest ≡ after
+alone text t after (word place spelling) rest h is = sym (same_rest t h.token after rest h.first)
+alone text t after (quoted place spelling) rest h is = sym (same_rest t h.token after rest h.first)
+alone text t after (string place spelling) rest h is = sym (same_rest t h.token after rest h.first)
+alone text t after (list place items) rest h is = cc
+
+module _ (text : List ℕ) (at : ℕ) (t : Token) (items : Items) (is : next_token text at ≡ Ok (Some t)) (h : HasItems text false at items no_items) where
+  kind_open : (t.kind ≡ Close → ⊥) → is_close t.kind ≡ false
+  kind_open never = go t.kind never
+    where
+      go : (k : TokenKind) → (k ≡ Close → ⊥) → is_close k ≡ false
+      go Open n = refl
+      go Close n = absurd (n refl)
+      go Text n = refl
+      go Quoted n = refl
+      go Word n = refl
+
+  -- where the items stand by themselves, each token begins one
+  by_itself : (items : Items) (tokens after : List Token) → AreItems text (t ∷ tokens) items after → after ≡ [] → is_close t.kind ≡ false
+  by_itself no_items tokens after nested none = absurd (let e = nested ∙ none in cc)
+  by_itself (item i others) tokens after (mid, here, _) none = ap is_close (first_kind text t tokens i mid here) ∙ closes_not i
+
+  pub begins_item : IsSplit text false t items no_items
+  begins_item =
+      let w = starts text false at t items no_items is h in
+      split_with text false t items no_items w.tokens w.after (by_itself items w.tokens w.after w.nested w.end.0) w.read w.nested w.end
+
+  left_behind : (i : Item) (others : Items) (b : Bool) → is_symbol_of (codes "unsat") i ≡ b → behind_answer (item i others) ≡ (if b then others else item i others)
+  left_behind i others b e = rw e refl
+
+  pub answer_skipped : bytes_eq (name_of (name_spelled t.kind (token_text text t))) (codes "unsat") ≡ true → HasItems text false t.end (behind_answer items) no_items
+  answer_skipped e =
+      let p = begins_item in
+      let same : is_symbol_of (codes "unsat") p.first ≡ true = ap (λ n. bytes_eq n (codes "unsat")) (sym (spelled_as text t p.tokens p.first p.middle p.here)) ∙ e in
+      let alike = alone text t p.tokens p.first p.middle p.here same in
+      subst (λ (x : Items). HasItems text false t.end x no_items) (sym (ap behind_answer p.same ∙ left_behind p.first p.others true same))
+      (record { tokens = p.tokens; after = p.after; read = p.read; nested = subst (λ (x : List Token). AreItems text x p.others p.after) alike p.rest; end = p.end })
+
+  pub no_answer : bytes_eq (name_of (name_spelled t.kind (token_text text t))) (codes "unsat") ≡ false → HasItems text false at (behind_answer items) no_items
+  no_answer e =
+      let p = begins_item in
+      let same : is_symbol_of (codes "unsat") p.first ≡ false = ap (λ n. bytes_eq n (codes "unsat")) (sym (spelled_as text t p.tokens p.first p.middle p.here)) ∙ e in
+      subst (λ (x : Items). HasItems text false at x no_items) (p.same ∙ sym (ap behind_answer p.same ∙ left_behind p.first p.others false same)) h
+
+  pub first_at : Some t.start ≡ excess items
+  first_at = let p = begins_item in ap Some (first_place text t p.tokens p.first p.middle p.here) ∙ ap excess (sym p.same)
+
+-- a text without items has no answer and no list
+pub nothing_skipped : (text : List ℕ) (at : ℕ) (items : Items) → items ≡ no_items → HasItems text false at items no_items → HasItems text false at (behind_answer items) no_items
+nothing_skipped text at items none h = subst (λ (x : Items). HasItems text false at x no_items) (none ∙ sym (ap behind_answer none)) h

@@ -1,0 +1,50 @@
+//! The variables that the open anchors bind (Alethe, "Subproofs" and contexts).
+ghost use Rattle.std.specs.Prelude.{◌≡◌, ◌∷◌, [], ◌++◌, map, length, OnOk, IsTrue};
+ghost use Rattle.sym_table.specs.Table.{Table};
+ghost use Rattle.term_model.specs.Terms.{Var, Term};
+ghost use Rattle.term_pool.specs.Views.{TermsView};
+ghost use Rattle.rule_model.specs.Proofs.{Items};
+ghost use Rattle.rule_model.specs.Scopes.{Anchor, Nesting, outermost, inside, own_bindings};
+ghost use Rattle.problem_text.specs.Words.{is_among};
+ghost use Rattle.alethe_reader.specs.Bound.{AreBound};
+
+use crate::ids::Ids;
+use pair_pool::Ref;
+use std::alloc::Global;
+
+/// The names of the variables that the open anchors bind, and their images: each variable by its leaf, with its term in which
+/// the images of the outer anchors are put in. Those of the outermost anchor stand first.
+#[derive(Drop)]
+pub struct BoundVariables {
+    pub names: Ids,
+    pub images: Vec<(u32, Ref)>,
+}
+
+impl BoundVariables {
+    /// Nothing is bound.
+    pub fn new(alloc: Global) -> BoundVariables
+        ensures { (s : Table) (v : TermsView) → AreBound s v result outermost }
+    {
+        BoundVariables {
+            names: Ids::new(alloc),
+            images: Vec::new(alloc),
+        }
+    }
+
+    /// Whether some variable of this name is bound. Costs one hash.
+    pub(crate) fn has(&self, name: &[u8]) -> bool
+        ensures { result ≡ is_among (map (λ u. u.id) self.now.names) name.now }
+    {
+        self.names.find(name).is_some()
+    }
+
+    /// Leaves the scope of the innermost anchor, which binds so many variables.
+    pub(crate) fn leave(&mut self, count: usize)
+        requires { (s : Table) × (v : TermsView) × (nesting : Nesting Var Term) × AreBound s v self.old nesting × (count ≡ length (own_bindings nesting)) }
+        ensures { (s : Table) (v : TermsView) (around : Nesting Var Term) (before : Items Var Term) (anchor : Anchor Var Term) → count ≡ length anchor.bindings → AreBound s v self.old (inside around before anchor) → AreBound s v self.new around }
+    {
+        let left = self.images.len() - count;
+        self.images.truncate(left);
+        self.names.leave(left);
+    }
+}
