@@ -5,7 +5,7 @@ use Rattle.sexpr.specs.Items.{Item, word, quoted, string, list, Items, no_items,
 use Rattle.text_items.specs.declared.keywords.Next.{Next}
 use Rattle.text_items.specs.declared.keywords.Wanted.{Wanted}
 use Rattle.text_items.specs.declared.nodes.Node.{Node}
-use Rattle.text_items.specs.ItemShapes.{Name, name_at, symbol_fault, items_of}
+use Rattle.text_items.specs.ItemShapes.{name_at, symbol_fault, items_of}
 use Rattle.text_items.specs.Keywords.{is_spelled, keyword_of, after_known, after_keyword, after_item, next_fault, wanted_fault, misplaced, at_end, is_value, symbols_fault}
 use Rattle.text_items.specs.Nodes.{IsNode, AreNodes}
 use Rattle.text_items.specs.Stepping.{IsItemAt, AreItemsFrom, AreSomeFrom, IsItemNode}

@@ -1,3 +1,10 @@
 mod IdLemmas
 pub mod IdsInUse
 pub mod Answering
+pub mod StillRead
+pub mod TermAnswers
+mod JudgedIds
+pub mod WrittenStays
+mod AssumeReading
+pub mod StillReadCommands
+mod TextCommands

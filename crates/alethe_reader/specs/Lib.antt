@@ -6,3 +6,5 @@ pub mod TextReading
 pub mod Bound
 pub mod Sessions
 pub mod Answers
+pub mod ReadTerms
+pub mod Judging

@@ -52,3 +52,7 @@ pub record IsBehind (s : Table) (v : TermsView) (settings : ProofSettings) (nest
   pub reader : IsReaderOf s v r new.script (place_in settings nesting)
   pub scope : new.scope ≡ old.scope
   pub anchors : new.anchors ≡ old.anchors
+
+-- After a command what was read stands for the new state.
+pub record StandsAfter (s : Table) (v : TermsView) (settings : ProofSettings) (d : Session) (done answer : ⊤) (p : ProofState) : Type 0 where
+  pub session : IsSession s v settings d p

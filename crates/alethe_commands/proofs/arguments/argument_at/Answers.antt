@@ -9,14 +9,14 @@ node_at-term-requires c =
     let text = source c.args.text.now in
     let (i, m, is, fits) = c.requires in
     let h = assigned_there text c.args.nodes.now c.args.k i m is fits (λ j n at. sym (c.is_spelled.ensures j n at) ∙ c.if-not-is_spelled.false) in
-    (text, h.variable, h.behind, h.variable_here)
+    (text, (h.variable, h.behind, h.variable_here))
 
 pub is_list-requires : goal.is_list-requires
 is_list-requires c =
     let text = source c.args.text.now in
     let (i, m, is, fits) = c.requires in
     let h = assigned_there text c.args.nodes.now c.args.k i m is fits (λ j n at. sym (c.is_spelled.ensures j n at) ∙ c.if-not-is_spelled.false) in
-    (text, h.variable, h.behind, h.variable_here)
+    (text, (h.variable, h.behind, h.variable_here))
 
 pub returns-then-is_list : goal.returns-then-is_list
 returns-then-is_list c = λ i m is fits.

@@ -1,5 +1,4 @@
 -- The first argument is told, where there is one.
-use Rattle.std.proofs.Common.{arith}
 use Rattle.sexpr.specs.Source.{source}
 use Rattle.text_items.proofs.NodeSteps.{further}
 use Rattle.alethe_commands.proofs.ArgumentsByNodes.{no_arguments, argument_there, first_argument}
@@ -12,7 +11,7 @@ pub node_at-requires : goal.node_at-requires
 node_at-requires c =
     let text = source c.args.text.now in
     let (i, n, is, fits) = argument_there text c.args.nodes.now c.args.at.now c.args.end c.requires.0 c.requires.1 c.if-k-end.false in
-    (text, i, n, is)
+    (text, (i, n, is))
 
 pub argument_at-requires : goal.argument_at-requires
 argument_at-requires c = argument_there (source c.args.text.now) c.args.nodes.now c.args.at.now c.args.end c.requires.0 c.requires.1 c.if-k-end.false
