@@ -3,3 +3,4 @@ mod CommandsByNodes
 mod AttributesByNodes
 mod ArgumentsByNodes
 mod NamesByNodes
+mod RulesByNodes

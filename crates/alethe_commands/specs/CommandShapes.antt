@@ -56,3 +56,10 @@ attribute_nodes AttributeWord.Rule k m = StepAttribute.Rule k
 attribute_nodes AttributeWord.Premises k m = StepAttribute.Premises (k + 1) m
 attribute_nodes AttributeWord.Arguments k m = StepAttribute.Arguments (k + 1) m
 attribute_nodes AttributeWord.Discharge k m = StepAttribute.Discharge (k + 1) m
+
+-- the node of a rule's name, where the attribute is a rule
+abbrev pub rule_node : StepAttribute → Option ℕ
+rule_node (StepAttribute.Rule k) = Some k
+rule_node (StepAttribute.Premises first last) = None
+rule_node (StepAttribute.Arguments first last) = None
+rule_node (StepAttribute.Discharge first last) = None

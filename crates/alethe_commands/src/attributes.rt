@@ -6,13 +6,14 @@ ghost use Rattle.text_items.specs.Keywords as keywords;
 ghost use Rattle.text_items.specs.Nodes.{IsNode, AreNodes};
 ghost use Rattle.text_items.specs.Stepping.{IsItemAt, AreItemsFrom, AreSomeFrom};
 ghost use Rattle.alethe_text.specs.Commands as shape;
+ghost use Rattle.alethe_text.specs.Steps as steps;
 ghost use Rattle.alethe_commands.specs.CommandNodes.{AreAttributes, HasFirstAttribute};
 ghost use Rattle.alethe_commands.specs.CommandShapes as spec;
 
 use sexpr::Lexer;
 use text_items::keywords::{Keyword, Wanted, attributes_fault, keyword_at};
 use text_items::nodes::Node;
-use text_items::shapes::node_at;
+use text_items::shapes::{name_of, node_at};
 
 /// An attribute of a step that has an effect, by the node of its rule's name, or by those of what stands in its list, from
 /// `first` to before `end`.
@@ -124,6 +125,31 @@ pub fn next_attribute(
         }
     }
     None
+}
+
+/// The word of a step's rule, whose attributes stand from `first` to before `end` and have no fault of shape. It is empty where
+/// none of them is a rule.
+pub fn rule_word<'a>(text: &Lexer<'a>, nodes: &[Node], first: usize, end: usize) -> &'a [u8]
+    requires { (attributes : List shape.Attribute) × AreAttributes (source text.now) nodes.now first attributes end }
+    ensures { (attributes : List shape.Attribute) → AreAttributes (source text.now) nodes.now first attributes end → result.now ≡ steps.rule_word attributes }
+{
+    let mut at = first;
+    'attributes: while let Some(attribute) = next_attribute(text, nodes, &mut at, end) {
+        if let Some(rule) = rule_node(attribute) {
+            return name_of(text, nodes, rule);
+        }
+    }
+    b""
+}
+
+/// The node of a rule's name, where the attribute is a rule.
+fn rule_node(attribute: StepAttribute) -> Option<usize>
+    ensures { result ≡ spec.rule_node attribute }
+{
+    match attribute {
+        StepAttribute::Rule(k) => Some(k),
+        _ => None,
+    }
 }
 
 /// The attribute that the item at node `k` and the one behind it are, where they are one. The attributes end before `end`.

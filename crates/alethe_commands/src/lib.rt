@@ -19,7 +19,7 @@ pub mod commands;
 pub mod names;
 
 pub use arguments::{AnchorArgument, argument_at, next_argument};
-pub use attributes::{StepAttribute, next_attribute};
+pub use attributes::{StepAttribute, next_attribute, rule_word};
 pub use command_shapes::{is_spelled, is_symbol};
 pub use commands::{Command, command_of};
 pub use names::next_name;
