@@ -47,7 +47,7 @@ pub(crate) fn judge_id(ids: &Ids, id: Named<'_>, of_anchor: Cause) -> Result<(),
 }
 
 /// Why an id in use may not be that of a command that closes nothing.
-fn cause_of(of_anchor: Cause, role: Role) -> Cause
+pub(crate) fn cause_of(of_anchor: Cause, role: Role) -> Cause
     ensures { result ≡ cause_of of_anchor role }
 {
     match role {
