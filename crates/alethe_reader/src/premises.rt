@@ -45,7 +45,7 @@ fn takes(steps: bool, role: Role) -> bool
 
 /// The index of the command with this id, where one within reach has it.
 fn index_of(ids: &Ids, reach: Reach, id: Named<'_>) -> Result<u32, Refusal>
-    ensures { (sights : List Sight) → IsReach ids.now reach sights → IsIndex (find (λ c. bytes_eq c.id id.name.now) sights) id.place result }
+    ensures { (sights : List Sight) → IsReach ids.now reach sights → IsIndex (find (λ c. bytes_eq c.id id.entry.name.now) sights) id.entry.place result }
 {
     let Some(found) = ids.find(id.name) else {
         return Err(refused(Cause::NoStep, id.place));

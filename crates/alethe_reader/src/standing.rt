@@ -27,7 +27,7 @@ pub(crate) struct Standing {
 /// Judges the id of a step. One with the id of the innermost open anchor closes its scope; any other may have neither the id
 /// of an open anchor nor that of a visible command.
 pub(crate) fn standing_at(session: &Session<'_>, id: Named<'_>) -> Result<Standing, Refusal>
-    ensures { (s : Table) (v : TermsView) (p : ProofState) → IsSymbolName id.name.now → IsWritten s v session.now p → IsStanding session.now.ids p (is_named id) result }
+    ensures { (s : Table) (v : TermsView) (p : ProofState) → IsSymbolName id.entry.name.now → IsWritten s v session.now p → IsStanding session.now.ids p (is_named id.entry) result }
 {
     let Some(found) = session.ids.find(id.name) else {
         return Ok(standing_here(session.ids.len()));
