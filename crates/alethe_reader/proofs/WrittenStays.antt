@@ -104,3 +104,7 @@ module _ (s : Table) (v : TermsView) where
   pub ids_same : (d : Scope ℕ ℕ) (p : Scope Var Term) → StandForNesting s v d.nesting p.nesting → StandForItems s v d.items p.items → ids_in d ≡ ids_in p
   ids_same d p n i =
       let a = around_same d.nesting p.nesting n in let b = own_same d.nesting p.nesting (first_same d.nesting p.nesting n) d.items p.items i in cc
+
+  -- what is written has the ids of the state
+  pub written_ids : (d : Session) (p : ProofState) → IsWritten s v d p → d.ids ≡ ids_in p.scope
+  written_ids d p h = h.ids ∙ ids_same d.builder p.scope h.nesting h.items
