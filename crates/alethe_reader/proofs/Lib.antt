@@ -6,6 +6,7 @@ pub mod TermAnswers
 mod JudgedIds
 pub mod WrittenStays
 mod AssumeReading
+mod SpelledNames
 mod NamedCommands
 pub mod StillReadCommands
 mod TextCommands

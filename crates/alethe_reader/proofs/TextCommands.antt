@@ -24,7 +24,7 @@ use Rattle.alethe_reader.specs.Sessions.{IsSession, StandsAfter}
 use Rattle.alethe_reader.specs.TextReading.{closing_from, left_from, AreLeft, NoneLeft, ReadsCommand}
 use Rattle.alethe_reader.specs.declared.session.Session.{Session}
 use Rattle.alethe_reader.proofs.Answering.{read_on, stops, same_outcome}
-use Rattle.alethe_reader.proofs.NamedCommands.{command_named}
+use Rattle.alethe_reader.proofs.NamedCommands.{is_named_so}
 use Rattle.alethe_reader.proofs.StillReadCommands.{keeps_left}
 
 then_then : {A B C : Type 0} (o : Outcome ProofState A) (f : A → Reading B) (g : B → Reading C) → and_then (and_then o f) g ≡ and_then o (λ a s. and_then (f a s) g)
@@ -63,7 +63,7 @@ pub record HasFirst (source : List ℕ) (nodes : List Node) (in_list : Bool) (at
   pub named : HasNames first × HaveNames others
   pub comes : first_of settings others behind p (command_of first) ≡ whole
 
-module _ {settings : ProofSettings} {in_list : Bool} {p : ProofState} {whole : Outcome ProofState (Proof Var Term)} where
+module _ (settings : ProofSettings) (in_list : Bool) (p : ProofState) (whole : Outcome ProofState (Proof Var Term)) where
   pub has_first : (old new : List ℕ) (nodes : List Node) (from at : ℕ) → ((items behind : Items) → HasItems old in_list from items behind → IsFirst new in_list nodes at items behind)
       → AreLeft old settings in_list from p whole → HasFirst new nodes in_list at settings p whole
   has_first old new nodes from at found h =
@@ -99,7 +99,7 @@ module _ {settings : ProofSettings} {in_list : Bool} {p : ProofState} {whole : O
   command_fault source nodes at r h is = ap (λ (o : Outcome ProofState (Proof Var Term)). o.result) (sym h.comes ∙ ap (first_of settings h.others h.behind p) is)
 
   pub command_read : (source : List ℕ) (nodes : List Node) (at : ℕ) (c : code.Command) → (h : HasFirst source nodes in_list at settings p whole) → IsCommand source nodes (Ok c) (command_of h.first) → IsShaped source nodes h.others h.behind c
-  command_read source nodes at c h (d, is, says) = record { shape = d; says = says; named = command_named h.first d is h.named.0; comes = ap (first_of settings h.others h.behind p) (sym is) ∙ h.comes }
+  command_read source nodes at c h (d, is, says) = record { shape = d; says = says; named = is_named_so h.first d is h.named.0; comes = ap (first_of settings h.others h.behind p) (sym is) ∙ h.comes }
 
   read_by_whole : (others behind : Items) (o : Outcome ProofState ⊤) → then_rest settings others behind o ≡ whole → (t : Term) → WasRead o t → WasRead whole t
   read_by_whole others behind o e t h = subst (λ (w : Outcome ProofState (Proof Var Term)). WasRead w t) e (read_on o (λ _. left_from settings others behind) (λ _. keeps_left settings others behind) t h)
@@ -108,12 +108,12 @@ module _ {settings : ProofSettings} {in_list : Bool} {p : ProofState} {whole : O
   pub performs_well : {source : List ℕ} {s : Table} {old new : TermsView} {d : Session} {at : ℕ} {u : ⊤} (others behind : Items) (o : Outcome ProofState ⊤)
       → HasItems source in_list at others behind → HaveNames others → then_rest settings others behind o ≡ whole
       → Answers s old new (StandsAfter s new settings d) o (Ok u) → ReadsCommand source s old new settings d in_list at whole (Ok true)
-  performs_well others behind o here named comes h = record {
+  performs_well {source} {s} {old} {new} others behind o here named comes h = record {
     outcome =
       (h.answer.state,
        record { items = others; behind = behind; here = here; named = named; comes = sym (ap (then_rest settings others behind) h.answer.comes) ∙ comes },
        h.answer.after.session);
-    placed = places_more _ _ _ _ _ (read_by_whole others behind o comes) h.placed;
+    placed = places_more s old.pass new.pass (WasRead o) (WasRead whole) (read_by_whole others behind o comes) h.placed;
   }
 
   pub performs_not : {source : List ℕ} {s : Table} {old new : TermsView} {d : Session} {at : ℕ} {fault : ReadFault} (others behind : Items) (o : Outcome ProofState ⊤)
@@ -125,10 +125,38 @@ module _ {settings : ProofSettings} {in_list : Bool} {p : ProofState} {whole : O
       record { outcome = all.answer; placed = all.placed }
 
   pub ends_here : {source : List ℕ} {s : Table} {v : TermsView} {d : Session} {at : ℕ} → NoneLeft source settings at p whole → IsSession s v settings d p → ReadsCommand source s v v settings d in_list at whole (Ok false)
-  ends_here none session = record { outcome = (p, none, session); placed = places_none _ _ _ _ refl }
+  ends_here {source} {s} {v} none session = record { outcome = (p, none, session); placed = places_none s v.pass v.pass (WasRead whole) refl }
 
   pub refused_here : {source : List ℕ} {s : Table} {v : TermsView} {d : Session} {at : ℕ} (r : Refusal) → whole.result ≡ Err r → ReadsCommand source s v v settings d in_list at whole (Err (ReadFault.Text r))
-  refused_here r is = record { outcome = is; placed = places_none _ _ _ _ refl }
+  refused_here {source} {s} {v} r is = record { outcome = is; placed = places_none s v.pass v.pass (WasRead whole) refl }
 
   pub no_memory_here : {source : List ℕ} {s : Table} {v : TermsView} {d : Session} {at : ℕ} → ReadsCommand source s v v settings d in_list at whole (Err ReadFault.Memory)
-  no_memory_here = record { outcome = tt; placed = places_none _ _ _ _ refl }
+  no_memory_here {source} {s} {v} = record { outcome = tt; placed = places_none s v.pass v.pass (WasRead whole) refl }
+
+pub some_first : (in_list : Bool) (old new : List ℕ) (nodes slice : List Node) (from at : ℕ) (s : Table) (v : TermsView) (d : Session)
+    → slice ≡ nodes
+    → ((items behind : Items) → HasItems old in_list from items behind → IsFirst new in_list nodes at items behind)
+    → (settings : ProofSettings) × (p : ProofState) × (whole : Outcome ProofState (Proof Var Term)) × AreLeft old settings in_list from p whole × IsSession s v settings d p
+    → (i : Item) × IsNode new slice 0 i (length slice)
+some_first in_list old new nodes slice from at s v d same found (settings, p, whole, left, _) =
+    let h = has_first settings in_list p whole old new nodes from at found left in
+    (h.first, subst (λ (x : List Node). IsNode new x 0 h.first (length x)) (sym same) h.here)
+
+-- as the nodes are those of the slice
+pub found_in : (source : List ℕ) (nodes slice : List Node) (r : Result code.Command Refusal)
+    → slice ≡ nodes
+    → ((i : Item) → IsNode source slice 0 i (length slice) → IsCommand source slice r (command_of i))
+    → (i : Item) → IsNode source nodes 0 i (length nodes) → IsCommand source nodes r (command_of i)
+found_in source nodes slice r same found =
+    subst (λ (x : List Node). (i : Item) → IsNode source x 0 i (length x) → IsCommand source x r (command_of i)) same found
+
+pub some_shape : (in_list : Bool) (old new : List ℕ) (nodes slice more : List Node) (from at : ℕ) (s : Table) (v : TermsView) (d : Session) (c : code.Command)
+    → slice ≡ nodes → more ≡ nodes
+    → ((items behind : Items) → HasItems old in_list from items behind → IsFirst new in_list nodes at items behind)
+    → ((i : Item) → IsNode new slice 0 i (length slice) → IsCommand new slice (Ok c) (command_of i))
+    → (settings : ProofSettings) × (p : ProofState) × (whole : Outcome ProofState (Proof Var Term)) × AreLeft old settings in_list from p whole × IsSession s v settings d p
+    → (x : Command) × SaysCommand new more c x × IsNamed x
+some_shape in_list old new nodes slice more from at s v d c same also found read (settings, p, whole, left, _) =
+    let h = has_first settings in_list p whole old new nodes from at found left in
+    let shaped = command_read settings in_list p whole new nodes at c h (found_in new nodes slice (Ok c) same read h.first h.here) in
+    (shaped.shape, subst (λ (x : List Node). SaysCommand new x c shaped.shape) (sym also) shaped.says, shaped.named)

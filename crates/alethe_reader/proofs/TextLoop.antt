@@ -49,19 +49,20 @@ module _ {in_list : Bool} {l : Lexer} {s : Table} {v : TermsView} {d : Session} 
       → (settings : ProofSettings) × (p : ProofState) × (whole : Outcome ProofState (Proof Var Term)) × AreLeft (source m) settings in_list (position m) p whole × IsSession z w settings e p
   some_left (settings, p, whole, left, session) = let (now, more, stands) = h.left settings p whole left session in (settings, now, whole, more, stands)
 
-  module _ {o : Lexer} {y : Table} {x : TermsView} {f : Session} (symbols : AddsNoSymbols z y) (terms : KeepsTerms w x) where
+  module _ {y : Table} {x : TermsView} (symbols : AddsNoSymbols z y) (terms : KeepsTerms w x) where
     placed_so_far : (settings : ProofSettings) (p : ProofState) (whole : Outcome ProofState (Proof Var Term)) → AreLeft (source l) settings in_list (position l) p whole → IsSession s v settings d p
         → PlacesCellsOf y w.pass x.pass (WasRead whole) → PlacesCellsOf y v.pass x.pass (WasRead whole)
     placed_so_far settings p whole left session placed =
         places_then z y v.pass w.pass x.pass (WasRead whole) symbols.keeps terms.pass (h.placed settings p whole left session) placed
 
+  module _ (o : Lexer) {y : Table} {x : TermsView} {f : Session} (symbols : AddsNoSymbols z y) (terms : KeepsTerms w x) where
     pub goes_on : ((settings : ProofSettings) (p : ProofState) (whole : Outcome ProofState (Proof Var Term)) → AreLeft (source m) settings in_list (position m) p whole → IsSession z w settings e p → ReadsCommand (source o) y w x settings f in_list (position o) whole (Ok true))
         → source o ≡ source m → position o ≤ length (source m) → IsShort f.builder (position o)
         → most_after (length y.leaves) (source o) (position o) ≤ most_after (length z.leaves) (source m) (position m)
         → IsUnderWay in_list l s v d o y x f
     goes_on reads text inside short few = record {
       left = λ settings p whole left session. let (now, more, stands) = h.left settings p whole left session in (reads settings now whole more stands).outcome;
-      placed = λ settings p whole left session. let (now, more, stands) = h.left settings p whole left session in placed_so_far settings p whole left session (reads settings now whole more stands).placed;
+      placed = λ settings p whole left session. let (now, more, stands) = h.left settings p whole left session in placed_so_far symbols terms settings p whole left session (reads settings now whole more stands).placed;
       symbols = adds_then s z y h.symbols symbols;
       keeps = keeps_then v w x h.keeps terms;
       same_text = text ∙ h.same_text;
@@ -75,11 +76,11 @@ module _ {in_list : Bool} {l : Lexer} {s : Table} {v : TermsView} {d : Session} 
     fails fault reads settings p whole left session =
         let (now, more, stands) = h.left settings p whole left session in
         let r = reads settings now whole more stands in
-        record { outcome = r.outcome; placed = placed_so_far settings p whole left session r.placed }
+        record { outcome = r.outcome; placed = placed_so_far symbols terms settings p whole left session r.placed }
 
     pub ends : ((settings : ProofSettings) (p : ProofState) (whole : Outcome ProofState (Proof Var Term)) → AreLeft (source m) settings in_list (position m) p whole → IsSession z w settings e p → ReadsCommand (source o) y w x settings f in_list (position o) whole (Ok false))
         → (settings : ProofSettings) (p : ProofState) (whole : Outcome ProofState (Proof Var Term)) → AreLeft (source l) settings in_list (position l) p whole → IsSession s v settings d p → ReadsAll (source o) y v x settings f (position o) whole (Ok tt)
     ends reads settings p whole left session =
         let (now, more, stands) = h.left settings p whole left session in
         let r = reads settings now whole more stands in
-        record { outcome = r.outcome; placed = placed_so_far settings p whole left session r.placed }
+        record { outcome = r.outcome; placed = placed_so_far symbols terms settings p whole left session r.placed }
