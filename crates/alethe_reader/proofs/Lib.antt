@@ -10,4 +10,6 @@ mod SpelledNames
 mod NamedCommands
 pub mod StillReadCommands
 mod TextCommands
+mod PerformedCommands
 mod TextLoop
+mod ReadProofs

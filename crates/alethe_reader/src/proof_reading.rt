@@ -24,7 +24,7 @@ use crate::text_reading::read_commands;
 use alethe_items::{enter_list, excess, skip_answer};
 use alethe_text::laws::proof_texts_have_one_reading;
 use proof_store::{Proof, ProofBuilder};
-use sexpr::{Cause, Lexer, form};
+use sexpr::{Cause, Lexer, form, tokens_are_spelled};
 use std::alloc::Global;
 use sym_table::Symbols;
 use term_names::faults::ReadFault;
@@ -99,6 +99,7 @@ pub fn read_proof(
     ensures keeps { KeepsTerms terms.old terms.new }
 {
     proof_texts_have_one_reading();
+    tokens_are_spelled();
     form(bytes)?;
     let mut lexer = Lexer::new(bytes);
     skip_answer(&mut lexer);
