@@ -7,3 +7,9 @@ mod JudgedIds
 pub mod WrittenStays
 mod AssumeReading
 mod ItemsApart
+mod StoredItems
+mod Reaches
+mod Indices
+mod StandingSteps
+mod RuleWords
+mod FormulaLists

@@ -7,3 +7,5 @@ pub mod Sessions
 pub mod Answers
 pub mod ReadTerms
 pub mod Judging
+pub mod Reach
+pub mod Standing

@@ -17,7 +17,10 @@ mod formulas;
 pub mod ids;
 mod judging;
 pub mod laws;
+mod premises;
+mod rules;
 pub mod session;
+mod standing;
 
 pub use assuming::read_assume;
 pub use ids::Ids;
