@@ -75,3 +75,13 @@ pub returns-clause-read : goal.returns-clause-read
 returns-clause-read c items settings nesting p are h =
     all_read (source c.args.text.now) c.args.nodes.now settings nesting p _ _ _ _ _ _ c.args.reader.now _ c.formulas.k c.args.end (formulas_in settings nesting items p) (c.formulas.invariant.so_far items settings nesting p are h)
     (adds_none _) (keeps_none _) c.formulas-test.false
+
+pub returns-in_err-formula-clause-few : goal.returns-in_err-formula-clause-few
+returns-in_err-formula-clause-few c =
+    let (i, m, is) = first_at (source c.args.text.now) c.args.nodes.now c.formulas.k c.args.end c.formulas.invariant.there c.formulas-test.true in
+    omega (arith, item_within (source c.args.text.now) c.args.nodes.now c.formulas.k i m is, c.formulas.invariant.spent, c.formulas.invariant.ordered, c.formula_at.ensures.few)
+
+pub returns-in_err-push-clause-few : goal.returns-in_err-push-clause-few
+returns-in_err-push-clause-few c =
+    let (i, m, is) = first_at (source c.args.text.now) c.args.nodes.now c.formulas.k c.args.end c.formulas.invariant.there c.formulas-test.true in
+    omega (arith, item_within (source c.args.text.now) c.args.nodes.now c.formulas.k i m is, c.formulas.invariant.spent, c.formulas.invariant.ordered, c.formula_at.ensures.few)
