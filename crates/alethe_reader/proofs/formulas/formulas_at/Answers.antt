@@ -1,8 +1,8 @@
 -- One formula after another.
-use Rattle.std.proofs.Common.{arith, refl}
+use Rattle.std.proofs.Common.{arith, refl, inl, inr}
 use Rattle.std.proofs.lemmas.Result.{err_from_is_err_and}
 use Rattle.sexpr.specs.Source.{source}
-use Rattle.text_items.proofs.NodeSteps.{first_at, others_from, further, item_within}
+use Rattle.text_items.proofs.NodeSteps.{first_at, others_from, further, item_within, node_inside}
 use Rattle.term_reader.proofs.Staying.{adds_none, adds_then, keeps_none, keeps_then}
 use Rattle.alethe_text.specs.ProofTerms.{formulas_in}
 use Rattle.alethe_text.specs.States.{ProofState}
@@ -13,6 +13,7 @@ pub formulas-init : goal.formulas-init
 formulas-init c = record {
   there = c.requires.items;
   ordered = omega arith;
+  within = inl refl;
   spent = omega arith;
   adds = adds_none c.args.symbols.now;
   keeps = keeps_none c.args.terms.now;
@@ -51,6 +52,7 @@ formulas-preserved c =
     record {
       there = others_from text nodes c.formulas.k c.args.end c.node_at-k.result c.formulas.invariant.there c.formulas-test.true (c.node_at-k.ensures text);
       ordered = omega (arith, h.0, c.formulas.invariant.ordered);
+      within = inr (node_inside text nodes c.formulas.k here.0 c.node_at-k.result.next here.1);
       spent = omega (arith, h.0, c.formulas.invariant.spent, c.in_ok-formula.ensures.spent here.0 c.node_at-k.result.next here.1);
       adds = adds_then _ _ _ c.formulas.invariant.adds c.formula_at.ensures.symbols;
       keeps = keeps_then _ _ _ c.formulas.invariant.keeps c.formula_at.ensures.keeps;
@@ -85,3 +87,9 @@ pub returns-in_err-push-clause-few : goal.returns-in_err-push-clause-few
 returns-in_err-push-clause-few c =
     let (i, m, is) = first_at (source c.args.text.now) c.args.nodes.now c.formulas.k c.args.end c.formulas.invariant.there c.formulas-test.true in
     omega (arith, item_within (source c.args.text.now) c.args.nodes.now c.formulas.k i m is, c.formulas.invariant.spent, c.formulas.invariant.ordered, c.formula_at.ensures.few)
+
+pub returns-clause-few : goal.returns-clause-few
+returns-clause-few c = elim c.formulas.invariant.within [
+  | inl e ↦ omega (arith, e, c.formulas.invariant.spent)
+  | inr h ↦ omega (arith, h, c.formulas.invariant.spent, c.formulas.invariant.ordered)
+]

@@ -1,5 +1,5 @@
 -- The formulas before node k were read.
-use Rattle.std.proofs.Common.{◌-◌, ◌+◌, ◌≤◌, length}
+use Rattle.std.proofs.Common.{◌≡◌, ◌⊎◌, ◌-◌, ◌+◌, ◌≤◌, length}
 use Rattle.sexpr.specs.Items.{Items}
 use Rattle.sexpr.specs.Source.{source}
 use Rattle.term_model.specs.Terms.{Var, Term}
@@ -18,6 +18,7 @@ abbrev pub invariant-formulas : goal.invariant-formulas
 invariant-formulas l = record {
   there : AreItemsFrom (source l.text) l.nodes l.k l.end;
   ordered : l.first ≤ l.k;
+  within : (l.k ≡ l.first) ⊎ (l.k ≤ length l.nodes);
   spent : length l.symbols.leaves + l.first ≤ length l.fn.symbols.leaves + l.k;
   adds : AddsNoSymbols l.fn.symbols l.symbols;
   keeps : KeepsTerms l.fn.terms l.terms;
