@@ -13,3 +13,9 @@ mod TextCommands
 mod PerformedCommands
 mod TextLoop
 mod ReadProofs
+mod StoredItems
+mod Reaches
+mod Indices
+mod StandingSteps
+mod RuleWords
+mod FormulaLists

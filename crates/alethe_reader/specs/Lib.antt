@@ -9,3 +9,6 @@ pub mod Sessions
 pub mod Answers
 pub mod ReadTerms
 pub mod Judging
+pub mod Reach
+pub mod Standing
+pub mod StepParts

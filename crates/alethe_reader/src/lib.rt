@@ -23,6 +23,10 @@ mod scopes;
 pub mod session;
 mod stepping;
 mod text_reading;
+mod premises;
+mod rules;
+mod standing;
+mod step_attributes;
 
 pub use assuming::read_assume;
 pub use ids::Ids;
