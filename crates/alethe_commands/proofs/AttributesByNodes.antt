@@ -1,6 +1,8 @@
 -- The attributes of a step by the nodes of their items.
-use Rattle.std.proofs.Common.{◌≡◌, ◌≢◌, ℕ, ◌+◌, ◌∙◌, Bool, true, false, cond, List, [], ◌∷◌, ◌++◌, Option, Some, None, is_some, refl, sym, ap, subst, arith}
-use Rattle.std.specs.Prelude.{codes, bytes_eq}
+use Rattle.std.proofs.Common.{◌≡◌, ◌≢◌, ◌≤◌, ℕ, ◌+◌, ◌∙◌, Bool, true, false, cond, List, [], ◌∷◌, ◌++◌, Option, Some, None, is_some, refl, sym, ap, subst, arith}
+use Rattle.std.specs.Prelude.{codes, bytes_eq, if◌then◌else◌, not, ◌&&◌, ◌==◌}
+use Rattle.std.specs.Char.{is_ascii_digit}
+use Rattle.sexpr.specs.Words.{is_keyword, is_symbol}
 use Rattle.sexpr.specs.Items.{Item, word, quoted, string, list, Items, no_items, item, symbol_name}
 use Rattle.text_items.specs.declared.keywords.Next.{Next}
 use Rattle.text_items.specs.declared.keywords.Wanted.{Wanted}
@@ -14,8 +16,8 @@ use Rattle.text_items.proofs.NodeSteps.{AreMore, more_nodes, no_nodes, name_next
 use Rattle.alethe_text.specs.Commands.{Attribute, rule, premises, arguments, discharge, names_in, step_keywords, attribute_of, attribute_with, attributes_of}
 use Rattle.alethe_commands.specs.declared.attributes.AttributeWord.{AttributeWord}
 use Rattle.alethe_commands.specs.declared.attributes.StepAttribute.{StepAttribute}
-use Rattle.alethe_commands.specs.CommandNodes.{AreNameNodes, AreAttributes, SaysAttribute, HasFirstAttribute}
-use Rattle.alethe_commands.specs.CommandShapes.{attribute_word, attribute_nodes}
+use Rattle.alethe_commands.specs.CommandNodes.{AreNameNodes, AreAttributes, SaysAttribute, IsWithin}
+use Rattle.alethe_commands.specs.CommandShapes.{attribute_word, attribute_nodes, HasValue}
 use Rattle.alethe_commands.proofs.CommandsByNodes.{choice, or_none, unless_so}
 
 -- the attribute of a word and its value
@@ -62,6 +64,56 @@ value_after (Some name) w e = go (bytes_eq (codes ":rule") name) (bytes_eq (code
     go false false true d = refl
     go false false false true = refl
     go false false false false = refl
+
+-- no keyword is a value that a word wants
+plain_word : (w : List ℕ) → is_some (if is_symbol w then Some w else None) ≡ true → (if is_keyword w then Some w else None) ≡ None
+plain_word [] e = refl
+plain_word (b ∷ w) e = go (is_ascii_digit b) (b == 58) (b == 35) e
+  where
+    go : (d k h : Bool) → is_some (if not d && not k && not h then Some (b ∷ w) else None) ≡ true → (if k then Some (b ∷ w) else None) ≡ None
+    go true true h e = cc
+    go false true h e = cc
+    go d false h e = refl
+
+symbol_plain : (v : Item) → symbol_fault v ≡ None → keyword_of v ≡ None
+symbol_plain (word p w) e = plain_word w (unless_so (is_some (symbol_name (word p w))) _ e)
+symbol_plain (quoted p w) e = refl
+symbol_plain (string p w) e = refl
+symbol_plain (list p items) e = refl
+
+names_plain : (v : Item) → wanted_fault Wanted.Names v ≡ None → keyword_of v ≡ None
+names_plain (word p w) e = cc
+names_plain (quoted p w) e = refl
+names_plain (string p w) e = refl
+names_plain (list p items) e = refl
+
+list_plain : (v : Item) → wanted_fault Wanted.AnyList v ≡ None → keyword_of v ≡ None
+list_plain (word p w) e = cc
+list_plain (quoted p w) e = refl
+list_plain (string p w) e = refl
+list_plain (list p items) e = refl
+
+value_plain : (w : AttributeWord) (v : Item) → wanted_fault (wants w) v ≡ None → keyword_of v ≡ None
+value_plain AttributeWord.Rule v e = symbol_plain v e
+value_plain AttributeWord.Premises v e = names_plain v e
+value_plain AttributeWord.Arguments v e = list_plain v e
+value_plain AttributeWord.Discharge v e = names_plain v e
+
+no_attribute : (i : Item) (rest : Items) → keyword_of i ≡ None → attribute_with i rest ≡ []
+no_attribute i no_items e = refl
+no_attribute i (item v rest) e = by_word i v ∙ ap (λ o. attributes_said v (attribute_word o)) e
+
+nodes_within : (w : AttributeWord) (k m : ℕ) → IsWithin k (attribute_nodes w k m) m
+nodes_within AttributeWord.Rule k m = tt
+nodes_within AttributeWord.Premises k m = (omega arith, omega arith)
+nodes_within AttributeWord.Arguments k m = (omega arith, omega arith)
+nodes_within AttributeWord.Discharge k m = (omega arith, omega arith)
+
+pub within_more : (l k m : ℕ) (said : StepAttribute) → l ≤ k → IsWithin k said m → IsWithin l said m
+within_more l k m (StepAttribute.Rule j) h e = tt
+within_more l k m (StepAttribute.Premises first last) h (a, b) = (omega (arith, h, a), b)
+within_more l k m (StepAttribute.Arguments first last) h (a, b) = (omega (arith, h, a), b)
+within_more l k m (StepAttribute.Discharge first last) h (a, b) = (omega (arith, h, a), b)
 
 module _ (s : List ℕ) (ns : List Node) where
   names_here : (k : ℕ) (items : Items) (m : ℕ) → AreNodes s ns k items m → symbols_fault items ≡ None → AreNameNodes s ns k (names_in items) m
@@ -127,27 +179,36 @@ module _ (s : List ℕ) (ns : List Node) where
 
     pub attribute_found : node.next ≢ m → (w : AttributeWord) → ((i : Item) (n : ℕ) → IsNode s ns k i n → Some w ≡ attribute_word (keyword_of i))
         → (said : StepAttribute) → ((i : Item) (n : ℕ) → IsNode s ns node.next i n → said ≡ attribute_nodes w node.next n)
-        → (i : Item) (next : ℕ) → IsNode s ns k i next → HasFirstAttribute s ns said next attributes m
-    attribute_found apart w judged said tells i next at =
+        → (i : Item) (value : ℕ) → IsNode s ns k i value → HasValue s ns said value attributes m
+    attribute_found apart w judged said tells i value at =
         let b = more_nodes s ns node.next more.others m others_there apart in
         let is = judged more.first more.behind more.here in
-        let value = (or_none (next_fault (after_item step_keywords more.first) b.first) _ (subst (λ xs. misplaced step_keywords (after_item step_keywords more.first) xs ≡ None) b.split others_fit)).0 in
-        let fit : wanted_fault (wants w) b.first ≡ None = subst (λ (x : Next). next_fault x b.first ≡ None) (value_after (keyword_of more.first) w (sym is)) value in
-        subst (λ n. HasFirstAttribute s ns said n attributes m) (read i next at).next (record {
-          first = attribute_said w b.first;
-          others = attributes_of more.others;
-          split =
-              h.same ∙ ap attributes_of more.split
-              ∙ ap (λ xs. xs ++ attributes_of more.others) (ap (attribute_with more.first) b.split ∙ by_word more.first b.first ∙ ap (attributes_said b.first) (sym is));
-          says = subst (λ a. SaysAttribute s ns a (attribute_said w b.first)) (sym (tells b.first b.behind b.here)) (says w node.next b.first b.behind b.here fit);
-          there = record {
-            items = more.others;
-            next = after_item step_keywords more.first;
-            there = others_there;
-            fit = others_fit;
-            ended = others_ended;
-            same = refl;
+        let told = tells b.first b.behind b.here in
+        let parts = or_none (next_fault (after_item step_keywords more.first) b.first) _ (subst (λ xs. misplaced step_keywords (after_item step_keywords more.first) xs ≡ None) b.split others_fit) in
+        let fit : wanted_fault (wants w) b.first ≡ None = subst (λ (x : Next). next_fault x b.first ≡ None) (value_after (keyword_of more.first) w (sym is)) parts.0 in
+        subst (λ n. HasValue s ns said n attributes m) (read i value at).next (record {
+          given = b.first;
+          behind = b.behind;
+          here = b.here;
+          has = record {
+            first = attribute_said w b.first;
+            others = attributes_of b.others;
+            split =
+                h.same ∙ ap attributes_of more.split
+                ∙ ap (λ xs. xs ++ attributes_of more.others) (ap (attribute_with more.first) b.split ∙ by_word more.first b.first ∙ ap (attributes_said b.first) (sym is))
+                ∙ ap (λ xs. attribute_said w b.first ∷ attributes_of xs) b.split
+                ∙ ap (λ xs. attribute_said w b.first ∷ (xs ++ attributes_of b.others)) (no_attribute b.first b.others (value_plain w b.first fit));
+            says = subst (λ a. SaysAttribute s ns a (attribute_said w b.first)) (sym told) (says w node.next b.first b.behind b.here fit);
+            there = record {
+              items = b.others;
+              next = after_item step_keywords b.first;
+              there = b.there;
+              fit = parts.1;
+              ended = subst (λ xs. is_value (at_end step_keywords (after_item step_keywords more.first) xs) ≡ false) b.split others_ended;
+              same = refl;
+            };
           };
+          within = subst (λ a. IsWithin node.next a b.behind) (sym told) (nodes_within w node.next b.behind);
         })
 
   -- no item is left

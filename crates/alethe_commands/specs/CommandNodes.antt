@@ -1,5 +1,5 @@
 -- Public. Commands of a proof as nodes say them: each by the places of its nodes.
-use Rattle.std.specs.Prelude.{◌≡◌, ℕ, ◌+◌, false, Option, Some, None, List, [], ◌∷◌, length, Result, Ok, Err}
+use Rattle.std.specs.Prelude.{◌≡◌, ◌≤◌, ℕ, ◌+◌, ⊤, false, Option, Some, None, List, [], ◌∷◌, length, Result, Ok, Err}
 use Rattle.sexpr.specs.declared.causes.Refusal.{Refusal}
 use Rattle.sexpr.specs.Items.{Item, Items}
 use Rattle.text_items.specs.declared.keywords.Next.{Next}
@@ -49,6 +49,13 @@ pub record HasFirstAttribute (source : List ℕ) (nodes : List Node) (said : Ste
   pub split : attributes ≡ first ∷ others
   pub says : SaysAttribute source nodes said first
   pub there : AreAttributes source nodes k others m
+
+-- What stands in the attribute's list lies between these nodes.
+abbrev pub IsWithin : ℕ → StepAttribute → ℕ → Type 0
+IsWithin low (StepAttribute.Rule k) high = ⊤
+IsWithin low (StepAttribute.Premises first last) high = (low ≤ first) × (last ≤ high)
+IsWithin low (StepAttribute.Arguments first last) high = (low ≤ first) × (last ≤ high)
+IsWithin low (StepAttribute.Discharge first last) high = (low ≤ first) × (last ≤ high)
 
 -- The nodes from k on, up to m, are those of an anchor's arguments, which have no fault of shape.
 pub record AreArguments (source : List ℕ) (nodes : List Node) (k : ℕ) (others : List Argument) (m : ℕ) : Type 0 where

@@ -4,13 +4,16 @@ use Rattle.sexpr.specs.declared.causes.Cause.TheVariants.{BadCommand, LeftOut, U
 use Rattle.sexpr.specs.declared.causes.Refusal.{Refusal}
 use Rattle.sexpr.specs.Words.{is_symbol}
 use Rattle.sexpr.specs.Items.{Item, word, quoted, string, list, Items}
+use Rattle.text_items.specs.declared.nodes.Node.{Node}
 use Rattle.text_items.specs.Keywords.{is_it}
+use Rattle.text_items.specs.Nodes.{IsNode}
 use Rattle.problem_text.specs.Commands.{refused}
-use Rattle.alethe_text.specs.Commands.{Command as Shape, assume_shape, step_shape, anchor_shape}
+use Rattle.alethe_text.specs.Commands.{Attribute, Command as Shape, assume_shape, step_shape, anchor_shape}
 use Rattle.alethe_commands.specs.declared.commands.Command.{Command}
 use Rattle.alethe_commands.specs.declared.commands.CommandWord.{CommandWord}
 use Rattle.alethe_commands.specs.declared.attributes.AttributeWord.{AttributeWord}
 use Rattle.alethe_commands.specs.declared.attributes.StepAttribute.{StepAttribute}
+use Rattle.alethe_commands.specs.CommandNodes.{HasFirstAttribute, IsWithin}
 
 -- the command, unless a fault stands at a place
 abbrev pub unless : Option ℕ → Command → Result Command Refusal
@@ -63,3 +66,11 @@ rule_node (StepAttribute.Rule k) = Some k
 rule_node (StepAttribute.Premises first last) = None
 rule_node (StepAttribute.Arguments first last) = None
 rule_node (StepAttribute.Discharge first last) = None
+
+-- The first of the attributes has its value at this node, and the others stand behind it.
+pub record HasValue (source : List ℕ) (nodes : List Node) (said : StepAttribute) (value : ℕ) (attributes : List Attribute) (m : ℕ) : Type 0 where
+  pub given : Item
+  pub behind : ℕ
+  pub here : IsNode source nodes value given behind
+  pub has : HasFirstAttribute source nodes said behind attributes m
+  pub within : IsWithin value said behind

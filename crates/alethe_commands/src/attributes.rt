@@ -7,7 +7,7 @@ ghost use Rattle.text_items.specs.Nodes.{IsNode, AreNodes};
 ghost use Rattle.text_items.specs.Stepping.{IsItemAt, AreItemsFrom, AreSomeFrom};
 ghost use Rattle.alethe_text.specs.Commands as shape;
 ghost use Rattle.alethe_text.specs.Steps as steps;
-ghost use Rattle.alethe_commands.specs.CommandNodes.{AreAttributes, HasFirstAttribute};
+ghost use Rattle.alethe_commands.specs.CommandNodes.{AreAttributes, HasFirstAttribute, IsWithin};
 ghost use Rattle.alethe_commands.specs.CommandShapes as spec;
 
 use sexpr::Lexer;
@@ -99,8 +99,8 @@ pub(crate) fn anchor_attributes_fault(
     attributes_fault(text, nodes, &[STEP, ARGUMENTS], place, first, end)
 }
 
-/// The next of a step's attributes that stand from `at` to before `end` and have no fault of shape. The others stand behind
-/// `at` then. An attribute without effect is passed.
+/// The next of a step's attributes that stand from `at` to before `end` and have no fault of shape, where there is one. It
+/// stands before `at` then, and the others behind. An attribute without effect is passed.
 pub fn next_attribute(
     text: &Lexer<'_>,
     nodes: &[Node],
@@ -112,16 +112,17 @@ pub fn next_attribute(
     ensures none { IfNone result ((attributes : List shape.Attribute) → AreAttributes (source text.now) nodes.now at.old attributes end → attributes ≡ []) }
     ensures later { IfSome result (λ _. at.old < at.new) }
     ensures inside { IfSome result (λ _. at.new ≤ end) }
+    ensures within { IfSome result (λ a. IsWithin at.old a at.new) }
 {
     let mut k = *at;
     'items: while k != end {
-        let next = node_at(nodes, k).next;
+        let value = node_at(nodes, k).next;
         match attribute_from(text, nodes, k, end) {
             Some(attribute) => {
-                *at = next;
+                *at = node_at(nodes, value).next;
                 return Some(attribute);
             }
-            None => k = next,
+            None => k = value,
         }
     }
     None
@@ -155,7 +156,7 @@ fn rule_node(attribute: StepAttribute) -> Option<usize>
 /// The attribute that the item at node `k` and the one behind it are, where they are one. The attributes end before `end`.
 fn attribute_from(text: &Lexer<'_>, nodes: &[Node], k: usize, end: usize) -> Option<StepAttribute>
     requires { AreSomeFrom (source text.now) nodes.now k end }
-    ensures some { IfSome result (λ a. (attributes : List shape.Attribute) (i : Item) (next : ℕ) → AreAttributes (source text.now) nodes.now k attributes end → IsNode (source text.now) nodes.now k i next → HasFirstAttribute (source text.now) nodes.now a next attributes end) }
+    ensures some { IfSome result (λ a. (attributes : List shape.Attribute) (i : Item) (value : ℕ) → AreAttributes (source text.now) nodes.now k attributes end → IsNode (source text.now) nodes.now k i value → spec.HasValue (source text.now) nodes.now a value attributes end) }
     ensures none { IfNone result ((attributes : List shape.Attribute) (i : Item) (next : ℕ) → AreAttributes (source text.now) nodes.now k attributes end → IsNode (source text.now) nodes.now k i next → AreAttributes (source text.now) nodes.now next attributes end) }
 {
     let value = node_at(nodes, k).next;
