@@ -1,0 +1,5 @@
+pub mod Readings
+pub mod Fractions
+pub mod Amounts
+pub mod Prefixes
+pub mod Three
