@@ -9,3 +9,4 @@ pub mod ReadTerms
 pub mod Judging
 pub mod Reach
 pub mod Standing
+pub mod Arguments
