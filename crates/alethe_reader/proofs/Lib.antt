@@ -13,3 +13,4 @@ mod Indices
 mod StandingSteps
 mod RuleWords
 mod FormulaLists
+mod NamedArguments
