@@ -19,3 +19,4 @@ mod Indices
 mod StandingSteps
 mod RuleWords
 mod FormulaLists
+mod NamedArguments

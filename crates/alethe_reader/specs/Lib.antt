@@ -12,3 +12,4 @@ pub mod Judging
 pub mod Reach
 pub mod Standing
 pub mod StepParts
+pub mod Arguments

@@ -4,13 +4,14 @@
 //!
 //! - `session`: what was read of a proof. [`Ids`] has the ids of the visible commands and of the open anchors, by name, with no
 //!   copy of a scope; `laws` ties them to the proof that is written, as `rule_model` has it. `judging`: the id of a command.
-//! - `formulas`: formulas in a scope. `assuming`: assumes.
+//! - `formulas`: formulas in a scope. `arguments`: the terms in arguments that get a name. `assuming`: assumes.
 //!
 //! What a contract sees: `specs/Sessions` (which state a session stands for) and `specs/Answers` (what a part of the reader
 //! answers, and the outcome of its definition).
 #![tactic(auto)]
 
 mod anchors;
+mod arguments;
 mod assuming;
 pub mod bound;
 mod formulas;
