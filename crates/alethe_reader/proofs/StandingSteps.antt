@@ -1,5 +1,5 @@
 -- How a step stands, by its id among those in use.
-use Rattle.std.proofs.Common.{◌≡◌, ◌≢◌, ℕ, zero, suc, ◌+◌, ◌≤◌, ◌<◌, List, [], ◌∷◌, ◌++◌, map, length, slice_get, Bool, true, false, if◌then◌else◌, Option, Some, None, Result, Ok, Err, refl, sym, ◌∙◌, ap, subst, arith}
+use Rattle.std.proofs.Common.{◌≡◌, ◌≢◌, ℕ, zero, suc, ◌+◌, ◌≤◌, ◌<◌, List, [], ◌∷◌, ◌++◌, map, length, take, slice_get, Bool, true, false, if◌then◌else◌, Option, Some, None, Result, Ok, Err, refl, sym, ◌∙◌, ap, subst, arith}
 use Rattle.std.specs.Prelude.{⊤, bytes_eq}
 use Rattle.std.specs.List.{AllZip}
 use Rattle.std.proofs.lemmas.Slice.Eq.{bytes_eq-Decides}
@@ -60,6 +60,14 @@ one_end [] (b ∷ c ∷ ys) x y e = absurd (cc)
 one_end (a ∷ []) [] x y e = absurd (cc)
 one_end (a ∷ c ∷ xs) [] x y e = absurd (cc)
 one_end (a ∷ xs) (b ∷ ys) x y e = one_end xs ys x y (let t : xs ++ x ∷ [] ≡ ys ++ y ∷ [] = cc in t)
+
+-- what stands in the front of a list
+taken : {X : Type 0} (xs : List X) (n k : ℕ) (x : X) → slice_get (take n xs) k ≡ Some x → (slice_get xs k ≡ Some x) × (k < n)
+taken [] zero k x e = absurd (cc)
+taken [] (suc n) k x e = absurd (cc)
+taken (y ∷ ys) zero k x e = absurd (cc)
+taken (y ∷ ys) (suc n) zero x e = (e, omega arith)
+taken (y ∷ ys) (suc n) (suc k) x e = let h = taken ys n k x e in (h.0, omega (arith, h.1))
 
 -- the id of the anchor is in use where its scope begins
 anchor_place : (xs : List Used) (u : Used) (ys : List Used) → slice_get (xs ++ (u ∷ ys)) (length xs) ≡ Some u
@@ -165,6 +173,12 @@ module _ (s : Table) (v : TermsView) (d : Session) (p : ProofState) (n : Name) (
     stands_closing front a split place first len e l =
         go d.builder.nesting p.scope.nesting h.nesting h.starts_kept h.counts_kept there refl
       where
+        unused_before : (start : ℕ) → start ≡ f.place → IsUnused (take start d.ids) n.name
+        unused_before start e k u has same =
+            let within = taken d.ids start k u has in
+            let there = used.alone k u within.0 same in
+            omega (arith, within.1, there, e)
+
         go : (r : Nesting ℕ ℕ) (m : Nesting Var Term) → StandForNesting s v r m → map (λ (a : OpenAnchor). a.ids) d.anchors.items ≡ starts r → map (λ (a : OpenAnchor). a.variables) d.anchors.items ≡ counts r
             → IsUsedAt (ids_in (at m p.scope.items)) n.name f → m ≡ p.scope.nesting
             → Stands d.ids p n (record { premises = record { first = 0; end = a.ids; takes_steps = true }; discharges = record { first = first; end = len; takes_steps = false }; closes = Some a })
@@ -191,7 +205,7 @@ module _ (s : Table) (v : TermsView) (d : Session) (p : ProofState) (n : Name) (
             record {
               here = closes_scope p.scope.nesting p.scope.items;
               comes = comes true (subst (λ m. is_open_id m n.name ≡ true) same opened);
-              closes = (subst (λ m. is_open_id m n.name ≡ true) same opened, refl, subst (λ m. IsAnchorOf m a) same (start, bound));
+              closes = (subst (λ m. is_open_id m n.name ≡ true) same opened, refl, subst (λ m. IsAnchorOf m a) same (start, bound), unused_before a.ids place);
               premises = subst (λ m. IsReach d.ids (record { first = 0; end = a.ids; takes_steps = true }) (closes_scope m p.scope.items).sees) same
                   (subst (λ us. IsReach us (record { first = 0; end = a.ids; takes_steps = true }) (seen outer behind)) (sym ids) (reaches_outer outer behind other p.scope.items a.ids start));
               discharges = subst (λ m. IsReach d.ids (record { first = first; end = len; takes_steps = false }) (closes_scope m p.scope.items).discharges) same

@@ -13,3 +13,4 @@ pub mod Reach
 pub mod Standing
 pub mod StepParts
 pub mod Arguments
+pub mod AddedSteps

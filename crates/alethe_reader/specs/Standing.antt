@@ -1,5 +1,5 @@
 -- Private. How a step stands by its id.
-use Rattle.std.specs.Prelude.{◌≡◌, ℕ, Bool, true, false, List, length, Option, Some, None, Result, Ok, Err}
+use Rattle.std.specs.Prelude.{◌≡◌, ℕ, Bool, true, false, List, length, take, Option, Some, None, Result, Ok, Err}
 use Rattle.sexpr.specs.declared.causes.Refusal.{Refusal}
 use Rattle.term_model.specs.Terms.{Var, Term}
 use Rattle.rule_model.specs.Scopes.{Nesting, outermost, inside, at, own_bindings}
@@ -20,12 +20,12 @@ abbrev pub IsAnchorOf : Nesting Var Term → OpenAnchor → Type 0
 IsAnchorOf outermost a = ⊥
 IsAnchorOf (inside around before anchor) a = (a.ids ≡ length (ids_in (at around before))) × (a.variables ≡ length anchor.bindings)
 
--- it closes the scope of an anchor with its id, or has a new id
+-- it closes the scope of an anchor with its id, which was not in use before that anchor, or has a new id
 abbrev pub IsClosing : List Used → ProofState → List ℕ → text.Standing → Option OpenAnchor → Type 0
 IsClosing used p id here None =
     (is_open_id p.scope.nesting id ≡ false) × (here ≡ text.stands_in p.scope) × IsUnused used id × IsNewId p.scope.nesting p.scope.items id
 IsClosing used p id here (Some a) =
-    (is_open_id p.scope.nesting id ≡ true) × (here ≡ text.closes_scope p.scope.nesting p.scope.items) × IsAnchorOf p.scope.nesting a
+    (is_open_id p.scope.nesting id ≡ true) × (here ≡ text.closes_scope p.scope.nesting p.scope.items) × IsAnchorOf p.scope.nesting a × IsUnused (take a.ids used) id
 
 pub record Stands (used : List Used) (p : ProofState) (n : Name) (t : Standing) : Type 0 where
   pub here : text.Standing

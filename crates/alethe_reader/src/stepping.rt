@@ -1,18 +1,25 @@
 //! Steps of a proof (Alethe specification, "The Proof Format" and "Subproofs").
-ghost use Rattle.std.specs.Prelude.{◌≡◌, ◌≤◌, ◌<◌, ◌^◌, ◌+◌, ◌-◌, ℕ, List, length, OnOk};
+ghost use Rattle.std.specs.Prelude.{◌≡◌, ◌≤◌, ◌<◌, ◌^◌, ◌+◌, ◌-◌, ◌++◌, ◌∷◌, [], ℕ, List, length, take, IfErr, OnOk};
 ghost use Rattle.sexpr.specs.Items.{Items};
 ghost use Rattle.sexpr.specs.Source.{source};
-ghost use Rattle.term_pool.specs.Views.{KeepsTerms};
+ghost use Rattle.sym_table.specs.Table.{Table};
+ghost use Rattle.term_model.specs.Terms.{Var, Term};
+ghost use Rattle.term_pool.specs.Views.{TermsView, KeepsTerms};
+ghost use Rattle.rule_model.specs.Proofs.{Step, Items as Proof};
 ghost use Rattle.rule_model.specs.RuleNames.{IsSymbolName};
-ghost use Rattle.rule_model.specs.Scopes.{next_index, next_scope};
+ghost use Rattle.rule_model.specs.Scopes.{Anchor, Nesting, inside, own_bindings, next_index, next_scope};
 ghost use Rattle.text_items.specs.ItemShapes.{Name};
 ghost use Rattle.term_names.specs.Standing.{AddsNoSymbols};
+ghost use Rattle.term_names.specs.declared.faults.ReadFault.{ReadFault};
 ghost use Rattle.alethe_commands.specs.CommandNodes.{SaysStep};
 ghost use Rattle.alethe_text.specs.Commands as shape;
 ghost use Rattle.alethe_text.specs.States.{ProofSettings, ProofState};
 ghost use Rattle.alethe_text.specs.Steps as steps;
+ghost use Rattle.alethe_reader.specs.AddedSteps.{IsToAdd};
 ghost use Rattle.alethe_reader.specs.Answers.{Answers};
+ghost use Rattle.alethe_reader.specs.Bound.{AreBound};
 ghost use Rattle.alethe_reader.specs.Sessions.{IsSession, StandsAfter};
+ghost use Rattle.alethe_reader.specs.declared.session.OpenAnchor.{OpenAnchor};
 
 use crate::formulas::formulas_at;
 use crate::ids::Role;
@@ -21,11 +28,11 @@ use crate::rules::rule_named;
 use crate::scopes::leave_variables;
 use crate::session::{OpenAnchor, Session};
 use crate::standing::standing_at;
-use crate::step_attributes::attributes_at;
+use crate::step_attributes::{StepAttributes, attributes_at};
 use alethe_commands::attributes::rule_word;
 use rule_model::Rule;
 use sexpr::Lexer;
-use sym_table::{Memory, Symbols};
+use sym_table::Symbols;
 use term_names::faults::ReadFault;
 use term_pool::Terms;
 use text_items::nodes::Node;
@@ -36,6 +43,16 @@ pub struct StepNodes {
     pub id: usize,
     pub first: usize,
     pub attributes: usize,
+}
+
+/// A step as it is to be added: its id, its rule with the word for it, and the anchor whose scope it closes. What else it has
+/// are the parts of the session.
+#[derive(Clone, Copy)]
+struct NewStep<'a> {
+    id: Named<'a>,
+    rule: Rule,
+    word: &'a [u8],
+    closes: Option<OpenAnchor>,
 }
 
 /// Adds a step. One with the id of the innermost open anchor closes its scope: it is read in the scope around.
@@ -77,38 +94,63 @@ pub fn read_step(
         &mut session.reader,
         &mut session.parts.clause,
     )?;
-    let name = rule_word(text, nodes, step.attributes, nodes.len());
-    let rule = rule_named(name);
-    attributes_at(text, nodes, step.attributes, rule, standing, symbols, terms, session)?;
-    add_step(session, id, rule, name, standing.closes)?;
+    let word = rule_word(text, nodes, step.attributes, nodes.len());
+    let rule = rule_named(word);
+    let attributes = StepAttributes {
+        first: step.attributes,
+        rule,
+        standing,
+    };
+    attributes_at(text, nodes, attributes, symbols, terms, session)?;
+    let new = NewStep {
+        id,
+        rule,
+        word,
+        closes: standing.closes,
+    };
+    add_step(session, new)?;
     Ok(())
 }
 
-/// Adds the step that was read, and puts its id in use. Where it closes a scope, all that belongs to the scope is left.
-fn add_step<'a>(
-    session: &mut Session<'_>,
-    id: Named<'a>,
-    rule: Rule,
-    name: &'a [u8],
-    closes: Option<OpenAnchor>,
-) -> Result<(), Memory> {
+/// Adds the step that was read, and puts its id in use. Where it closes a scope, all that belongs to the scope is left. Refuses
+/// want of memory alone.
+fn add_step(session: &mut Session<'_>, new: NewStep<'_>) -> Result<(), ReadFault>
+    requires step { (s : Table) × (v : TermsView) × (settings : ProofSettings) × (step : Step Term) × (p : ProofState) × IsToAdd s v settings session.old new step p }
+    requires few { next_index session.old.builder + 1 < 2 ^ 32 - 1 }
+    ensures added { OnOk result ((s : Table) (v : TermsView) (settings : ProofSettings) (step : Step Term) (p : ProofState) → IsToAdd s v settings session.old new.entry step p → IsSession s v settings session.new (steps.with_step step p)) }
+    ensures refused { IfErr result (λ fault. fault ≡ ReadFault.Memory) }
+    ensures commands { OnOk result (next_index session.new.builder ≡ next_index session.old.builder + 1) }
+    ensures scopes { OnOk result (next_scope session.new.builder ≡ next_scope session.old.builder) }
+{
     let parts = &session.parts;
     let ratios = if parts.has_ratios { Some(parts.ratios.as_slice()) } else { None };
     let index = session.builder.step(
-        id.name,
-        rule,
-        name,
+        new.id.name,
+        new.rule,
+        new.word,
         &parts.clause,
         &parts.premises,
         &parts.discharged,
         &[],
         ratios,
     )?;
-    if let Some(anchor) = closes {
-        session.ids.leave(anchor.ids);
-        session.anchors.pop();
-        session.bound.leave(anchor.variables);
+    if let Some(anchor) = new.closes {
+        leave_scope(session, anchor);
     }
-    session.ids.push(id.name, Role::Step, index)?;
+    session.ids.push(new.id.name, Role::Step, index)?;
     Ok(())
+}
+
+/// Leaves the scope of the innermost anchor: its ids, its variables, and itself.
+fn leave_scope(session: &mut Session<'_>, anchor: OpenAnchor)
+    requires { (s : Table) × (v : TermsView) × (nesting : Nesting Var Term) × AreBound s v session.old.bound nesting × (anchor.variables ≡ length (own_bindings nesting)) }
+    ensures ids { session.new.ids ≡ take anchor.ids session.old.ids }
+    ensures anchors { (front : List OpenAnchor) (last : OpenAnchor) → session.old.anchors.items ≡ front ++ last ∷ [] → session.new.anchors.items ≡ front }
+    ensures bound { (s : Table) (v : TermsView) (around : Nesting Var Term) (before : Proof Var Term) (other : Anchor Var Term) → anchor.variables ≡ length other.bindings → AreBound s v session.old.bound (inside around before other) → AreBound s v session.new.bound around }
+    ensures builder { session.new.builder ≡ session.old.builder }
+    ensures reader { session.new.reader ≡ session.old.reader }
+{
+    session.ids.leave(anchor.ids);
+    session.anchors.pop();
+    session.bound.leave(anchor.variables);
 }
