@@ -1,11 +1,12 @@
 -- Private. A step that is to be added to a proof.
-use Rattle.std.specs.Prelude.{◌≡◌, ℕ, false, List, map, All, Contains}
+use Rattle.std.specs.Prelude.{◌≡◌, ℕ, false, List, [], map, All, Contains, Option, Some, None, if◌then◌else◌}
 use Rattle.sym_table.specs.Table.{Table}
 use Rattle.term_model.specs.Terms.{Term}
 use Rattle.term_pool.specs.Views.{TermsView, ReferToAll}
-use Rattle.rule_model.specs.Proofs.{Step}
+use Rattle.rule_model.specs.Proofs.{Fraction, Step}
 use Rattle.rule_model.specs.Visibility.{Sight}
 use Rattle.rule_model.specs.WellFormed.{HasRule}
+use Rattle.proof_store.specs.Ratios.{fraction_of}
 use Rattle.term_reader.specs.ProblemViews.{IsReaderOf}
 use Rattle.alethe_text.specs.Ids.{Standing}
 use Rattle.alethe_text.specs.ProofTerms.{place_in}
@@ -14,7 +15,24 @@ use Rattle.alethe_reader.specs.Sessions.{IsWritten}
 use Rattle.alethe_reader.specs.Standing.{IsClosing}
 use Rattle.alethe_reader.specs.StepParts.{ArePartsOf}
 use Rattle.alethe_reader.specs.declared.session.Session.{Session}
+use Rattle.alethe_reader.specs.declared.session.StepParts.{StepParts}
 use Rattle.alethe_reader.specs.declared.stepping.NewStep.{NewStep}
+
+-- its coefficients, and the step over references
+abbrev pub ratios_of : StepParts → Option (List Fraction)
+ratios_of d = if d.has_ratios then Some (map fraction_of d.ratios.items) else None
+
+abbrev pub step_of : StepParts → NewStep → Step ℕ
+step_of d n = record {
+  id = n.id.name.now;
+  rule = n.rule;
+  rule_name = n.word.now;
+  clause = d.clause.items;
+  premises = d.premises.items;
+  discharged = d.discharged.items;
+  pivots = [];
+  ratios = ratios_of d;
+}
 
 -- the indices are those of commands that are seen
 abbrev pub AreSeen : List Sight → List ℕ → Type 0

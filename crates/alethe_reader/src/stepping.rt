@@ -1,5 +1,5 @@
 //! Steps of a proof (Alethe specification, "The Proof Format" and "Subproofs").
-ghost use Rattle.std.specs.Prelude.{◌≡◌, ◌≤◌, ◌<◌, ◌^◌, ◌+◌, ◌-◌, ◌++◌, ◌∷◌, [], ℕ, List, length, take, IfErr, OnOk};
+ghost use Rattle.std.specs.Prelude.{◌≡◌, ◌≤◌, ◌<◌, ◌^◌, ◌+◌, ◌-◌, ◌++◌, ◌∷◌, [], ℕ, List, length, take, IfOk, IfErr, OnOk};
 ghost use Rattle.sexpr.specs.Items.{Items};
 ghost use Rattle.sexpr.specs.Source.{source};
 ghost use Rattle.sym_table.specs.Table.{Table};
@@ -8,6 +8,9 @@ ghost use Rattle.term_pool.specs.Views.{TermsView, KeepsTerms};
 ghost use Rattle.rule_model.specs.Proofs.{Step, Items as Proof};
 ghost use Rattle.rule_model.specs.RuleNames.{IsSymbolName};
 ghost use Rattle.rule_model.specs.Scopes.{Anchor, Nesting, inside, own_bindings, next_index, next_scope};
+ghost use Rattle.rule_model.specs.Writing as writing;
+ghost use Rattle.rule_model.specs.Writing.{MayTake};
+ghost use Rattle.proof_store.specs.Ratios.{fractions};
 ghost use Rattle.text_items.specs.ItemShapes.{Name};
 ghost use Rattle.term_names.specs.Standing.{AddsNoSymbols};
 ghost use Rattle.term_names.specs.declared.faults.ReadFault.{ReadFault};
@@ -15,6 +18,7 @@ ghost use Rattle.alethe_commands.specs.CommandNodes.{SaysStep};
 ghost use Rattle.alethe_text.specs.Commands as shape;
 ghost use Rattle.alethe_text.specs.States.{ProofSettings, ProofState};
 ghost use Rattle.alethe_text.specs.Steps as steps;
+ghost use Rattle.alethe_reader.specs.AddedSteps as spec;
 ghost use Rattle.alethe_reader.specs.AddedSteps.{IsToAdd};
 ghost use Rattle.alethe_reader.specs.Answers.{Answers};
 ghost use Rattle.alethe_reader.specs.Bound.{AreBound};
@@ -26,12 +30,14 @@ use crate::ids::Role;
 use crate::judging::{Named, named_at};
 use crate::rules::rule_named;
 use crate::scopes::leave_variables;
-use crate::session::{OpenAnchor, Session};
+use crate::session::{OpenAnchor, Session, StepParts};
 use crate::standing::standing_at;
 use crate::step_attributes::{StepAttributes, attributes_at};
 use alethe_commands::attributes::rule_word;
 use rule_model::Rule;
 use sexpr::Lexer;
+use pair_pool::Memory;
+use proof_store::{ProofBuilder, Ratio};
 use sym_table::Symbols;
 use term_names::faults::ReadFault;
 use term_pool::Terms;
@@ -122,23 +128,37 @@ fn add_step(session: &mut Session<'_>, new: NewStep<'_>) -> Result<(), ReadFault
     ensures commands { OnOk result (next_index session.new.builder ≡ next_index session.old.builder + 1) }
     ensures scopes { OnOk result (next_scope session.new.builder ≡ next_scope session.old.builder) }
 {
-    let parts = &session.parts;
-    let ratios = if parts.has_ratios { Some(parts.ratios.as_slice()) } else { None };
-    let index = session.builder.step(
-        new.id.name,
-        new.rule,
-        new.word,
-        &parts.clause,
-        &parts.premises,
-        &parts.discharged,
-        &[],
-        ratios,
-    )?;
+    let index = take_step(&mut session.builder, &session.parts, new)?;
     if let Some(anchor) = new.closes {
         leave_scope(session, anchor);
     }
     session.ids.push(new.id.name, Role::Step, index)?;
     Ok(())
+}
+
+/// Hands the step over to the builder, and answers its index.
+fn take_step(
+    builder: &mut ProofBuilder,
+    parts: &StepParts,
+    new: NewStep<'_>,
+) -> Result<u32, Memory>
+    requires may { MayTake builder.old (spec.step_of parts.now new) }
+    requires few { next_index builder.old + 1 < 2 ^ 32 - 1 }
+    ensures index { IfOk result (λ i. i ≡ next_index builder.old) }
+    ensures written { OnOk result (builder.new ≡ writing.take_step builder.old (spec.step_of parts.now new.entry)) }
+{
+    let clause = parts.clause.as_slice();
+    let premises = parts.premises.as_slice();
+    let discharged = parts.discharged.as_slice();
+    let ratios = ratios_of(parts);
+    builder.step(new.id.name, new.rule, new.word, clause, premises, discharged, &[], ratios)
+}
+
+/// The coefficients of the step, where it has any.
+fn ratios_of(parts: &StepParts) -> Option<&[Ratio]>
+    ensures { fractions result ≡ spec.ratios_of parts.now }
+{
+    if parts.has_ratios { Some(parts.ratios.as_slice()) } else { None }
 }
 
 /// Leaves the scope of the innermost anchor: its ids, its variables, and itself.
