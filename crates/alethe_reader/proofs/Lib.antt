@@ -21,3 +21,7 @@ mod RuleWords
 mod FormulaLists
 mod NamedArguments
 mod AddedSteps
+mod LowestTerms
+mod LowestCoefficients
+mod FormedSteps
+mod StepReading
