@@ -1,8 +1,13 @@
 -- What a step comes to.
-use Rattle.std.proofs.Common.{◌≡◌, ℕ, List, [], ◌∷◌, length, take, Option, Some, None, Result, Ok, Err, refl, sym, ap, subst, ◌∙◌}
+use Rattle.std.proofs.Common.{◌≡◌, ℕ, List, [], ◌∷◌, length, Option, Some, None, Result, Ok, Err, refl, sym, ap, subst, ◌∙◌}
 use Rattle.std.specs.Prelude.{⊤}
 use Rattle.sexpr.specs.declared.causes.Refusal.{Refusal}
 use Rattle.sexpr.specs.Items.{Items}
+use Rattle.alethe_commands.specs.CommandNodes.{AreAttributes, SaysStep}
+use Rattle.alethe_text.specs.Commands as shape
+use Rattle.text_items.specs.NameNodes.{IsNameNode}
+use Rattle.text_items.specs.Nodes.{AreNodes}
+use Rattle.text_items.specs.declared.nodes.Node.{Node}
 use Rattle.sym_table.specs.Table.{Table, Keeps}
 use Rattle.term_model.specs.Terms.{Var, Term}
 use Rattle.term_pool.specs.Views.{TermsView, ReferToAll, KeepsTerms}
@@ -25,7 +30,7 @@ use Rattle.alethe_reader.specs.declared.session.Session.{Session}
 use Rattle.alethe_reader.specs.declared.stepping.NewStep.{NewStep}
 use Rattle.alethe_reader.specs.AddedSteps.{IsToAdd}
 use Rattle.alethe_reader.specs.Answers.{Answers, KeepsRead}
-use Rattle.alethe_reader.specs.Ids.{Used, IsUnused}
+use Rattle.alethe_reader.specs.Ids.{Used}
 use Rattle.alethe_reader.specs.ReadTerms.{AreReadFormulas}
 use Rattle.alethe_reader.specs.Sessions.{IsSession, IsWritten, StandsAfter}
 use Rattle.alethe_reader.specs.Standing.{IsAnchorOf, IsClosing}
@@ -165,9 +170,9 @@ module _ (s : Table) (v : TermsView) (settings : ProofSettings) (used : List Use
   pub variables_of : (a : OpenAnchor) (o : Option OpenAnchor) → o ≡ Some a → IsClosing used p id here o → a.variables ≡ length (own_bindings p.scope.nesting)
   variables_of a o some c = go p.scope.nesting (subst (IsClosing used p id here) some c).2
     where
-      go : (m : Nesting Var Term) → IsAnchorOf m a × IsUnused (take a.ids used) id → a.variables ≡ length (own_bindings m)
-      go outermost k = absurd k.0
-      go (inside around before anchor) k = k.0.1
+      go : (m : Nesting Var Term) → IsAnchorOf m a → a.variables ≡ length (own_bindings m)
+      go outermost k = absurd k
+      go (inside around before anchor) k = k.1
 
   pub gone_around : (r t : ReaderView) (a : OpenAnchor) (o : Option OpenAnchor) → o ≡ Some a → IsClosing used p id here o
       → ((around : Nesting Var Term) (before : Proof Var Term) (anchor : Anchor Var Term) → a.variables ≡ length anchor.bindings → IsReaderOf s v r p.script (place_in settings (inside around before anchor)) → IsReaderOf s v t p.script (place_in settings around))
@@ -176,6 +181,28 @@ module _ (s : Table) (v : TermsView) (settings : ProofSettings) (used : List Use
       subst (λ (at : Standing). IsReaderOf s v t p.script (place_in settings at.nesting)) (sym (subst (IsClosing used p id here) some c).1)
       (go p.scope.nesting (subst (IsClosing used p id here) some c).2 h)
     where
-      go : (m : Nesting Var Term) → IsAnchorOf m a × IsUnused (take a.ids used) id → IsReaderOf s v r p.script (place_in settings m) → IsReaderOf s v t p.script (place_in settings (closes_scope m p.scope.items).nesting)
-      go outermost k h = absurd k.0
-      go (inside around before anchor) k h = left around before anchor k.0.1 h
+      go : (m : Nesting Var Term) → IsAnchorOf m a → IsReaderOf s v r p.script (place_in settings m) → IsReaderOf s v t p.script (place_in settings (closes_scope m p.scope.items).nesting)
+      go outermost k h = absurd k
+      go (inside around before anchor) k h = left around before anchor k.1 h
+
+-- What the nodes of a step say, part by part.
+pub record IsSaid (source : List ℕ) (nodes : List Node) (id first others : ℕ) (n : Name) (literals : Items) (attributes : List Attribute) : Type 0 where
+  pub name_here : IsNameNode source nodes id n
+  pub literals_here : AreNodes source nodes first literals others
+  pub attributes_here : AreAttributes source nodes others attributes (length nodes)
+
+pub said : (source : List ℕ) (nodes : List Node) (id first others : ℕ) (n : Name) (literals : Items) (attributes : List Attribute) → SaysStep source nodes id first others (shape.step n literals attributes) → IsSaid source nodes id first others n literals attributes
+said source nodes id first others n literals attributes h = record {
+  name_here = subst (IsNameNode source nodes id) (name_of h.same) h.name_here;
+  literals_here = subst (λ items. AreNodes source nodes first items others) (literals_of h.same) h.literals_here;
+  attributes_here = subst (λ as. AreAttributes source nodes others as (length nodes)) (attributes_of h.same) h.attributes_here;
+}
+  where
+    name_of : {m n : Name} {k l : Items} {a b : List Attribute} → shape.step n l b ≡ shape.step m k a → m ≡ n
+    name_of e = cc
+
+    literals_of : {m n : Name} {k l : Items} {a b : List Attribute} → shape.step n l b ≡ shape.step m k a → k ≡ l
+    literals_of e = cc
+
+    attributes_of : {m n : Name} {k l : Items} {a b : List Attribute} → shape.step n l b ≡ shape.step m k a → a ≡ b
+    attributes_of e = cc

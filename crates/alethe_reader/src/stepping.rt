@@ -14,15 +14,20 @@ ghost use Rattle.proof_store.specs.Ratios.{fractions};
 ghost use Rattle.text_items.specs.ItemShapes.{Name};
 ghost use Rattle.term_names.specs.Standing.{AddsNoSymbols};
 ghost use Rattle.term_names.specs.declared.faults.ReadFault.{ReadFault};
+ghost use Rattle.term_reader.specs.ProblemViews.{IsReaderOf};
 ghost use Rattle.alethe_commands.specs.CommandNodes.{SaysStep};
 ghost use Rattle.alethe_text.specs.Commands as shape;
+ghost use Rattle.alethe_text.specs.Ids as ids;
+ghost use Rattle.alethe_text.specs.ProofTerms.{place_in};
 ghost use Rattle.alethe_text.specs.States.{ProofSettings, ProofState};
 ghost use Rattle.alethe_text.specs.Steps as steps;
 ghost use Rattle.alethe_reader.specs.AddedSteps as spec;
 ghost use Rattle.alethe_reader.specs.AddedSteps.{IsToAdd};
 ghost use Rattle.alethe_reader.specs.Answers.{Answers};
 ghost use Rattle.alethe_reader.specs.Bound.{AreBound};
+ghost use Rattle.alethe_reader.specs.Ids.{Used};
 ghost use Rattle.alethe_reader.specs.Sessions.{IsSession, StandsAfter};
+ghost use Rattle.alethe_reader.specs.Standing.{IsClosing};
 ghost use Rattle.alethe_reader.specs.declared.session.OpenAnchor.{OpenAnchor};
 
 use crate::formulas::formulas_at;
@@ -41,6 +46,7 @@ use proof_store::{ProofBuilder, Ratio};
 use sym_table::Symbols;
 use term_names::faults::ReadFault;
 use term_pool::Terms;
+use term_reader::TermReader;
 use text_items::nodes::Node;
 
 /// A step by the places of its nodes: its id, its literals, which end before its attributes, and these, which go to the end.
@@ -87,9 +93,7 @@ pub fn read_step(
 {
     let id = named_at(text, nodes, step.id);
     let standing = standing_at(session, id)?;
-    if let Some(anchor) = standing.closes {
-        leave_variables(&mut session.reader, anchor.variables);
-    }
+    stand(&mut session.reader, standing.closes);
     formulas_at(
         text,
         nodes,
@@ -116,6 +120,17 @@ pub fn read_step(
     };
     add_step(session, new)?;
     Ok(())
+}
+
+/// Goes to the scope in which a step stands: one that closes a scope stands in the scope around.
+fn stand(reader: &mut TermReader<'_>, closes: Option<OpenAnchor>)
+    requires { (s : Table) × (v : TermsView) × (settings : ProofSettings) × (used : List Used) × (p : ProofState) × (id : List ℕ) × (here : ids.Standing) × IsReaderOf s v reader.old p.script (place_in settings p.scope.nesting) × IsClosing used p id here closes }
+    ensures { (s : Table) (v : TermsView) (settings : ProofSettings) (used : List Used) (p : ProofState) (id : List ℕ) (here : ids.Standing) → IsReaderOf s v reader.old p.script (place_in settings p.scope.nesting) → IsClosing used p id here closes → IsReaderOf s v reader.new p.script (place_in settings here.nesting) }
+{
+    let Some(anchor) = closes else {
+        return;
+    };
+    leave_variables(reader, anchor.variables);
 }
 
 /// Adds the step that was read, and puts its id in use. Where it closes a scope, all that belongs to the scope is left. Refuses
