@@ -243,3 +243,13 @@ left_out out place p refusal e r = rw (e, r) refl
 
 pub kept_in : (out : Bool) (place : ℕ) (p : ProofState) → out ≡ false → demand (not out) LeftOut place p ≡ done tt p
 kept_in out place p e = rw e refl
+
+-- behind an attribute the step stands as before
+pub stands_on : (s z : Table) (v w : TermsView) (settings : ProofSettings) (at : text.Standing) (standing : Standing) (d e : Session) (p q : ProofState) → StandsAt s v settings at d standing p → KeepsOthers d e → IsReaderOf z w e.reader q.script (place_in settings at.nesting)
+    → StandsAt z w settings at e standing q
+stands_on s z v w settings at standing d e p q h others reader = record {
+  lax = h.lax;
+  sees = subst (λ us. IsReach us standing.premises at.sees) (sym others.ids) h.sees;
+  discharges = subst (λ us. IsReach us standing.discharges at.discharges) (sym others.ids) h.discharges;
+  reader = reader;
+}
