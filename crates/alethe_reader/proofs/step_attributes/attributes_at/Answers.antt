@@ -130,3 +130,6 @@ returns-clause-few c = elim c.attributes.invariant.within [
   | inl e ↦ omega (arith, e, c.attributes.invariant.spent)
   | inr h ↦ omega (arith, h, c.attributes.invariant.spent, c.attributes.invariant.ordered)
 ]
+
+pub returns-in_err-attribute_at-clause-symbols : goal.returns-in_err-attribute_at-clause-symbols
+returns-in_err-attribute_at-clause-symbols c = adds_then _ _ _ c.attributes.invariant.adds c.attribute_at.ensures.symbols
