@@ -20,3 +20,4 @@ mod StandingSteps
 mod RuleWords
 mod FormulaLists
 mod NamedArguments
+mod AttributeReading
