@@ -123,7 +123,7 @@ attributes-preserved c =
 pub returns-clause-read : goal.returns-clause-read
 returns-clause-read c attributes settings at p before are stands same is_bare =
     let h = c.attributes.invariant.so_far attributes settings at p before are stands same is_bare in
-    all_read (source c.args.text.now) c.args.nodes.now settings at c.args.step.standing p before c.attributes.at (length c.args.nodes.now) _ _ _ _ _ _ _ (attributes_read settings at attributes before p) h (c.in_default.ensures.none h.rest h.there)
+    all_read (source c.args.text.now) c.args.nodes.now settings at c.args.step.standing p before c.attributes.at (length c.args.nodes.now) _ c.attributes.symbols _ _ c.attributes.terms _ c.attributes.session (attributes_read settings at attributes before p) h (c.in_default.ensures.none h.rest h.there)
 
 pub returns-clause-few : goal.returns-clause-few
 returns-clause-few c = elim c.attributes.invariant.within [
