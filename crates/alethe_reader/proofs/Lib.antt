@@ -25,3 +25,4 @@ mod LowestTerms
 mod LowestCoefficients
 mod FormedSteps
 mod StepReading
+mod AttributeReading
