@@ -13,4 +13,5 @@ mod Indices
 mod StandingSteps
 mod RuleWords
 mod FormulaLists
+mod NamingItems
 mod NamedArguments
