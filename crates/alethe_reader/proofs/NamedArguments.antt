@@ -11,7 +11,7 @@ use Rattle.text_items.specs.declared.nodes.Node.{Node}
 use Rattle.text_items.specs.Nodes.{IsNode, AreNodes}
 use Rattle.text_items.specs.Stepping.{AreItemsFrom, IsItemNode}
 use Rattle.text_items.proofs.NodeSteps.{AreMore, more_nodes, no_nodes, node_behind, node_inside, nodes_ordered, nodes_inside}
-use Rattle.problem_text.specs.Outcomes.{Outcome, done, goes_on, and_then}
+use Rattle.problem_text.specs.Outcomes.{Outcome, goes_on, and_then}
 use Rattle.problem_text.specs.Terms.{read_term}
 use Rattle.problem_text.specs.TypedTerms.{Typed}
 use Rattle.term_expansion.specs.declared.values.Value.{Value}
@@ -32,7 +32,7 @@ use Rattle.alethe_reader.proofs.StillRead.{keeps_give, keeps_then, keeps_either,
 use Rattle.alethe_reader.proofs.TermAnswers.{value_answers}
 
 -- some items, and then others
-pub joined : Items → Items → Items
+abbrev pub joined : Items → Items → Items
 joined no_items others = others
 joined (item i rest) others = item i (joined rest others)
 
@@ -57,11 +57,11 @@ module _ (settings : ProofSettings) (nesting : Nesting Var Term) where
   unfolding named_in ◌>>=◌
   named_joined no_items others p = refl
   named_joined (item i rest) others p =
-      go (named_in settings nesting i p).result (named_in settings nesting i p).state
+      go (named_joined rest others) (named_in settings nesting i p).result (named_in settings nesting i p).state
     where
-      go : (r : Result ⊤ Refusal) (s : ProofState) → goes_on r s (λ _. named_among settings nesting (joined rest others)) ≡ and_then (goes_on r s (λ _. named_among settings nesting rest)) (λ _. named_among settings nesting others)
-      go (Ok a) s = named_joined rest others s
-      go (Err refusal) s = refl
+      go : ((s : ProofState) → named_among settings nesting (joined rest others) s ≡ and_then (named_among settings nesting rest s) (λ _. named_among settings nesting others)) → (r : Result ⊤ Refusal) (s : ProofState) → goes_on r s (λ _. named_among settings nesting (joined rest others)) ≡ and_then (goes_on r s (λ _. named_among settings nesting rest)) (λ _. named_among settings nesting others)
+      go same (Ok a) s = same s
+      go same (Err refusal) s = refl
 
   mutual
     unfolding named_in

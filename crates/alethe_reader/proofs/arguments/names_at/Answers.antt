@@ -6,7 +6,6 @@ use Rattle.text_items.proofs.NodeSteps.{first_at, others_from, further, item_wit
 use Rattle.term_reader.proofs.Staying.{adds_none, adds_then, keeps_none, keeps_then}
 use Rattle.alethe_text.specs.Arguments.{named_among}
 use Rattle.alethe_text.specs.ProofTerms.{place_in}
-use Rattle.alethe_text.specs.States.{ProofState}
 use Rattle.alethe_reader.proofs.FormulaLists.{item_here}
 use Rattle.alethe_reader.proofs.NamedArguments.{below, end_within, inside_from, left_first, none_left, left_inside, fails, left_behind}
 use Rattle.alethe_reader.proofs.arguments.names_at.Goals as goal
@@ -76,7 +75,11 @@ arguments-preserved-then-is_naming c =
     }
 
 pub overflow_add-k : goal.overflow_add-k
-overflow_add-k c = omega (arith, below (source c.args.text.now) c.args.nodes.now c.arguments.k c.args.arguments.end c.arguments.invariant.there c.arguments-test.true, c.ranges.arguments.end.fits)
+overflow_add-k c =
+    let (i, m, is) = first_at (source c.args.text.now) c.args.nodes.now c.arguments.k c.args.arguments.end c.arguments.invariant.there c.arguments-test.true in
+    let within = item_within (source c.args.text.now) c.args.nodes.now c.arguments.k i m is in
+    let lower = below (source c.args.text.now) c.args.nodes.now c.arguments.k c.args.arguments.end c.arguments.invariant.there c.arguments-test.true in
+    omega arith
 
 pub arguments-smaller : goal.arguments-smaller
 arguments-smaller c = omega (arith, below (source c.args.text.now) c.args.nodes.now c.arguments.k c.args.arguments.end c.arguments.invariant.there c.arguments-test.true)
