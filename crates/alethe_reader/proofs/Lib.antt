@@ -19,6 +19,7 @@ mod Indices
 mod StandingSteps
 mod RuleWords
 mod FormulaLists
+mod NamingItems
 mod NamedArguments
 mod AddedSteps
 mod LowestTerms

@@ -1,5 +1,5 @@
 -- Cited by crates above. The terms that get a name, as the nodes are gone over one by one: into each list that is none of them.
-use Rattle.std.proofs.Common.{◌≡◌, ◌≢◌, ℕ, ◌+◌, Bool, true, false, List, Result, Ok, Err, refl, sym, ap, subst, ◌∙◌, if◌then◌else◌}
+use Rattle.std.proofs.Common.{◌≡◌, ◌≢◌, ◌<◌, ◌≤◌, ℕ, ◌+◌, ◌-◌, arith, length, Bool, true, false, List, Result, Ok, Err, refl, sym, ap, subst, ◌∙◌, if◌then◌else◌}
 use Rattle.std.specs.Prelude.{⊤}
 use Rattle.sexpr.specs.declared.causes.Refusal.{Refusal}
 use Rattle.sexpr.specs.Items.{Item, word, quoted, string, list, Items, no_items, item}
@@ -10,8 +10,8 @@ use Rattle.rule_model.specs.Scopes.{Nesting}
 use Rattle.text_items.specs.declared.nodes.Node.{Node}
 use Rattle.text_items.specs.Nodes.{IsNode, AreNodes}
 use Rattle.text_items.specs.Stepping.{AreItemsFrom, IsItemNode}
-use Rattle.text_items.proofs.NodeSteps.{AreMore, more_nodes, no_nodes}
-use Rattle.problem_text.specs.Outcomes.{Outcome, done, goes_on, and_then}
+use Rattle.text_items.proofs.NodeSteps.{AreMore, more_nodes, no_nodes, node_behind, node_inside, nodes_ordered, nodes_inside}
+use Rattle.problem_text.specs.Outcomes.{Outcome, goes_on, and_then}
 use Rattle.problem_text.specs.Terms.{read_term}
 use Rattle.problem_text.specs.TypedTerms.{Typed}
 use Rattle.term_expansion.specs.declared.values.Value.{Value}
@@ -32,7 +32,7 @@ use Rattle.alethe_reader.proofs.StillRead.{keeps_give, keeps_then, keeps_either,
 use Rattle.alethe_reader.proofs.TermAnswers.{value_answers}
 
 -- some items, and then others
-pub joined : Items → Items → Items
+abbrev pub joined : Items → Items → Items
 joined no_items others = others
 joined (item i rest) others = item i (joined rest others)
 
@@ -48,17 +48,20 @@ and_then_then {A} {B} {C} o next last = go o.result o.state
     go (Ok a) s = refl
     go (Err refusal) s = refl
 
+never : true ≡ false → ⊥
+never h = cc
+
 module _ (settings : ProofSettings) (nesting : Nesting Var Term) where
   -- the terms that get a name in items and then in others
   pub named_joined : (items others : Items) (p : ProofState) → named_among settings nesting (joined items others) p ≡ and_then (named_among settings nesting items p) (λ _. named_among settings nesting others)
   unfolding named_in ◌>>=◌
   named_joined no_items others p = refl
   named_joined (item i rest) others p =
-      go (named_in settings nesting i p).result (named_in settings nesting i p).state
+      go (named_joined rest others) (named_in settings nesting i p).result (named_in settings nesting i p).state
     where
-      go : (r : Result ⊤ Refusal) (s : ProofState) → goes_on r s (λ _. named_among settings nesting (joined rest others)) ≡ and_then (goes_on r s (λ _. named_among settings nesting rest)) (λ _. named_among settings nesting others)
-      go (Ok a) s = named_joined rest others s
-      go (Err refusal) s = refl
+      go : ((s : ProofState) → named_among settings nesting (joined rest others) s ≡ and_then (named_among settings nesting rest s) (λ _. named_among settings nesting others)) → (r : Result ⊤ Refusal) (s : ProofState) → goes_on r s (λ _. named_among settings nesting (joined rest others)) ≡ and_then (goes_on r s (λ _. named_among settings nesting rest)) (λ _. named_among settings nesting others)
+      go same (Ok a) s = same s
+      go same (Err refusal) s = refl
 
   mutual
     unfolding named_in
@@ -78,10 +81,14 @@ module _ (settings : ProofSettings) (nesting : Nesting Var Term) where
   -- a term that gets a name is read
   pub naming_read : (i : Item) → is_naming_item i ≡ true → (p : ProofState) → named_in settings nesting i p ≡ and_then (term_in settings nesting i p) (λ _. give tt)
   unfolding named_in ◌>>=◌
-  naming_read (word place spelling) h p = cc
-  naming_read (quoted place spelling) h p = cc
-  naming_read (string place spelling) h p = cc
-  naming_read (list place items) h p = rw h refl
+  naming_read (word place spelling) h p = absurd (never (sym h))
+  naming_read (quoted place spelling) h p = absurd (never (sym h))
+  naming_read (string place spelling) h p = absurd (never (sym h))
+  naming_read (list place items) h p = go (is_naming items) h
+    where
+      go : (b : Bool) → b ≡ true → (if b then (term_in settings nesting (list place items) >>= λ _. give tt) else named_among settings nesting items) p ≡ and_then (term_in settings nesting (list place items) p) (λ _. give tt)
+      go true h = refl
+      go false h = absurd (never (sym h))
 
   -- What is in an item that is no such term, and up to where it stands: from the node after its first one.
   pub record Holds (source : List ℕ) (nodes : List Node) (k m : ℕ) (i : Item) : Type 0 where
@@ -97,8 +104,27 @@ module _ (settings : ProofSettings) (nesting : Nesting Var Term) where
   no_naming_holds source nodes k m (list place items) (node, has, inside) h = record { items = items; there = inside; same = λ p. go (is_naming items) h p }
     where
       go : (b : Bool) → b ≡ false → (p : ProofState) → (if b then (term_in settings nesting (list place items) >>= λ _. give tt) else named_among settings nesting items) p ≡ named_among settings nesting items p
-      go true h p = cc
+      go true h p = absurd (never h)
       go false h p = refl
+
+module _ (source : List ℕ) (nodes : List Node) (k end : ℕ) where
+  -- some items are left
+  pub below : AreItemsFrom source nodes k end → k ≢ end → k < end
+  below (items, are) differs =
+      let a = more_nodes source nodes k items end are differs in
+      omega (arith, node_behind source nodes k a.first a.behind a.here, nodes_ordered source nodes a.behind a.others end a.there)
+
+  -- no more nodes than there are
+  pub end_within : AreItemsFrom source nodes k end → end - k ≤ length nodes - k
+  end_within (no_items, e) = omega (arith, e)
+  end_within (item i rest, (n, is, are)) = omega (arith, nodes_inside source nodes n rest end are (node_inside source nodes k i n is))
+
+  pub inside_from : (settings : ProofSettings) (nesting : Nesting Var Term) → AreItemsFrom source nodes k end → k ≢ end → (naming : Bool)
+      → ((i : Item) (m : ℕ) → IsNode source nodes k i m → naming ≡ is_naming_item i) → naming ≡ false → AreItemsFrom source nodes (k + 1) end
+  inside_from settings nesting (items, are) differs naming judged none =
+      let a = more_nodes source nodes k items end are differs in
+      let held = no_naming_holds settings nesting source nodes k a.behind a.first a.here (sym (judged a.first a.behind a.here) ∙ none) in
+      (joined held.items a.others, nodes_joined source nodes (k + 1) a.behind end held.items a.others held.there a.there)
 
 -- The terms that get a name before node k were read, and those from there on are left.
 pub record AreLeft (source : List ℕ) (nodes : List Node) (s : Table) (old v : TermsView) (settings : ProofSettings) (nesting : Nesting Var Term) (r : ReaderView) (p : ProofState) (k end : ℕ) (whole : Outcome ProofState ⊤) : Type 0 where

@@ -1,7 +1,7 @@
 //! The arguments of a step that its rule does not judge (Alethe specification, "The Proof Format"): the terms in them that get
 //! a name (SMT-LIB 2.6, on the attribute `:named`).
-ghost use Rattle.std.specs.Prelude.{◌≡◌, ◌≤◌, ◌^◌, ◌+◌, ◌-◌, ℕ, length, OnOk};
-ghost use Rattle.sexpr.specs.Items.{Item, Items};
+ghost use Rattle.std.specs.Prelude.{◌≡◌, ◌≤◌, ◌^◌, ◌+◌, ◌-◌, ◌&&◌, ℕ, is_some, length, OnOk};
+ghost use Rattle.sexpr.specs.Items.{Item, Items, symbol_name};
 ghost use Rattle.sexpr.specs.Source.{source};
 ghost use Rattle.term_model.specs.Terms.{Var, Term};
 ghost use Rattle.term_pool.specs.Views.{KeepsTerms};
@@ -47,6 +47,15 @@ fn is_named(text: &Lexer<'_>, nodes: &[Node], k: usize) -> bool
     }
 }
 
+/// Whether the item at one node is that attribute, and the item at another is a name.
+fn gives_name(text: &Lexer<'_>, nodes: &[Node], keyword: usize, name: usize) -> bool
+    requires keyword { IsItemAt (source text.now) nodes.now keyword }
+    requires name { IsItemAt (source text.now) nodes.now name }
+    ensures { (i j : Item) (m n : ℕ) → IsNode (source text.now) nodes.now keyword i m → IsNode (source text.now) nodes.now name j n → result ≡ (is_named_item i && is_some (symbol_name j)) }
+{
+    is_named(text, nodes, keyword) && name_at(text, nodes, name).is_some()
+}
+
 /// Whether the items from `first` to before `end` are those of `(! t :named n)`.
 fn are_naming(text: &Lexer<'_>, nodes: &[Node], first: usize, end: usize) -> bool
     requires { AreItemsFrom (source text.now) nodes.now first end }
@@ -62,9 +71,7 @@ fn are_naming(text: &Lexer<'_>, nodes: &[Node], first: usize, end: usize) -> boo
     if node_at(nodes, name).next != end {
         return false;
     }
-    is_symbol(text, nodes, b"!", first)
-        && is_named(text, nodes, keyword)
-        && name_at(text, nodes, name).is_some()
+    is_symbol(text, nodes, b"!", first) && gives_name(text, nodes, keyword, name)
 }
 
 /// Whether the item at a node is a term `(! t :named n)`.
