@@ -47,6 +47,7 @@ fn new_session<'a>(alloc: Global, problem: &'a Problem, flags: Flags) -> Session
             clause: Vec::new(alloc),
             premises: Vec::new(alloc),
             discharged: Vec::new(alloc),
+            has_ratios: false,
             ratios: Vec::new(alloc),
         },
     }
