@@ -15,7 +15,7 @@ use Rattle.alethe_reader.specs.Answers.{WasRead, Comes, IsAnswer, Answers, Keeps
 
 -- a term that was read is one of the whole
 pub read_on : {A B : Type 0} (o : Outcome ProofState A) (next : A → Reading B) → ((a : A) → KeepsRead (next a)) → (x : Term) → WasRead o x → WasRead (and_then o next) x
-read_on o next keeps x h = go o.result o.state h
+read_on {A} {B} o next keeps x h = go o.result o.state h
   where
     go : (r : Result A Refusal) (p : ProofState) → Contains p.script.terms x → WasRead (goes_on r p next) x
     go (Ok a) p h = (keeps a).keeps x p h
@@ -48,21 +48,21 @@ module _ {A B T U : Type 0} {s : Table} {old mid : TermsView} {M : T → A → P
 module _ {A T : Type 0} {s : Table} {v : TermsView} {M : T → A → ProofState → Type 0} where
   -- nothing was placed
   pub answers : {w : TermsView} {o : Outcome ProofState A} {t : T} (a : A) (p : ProofState) → w ≡ v → o ≡ done a p → M t a p → Answers s v w M o (Ok t)
-  answers a p same e m = record { answer = record { value = a; state = p; comes = e; after = m }; placed = places_none s _ _ _ (ap (λ (u : TermsView). u.pass.placed) same) }
+  answers {w} {o} {t} a p same e m = record { answer = record { value = a; state = p; comes = e; after = m }; placed = places_none s v.pass w.pass (WasRead o) (ap (λ (u : TermsView). u.pass.placed) same) }
 
   pub refuses : {w : TermsView} {o : Outcome ProofState A} {refusal : Refusal} → w ≡ v → o.result ≡ Err refusal → Answers s v w M o (Err (ReadFault.Text refusal))
-  refuses same e = record { answer = e; placed = places_none s _ _ _ (ap (λ (u : TermsView). u.pass.placed) same) }
+  refuses {w} {o} {refusal} same e = record { answer = e; placed = places_none s v.pass w.pass (WasRead o) (ap (λ (u : TermsView). u.pass.placed) same) }
 
   pub no_memory : {w : TermsView} {o : Outcome ProofState A} → w ≡ v → Answers s v w M o (Err ReadFault.Memory)
-  no_memory same = record { answer = tt; placed = places_none s _ _ _ (ap (λ (u : TermsView). u.pass.placed) same) }
+  no_memory {w} {o} same = record { answer = tt; placed = places_none s v.pass w.pass (WasRead o) (ap (λ (u : TermsView). u.pass.placed) same) }
 
 -- another name for the outcome
 pub same_outcome : {A T : Type 0} {s : Table} {v w : TermsView} {M : T → A → ProofState → Type 0} {o q : Outcome ProofState A} {r : Result T ReadFault} → o ≡ q → Answers s v w M q r → Answers s v w M o r
-same_outcome e h = subst (λ o. Answers _ _ _ _ o _) (sym e) h
+same_outcome {A} {T} {s} {v} {w} {M} {o} {q} {r} e h = subst (λ (o : Outcome ProofState A). Answers s v w M o r) (sym e) h
 
 -- another relation
-pub answers_more : {A T U : Type 0} {s : Table} {v w : TermsView} {M : T → A → ProofState → Type 0} (N : T → A → ProofState → Type 0) {o : Outcome ProofState A} {r : Result T ReadFault} → ((t : T) (a : A) (p : ProofState) → M t a p → N t a p) → Answers s v w M o r → Answers s v w N o r
-answers_more N more h = record { answer = go _ h.answer; placed = h.placed }
+pub answers_more : {A T : Type 0} {s : Table} {v w : TermsView} {M : T → A → ProofState → Type 0} (N : T → A → ProofState → Type 0) {o : Outcome ProofState A} {r : Result T ReadFault} → ((t : T) (a : A) (p : ProofState) → M t a p → N t a p) → Answers s v w M o r → Answers s v w N o r
+answers_more {A} {T} {s} {v} {w} {M} N {o} {r} more h = record { answer = go r h.answer; placed = h.placed }
   where
     go : (r : Result T ReadFault) → IsAnswer s w.pass M o r → IsAnswer s w.pass N o r
     go (Ok t) a = record { value = a.value; state = a.state; comes = a.comes; after = more t a.value a.state a.after }

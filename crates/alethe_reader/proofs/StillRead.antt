@@ -1,5 +1,5 @@
 -- Cited by crates above. The terms that were read stay read.
-use Rattle.std.proofs.Common.{◌≡◌, ℕ, Bool, true, false, List, [], ◌∷◌, Option, Some, None, Result, Ok, Err, refl, find, if◌then◌else◌}
+use Rattle.std.proofs.Common.{◌≡◌, ℕ, Bool, true, false, List, [], ◌∷◌, Option, Some, None, Result, Ok, Err, refl, sym, subst, find, if◌then◌else◌}
 use Rattle.std.specs.Prelude.{⊤, Contains, bytes_eq}
 use Rattle.sexpr.specs.declared.causes.Cause.{Cause}
 use Rattle.sexpr.specs.declared.causes.Cause.TheVariants.{NoStep, SortMismatch}
@@ -51,7 +51,7 @@ keeps_either false one other h k = k
 
 -- a change that leaves the terms that were read
 pub keeps_changed : (change : ProofState → ProofState) → ((p : ProofState) → (change p).script.terms ≡ p.script.terms) → KeepsRead (changed change)
-keeps_changed change same = record { keeps = λ x p h. rw same p h }
+keeps_changed change same = record { keeps = λ x p h. subst (λ ts. Contains ts x) (sym (same p)) h }
 
 module _ (settings : ProofSettings) (nesting : Nesting Var Term) where
   pub keeps_term : (i : Item) → KeepsRead (term_in settings nesting i)

@@ -8,7 +8,6 @@ use Rattle.term_pool.specs.Views.{TermsView, RefersTo, KeepsTerms}
 use Rattle.rule_model.specs.Proofs.{Step as ProofStep, Items, no_items, with_assume, with_step, with_subproof}
 use Rattle.rule_model.specs.Scopes.{Nesting, outermost, inside, Scope, at, first_index, scope_number, commands_in, subproofs_in}
 use Rattle.proof_store.specs.Meaning.{IsBindingOf, IsStepOf, StandForItems, no_items_stand, assume_stands, step_stands, subproof_stands}
-use Rattle.proof_store.proofs.MeaningLemmas.{commands_same, subproofs_same, items_stay}
 use Rattle.term_reader.proofs.Staying.{refers_stays}
 use Rattle.alethe_text.specs.States.{ProofState}
 use Rattle.alethe_reader.specs.declared.ids.Role.{Role}
@@ -19,6 +18,7 @@ use Rattle.alethe_reader.specs.declared.bound.BoundVariables.{BoundVariables}
 use Rattle.alethe_reader.specs.Ids.{Used}
 use Rattle.alethe_reader.specs.IdsInUse.{in_use, own_ids, ids_around, ids_in}
 use Rattle.alethe_reader.specs.Sessions.{StandForNesting, IsWritten}
+use Rattle.alethe_reader.proofs.StoredItems.{commands_same, subproofs_same, items_stay}
 
 module _ (s z : Table) (v w : TermsView) (table : Keeps s z) (terms : KeepsTerms v w) where
   pub bindings_stay : (bs : List (ℕ × ℕ)) (cs : List (Var × Term)) → AllZip (IsBindingOf s v) bs cs → AllZip (IsBindingOf z w) bs cs
@@ -37,9 +37,9 @@ module _ (s z : Table) (v w : TermsView) (table : Keeps s z) (terms : KeepsTerms
   nesting_stays (inside around before anchor) outermost h = absurd h
   nesting_stays (inside around before anchor) (inside outer behind other) h = (
     nesting_stays around outer h.0,
-    stored_stay before behind h.1.0,
-    h.1.1.0,
-    bindings_stay anchor.bindings other.bindings h.1.1.1,
+    stored_stay before behind h.1,
+    h.2,
+    bindings_stay anchor.bindings other.bindings h.3,
   )
 
   bound_stays : (b : BoundVariables) (n : Nesting Var Term) → AreBound s v b n → AreBound z w b n
@@ -63,14 +63,14 @@ module _ (s : Table) (v : TermsView) where
   first_same outermost (inside around before anchor) h = absurd h
   first_same (inside around before anchor) outermost h = absurd h
   first_same (inside around before anchor) (inside outer behind other) h =
-      let a = first_same around outer h.0 in let b = commands_same s v before behind h.1.0 in cc
+      let a = first_same around outer h.0 in let b = commands_same s v before behind h.1 in cc
 
   pub number_same : (n : Nesting ℕ ℕ) (m : Nesting Var Term) → StandForNesting s v n m → scope_number n ≡ scope_number m
   number_same outermost outermost h = refl
   number_same outermost (inside around before anchor) h = absurd h
   number_same (inside around before anchor) outermost h = absurd h
   number_same (inside around before anchor) (inside outer behind other) h =
-      let a = number_same around outer h.0 in let b = subproofs_same s v before behind h.1.0 in cc
+      let a = number_same around outer h.0 in let b = subproofs_same s v before behind h.1 in cc
 
   own_same : (n : Nesting ℕ ℕ) (m : Nesting Var Term) → first_index n ≡ first_index m → (is : Items ℕ ℕ) (ps : Items Var Term) → StandForItems s v is ps → own_ids n is ≡ own_ids m ps
   own_same n m e _ _ no_items_stand = refl
@@ -94,8 +94,8 @@ module _ (s : Table) (v : TermsView) where
   around_same outermost (inside around before anchor) h = absurd h
   around_same (inside around before anchor) outermost h = absurd h
   around_same (inside around before anchor) (inside outer behind other) h =
-      both (around_same around outer h.0) (own_same around outer (first_same around outer h.0) before behind h.1.0)
-      (number_same (inside around before anchor) (inside outer behind other) h) h.1.1.0
+      both (around_same around outer h.0) (own_same around outer (first_same around outer h.0) before behind h.1)
+      (number_same (inside around before anchor) (inside outer behind other) h) h.2
     where
       both : ids_around around ≡ ids_around outer → own_ids around before ≡ own_ids outer behind → scope_number (inside around before anchor) ≡ scope_number (inside outer behind other) → anchor.id ≡ other.id
           → ids_around (inside around before anchor) ≡ ids_around (inside outer behind other)

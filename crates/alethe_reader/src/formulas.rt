@@ -57,10 +57,10 @@ pub(crate) fn formula_at(
     }
 }
 
-fn is_bool(sort: Sort) -> bool
-    ensures { result ≡ sort_eq sort sort.Bool }
+fn is_bool(given: Sort) -> bool
+    ensures { result ≡ sort_eq given sort.Bool }
 {
-    sort == Sort::Bool
+    given == Sort::Bool
 }
 
 /// Reads the formulas that stand from `first` to before `end` one after another, in place of what `formulas` held.

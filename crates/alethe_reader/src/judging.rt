@@ -37,8 +37,8 @@ pub(crate) fn named_at<'a>(text: &Lexer<'a>, nodes: &[Node], k: usize) -> Named<
 /// Judges the id of a command that closes nothing: refused for the cause `of_anchor` where it is that of an open anchor, and
 /// as repeated where it is that of a visible command.
 pub(crate) fn judge_id(ids: &Ids, id: Named<'_>, of_anchor: Cause) -> Result<(), Refusal>
-    ensures unused { OnOk result (IsUnused ids.now id.name.now) }
-    ensures judged { (p : ProofState) → ids.now ≡ ids_in p.scope → text.id_judged of_anchor (is_named id) p ≡ given result p }
+    ensures unused { OnOk result (IsUnused ids.now id.entry.name.now) }
+    ensures judged { (p : ProofState) → ids.now ≡ ids_in p.scope → text.id_judged of_anchor (is_named id.entry) p ≡ given result p }
 {
     match ids.find(id.name) {
         None => Ok(()),
@@ -47,7 +47,7 @@ pub(crate) fn judge_id(ids: &Ids, id: Named<'_>, of_anchor: Cause) -> Result<(),
 }
 
 /// Why an id in use may not be that of a command that closes nothing.
-fn cause_of(of_anchor: Cause, role: Role) -> Cause
+pub(crate) fn cause_of(of_anchor: Cause, role: Role) -> Cause
     ensures { result ≡ cause_of of_anchor role }
 {
     match role {

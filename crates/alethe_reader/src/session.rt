@@ -23,6 +23,8 @@ pub struct StepParts {
     pub clause: Vec<Ref>,
     pub premises: Vec<u32>,
     pub discharged: Vec<u32>,
+    /// Whether its arguments are coefficients, and then these.
+    pub has_ratios: bool,
     pub ratios: Vec<Ratio>,
 }
 
