@@ -6,5 +6,7 @@ pub mod TermAnswers
 mod JudgedIds
 pub mod WrittenStays
 mod AssumeReading
+mod NamedCommands
 pub mod StillReadCommands
 mod TextCommands
+mod TextLoop

@@ -19,10 +19,12 @@ use Rattle.alethe_commands.specs.CommandNodes.{IsCommand, SaysCommand}
 use Rattle.alethe_commands.specs.declared.commands.Command as code
 use Rattle.alethe_reader.specs.Answers.{WasRead, Answers}
 use Rattle.alethe_items.specs.TextItems.{HasItems, IsFirst}
-use Rattle.alethe_reader.specs.Sessions.{IsSession}
+use Rattle.alethe_reader.specs.CommandNames.{HasNames, HaveNames, IsNamed}
+use Rattle.alethe_reader.specs.Sessions.{IsSession, StandsAfter}
 use Rattle.alethe_reader.specs.TextReading.{closing_from, left_from, AreLeft, NoneLeft, ReadsCommand}
 use Rattle.alethe_reader.specs.declared.session.Session.{Session}
 use Rattle.alethe_reader.proofs.Answering.{read_on, stops, same_outcome}
+use Rattle.alethe_reader.proofs.NamedCommands.{command_named}
 use Rattle.alethe_reader.proofs.StillReadCommands.{keeps_left}
 
 then_then : {A B C : Type 0} (o : Outcome ProofState A) (f : A → Reading B) (g : B → Reading C) → and_then (and_then o f) g ≡ and_then o (λ a s. and_then (f a s) g)
@@ -58,6 +60,7 @@ pub record HasFirst (source : List ℕ) (nodes : List Node) (in_list : Bool) (at
   pub behind : Items
   pub here : IsNode source nodes 0 first (length nodes)
   pub left : HasItems source in_list at others behind
+  pub named : HasNames first × HaveNames others
   pub comes : first_of settings others behind p (command_of first) ≡ whole
 
 module _ {settings : ProofSettings} {in_list : Bool} {p : ProofState} {whole : Outcome ProofState (Proof Var Term)} where
@@ -71,6 +74,7 @@ module _ {settings : ProofSettings} {in_list : Bool} {p : ProofState} {whole : O
         behind = h.behind;
         here = f.here;
         left = f.left;
+        named = subst HaveNames f.split h.named;
         comes = sym (unfolds settings f.first f.others h.behind p) ∙ (ap (λ x. left_from settings x h.behind p) (sym f.split) ∙ h.comes);
       }
 
@@ -88,32 +92,33 @@ module _ {settings : ProofSettings} {in_list : Bool} {p : ProofState} {whole : O
   pub record IsShaped (source : List ℕ) (nodes : List Node) (others behind : Items) (c : code.Command) : Type 0 where
     pub shape : Command
     pub says : SaysCommand source nodes c shape
+    pub named : IsNamed shape
     pub comes : then_rest settings others behind (performed settings shape p) ≡ whole
 
   pub command_fault : (source : List ℕ) (nodes : List Node) (at : ℕ) (r : Refusal) → (h : HasFirst source nodes in_list at settings p whole) → IsCommand source nodes (Err r) (command_of h.first) → whole.result ≡ Err r
   command_fault source nodes at r h is = ap (λ (o : Outcome ProofState (Proof Var Term)). o.result) (sym h.comes ∙ ap (first_of settings h.others h.behind p) is)
 
   pub command_read : (source : List ℕ) (nodes : List Node) (at : ℕ) (c : code.Command) → (h : HasFirst source nodes in_list at settings p whole) → IsCommand source nodes (Ok c) (command_of h.first) → IsShaped source nodes h.others h.behind c
-  command_read source nodes at c h (d, is, says) = record { shape = d; says = says; comes = ap (first_of settings h.others h.behind p) (sym is) ∙ h.comes }
+  command_read source nodes at c h (d, is, says) = record { shape = d; says = says; named = command_named h.first d is h.named.0; comes = ap (first_of settings h.others h.behind p) (sym is) ∙ h.comes }
 
   read_by_whole : (others behind : Items) (o : Outcome ProofState ⊤) → then_rest settings others behind o ≡ whole → (t : Term) → WasRead o t → WasRead whole t
   read_by_whole others behind o e t h = subst (λ (w : Outcome ProofState (Proof Var Term)). WasRead w t) e (read_on o (λ _. left_from settings others behind) (λ _. keeps_left settings others behind) t h)
 
   -- a command more
   pub performs_well : {source : List ℕ} {s : Table} {old new : TermsView} {d : Session} {at : ℕ} {u : ⊤} (others behind : Items) (o : Outcome ProofState ⊤)
-      → HasItems source in_list at others behind → then_rest settings others behind o ≡ whole
-      → Answers s old new (λ _ _ q. IsSession s new settings d q) o (Ok u) → ReadsCommand source s old new settings d in_list at whole (Ok true)
-  performs_well others behind o here comes h = record {
+      → HasItems source in_list at others behind → HaveNames others → then_rest settings others behind o ≡ whole
+      → Answers s old new (StandsAfter s new settings d) o (Ok u) → ReadsCommand source s old new settings d in_list at whole (Ok true)
+  performs_well others behind o here named comes h = record {
     outcome =
       (h.answer.state,
-       record { items = others; behind = behind; here = here; comes = sym (ap (then_rest settings others behind) h.answer.comes) ∙ comes },
-       h.answer.after);
+       record { items = others; behind = behind; here = here; named = named; comes = sym (ap (then_rest settings others behind) h.answer.comes) ∙ comes },
+       h.answer.after.session);
     placed = places_more _ _ _ _ _ (read_by_whole others behind o comes) h.placed;
   }
 
   pub performs_not : {source : List ℕ} {s : Table} {old new : TermsView} {d : Session} {at : ℕ} {fault : ReadFault} (others behind : Items) (o : Outcome ProofState ⊤)
       → then_rest settings others behind o ≡ whole
-      → Answers s old new (λ _ _ q. IsSession s new settings d q) o (Err fault) → ReadsCommand source s old new settings d in_list at whole (Err fault)
+      → Answers s old new (StandsAfter s new settings d) o (Err fault) → ReadsCommand source s old new settings d in_list at whole (Err fault)
   performs_not {source} {s} {old} {new} {d} {at} {fault} others behind o comes h =
       let N : ⊤ → Proof Var Term → ProofState → Type 0 = λ _ _ _. ⊤ in
       let all : Answers s old new N whole (Err fault) = same_outcome (sym comes) (stops (λ _. left_from settings others behind) (λ _. keeps_left settings others behind) h) in

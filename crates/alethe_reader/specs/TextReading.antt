@@ -16,6 +16,7 @@ use Rattle.alethe_text.specs.ProofTexts.{commands, none_behind, finished}
 use Rattle.alethe_text.specs.States.{ProofSettings, ProofState, Reading, ◌>>=◌}
 use Rattle.alethe_reader.specs.Answers.{WasRead}
 use Rattle.alethe_items.specs.TextItems.{HasItems}
+use Rattle.alethe_reader.specs.CommandNames.{HaveNames}
 use Rattle.alethe_reader.specs.Sessions.{IsSession}
 use Rattle.alethe_reader.specs.declared.session.Session.{Session}
 
@@ -34,6 +35,7 @@ pub record AreLeft (source : List ℕ) (settings : ProofSettings) (in_list : Boo
   pub items : Items
   pub behind : Items
   pub here : HasItems source in_list at items behind
+  pub named : HaveNames items
   pub comes : left_from settings items behind p ≡ whole
 
 -- No command is left, and what stands behind their list stands from this place on.

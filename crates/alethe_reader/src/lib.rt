@@ -10,6 +10,7 @@
 //! answers, and the outcome of its definition).
 #![tactic(auto)]
 
+mod anchors;
 mod assuming;
 pub mod bound;
 mod formulas;
@@ -18,9 +19,12 @@ mod judging;
 pub mod laws;
 mod performing;
 mod proof_reading;
+mod scopes;
 pub mod session;
+mod stepping;
 mod text_reading;
 
 pub use assuming::read_assume;
 pub use ids::Ids;
+pub use proof_reading::read_proof;
 pub use session::Session;

@@ -9,12 +9,13 @@ ghost use Rattle.alethe_text.specs.ProofTexts.{performed};
 ghost use Rattle.alethe_text.specs.States.{ProofSettings, ProofState};
 ghost use Rattle.alethe_commands.specs.CommandNodes.{SaysCommand};
 ghost use Rattle.alethe_reader.specs.Answers.{Answers};
-ghost use Rattle.alethe_reader.specs.Sessions.{IsSession};
+ghost use Rattle.alethe_reader.specs.CommandNames.{IsNamed};
+ghost use Rattle.alethe_reader.specs.Sessions.{IsSession, StandsAfter};
 
-use crate::anchors::open_anchor;
-use crate::assuming::assume;
+use crate::anchors::{AnchorNodes, read_anchor};
+use crate::assuming::read_assume;
 use crate::session::Session;
-use crate::stepping::step;
+use crate::stepping::{StepNodes, read_step};
 use alethe_commands::Command;
 use sexpr::Lexer;
 use sym_table::Symbols;
@@ -31,12 +32,12 @@ pub(crate) fn perform(
     session: &mut Session<'_>,
     command: Command,
 ) -> Result<(), ReadFault>
-    requires says { (c : shape.Command) × SaysCommand (source text.now) nodes.now command c }
+    requires says { (c : shape.Command) × SaysCommand (source text.now) nodes.now command c × IsNamed c }
     requires session { (settings : ProofSettings) × (p : ProofState) × IsSession symbols.old terms.old settings session.old p }
     requires room { length symbols.old.leaves + length nodes.now ≤ 2 ^ 30 }
     requires few { next_index session.old.builder + 1 < 2 ^ 32 - 1 }
     requires few_scopes { next_scope session.old.builder + 1 < 2 ^ 32 - 1 }
-    ensures read { (c : shape.Command) (settings : ProofSettings) (p : ProofState) → SaysCommand (source text.now) nodes.now command c → IsSession symbols.old terms.old settings session.old p → Answers symbols.new terms.old terms.new (λ _ _ q. IsSession symbols.new terms.new settings session.new q) (performed settings c p) result }
+    ensures read { (c : shape.Command) (settings : ProofSettings) (p : ProofState) → SaysCommand (source text.now) nodes.now command c → IsSession symbols.old terms.old settings session.old p → Answers symbols.new terms.old terms.new (StandsAfter symbols.new terms.new settings session.new) (performed settings c p) result }
     ensures few { length symbols.new.leaves ≤ length symbols.old.leaves + length nodes.now }
     ensures commands { OnOk result (next_index session.new.builder ≤ next_index session.old.builder + 1) }
     ensures scopes { OnOk result (next_scope session.new.builder ≤ next_scope session.old.builder + 1) }
@@ -44,16 +45,22 @@ pub(crate) fn perform(
     ensures keeps { KeepsTerms terms.old terms.new }
 {
     match command {
-        Command::Assume { id, term } => assume(text, nodes, symbols, terms, session, id, term),
+        Command::Assume { id, term } => read_assume(text, nodes, id, term, symbols, terms, session),
         Command::Step {
             id,
             first,
             attributes,
-        } => step(
-            text, nodes, symbols, terms, session, id, first, attributes,
-        ),
+        } => {
+            let step = StepNodes {
+                id,
+                first,
+                attributes,
+            };
+            read_step(text, nodes, step, symbols, terms, session)
+        }
         Command::Anchor { place, id, first } => {
-            open_anchor(text, nodes, symbols, terms, session, place, id, first)
+            let anchor = AnchorNodes { place, id, first };
+            read_anchor(text, nodes, anchor, symbols, terms, session)
         }
     }
 }
