@@ -5,6 +5,13 @@ pub mod StillRead
 pub mod TermAnswers
 mod JudgedIds
 pub mod WrittenStays
+pub mod BoundLemmas
+mod OuterImages
+mod ImageReading
+mod OpenedNames
+pub mod ScopeReading
+mod ArgumentReading
+mod ArgumentLoop
 mod AssumeReading
 mod NamedCommands
 pub mod StillReadCommands

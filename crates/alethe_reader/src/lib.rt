@@ -11,6 +11,7 @@
 #![tactic(auto)]
 
 mod anchors;
+mod arguments;
 mod assuming;
 pub mod bound;
 mod formulas;

@@ -1,0 +1,65 @@
+-- Cited by crates above. What a reader of terms stands for stays when terms and names are added to its script, and as variables of an anchor enter and leave.
+use Rattle.std.proofs.Common.{◌≡◌, ◌<◌, ◌≤◌, ◌+◌, ℕ, zero, suc, List, [], ◌∷◌, ◌++◌, map, reverse, length, take, get_or, refl, sym, ap, subst, ◌∙◌, arith}
+use Rattle.std.proofs.lemmas.List.{append_assoc, map-append, reverse-append, take_all, take_more}
+use Rattle.sym_table.specs.Table.{Table}
+use Rattle.term_model.specs.Terms.{Var, Term}
+use Rattle.term_pool.specs.Views.{TermsView}
+use Rattle.rule_model.specs.Proofs.{Items}
+use Rattle.rule_model.specs.Scopes.{Anchor, Nesting, inside}
+use Rattle.rule_model.specs.Visibility.{open_bindings}
+use Rattle.problem_text.specs.Names.{Bound, Place, itself}
+use Rattle.problem_text.specs.Scripts.{Script, with_term, with_let_name}
+use Rattle.term_reader.specs.ProblemViews.{ReaderView, IsReaderOf}
+use Rattle.term_reader.proofs.MoreRead.{same_script}
+use Rattle.alethe_text.specs.ProofTerms.{variables_in, place_in}
+use Rattle.alethe_text.specs.States.{ProofSettings}
+use Rattle.alethe_reader.specs.Opening.{entered}
+
+module _ (s : Table) (v : TermsView) (r : ReaderView) (sc : Script) (p : Place) (h : IsReaderOf s v r sc p) where
+  reader_read : (ts : List Term) (names : List (List ℕ)) → IsReaderOf s v r (record sc { terms = ts; let_names = names }) p
+  reader_read ts names = record {
+    variables = h.variables;
+    around = h.around;
+    scope = h.scope;
+    pushed = h.pushed;
+    idle = record {
+      script = same_script s v r.reader.known ts names sc h.idle.script;
+      scope = h.idle.scope;
+      settings = h.idle.settings;
+      no_values = h.idle.no_values;
+      no_leaves = h.idle.no_leaves;
+      no_frames = h.idle.no_frames;
+    };
+  }
+
+  pub reader_named : (name : List ℕ) → IsReaderOf s v r (with_let_name name sc) p
+  reader_named name = reader_read sc.terms (sc.let_names ++ name ∷ [])
+
+  pub reader_more : (t : Term) → IsReaderOf s v r (with_term t sc) p
+  reader_more t = reader_read (sc.terms ++ t ∷ []) sc.let_names
+
+-- The variables of an anchor in scope, one after another.
+pub none_entered : (bs : List (Var × Term)) (around : List Bound) → entered 0 bs around ≡ around
+none_entered bs around = refl
+
+pub one_entered : (bs : List (Var × Term)) (around : List Bound) (k : ℕ) (d : Var × Term) → k < length bs → entered (k + 1) bs around ≡ itself (get_or bs k d).0 ∷ entered k bs around
+one_entered bs around k d below =
+    ap (λ (cs : List (Var × Term)). map (λ b. itself b.0) (reverse cs) ++ around) (take_more bs k d below)
+    ∙ ap (λ (cs : List (Var × Term)). map (λ b. itself b.0) cs ++ around) (reverse-append (take k bs) (get_or bs k d ∷ []))
+
+-- all are in scope
+pub all_entered : (around : Nesting Var Term) (before : Items Var Term) (anchor : Anchor Var Term) → variables_in (inside around before anchor) ≡ entered (length anchor.bindings) anchor.bindings (variables_in around)
+all_entered around before anchor =
+    ap (map (λ b. itself b.0)) (reverse-append (open_bindings around) anchor.bindings)
+    ∙ (map-append (λ b. itself b.0) (reverse anchor.bindings) (reverse (open_bindings around))
+    ∙ ap (λ (cs : List (Var × Term)). map (λ b. itself b.0) (reverse cs) ++ variables_in around) (sym (take_all (length anchor.bindings) anchor.bindings (omega arith))))
+
+module _ (s : Table) (v : TermsView) (r : ReaderView) (sc : Script) (settings : ProofSettings) (around : Nesting Var Term) (before : Items Var Term) (anchor : Anchor Var Term) where
+  abbrev pub place_with : ℕ → Place
+  place_with left = record (place_in settings around) { scope = entered left anchor.bindings (variables_in around) }
+
+  pub reader_inside : IsReaderOf s v r sc (place_with (length anchor.bindings)) → IsReaderOf s v r sc (place_in settings (inside around before anchor))
+  reader_inside h = subst (λ bs. IsReaderOf s v r sc (record (place_in settings around) { scope = bs })) (sym (all_entered around before anchor)) h
+
+  pub reader_outside : IsReaderOf s v r sc (place_in settings (inside around before anchor)) → IsReaderOf s v r sc (place_with (length anchor.bindings))
+  reader_outside h = subst (λ bs. IsReaderOf s v r sc (record (place_in settings around) { scope = bs })) (all_entered around before anchor) h
