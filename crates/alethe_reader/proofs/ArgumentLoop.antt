@@ -88,11 +88,11 @@ module _ (settings : ProofSettings) (earlier : List (List ℕ)) (rest : List Arg
   keeps_behind : (b : Var × Term) → KeepsRead (behind_one b)
   keeps_behind b = keeps_both _ _ (keeps_each_argument settings (b.0.name ∷ earlier) rest) (λ bs. keeps_give _)
 
-  abbrev behind_all : List (Var × Term) → List (Var × Term) → Reading (List (Var × Term))
-  behind_all read more = give (read ++ more)
+abbrev behind_all : List (Var × Term) → List (Var × Term) → Reading (List (Var × Term))
+behind_all read more = give (read ++ more)
 
-  keeps_all : (read more : List (Var × Term)) → KeepsRead (behind_all read more)
-  keeps_all read more = keeps_give _
+keeps_all : (read more : List (Var × Term)) → KeepsRead (behind_all read more)
+keeps_all read more = keeps_give _
 
 -- What is left of the arguments comes to this, behind those that were read.
 pub record AreLeft (source : List ℕ) (nodes : List Node) (settings : ProofSettings) (z : Table) (v w : TermsView) (t : ReaderView) (e : BoundVariables) (k : ℕ) (p : ProofState) (whole : Outcome ProofState (List (Var × Term))) : Type 0 where
@@ -173,40 +173,33 @@ module _ (source : List ℕ) (nodes : List Node) (first : ℕ) (s : Table) (v : 
           placed = l.placed;
         }
 
-    module _ {y : Table} {x : TermsView} {u : ReaderView} {f : BoundVariables} (symbols : AddsNoSymbols z y) (terms : KeepsTerms w x) where
-      abbrev Reads : Result ⊤ ReadFault → Type 0
-      Reads result = (i : Item) (m : ℕ) (settings : ProofSettings) (earlier : List (List ℕ)) (bs : List (Var × Term)) (p : ProofState) → IsNode source nodes k i m → argument_fault i ≡ None → IsOpening z w settings t e earlier bs p
-          → Answers y w x (IsArgumentRead y x settings u f earlier bs p) (argument_read settings earlier (argument_of i) p) result
+    module _ {y : Table} {x : TermsView} (symbols : AddsNoSymbols z y) (terms : KeepsTerms w x) (settings : ProofSettings) (p : ProofState) (whole : Outcome ProofState (List (Var × Term))) (l : AreLeft source nodes settings z v w t e k p whole) (a : HasArgument source nodes k l.others (length nodes)) where
+      whole_is : and_then (and_then (argument_read settings l.earlier (argument_of a.first) l.now) (behind_one settings l.earlier a.rest)) (behind_all l.read) ≡ whole
+      unfolding arguments_read ◌>>=◌
+      whole_is = ap (λ xs. and_then (arguments_read settings l.earlier xs l.now) (λ more. give (l.read ++ more))) (sym a.split) ∙ l.comes
 
-      module _ (settings : ProofSettings) (p : ProofState) (whole : Outcome ProofState (List (Var × Term))) (l : AreLeft source nodes settings z v w t e k p whole) (a : HasArgument source nodes k l.others (length nodes)) where
-        abbrev read_first : Outcome ProofState (Var × Term)
-        read_first = argument_read settings l.earlier (argument_of a.first) l.now
+      -- what was read of the first is read of the whole
+      first_read : (term : Term) → WasRead (argument_read settings l.earlier (argument_of a.first) l.now) term → WasRead whole term
+      first_read term was =
+          subst (λ (o : Outcome ProofState (List (Var × Term))). WasRead o term) whole_is
+          (read_on (and_then (argument_read settings l.earlier (argument_of a.first) l.now) (behind_one settings l.earlier a.rest)) (behind_all l.read) (keeps_all l.read) term
+          (read_on (argument_read settings l.earlier (argument_of a.first) l.now) (behind_one settings l.earlier a.rest) (keeps_behind settings l.earlier a.rest) term was))
 
-        whole_is : and_then (and_then read_first (behind_one settings l.earlier a.rest)) (behind_all settings l.earlier a.rest l.read) ≡ whole
-        unfolding arguments_read ◌>>=◌
-        whole_is = ap (λ xs. and_then (arguments_read settings l.earlier xs l.now) (λ more. give (l.read ++ more))) (sym a.split) ∙ l.comes
+      placed_now : PlacesCellsOf y w.pass x.pass (WasRead (argument_read settings l.earlier (argument_of a.first) l.now)) → PlacesCellsOf y v.pass x.pass (WasRead whole)
+      placed_now placed =
+          places_then z y v.pass w.pass x.pass (WasRead whole) symbols.keeps terms.pass l.placed (places_more y w.pass x.pass (WasRead (argument_read settings l.earlier (argument_of a.first) l.now)) (WasRead whole) first_read placed)
 
-        -- what was read of the first is read of the whole
-        first_read : (term : Term) → WasRead read_first term → WasRead whole term
-        first_read term was =
-            subst (λ (o : Outcome ProofState (List (Var × Term))). WasRead o term) whole_is
-            (read_on (and_then read_first (behind_one settings l.earlier a.rest)) (behind_all settings l.earlier a.rest l.read) (keeps_all settings l.earlier a.rest l.read) term
-            (read_on read_first (behind_one settings l.earlier a.rest) (keeps_behind settings l.earlier a.rest) term was))
-
-        placed_now : PlacesCellsOf y w.pass x.pass (WasRead read_first) → PlacesCellsOf y v.pass x.pass (WasRead whole)
-        placed_now placed =
-            places_then z y v.pass w.pass x.pass (WasRead whole) symbols.keeps terms.pass l.placed (places_more y w.pass x.pass (WasRead read_first) (WasRead whole) first_read placed)
-
-        first_fails : (fault : ReadFault) → Answers y w x (IsArgumentRead y x settings u f l.earlier l.read l.now) read_first (Err fault) → Answers y v x (AreArgumentsRead y x settings u f p) whole (Err fault)
+      module _ (u : ReaderView) (f : BoundVariables) where
+        first_fails : (fault : ReadFault) → Answers y w x (IsArgumentRead y x settings u f l.earlier l.read l.now) (argument_read settings l.earlier (argument_of a.first) l.now) (Err fault) → Answers y v x (AreArgumentsRead y x settings u f p) whole (Err fault)
         first_fails fault g =
-            let one : Answers y w x (AreArgumentsRead y x settings u f p) (and_then read_first (behind_one settings l.earlier a.rest)) (Err fault) = stops (behind_one settings l.earlier a.rest) (keeps_behind settings l.earlier a.rest) g in
-            let all : Answers y w x (AreArgumentsRead y x settings u f p) (and_then (and_then read_first (behind_one settings l.earlier a.rest)) (behind_all settings l.earlier a.rest l.read)) (Err fault) = stops (behind_all settings l.earlier a.rest l.read) (keeps_all settings l.earlier a.rest l.read) one in
+            let one : Answers y w x (AreArgumentsRead y x settings u f p) (and_then (argument_read settings l.earlier (argument_of a.first) l.now) (behind_one settings l.earlier a.rest)) (Err fault) = stops (behind_one settings l.earlier a.rest) (keeps_behind settings l.earlier a.rest) g in
+            let all : Answers y w x (AreArgumentsRead y x settings u f p) (and_then (and_then (argument_read settings l.earlier (argument_of a.first) l.now) (behind_one settings l.earlier a.rest)) (behind_all l.read)) (Err fault) = stops (behind_all l.read) (keeps_all l.read) one in
             record {
               answer = (subst (λ (o : Outcome ProofState (List (Var × Term))). Answers y w x (AreArgumentsRead y x settings u f p) o (Err fault)) whole_is all).answer;
               placed = placed_now g.placed;
             }
 
-        first_goes : (next : ℕ) → next ≡ a.behind → Answers y w x (IsArgumentRead y x settings u f l.earlier l.read l.now) read_first (Ok tt) → AreLeft source nodes settings y v x u f next p whole
+        first_goes : (next : ℕ) → next ≡ a.behind → Answers y w x (IsArgumentRead y x settings u f l.earlier l.read l.now) (argument_read settings l.earlier (argument_of a.first) l.now) (Ok tt) → AreLeft source nodes settings y v x u f next p whole
         unfolding ◌>>=◌
         first_goes next is g =
             let b = g.answer.value in
@@ -220,24 +213,30 @@ module _ (source : List ℕ) (nodes : List Node) (first : ℕ) (s : Table) (v : 
               opening = g.answer.after.opening;
               same = record { scope = g.answer.after.same.scope ∙ l.same.scope; anchors = g.answer.after.same.anchors ∙ l.same.anchors };
               comes = sym (regrouped l.read b (arguments_read settings (b.0.name ∷ l.earlier) a.rest q))
-                  ∙ (ap (λ (o : Outcome ProofState (Var × Term)). and_then (and_then o (behind_one settings l.earlier a.rest)) (behind_all settings l.earlier a.rest l.read)) (sym g.answer.comes) ∙ whole_is);
+                  ∙ (ap (λ (o : Outcome ProofState (Var × Term)). and_then (and_then o (behind_one settings l.earlier a.rest)) (behind_all l.read)) (sym g.answer.comes) ∙ whole_is);
               placed = placed_now g.placed;
             }
+
+    module _ {y : Table} {x : TermsView} (u : ReaderView) (f : BoundVariables) (symbols : AddsNoSymbols z y) (terms : KeepsTerms w x) where
+      -- what the reading of the argument answers
+      abbrev pub Reads : Result ⊤ ReadFault → Type 0
+      Reads result = (i : Item) (m : ℕ) (settings : ProofSettings) (earlier : List (List ℕ)) (bs : List (Var × Term)) (p : ProofState) → IsNode source nodes k i m → argument_fault i ≡ None → IsOpening z w settings t e earlier bs p
+          → Answers y w x (IsArgumentRead y x settings u f earlier bs p) (argument_read settings earlier (argument_of i) p) result
 
       pub fails : k ≢ length nodes → (fault : ReadFault) → Reads (Err fault) → (others : List Argument) (settings : ProofSettings) (p : ProofState) → AreArguments source nodes first others (length nodes) → IsReaderOf s v r p.script (place_in settings p.scope.nesting) → AreBound s v d p.scope.nesting
           → Answers y v x (AreArgumentsRead y x settings u f p) (arguments_read settings [] others p) (Err fault)
       fails differs fault reads others settings p are reader bound =
           let l = h.left others settings p are reader bound in
           let a = has_argument source nodes k l.others (length nodes) l.here differs in
-          first_fails settings p _ l a fault (reads a.first a.behind settings l.earlier l.read l.now a.here a.fit l.opening)
+          first_fails symbols terms settings p _ l a u f fault (reads a.first a.behind settings l.earlier l.read l.now a.here a.fit l.opening)
 
-      pub goes_on : k ≢ length nodes → Reads (Ok tt) → (next : ℕ) → ((i : Item) (m : ℕ) → IsNode source nodes k i m → next ≡ m) → k < next → length y.leaves + (length nodes - next) ≤ length z.leaves + (length nodes - k)
+      pub steps_on : k ≢ length nodes → Reads (Ok tt) → (next : ℕ) → ((i : Item) (m : ℕ) → IsNode source nodes k i m → next ≡ m) → k < next → length y.leaves + (length nodes - next) ≤ length z.leaves + (length nodes - k)
           → IsUnderWay source nodes first s v r d next y x u f
-      goes_on differs reads next is further few = record {
+      steps_on differs reads next is further few = record {
         left = λ others settings p are reader bound.
             let l = h.left others settings p are reader bound in
             let a = has_argument source nodes k l.others (length nodes) l.here differs in
-            first_goes settings p _ l a next (is a.first a.behind a.here) (reads a.first a.behind settings l.earlier l.read l.now a.here a.fit l.opening);
+            first_goes symbols terms settings p _ l a u f next (is a.first a.behind a.here) (reads a.first a.behind settings l.earlier l.read l.now a.here a.fit l.opening);
         symbols = adds_then s z y h.symbols symbols;
         keeps = keeps_then v w x h.keeps terms;
         later = omega (arith, h.later, further);

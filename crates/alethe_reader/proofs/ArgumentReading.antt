@@ -45,7 +45,7 @@ use Rattle.alethe_reader.proofs.ScopeReading.{reader_named, reader_more}
 use Rattle.alethe_reader.proofs.WrittenStays.{bindings_stay}
 
 -- a fault, or want of memory, whatever would have come after
-pub fails : {A B T U : Type 0} {s : Table} {v w : TermsView} {M : T → A → ProofState → Type 0} (N : U → A → ProofState → Type 0) {o : Outcome ProofState A} (fault : ReadFault) → Answers s v w M o (Err fault) → Answers s v w N o (Err fault)
+pub fails : {A T U : Type 0} {s : Table} {v w : TermsView} {M : T → A → ProofState → Type 0} (N : U → A → ProofState → Type 0) {o : Outcome ProofState A} (fault : ReadFault) → Answers s v w M o (Err fault) → Answers s v w N o (Err fault)
 fails N fault h = record { answer = h.answer; placed = h.placed }
 
 -- in a table with more leaves
@@ -156,21 +156,18 @@ module _ (s z : Table) (v w : TermsView) (settings : ProofSettings) (adds : Adds
         judged_more earlier (bound_names p.scope.nesting) (map (λ u. u.id) d.names) b.0.name n (opening.judged n)
         ∙ ap (λ ns. is_among ns n) (ap (λ m. map (λ u. u.id) d.names ++ m ∷ []) named ∙ sym names));
     images = rw (same.scope, images_are) (subst (λ qs. AllZip (IsBindingOf z w) (d.images.items ++ (leaf, image) ∷ []) qs) list_of_images
-        (all_zipped_more (IsBindingOf z w) d.images.items (images_in p.scope.nesting ++ put_in_each outer bs) (leaf, image) (b.0, image_of p.scope.nesting b.1)
-        (bindings_stay s z v w adds.keeps terms d.images.items (images_in p.scope.nesting ++ put_in_each outer bs) opening.images)
+        (all_zipped_more (IsBindingOf z w) d.images.items (images_in p.scope.nesting ++ put_in_each (images (open_anchors p.scope.nesting)) bs) (leaf, image) (b.0, image_of p.scope.nesting b.1)
+        (bindings_stay s z v w adds.keeps terms d.images.items (images_in p.scope.nesting ++ put_in_each (images (open_anchors p.scope.nesting)) bs) opening.images)
         (record { variable = is; term = image_there })));
     opened = rw opened_are (all_zipped_more (IsBindingOf z w) d.opened.items bs (leaf, term) b (bindings_stay s z v w adds.keeps terms d.opened.items bs opening.opened) (record { variable = is; term = term_there }));
     apart = rw same.scope opening.apart;
     fresh = rw same.scope (fresh_more (bound_names p.scope.nesting) bs b opening.fresh (subst (λ n. is_among (bound_names p.scope.nesting ++ map (λ c. c.0.name) bs) n ≡ false) (sym named) (subst (λ ns. is_among ns name ≡ false) opening.names free)));
   }
     where
-      abbrev outer : List (Var × Term)
-      outer = images (open_anchors p.scope.nesting)
-
-      list_of_images : (images_in p.scope.nesting ++ put_in_each outer bs) ++ (b.0, image_of p.scope.nesting b.1) ∷ [] ≡ images_in p.scope.nesting ++ put_in_each outer (bs ++ b ∷ [])
+      list_of_images : (images_in p.scope.nesting ++ put_in_each (images (open_anchors p.scope.nesting)) bs) ++ (b.0, image_of p.scope.nesting b.1) ∷ [] ≡ images_in p.scope.nesting ++ put_in_each (images (open_anchors p.scope.nesting)) (bs ++ b ∷ [])
       list_of_images =
-          append_assoc (images_in p.scope.nesting) (put_in_each outer bs) ((b.0, image_of p.scope.nesting b.1) ∷ [])
-          ∙ ap (λ qs. images_in p.scope.nesting ++ qs) (sym (map-append (λ c. (c.0, Rattle.rule_model.specs.Substitution.put_in outer c.1)) bs (b ∷ [])))
+          append_assoc (images_in p.scope.nesting) (put_in_each (images (open_anchors p.scope.nesting)) bs) ((b.0, image_of p.scope.nesting b.1) ∷ [])
+          ∙ ap (λ qs. images_in p.scope.nesting ++ qs) (sym (map-append (λ c. (c.0, Rattle.rule_model.specs.Substitution.put_in (images (open_anchors p.scope.nesting)) c.1)) bs (b ∷ [])))
 
 -- how many images there are around the anchor
 module _ (s : Table) (v : TermsView) (settings : ProofSettings) (r : ReaderView) (d : BoundVariables) (earlier : List (List ℕ)) (bs : List (Var × Term)) (p : ProofState) (h : IsOpening s v settings r d earlier bs p) where

@@ -12,6 +12,7 @@ mod OpenedNames
 pub mod ScopeReading
 mod ArgumentReading
 mod ArgumentLoop
+mod ArgumentNodes
 mod AssumeReading
 mod NamedCommands
 pub mod StillReadCommands

@@ -24,15 +24,15 @@ at_back (b ∷ p) q x n = else_branch (var_eq b.0 x) b.1 (term_at (p ++ q) x) (�
 
 at_front : (p q : Replacement) (x : Var) → Replaces p x → term_at (p ++ q) x ≡ term_at p x
 at_front [] q x h = absurd h
-at_front (b ∷ p) q x h = go (var_eq b.0 x) refl
+at_front (b ∷ p) q x h = go (var_eq b.0 x) refl (at_front p q x)
   where
     later : var_eq b.0 x ≡ false → (b.0 ≡ x) ⊎ Replaces p x → Replaces p x
     later e (inl same) = absurd (let f = (var_eq_decides b.0 x).1 same in cc)
     later e (inr k) = k
 
-    go : (c : Bool) → var_eq b.0 x ≡ c → cond c b.1 (term_at (p ++ q) x) ≡ cond c b.1 (term_at p x)
-    go true e = refl
-    go false e = at_front p q x (later e h)
+    go : (c : Bool) → var_eq b.0 x ≡ c → (Replaces p x → term_at (p ++ q) x ≡ term_at p x) → cond c b.1 (term_at (p ++ q) x) ≡ cond c b.1 (term_at p x)
+    go true e k = refl
+    go false e k = k (later e h)
 
 -- what is replaced has a name
 replaced_named : (q : Replacement) (x : Var) → Replaces q x → is_among (map (λ b. b.0.name) q) x.name ≡ true

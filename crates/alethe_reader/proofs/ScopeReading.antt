@@ -54,12 +54,13 @@ all_entered around before anchor =
     ∙ (map-append (λ b. itself b.0) (reverse anchor.bindings) (reverse (open_bindings around))
     ∙ ap (λ (cs : List (Var × Term)). map (λ b. itself b.0) (reverse cs) ++ variables_in around) (sym (take_all (length anchor.bindings) anchor.bindings (omega arith))))
 
-module _ (s : Table) (v : TermsView) (r : ReaderView) (sc : Script) (settings : ProofSettings) (around : Nesting Var Term) (before : Items Var Term) (anchor : Anchor Var Term) where
-  abbrev pub place_with : ℕ → Place
-  place_with left = record (place_in settings around) { scope = entered left anchor.bindings (variables_in around) }
+-- where an anchor stands, with so many of its variables
+abbrev pub place_with : ProofSettings → Nesting Var Term → Anchor Var Term → ℕ → Place
+place_with settings around anchor left = record (place_in settings around) { scope = entered left anchor.bindings (variables_in around) }
 
-  pub reader_inside : IsReaderOf s v r sc (place_with (length anchor.bindings)) → IsReaderOf s v r sc (place_in settings (inside around before anchor))
+module _ (s : Table) (v : TermsView) (r : ReaderView) (sc : Script) (settings : ProofSettings) (around : Nesting Var Term) (before : Items Var Term) (anchor : Anchor Var Term) where
+  pub reader_inside : IsReaderOf s v r sc (place_with settings around anchor (length anchor.bindings)) → IsReaderOf s v r sc (place_in settings (inside around before anchor))
   reader_inside h = subst (λ bs. IsReaderOf s v r sc (record (place_in settings around) { scope = bs })) (sym (all_entered around before anchor)) h
 
-  pub reader_outside : IsReaderOf s v r sc (place_in settings (inside around before anchor)) → IsReaderOf s v r sc (place_with (length anchor.bindings))
+  pub reader_outside : IsReaderOf s v r sc (place_in settings (inside around before anchor)) → IsReaderOf s v r sc (place_with settings around anchor (length anchor.bindings))
   reader_outside h = subst (λ bs. IsReaderOf s v r sc (record (place_in settings around) { scope = bs })) (all_entered around before anchor) h

@@ -1,5 +1,5 @@
 //! The arguments of anchors: variables with their terms (Alethe specification, "The Proof Format": contexts).
-ghost use Rattle.std.specs.Prelude.{◌≡◌, ◌≤◌, ◌^◌, ◌+◌, ◌-◌, ℕ, List, map, length, take, Option, None, OnOk};
+ghost use Rattle.std.specs.Prelude.{◌≡◌, ◌≤◌, ◌<◌, ◌^◌, ◌+◌, ◌-◌, ℕ, List, [], map, length, take, Option, None, OnOk};
 ghost use Rattle.std.specs.List.{AllZip};
 ghost use Rattle.sexpr.specs.Items.{Item};
 ghost use Rattle.sexpr.specs.Source.{source};
@@ -156,15 +156,14 @@ fn read_assigned(
 {
     let variable = named_at(text, nodes, assigned.variable);
     judge_variable(bound, variable)?;
-    let sort = sort_wanted(text, nodes, assigned.sort, symbols)?;
-    let value = reader.value_at(text, nodes, assigned.term, symbols, terms)?;
     let wanted = Wanted {
         place: assigned.place,
-        sort,
+        sort: sort_wanted(text, nodes, assigned.sort, symbols)?,
     };
+    let value = reader.value_at(text, nodes, assigned.term, symbols, terms)?;
+    let (term, sort) = (value.term, value.sort);
     let image = image_at(bound, wanted, value, symbols, terms)?;
-    let leaf = symbols.variable(variable.name, value.sort)?;
-    let term = value.term;
+    let leaf = symbols.variable(variable.name, sort)?;
     bound.push(variable.name, OpenedVariable { leaf, term, image })?;
     Ok(())
 }
