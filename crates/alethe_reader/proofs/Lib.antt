@@ -9,6 +9,7 @@ pub mod BoundLemmas
 mod OuterImages
 mod ImageReading
 mod OpenedNames
+mod JudgedNames
 pub mod ScopeReading
 mod ArgumentReading
 mod ArgumentLoop

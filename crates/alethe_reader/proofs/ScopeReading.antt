@@ -1,9 +1,12 @@
 -- Cited by crates above. What a reader of terms stands for stays when terms and names are added to its script, and as variables of an anchor enter and leave.
 use Rattle.std.proofs.Common.{◌≡◌, ◌<◌, ◌≤◌, ◌+◌, ℕ, zero, suc, List, [], ◌∷◌, ◌++◌, map, reverse, length, take, get_or, refl, sym, ap, subst, ◌∙◌, arith}
 use Rattle.std.proofs.lemmas.List.{append_assoc, map-append, reverse-append, take_all, take_more}
-use Rattle.sym_table.specs.Table.{Table}
+use Rattle.std.specs.List.{AllZip}
+use Rattle.sym_table.specs.Table.{Table, IsLeaf}
 use Rattle.term_model.specs.Terms.{Var, Term}
+use Rattle.term_pool.specs.StandsFor.{variable_leaf}
 use Rattle.term_pool.specs.Views.{TermsView}
+use Rattle.proof_store.specs.Meaning.{IsBindingOf}
 use Rattle.rule_model.specs.Proofs.{Items}
 use Rattle.rule_model.specs.Scopes.{Anchor, Nesting, inside}
 use Rattle.rule_model.specs.Visibility.{open_bindings}
@@ -46,6 +49,26 @@ pub one_entered : (bs : List (Var × Term)) (around : List Bound) (k : ℕ) (d :
 one_entered bs around k d below =
     ap (λ (cs : List (Var × Term)). map (λ b. itself b.0) (reverse cs) ++ around) (take_more bs k d below)
     ∙ ap (λ (cs : List (Var × Term)). map (λ b. itself b.0) cs ++ around) (reverse-append (take k bs) (get_or bs k d ∷ []))
+
+-- the next of the variables, by its leaf
+pub pair_at : {A B : Type 0} (R : A → B → Type 0) (xs : List A) (ys : List B) → AllZip R xs ys → (k : ℕ) → k < length xs → (d : A) → (y : B) × R (get_or xs k d) y × (take (suc k) ys ≡ take k ys ++ y ∷ [])
+pair_at R [] ys h k below d = absurd (omega (arith, below))
+pair_at R (x ∷ xs) [] h k below d = absurd h
+pair_at R (x ∷ xs) (y ∷ ys) h zero below d = (y, h.0, refl)
+pair_at R (x ∷ xs) (y ∷ ys) h (suc k) below d = let (z, r, e) = pair_at R xs ys h.1 k (omega (arith, below)) d in (z, r, ap (λ zs. y ∷ zs) e)
+
+pub enters : (s : Table) (v : TermsView) (sc : Script) (p : Place) (opened : List (ℕ × ℕ)) (bs : List (Var × Term)) (k : ℕ) (d : ℕ × ℕ) (r new : ReaderView) → AllZip (IsBindingOf s v) opened bs → k < length opened
+    → ((x : Var) → IsLeaf s (get_or opened k d).0 (variable_leaf x) → IsReaderOf s v r sc (record p { scope = entered k bs p.scope }) → IsReaderOf s v new sc (record p { scope = itself x ∷ entered k bs p.scope }))
+    → IsReaderOf s v r sc (record p { scope = entered k bs p.scope }) → IsReaderOf s v new sc (record p { scope = entered (k + 1) bs p.scope })
+enters s v sc p opened bs k d r new zip below push h =
+    let (y, binds, more) = pair_at (IsBindingOf s v) opened bs zip k below d in
+    subst (λ bounds. IsReaderOf s v new sc (record p { scope = bounds })) (sym (scope_more y more)) (push y.0 binds.variable h)
+  where
+    scope_more : (y : Var × Term) → take (suc k) bs ≡ take k bs ++ y ∷ [] → entered (k + 1) bs p.scope ≡ itself y.0 ∷ entered k bs p.scope
+    scope_more y e =
+        ap (λ n. entered n bs p.scope) (omega arith)
+        ∙ (ap (λ (cs : List (Var × Term)). map (λ b. itself b.0) (reverse cs) ++ p.scope) e
+        ∙ ap (λ (cs : List (Var × Term)). map (λ b. itself b.0) cs ++ p.scope) (reverse-append (take k bs) (y ∷ [])))
 
 -- all are in scope
 pub all_entered : (around : Nesting Var Term) (before : Items Var Term) (anchor : Anchor Var Term) → variables_in (inside around before anchor) ≡ entered (length anchor.bindings) anchor.bindings (variables_in around)
