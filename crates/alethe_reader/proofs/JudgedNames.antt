@@ -28,11 +28,11 @@ among_contains (x ∷ names) name e = go (bytes_eq name x) refl e (among_contain
     go false f g k = contains_later x name names (k g)
 
 pub built_is : (r : Bool) (name : List ℕ) → (IsTrue r ↔ IsBuiltIn name) → is_built_in name ≡ r
-built_is true name h = contains_among built_in_words name (h.0 tt)
+built_is true name h = contains_among built_in_words name (h.0 refl)
 built_is false name h = go (is_built_in name) refl
   where
     go : (b : Bool) → is_built_in name ≡ b → b ≡ false
-    go true e = absurd (h.1 (among_contains built_in_words name e))
+    go true e = absurd (let f = h.1 (among_contains built_in_words name e) in cc)
     go false e = refl
 
 pub built_refused : (built bound : Bool) (place : ℕ) (refusal : Refusal) → built ≡ true → refusal ≡ record { cause = Repeated; at = place } → IsNameJudged built bound place (Err refusal)

@@ -70,6 +70,10 @@ enters s v sc p opened bs k d r new zip below push h =
         ∙ (ap (λ (cs : List (Var × Term)). map (λ b. itself b.0) (reverse cs) ++ p.scope) e
         ∙ ap (λ (cs : List (Var × Term)). map (λ b. itself b.0) cs ++ p.scope) (reverse-append (take k bs) (y ∷ [])))
 
+-- no more are left
+pub entered_all : (bs : List (Var × Term)) (around : List Bound) (k : ℕ) → length bs ≤ k → entered k bs around ≡ entered (length bs) bs around
+entered_all bs around k h = ap (λ (cs : List (Var × Term)). map (λ b. itself b.0) (reverse cs) ++ around) (take_all k bs h ∙ sym (take_all (length bs) bs (omega arith)))
+
 -- all are in scope
 pub all_entered : (around : Nesting Var Term) (before : Items Var Term) (anchor : Anchor Var Term) → variables_in (inside around before anchor) ≡ entered (length anchor.bindings) anchor.bindings (variables_in around)
 all_entered around before anchor =
