@@ -64,9 +64,12 @@ enters s v sc p opened bs k d r new zip below push h =
     let (y, binds, more) = pair_at (IsBindingOf s v) opened bs zip k below d in
     subst (λ bounds. IsReaderOf s v new sc (record p { scope = bounds })) (sym (scope_more y more)) (push y.0 binds.variable h)
   where
+    next : k + 1 ≡ suc k
+    next = omega arith
+
     scope_more : (y : Var × Term) → take (suc k) bs ≡ take k bs ++ y ∷ [] → entered (k + 1) bs p.scope ≡ itself y.0 ∷ entered k bs p.scope
     scope_more y e =
-        ap (λ n. entered n bs p.scope) (omega arith)
+        ap (λ n. entered n bs p.scope) next
         ∙ (ap (λ (cs : List (Var × Term)). map (λ b. itself b.0) (reverse cs) ++ p.scope) e
         ∙ ap (λ (cs : List (Var × Term)). map (λ b. itself b.0) cs ++ p.scope) (reverse-append (take k bs) (y ∷ [])))
 

@@ -12,5 +12,5 @@ variables-preserved c s v sc p bs zip h =
 
 pub returns : goal.returns
 returns c s v sc p bs zip h =
-    subst (λ bounds. IsReaderOf s v _ sc (record p { scope = bounds })) (entered_all bs p.scope c.variables.k (omega (arith, c.variables-test.false, AllZip-long (IsBindingOf s v) _ bs zip)))
+    subst (λ bounds. IsReaderOf s v c.variables.reader sc (record p { scope = bounds })) (entered_all bs p.scope c.variables.k (omega (arith, c.variables-test.false, AllZip-long (IsBindingOf s v) _ bs zip)))
     (c.variables.invariant s v sc p bs zip h)
