@@ -5,6 +5,7 @@ pub mod Reading
 pub mod CommandNames
 pub mod TextReading
 pub mod Bound
+pub mod Opening
 pub mod Sessions
 pub mod Answers
 pub mod ReadTerms

@@ -13,8 +13,12 @@ ghost use Rattle.alethe_text.specs.States.{ProofSettings, ProofState};
 ghost use Rattle.alethe_reader.specs.Answers.{Answers};
 ghost use Rattle.alethe_reader.specs.Sessions.{IsSession, StandsAfter};
 
-use crate::session::Session;
-use sexpr::Lexer;
+use crate::anchor_arguments::read_arguments;
+use crate::ids::Role;
+use crate::judging::{judge_id, named_at};
+use crate::scopes::enter_variables;
+use crate::session::{OpenAnchor, Session};
+use sexpr::{Cause, Lexer};
 use sym_table::Symbols;
 use term_names::faults::ReadFault;
 use term_pool::Terms;
@@ -53,5 +57,18 @@ pub fn read_anchor(
     ensures commands { OnOk result (next_index session.new.builder ≡ next_index session.old.builder) }
     ensures scopes { OnOk result (next_scope session.new.builder ≡ next_scope session.old.builder + 1) }
 {
-    unreachable!()
+    let id = named_at(text, nodes, anchor.id);
+    judge_id(&session.ids, id, Cause::Repeated)?;
+    let (reader, bound) = (&mut session.reader, &mut session.bound);
+    read_arguments(text, nodes, anchor.first, symbols, terms, reader, bound)?;
+    enter_variables(&mut session.reader, &session.bound.opened)?;
+    let open = OpenAnchor {
+        place: anchor.place,
+        ids: session.ids.len(),
+        variables: session.bound.opened.len(),
+    };
+    let scope = session.builder.anchor(id.name, &session.bound.opened)?;
+    session.ids.push(id.name, Role::Anchor, scope)?;
+    session.anchors.push(open)?;
+    Ok(())
 }

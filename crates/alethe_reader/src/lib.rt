@@ -11,6 +11,7 @@
 #![tactic(auto)]
 
 mod anchors;
+mod anchor_arguments;
 mod arguments;
 mod assuming;
 pub mod bound;
