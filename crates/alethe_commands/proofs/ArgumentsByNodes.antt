@@ -10,7 +10,7 @@ use Rattle.text_items.specs.Spelling.{is_list_item}
 use Rattle.text_items.specs.Stepping.{IsItemNode}
 use Rattle.text_items.proofs.NodeItems.{name_here}
 use Rattle.text_items.proofs.NodeSteps.{AreMore, more_nodes, no_nodes, name_next}
-use Rattle.alethe_text.specs.Commands.{Argument, assigned, variable_fault, assigned_fault, alone_fault, argument_fault, each_argument_fault, assigned_to, argument_of, arguments_of}
+use Rattle.alethe_text.specs.Commands.{Argument, assigned, variable_fault, assigned_fault, alone_fault, argument_fault, each_argument_fault, assigned_to, argument_of, arguments_in}
 use Rattle.alethe_commands.specs.declared.arguments.AnchorArgument.{AnchorArgument}
 use Rattle.alethe_commands.specs.CommandNodes.{AreArguments, SaysArgument, SaysAssigned, HasFirstArgument}
 use Rattle.alethe_commands.proofs.CommandsByNodes.{or_none, unless_so, keyword_alone}
@@ -113,7 +113,7 @@ module _ (s : List ℕ) (ns : List Node) where
 
   module _ (k m : ℕ) (others : List Argument) (h : AreArguments s ns k others m) where
     pub no_arguments : k ≡ m → others ≡ []
-    no_arguments e = h.same ∙ ap arguments_of (no_nodes s ns k h.items m h.there e)
+    no_arguments e = h.same ∙ ap arguments_in (no_nodes s ns k h.items m h.there e)
 
     module _ (differs : k ≢ m) where
       more : AreMore s ns k h.items m
@@ -130,8 +130,8 @@ module _ (s : List ℕ) (ns : List Node) where
           → HasFirstArgument s ns said node.next others m
       first_argument node read said says = record {
         first = argument_of more.first;
-        others = arguments_of more.others;
-        split = h.same ∙ ap arguments_of more.split;
+        others = arguments_in more.others;
+        split = h.same ∙ ap arguments_in more.split;
         says = says more.first more.behind more.here fits.0;
         there = record {
           items = more.others;

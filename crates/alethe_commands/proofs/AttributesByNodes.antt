@@ -16,7 +16,7 @@ use Rattle.text_items.proofs.NodeSteps.{AreMore, more_nodes, no_nodes, name_next
 use Rattle.alethe_text.specs.Commands.{Attribute, rule, premises, arguments, discharge, names_in, step_keywords, attribute_of, attribute_with, attributes_of}
 use Rattle.alethe_commands.specs.declared.attributes.AttributeWord.{AttributeWord}
 use Rattle.alethe_commands.specs.declared.attributes.StepAttribute.{StepAttribute}
-use Rattle.alethe_commands.specs.CommandNodes.{AreNameNodes, AreAttributes, SaysAttribute, IsWithin}
+use Rattle.alethe_commands.specs.CommandNodes.{AreNameNodes, AreAttributes, SaysAttribute, LiesWithin}
 use Rattle.alethe_commands.specs.CommandShapes.{attribute_word, attribute_nodes, HasValue}
 use Rattle.alethe_commands.proofs.CommandsByNodes.{choice, or_none, unless_so}
 
@@ -103,13 +103,13 @@ no_attribute : (i : Item) (rest : Items) → keyword_of i ≡ None → attribute
 no_attribute i no_items e = refl
 no_attribute i (item v rest) e = by_word i v ∙ ap (λ o. attributes_said v (attribute_word o)) e
 
-nodes_within : (w : AttributeWord) (k m : ℕ) → IsWithin k (attribute_nodes w k m) m
+nodes_within : (w : AttributeWord) (k m : ℕ) → LiesWithin k (attribute_nodes w k m) m
 nodes_within AttributeWord.Rule k m = tt
 nodes_within AttributeWord.Premises k m = (omega arith, omega arith)
 nodes_within AttributeWord.Arguments k m = (omega arith, omega arith)
 nodes_within AttributeWord.Discharge k m = (omega arith, omega arith)
 
-pub within_more : (l k m : ℕ) (said : StepAttribute) → l ≤ k → IsWithin k said m → IsWithin l said m
+pub within_more : (l k m : ℕ) (said : StepAttribute) → l ≤ k → LiesWithin k said m → LiesWithin l said m
 within_more l k m (StepAttribute.Rule j) h e = tt
 within_more l k m (StepAttribute.Premises first last) h (a, b) = (omega (arith, h, a), b)
 within_more l k m (StepAttribute.Arguments first last) h (a, b) = (omega (arith, h, a), b)
@@ -208,7 +208,7 @@ module _ (s : List ℕ) (ns : List Node) where
               same = refl;
             };
           };
-          within = subst (λ a. IsWithin node.next a b.behind) (sym told) (nodes_within w node.next b.behind);
+          within = subst (λ a. LiesWithin node.next a b.behind) (sym told) (nodes_within w node.next b.behind);
         })
 
   -- no item is left

@@ -14,7 +14,7 @@ use Rattle.text_items.specs.Nodes.{IsNode, AreNodes}
 use Rattle.text_items.proofs.NodeItems.{name_here}
 use Rattle.text_items.proofs.NodeSteps.{name_next}
 use Rattle.problem_text.specs.Commands.{refused}
-use Rattle.alethe_text.specs.Commands.{Command as Shape, assume, step, anchor, shaped, is_symbol_of, step_keywords, anchor_keywords, clause_fault, behind_first, attributes_of, word_fault, each_argument_fault, arguments_fault, argument_items, arguments_of, assume_shape, step_shape, anchor_shape, command_named, headed_command, command_of}
+use Rattle.alethe_text.specs.Commands.{Command as Shape, assume, step, anchor, shaped, is_symbol_of, step_keywords, anchor_keywords, clause_fault, behind_first, attributes_of, word_fault, each_argument_fault, arguments_fault, argument_items, arguments_in, assume_shape, step_shape, anchor_shape, command_named, headed_command, command_of}
 use Rattle.alethe_commands.specs.declared.commands.Command.{Command}
 use Rattle.alethe_commands.specs.declared.commands.CommandWord.{CommandWord}
 use Rattle.alethe_commands.specs.CommandNodes.{SaysCommand, IsCommand, AreArguments}
@@ -132,7 +132,7 @@ module _ (s : List ℕ) (ns : List Node) where
       subst (λ j. AreNodes s ns j rest m) (omega (arith, next)) are
 
   arguments_here : (k : ℕ) (items : Items) (last : ℕ) → AreNodes s ns k items last → arguments_fault items ≡ None → (first : ℕ) → (k ≡ last → first ≡ k) → (k ≢ last → first ≡ k + 2)
-      → AreArguments s ns first (arguments_of (argument_items items)) last
+      → AreArguments s ns first (arguments_in (argument_items items)) last
   arguments_here k no_items last are e first none some = record { items = no_items; there = none are ∙ are; fit = refl; same = refl }
   arguments_here k (item keyword no_items) last are e first none some = cc
   arguments_here k (item keyword (item (word p w) rest)) last are e first none some = let h = (or_none (word_fault (codes ":args") keyword) _ e).1 in cc
@@ -204,14 +204,14 @@ module _ (s : List ℕ) (ns : List Node) where
     anchor_said first none some same e =
         let own : Option ℕ = option_or (word_fault (codes ":step") t.first) (option_or (symbol_fault u.first) (arguments_fault u.others)) in
         let fault : Items → Option ℕ = λ xs. earlier (attributes_fault anchor_keywords start xs) own in
-        said o (fault (item t.first (item u.first u.others))) (Command.Anchor start b first) (anchor start (name_at u.first) (arguments_of (argument_items u.others))) result (anchor_shape start items) e
+        said o (fault (item t.first (item u.first u.others))) (Command.Anchor start b first) (anchor start (name_at u.first) (arguments_in (argument_items u.others))) result (anchor_shape start items) e
         (same ∙ both fault) (both (anchor_shape start))
         (λ fits.
         let none_own = (earlier_none (attributes_fault anchor_keywords start (item t.first (item u.first u.others))) own fits).1 in
         let behind = or_none (symbol_fault u.first) (arguments_fault u.others) (or_none (word_fault (codes ":step") t.first) _ none_own).1 in
         record {
           named = name_at u.first;
-          others = arguments_of (argument_items u.others);
+          others = arguments_in (argument_items u.others);
           same = refl;
           name_here = name_here s ns b u.first rest u.here behind.0;
           arguments_here = arguments_here rest u.others (length ns) u.there behind.1 first none some;

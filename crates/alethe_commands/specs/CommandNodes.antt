@@ -8,7 +8,7 @@ use Rattle.text_items.specs.ItemShapes.{Name}
 use Rattle.text_items.specs.Keywords.{misplaced, at_end, is_value}
 use Rattle.text_items.specs.NameNodes.{IsNameNode}
 use Rattle.text_items.specs.Nodes.{IsNode, AreNodes}
-use Rattle.alethe_text.specs.Commands.{Attribute, rule, premises, arguments, discharge, Argument, variable_alone, assigned, Command as Shape, assume, step, anchor, step_keywords, attributes_of, each_argument_fault, arguments_of}
+use Rattle.alethe_text.specs.Commands.{Attribute, rule, premises, arguments, discharge, Argument, variable_alone, assigned, Command as Shape, assume, step, anchor, step_keywords, attributes_of, each_argument_fault, arguments_in}
 use Rattle.alethe_commands.specs.declared.commands.Command.{Command}
 use Rattle.alethe_commands.specs.declared.attributes.StepAttribute.{StepAttribute}
 use Rattle.alethe_commands.specs.declared.arguments.AnchorArgument.{AnchorArgument}
@@ -51,18 +51,18 @@ pub record HasFirstAttribute (source : List ℕ) (nodes : List Node) (said : Ste
   pub there : AreAttributes source nodes k others m
 
 -- What stands in the attribute's list lies between these nodes.
-abbrev pub IsWithin : ℕ → StepAttribute → ℕ → Type 0
-IsWithin low (StepAttribute.Rule k) high = ⊤
-IsWithin low (StepAttribute.Premises first last) high = (low ≤ first) × (last ≤ high)
-IsWithin low (StepAttribute.Arguments first last) high = (low ≤ first) × (last ≤ high)
-IsWithin low (StepAttribute.Discharge first last) high = (low ≤ first) × (last ≤ high)
+abbrev pub LiesWithin : ℕ → StepAttribute → ℕ → Type 0
+LiesWithin low (StepAttribute.Rule k) high = ⊤
+LiesWithin low (StepAttribute.Premises first last) high = (low ≤ first) × (last ≤ high)
+LiesWithin low (StepAttribute.Arguments first last) high = (low ≤ first) × (last ≤ high)
+LiesWithin low (StepAttribute.Discharge first last) high = (low ≤ first) × (last ≤ high)
 
 -- The nodes from k on, up to m, are those of an anchor's arguments, which have no fault of shape.
 pub record AreArguments (source : List ℕ) (nodes : List Node) (k : ℕ) (others : List Argument) (m : ℕ) : Type 0 where
   pub items : Items
   pub there : AreNodes source nodes k items m
   pub fit : each_argument_fault items ≡ None
-  pub same : others ≡ arguments_of items
+  pub same : others ≡ arguments_in items
 
 abbrev pub IsSortNode : List ℕ → List Node → Option ℕ → Option Item → Type 0
 IsSortNode source nodes None sort = sort ≡ None

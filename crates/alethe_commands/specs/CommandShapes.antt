@@ -13,7 +13,7 @@ use Rattle.alethe_commands.specs.declared.commands.Command.{Command}
 use Rattle.alethe_commands.specs.declared.commands.CommandWord.{CommandWord}
 use Rattle.alethe_commands.specs.declared.attributes.AttributeWord.{AttributeWord}
 use Rattle.alethe_commands.specs.declared.attributes.StepAttribute.{StepAttribute}
-use Rattle.alethe_commands.specs.CommandNodes.{HasFirstAttribute, IsWithin}
+use Rattle.alethe_commands.specs.CommandNodes.{HasFirstAttribute, LiesWithin}
 
 -- the command, unless a fault stands at a place
 abbrev pub unless : Option ℕ → Command → Result Command Refusal
@@ -73,4 +73,4 @@ pub record HasValue (source : List ℕ) (nodes : List Node) (said : StepAttribut
   pub behind : ℕ
   pub here : IsNode source nodes value given behind
   pub has : HasFirstAttribute source nodes said behind attributes m
-  pub within : IsWithin value said behind
+  pub within : LiesWithin value said behind

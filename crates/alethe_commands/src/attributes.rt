@@ -7,7 +7,7 @@ ghost use Rattle.text_items.specs.Nodes.{IsNode, AreNodes};
 ghost use Rattle.text_items.specs.Stepping.{IsItemAt, AreItemsFrom, AreSomeFrom};
 ghost use Rattle.alethe_text.specs.Commands as shape;
 ghost use Rattle.alethe_text.specs.Steps as steps;
-ghost use Rattle.alethe_commands.specs.CommandNodes.{AreAttributes, HasFirstAttribute, IsWithin};
+ghost use Rattle.alethe_commands.specs.CommandNodes.{AreAttributes, HasFirstAttribute, LiesWithin};
 ghost use Rattle.alethe_commands.specs.CommandShapes as spec;
 
 use sexpr::Lexer;
@@ -112,7 +112,7 @@ pub fn next_attribute(
     ensures none { IfNone result ((attributes : List shape.Attribute) → AreAttributes (source text.now) nodes.now at.old attributes end → attributes ≡ []) }
     ensures later { IfSome result (λ _. at.old < at.new) }
     ensures inside { IfSome result (λ _. at.new ≤ end) }
-    ensures within { IfSome result (λ a. IsWithin at.old a at.new) }
+    ensures within { IfSome result (λ a. LiesWithin at.old a at.new) }
 {
     let mut k = *at;
     'items: while k != end {

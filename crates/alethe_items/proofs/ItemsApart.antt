@@ -15,8 +15,8 @@ use Rattle.text_items.specs.Nodes.{IsNode}
 use Rattle.text_items.specs.Spelling.{is_list_item}
 use Rattle.text_items.specs.declared.nodes.Node.{Node}
 use Rattle.alethe_text.specs.Commands.{is_symbol_of}
-use Rattle.alethe_text.specs.ProofTexts.{behind_answer, commands_in, is_list_of_commands}
-use Rattle.alethe_items.specs.TextItems.{HasItems, IsEnd, IsFirst, behind_list, is_open, is_close, is_bracket, begins_bracket}
+use Rattle.alethe_text.specs.ProofTexts.{behind_answer, unwrapped_commands, is_list_of_commands}
+use Rattle.alethe_items.specs.TextItems.{HasCommandItems, IsListEnd, IsFirst, behind_list, is_open, is_close, is_bracket, begins_bracket}
 
 -- what reading one token tells of the tokens that are left
 abbrev Begins : Read → List Token → Type 0
@@ -31,12 +31,12 @@ not_faulty : (tokens : List Token) (r : Refusal) → Begins (Err r) tokens → �
 not_faulty [] r h = cc h
 not_faulty (t ∷ ts) r h = cc h
 
-pub no_fault : (text : List ℕ) (at : ℕ) (in_list : Bool) (items behind : Items) (r : Refusal) → next_token text at ≡ Err r → HasItems text in_list at items behind → ⊥
+pub no_fault : (text : List ℕ) (at : ℕ) (in_list : Bool) (items behind : Items) (r : Refusal) → next_token text at ≡ Err r → HasCommandItems text in_list at items behind → ⊥
 no_fault text at in_list items behind r is h = not_faulty h.tokens r (subst (λ (x : Read). Begins x h.tokens) is (begins text at h.tokens h.read))
 
 -- another name for the text and the place
-pub moved : (text more : List ℕ) (at to : ℕ) {items : Items} → more ≡ text → to ≡ at → HasItems text false at items no_items → HasItems more false to items no_items
-moved text more at to {items} e f h = subst (λ (x : List ℕ). HasItems x false to items no_items) (sym e) (subst (λ (n : ℕ). HasItems text false n items no_items) (sym f) h)
+pub moved : (text more : List ℕ) (at to : ℕ) {items : Items} → more ≡ text → to ≡ at → HasCommandItems text false at items no_items → HasCommandItems more false to items no_items
+moved text more at to {items} e f h = subst (λ (x : List ℕ). HasCommandItems x false to items no_items) (sym e) (subst (λ (n : ℕ). HasCommandItems text false n items no_items) (sym f) h)
 
 -- no item begins without a token, nor with a closing bracket
 no_token : (text : List ℕ) (i : Item) (rest : List Token) → IsItem text [] i rest → ⊥
@@ -82,20 +82,20 @@ no_item_closes : (text : List ℕ) (t : Token) (after : List Token) (i : Item) (
 no_item_closes text t after i rest h is = let e = ap is_close (first_kind text t after i rest h) ∙ closes_not i in cc
 
 -- the text is at its end
-ends_at : (text : List ℕ) (in_list : Bool) (at : ℕ) (items behind : Items) (after : List Token) → next_token text at ≡ Ok None → AreItems text [] items after → IsEnd text in_list after behind
-    → (items ≡ no_items) × HasItems text false at behind no_items
+ends_at : (text : List ℕ) (in_list : Bool) (at : ℕ) (items behind : Items) (after : List Token) → next_token text at ≡ Ok None → AreItems text [] items after → IsListEnd text in_list after behind
+    → (items ≡ no_items) × HasCommandItems text false at behind no_items
 ends_at text in_list at (item i others) behind after is (mid, h, _) end = absurd (no_token text i mid h)
 ends_at text false at no_items behind after is nested (_, none) =
-    (refl, subst (λ (x : Items). HasItems text false at x no_items) (sym none) (record { tokens = []; after = []; read = is; nested = refl; end = (refl, refl) }))
+    (refl, subst (λ (x : Items). HasCommandItems text false at x no_items) (sym none) (record { tokens = []; after = []; read = is; nested = refl; end = (refl, refl) }))
 ends_at text true at no_items behind after is nested (bracket, rest, h, _) = absurd (let e = nested ∙ h.first in cc)
 
-at_end : (text : List ℕ) (in_list : Bool) (at : ℕ) (items behind : Items) (tokens after : List Token) → next_token text at ≡ Ok None → Begins (Ok None) tokens → AreItems text tokens items after → IsEnd text in_list after behind
-    → (items ≡ no_items) × HasItems text false at behind no_items
+at_end : (text : List ℕ) (in_list : Bool) (at : ℕ) (items behind : Items) (tokens after : List Token) → next_token text at ≡ Ok None → Begins (Ok None) tokens → AreItems text tokens items after → IsListEnd text in_list after behind
+    → (items ≡ no_items) × HasCommandItems text false at behind no_items
 at_end text in_list at items behind [] after is h nested end = ends_at text in_list at items behind after is nested end
 at_end text in_list at items behind (t ∷ ts) after is h nested end = absurd (cc h)
 
-pub text_ends : (text : List ℕ) (in_list : Bool) (at : ℕ) (items behind : Items) → next_token text at ≡ Ok None → HasItems text in_list at items behind
-    → (items ≡ no_items) × HasItems text false at behind no_items
+pub text_ends : (text : List ℕ) (in_list : Bool) (at : ℕ) (items behind : Items) → next_token text at ≡ Ok None → HasCommandItems text in_list at items behind
+    → (items ≡ no_items) × HasCommandItems text false at behind no_items
 text_ends text in_list at items behind is h =
     at_end text in_list at items behind h.tokens h.after is (subst (λ (x : Read). Begins x h.tokens) is (begins text at h.tokens h.read)) h.nested h.end
 
@@ -105,30 +105,30 @@ record StartsWith (text : List ℕ) (in_list : Bool) (t : Token) (items behind :
   after : List Token
   read : AreTokens text t.end tokens
   nested : AreItems text (t ∷ tokens) items after
-  end : IsEnd text in_list after behind
+  end : IsListEnd text in_list after behind
 
 starts_at : (text : List ℕ) (in_list : Bool) (at : ℕ) (t : Token) (items behind : Items) (tokens after : List Token)
-    → Begins (Ok (Some t)) tokens → AreTokens text at tokens → AreItems text tokens items after → IsEnd text in_list after behind → StartsWith text in_list t items behind
+    → Begins (Ok (Some t)) tokens → AreTokens text at tokens → AreItems text tokens items after → IsListEnd text in_list after behind → StartsWith text in_list t items behind
 starts_at text in_list at t items behind [] after h read nested end = absurd (cc h)
 starts_at text in_list at t items behind (u ∷ us) after h read nested end =
     let e : t ≡ u = cc h in
     subst (λ (x : Token). StartsWith text in_list x items behind) (sym e) (record { tokens = us; after = after; read = read.1; nested = nested; end = end })
 
-starts : (text : List ℕ) (in_list : Bool) (at : ℕ) (t : Token) (items behind : Items) → next_token text at ≡ Ok (Some t) → HasItems text in_list at items behind → StartsWith text in_list t items behind
+starts : (text : List ℕ) (in_list : Bool) (at : ℕ) (t : Token) (items behind : Items) → next_token text at ≡ Ok (Some t) → HasCommandItems text in_list at items behind → StartsWith text in_list t items behind
 starts text in_list at t items behind is h =
     starts_at text in_list at t items behind h.tokens h.after (subst (λ (x : Read). Begins x h.tokens) is (begins text at h.tokens h.read)) h.read h.nested h.end
 
 -- the token closes the list
-closed_with : (text : List ℕ) (in_list : Bool) (t : Token) (items behind : Items) (tokens after : List Token) → is_close t.kind ≡ true → AreTokens text t.end tokens → AreItems text (t ∷ tokens) items after → IsEnd text in_list after behind
-    → (items ≡ no_items) × HasItems text false t.end behind no_items
+closed_with : (text : List ℕ) (in_list : Bool) (t : Token) (items behind : Items) (tokens after : List Token) → is_close t.kind ≡ true → AreTokens text t.end tokens → AreItems text (t ∷ tokens) items after → IsListEnd text in_list after behind
+    → (items ≡ no_items) × HasCommandItems text false t.end behind no_items
 closed_with text in_list t (item i others) behind tokens after is read (mid, h, _) end = absurd (no_item_closes text t tokens i mid h is)
 closed_with text false t no_items behind tokens after is read nested (none, _) = absurd (let e = nested ∙ none in cc)
 closed_with text true t no_items behind tokens after is read nested (bracket, rest, h, inside) =
     let e = same_rest t bracket tokens rest (nested ∙ h.first) in
     (refl, record { tokens = rest; after = []; read = subst (λ (x : List Token). AreTokens text t.end x) e read; nested = inside; end = (refl, refl) })
 
-pub list_ends : (text : List ℕ) (in_list : Bool) (at : ℕ) (t : Token) (items behind : Items) → next_token text at ≡ Ok (Some t) → is_close t.kind ≡ true → HasItems text in_list at items behind
-    → (items ≡ no_items) × HasItems text false t.end behind no_items
+pub list_ends : (text : List ℕ) (in_list : Bool) (at : ℕ) (t : Token) (items behind : Items) → next_token text at ≡ Ok (Some t) → is_close t.kind ≡ true → HasCommandItems text in_list at items behind
+    → (items ≡ no_items) × HasCommandItems text false t.end behind no_items
 list_ends text in_list at t items behind is closes h =
     let w = starts text in_list at t items behind is h in
     closed_with text in_list t items behind w.tokens w.after closes w.read w.nested w.end
@@ -144,9 +144,9 @@ pub record IsSplit (text : List ℕ) (in_list : Bool) (t : Token) (items behind 
   pub read : AreTokens text t.end tokens
   pub here : IsItem text (t ∷ tokens) first middle
   pub rest : AreItems text middle others after
-  pub end : IsEnd text in_list after behind
+  pub end : IsListEnd text in_list after behind
 
-split_with : (text : List ℕ) (in_list : Bool) (t : Token) (items behind : Items) (tokens after : List Token) → is_close t.kind ≡ false → AreTokens text t.end tokens → AreItems text (t ∷ tokens) items after → IsEnd text in_list after behind
+split_with : (text : List ℕ) (in_list : Bool) (t : Token) (items behind : Items) (tokens after : List Token) → is_close t.kind ≡ false → AreTokens text t.end tokens → AreItems text (t ∷ tokens) items after → IsListEnd text in_list after behind
     → IsSplit text in_list t items behind
 split_with text in_list t (item i others) behind tokens after is read (mid, h, rest) end =
     record { first = i; others = others; same = refl; tokens = tokens; middle = mid; after = after; read = read; here = h; rest = rest; end = end }
@@ -154,7 +154,7 @@ split_with text false t no_items behind tokens after is read nested (none, _) = 
 split_with text true t no_items behind tokens after is read nested (bracket, rest, h, inside) =
     absurd (let e = ap (λ (x : Token). is_close x.kind) (same_first t bracket tokens rest (nested ∙ h.first)) ∙ ap is_close h.same_kind in cc)
 
-pub splits : (text : List ℕ) (in_list : Bool) (at : ℕ) (t : Token) (items behind : Items) → next_token text at ≡ Ok (Some t) → is_close t.kind ≡ false → HasItems text in_list at items behind → IsSplit text in_list t items behind
+pub splits : (text : List ℕ) (in_list : Bool) (at : ℕ) (t : Token) (items behind : Items) → next_token text at ≡ Ok (Some t) → is_close t.kind ≡ false → HasCommandItems text in_list at items behind → IsSplit text in_list t items behind
 splits text in_list at t items behind is opens h =
     let w = starts text in_list at t items behind is h in
     split_with text in_list t items behind w.tokens w.after opens w.read w.nested w.end
@@ -167,16 +167,16 @@ stands_in l in_list t items behind h at = record {
   item = h.here;
 }
 
-same_text : (text more : List ℕ) (in_list : Bool) (at : ℕ) (items behind : Items) → more ≡ text → HasItems text in_list at items behind → HasItems more in_list at items behind
-same_text text more in_list at items behind e h = subst (λ (x : List ℕ). HasItems x in_list at items behind) (sym e) h
+same_text : (text more : List ℕ) (in_list : Bool) (at : ℕ) (items behind : Items) → more ≡ text → HasCommandItems text in_list at items behind → HasCommandItems more in_list at items behind
+same_text text more in_list at items behind e h = subst (λ (x : List ℕ). HasCommandItems x in_list at items behind) (sym e) h
 
-splits_by : (l : Lexer) (text : List ℕ) (in_list : Bool) (at : ℕ) (t : Token) → source l ≡ text → next_token text at ≡ Ok (Some t) → is_close t.kind ≡ false → (items behind : Items) → HasItems text in_list at items behind
+splits_by : (l : Lexer) (text : List ℕ) (in_list : Bool) (at : ℕ) (t : Token) → source l ≡ text → next_token text at ≡ Ok (Some t) → is_close t.kind ≡ false → (items behind : Items) → HasCommandItems text in_list at items behind
     → IsSplit (source l) in_list t items behind
 splits_by l text in_list at t e is opens items behind h =
     splits (source l) in_list at t items behind (ap (λ x. next_token x at) e ∙ is) opens (same_text text (source l) in_list at items behind e h)
 
 pub some_item : (l : Lexer) (text : List ℕ) (in_list : Bool) (at : ℕ) (t : Token) → source l ≡ text → position l ≡ t.end → next_token text at ≡ Ok (Some t) → is_close t.kind ≡ false
-    → (items : Items) × (behind : Items) × HasItems text in_list at items behind → (i : Item) × (rest : List Token) × GoesOnWith l t i rest
+    → (items : Items) × (behind : Items) × HasCommandItems text in_list at items behind → (i : Item) × (rest : List Token) × GoesOnWith l t i rest
 some_item l text in_list at t e behind is opens (items, others, h) =
     let p = splits_by l text in_list at t e is opens items others h in (p.first, p.middle, stands_in l in_list t items others p behind)
 
@@ -184,7 +184,7 @@ some_item l text in_list at t e behind is opens (items, others, h) =
 pub item_found : (l m : Lexer) (text : List ℕ) (in_list : Bool) (at : ℕ) (t : Token) (nodes : List Node) → source l ≡ text → source m ≡ source l → position l ≡ t.end → next_token text at ≡ Ok (Some t) → is_close t.kind ≡ false
     → ((i : Item) (rest : List Token) → GoesOnWith l t i rest → IsNode (source m) nodes 0 i (length nodes))
     → ((i : Item) (rest : List Token) → GoesOnWith l t i rest → AreTokens (source m) (position m) rest)
-    → (items behind : Items) → HasItems text in_list at items behind → IsFirst (source m) in_list nodes (position m) items behind
+    → (items behind : Items) → HasCommandItems text in_list at items behind → IsFirst (source m) in_list nodes (position m) items behind
 item_found l m text in_list at t nodes e same behind is opens here left items others h =
     let p = splits_by l text in_list at t e is opens items others h in
     let goes = stands_in l in_list t items others p behind in
@@ -221,7 +221,7 @@ alone text t after (quoted place spelling) rest h is = sym (same_rest t h.token 
 alone text t after (string place spelling) rest h is = sym (same_rest t h.token after rest h.first)
 alone text t after (list place items) rest h is = cc
 
-module _ (text : List ℕ) (at : ℕ) (t : Token) (items : Items) (is : next_token text at ≡ Ok (Some t)) (h : HasItems text false at items no_items) where
+module _ (text : List ℕ) (at : ℕ) (t : Token) (items : Items) (is : next_token text at ≡ Ok (Some t)) (h : HasCommandItems text false at items no_items) where
   kind_open : (t.kind ≡ Close → ⊥) → is_close t.kind ≡ false
   kind_open never = go t.kind never
     where
@@ -242,7 +242,7 @@ module _ (text : List ℕ) (at : ℕ) (t : Token) (items : Items) (is : next_tok
       let w = starts text false at t items no_items is h in
       split_with text false t items no_items w.tokens w.after (by_itself items w.tokens w.after w.nested w.end.0) w.read w.nested w.end
 
-  other_end : (others : Items) (middle after : List Token) → AreItems text middle others after → IsEnd text false after no_items → AreItems text middle others []
+  other_end : (others : Items) (middle after : List Token) → AreItems text middle others after → IsListEnd text false after no_items → AreItems text middle others []
   other_end others middle after rest end = subst (λ (x : List Token). AreItems text middle others x) end.0 rest
 
   next_is : (tokens : List Token) (v : Token) (rest : List Token) → tokens ≡ v ∷ rest → AreTokens text t.end tokens → next_token text t.end ≡ Ok (Some v)
@@ -261,26 +261,26 @@ module _ (text : List ℕ) (at : ℕ) (t : Token) (items : Items) (is : next_tok
   left_behind : (i : Item) (others : Items) (b : Bool) → is_symbol_of (codes "unsat") i ≡ b → behind_answer (item i others) ≡ (if b then others else item i others)
   left_behind i others b e = rw e refl
 
-  pub answer_skipped : bytes_eq (name_of (name_spelled t.kind (token_text text t))) (codes "unsat") ≡ true → HasItems text false t.end (behind_answer items) no_items
+  pub answer_skipped : bytes_eq (name_of (name_spelled t.kind (token_text text t))) (codes "unsat") ≡ true → HasCommandItems text false t.end (behind_answer items) no_items
   answer_skipped e =
       let p = begins_item in
       let same : is_symbol_of (codes "unsat") p.first ≡ true = ap (λ n. bytes_eq n (codes "unsat")) (sym (spelled_as text t p.tokens p.first p.middle p.here)) ∙ e in
       let alike = alone text t p.tokens p.first p.middle p.here same in
-      subst (λ (x : Items). HasItems text false t.end x no_items) (sym (ap behind_answer p.same ∙ left_behind p.first p.others true same))
+      subst (λ (x : Items). HasCommandItems text false t.end x no_items) (sym (ap behind_answer p.same ∙ left_behind p.first p.others true same))
       (record { tokens = p.tokens; after = p.after; read = p.read; nested = subst (λ (x : List Token). AreItems text x p.others p.after) alike p.rest; end = p.end })
 
-  pub no_answer : bytes_eq (name_of (name_spelled t.kind (token_text text t))) (codes "unsat") ≡ false → HasItems text false at (behind_answer items) no_items
+  pub no_answer : bytes_eq (name_of (name_spelled t.kind (token_text text t))) (codes "unsat") ≡ false → HasCommandItems text false at (behind_answer items) no_items
   no_answer e =
       let p = begins_item in
       let same : is_symbol_of (codes "unsat") p.first ≡ false = ap (λ n. bytes_eq n (codes "unsat")) (sym (spelled_as text t p.tokens p.first p.middle p.here)) ∙ e in
-      subst (λ (x : Items). HasItems text false at x no_items) (p.same ∙ sym (ap behind_answer p.same ∙ left_behind p.first p.others false same)) h
+      subst (λ (x : Items). HasCommandItems text false at x no_items) (p.same ∙ sym (ap behind_answer p.same ∙ left_behind p.first p.others false same)) h
 
   pub first_at : Some t.start ≡ excess items
   first_at = let p = begins_item in ap Some (first_place text t p.tokens p.first p.middle p.here) ∙ ap excess (sym p.same)
 
   -- a list begins with a bracket, and within it stands another bracket or no item
-  list_with : (i : Item) (others : Items) (tokens middle after : List Token) → AreTokens text t.end tokens → IsItem text (t ∷ tokens) i middle → AreItems text middle others after → IsEnd text false after no_items → is_open t.kind ≡ true
-      → (is_list_of_commands i ≡ begins_bracket (next_token text t.end)) × HasItems text true t.end (items_of i) others
+  list_with : (i : Item) (others : Items) (tokens middle after : List Token) → AreTokens text t.end tokens → IsItem text (t ∷ tokens) i middle → AreItems text middle others after → IsListEnd text false after no_items → is_open t.kind ≡ true
+      → (is_list_of_commands i ≡ begins_bracket (next_token text t.end)) × HasCommandItems text true t.end (items_of i) others
   list_with (word place spelling) others tokens middle after read here rest end opens = absurd (let e = sym (ap is_open (first_kind text t tokens (word place spelling) middle here)) ∙ opens in cc)
   list_with (quoted place spelling) others tokens middle after read here rest end opens = absurd (let e = sym (ap is_open (first_kind text t tokens (quoted place spelling) middle here)) ∙ opens in cc)
   list_with (string place spelling) others tokens middle after read here rest end opens = absurd (let e = sym (ap is_open (first_kind text t tokens (string place spelling) middle here)) ∙ opens in cc)
@@ -308,38 +308,38 @@ module _ (text : List ℕ) (at : ℕ) (t : Token) (items : Items) (is : next_tok
   opens_no_list (string place spelling) tokens middle here opens = refl
   opens_no_list (list place inside) tokens middle here opens = absurd (let e = sym (ap is_open (first_kind text t tokens (list place inside) middle here)) ∙ opens in cc)
 
-  commands_with : (i : Item) (others : Items) (b : Bool) → is_list_of_commands i ≡ b → commands_in (item i others) ≡ (if b then items_of i else item i others)
+  commands_with : (i : Item) (others : Items) (b : Bool) → is_list_of_commands i ≡ b → unwrapped_commands (item i others) ≡ (if b then items_of i else item i others)
   commands_with i others b e = rw e refl
 
   behind_with : (i : Item) (others : Items) (b : Bool) → is_list_of_commands i ≡ b → behind_list (item i others) ≡ (if b then others else no_items)
   behind_with i others b e = rw e refl
 
-  by_themselves : (i : Item) (others : Items) → items ≡ item i others → is_list_of_commands i ≡ false → HasItems text false at (commands_in items) (behind_list items)
+  by_themselves : (i : Item) (others : Items) → items ≡ item i others → is_list_of_commands i ≡ false → HasCommandItems text false at (unwrapped_commands items) (behind_list items)
   by_themselves i others same no_list =
-      subst (λ (x : Items). HasItems text false at x (behind_list items)) (same ∙ sym (ap commands_in same ∙ commands_with i others false no_list))
-      (subst (λ (x : Items). HasItems text false at items x) (sym (ap behind_list same ∙ behind_with i others false no_list)) h)
+      subst (λ (x : Items). HasCommandItems text false at x (behind_list items)) (same ∙ sym (ap unwrapped_commands same ∙ commands_with i others false no_list))
+      (subst (λ (x : Items). HasCommandItems text false at items x) (sym (ap behind_list same ∙ behind_with i others false no_list)) h)
 
-  pub no_bracket : is_open t.kind ≡ false → HasItems text false at (commands_in items) (behind_list items)
+  pub no_bracket : is_open t.kind ≡ false → HasCommandItems text false at (unwrapped_commands items) (behind_list items)
   no_bracket opens = let p = begins_item in by_themselves p.first p.others p.same (opens_no_list p.first p.tokens p.middle p.here opens)
 
-  pub no_list : is_open t.kind ≡ true → begins_bracket (next_token text t.end) ≡ false → HasItems text false at (commands_in items) (behind_list items)
+  pub no_list : is_open t.kind ≡ true → begins_bracket (next_token text t.end) ≡ false → HasCommandItems text false at (unwrapped_commands items) (behind_list items)
   no_list opens e =
       let p = begins_item in
       by_themselves p.first p.others p.same ((list_with p.first p.others p.tokens p.middle p.after p.read p.here p.rest p.end opens).0 ∙ e)
 
-  pub in_a_list : is_open t.kind ≡ true → begins_bracket (next_token text t.end) ≡ true → HasItems text true t.end (commands_in items) (behind_list items)
+  pub in_a_list : is_open t.kind ≡ true → begins_bracket (next_token text t.end) ≡ true → HasCommandItems text true t.end (unwrapped_commands items) (behind_list items)
   in_a_list opens e =
       let p = begins_item in
       let w = list_with p.first p.others p.tokens p.middle p.after p.read p.here p.rest p.end opens in
       let is = w.0 ∙ e in
-      subst (λ (x : Items). HasItems text true t.end x (behind_list items)) (sym (ap commands_in p.same ∙ commands_with p.first p.others true is))
-      (subst (λ (x : Items). HasItems text true t.end (items_of p.first) x) (sym (ap behind_list p.same ∙ behind_with p.first p.others true is)) w.1)
+      subst (λ (x : Items). HasCommandItems text true t.end x (behind_list items)) (sym (ap unwrapped_commands p.same ∙ commands_with p.first p.others true is))
+      (subst (λ (x : Items). HasCommandItems text true t.end (items_of p.first) x) (sym (ap behind_list p.same ∙ behind_with p.first p.others true is)) w.1)
 
 -- a text without items has no answer and no list
-pub nothing_skipped : (text : List ℕ) (at : ℕ) (items : Items) → items ≡ no_items → HasItems text false at items no_items → HasItems text false at (behind_answer items) no_items
-nothing_skipped text at items none h = subst (λ (x : Items). HasItems text false at x no_items) (none ∙ sym (ap behind_answer none)) h
+pub nothing_skipped : (text : List ℕ) (at : ℕ) (items : Items) → items ≡ no_items → HasCommandItems text false at items no_items → HasCommandItems text false at (behind_answer items) no_items
+nothing_skipped text at items none h = subst (λ (x : Items). HasCommandItems text false at x no_items) (none ∙ sym (ap behind_answer none)) h
 
-pub nothing_entered : (text : List ℕ) (at : ℕ) (items : Items) → items ≡ no_items → HasItems text false at items no_items → HasItems text false at (commands_in items) (behind_list items)
+pub nothing_entered : (text : List ℕ) (at : ℕ) (items : Items) → items ≡ no_items → HasCommandItems text false at items no_items → HasCommandItems text false at (unwrapped_commands items) (behind_list items)
 nothing_entered text at items none h =
-    subst (λ (x : Items). HasItems text false at x (behind_list items)) (none ∙ sym (ap commands_in none))
-    (subst (λ (x : Items). HasItems text false at items x) (sym (ap behind_list none)) h)
+    subst (λ (x : Items). HasCommandItems text false at x (behind_list items)) (none ∙ sym (ap unwrapped_commands none))
+    (subst (λ (x : Items). HasCommandItems text false at items x) (sym (ap behind_list none)) h)

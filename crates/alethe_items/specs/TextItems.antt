@@ -42,17 +42,17 @@ behind_list no_items = no_items
 behind_list (item i rest) = if is_list_of_commands i then rest else no_items
 
 -- Behind the commands their list is closed, and these items follow; or the text is at its end.
-abbrev pub IsEnd : List ℕ → Bool → List Token → Items → Type 0
-IsEnd source false after behind = (after ≡ []) × (behind ≡ no_items)
-IsEnd source true after behind = (bracket : Token) × (rest : List Token) × IsBracket after Close bracket rest × AreItems source rest behind []
+abbrev pub IsListEnd : List ℕ → Bool → List Token → Items → Type 0
+IsListEnd source false after behind = (after ≡ []) × (behind ≡ no_items)
+IsListEnd source true after behind = (bracket : Token) × (rest : List Token) × IsBracket after Close bracket rest × AreItems source rest behind []
 
 -- From this place on these items stand, inside of a list or by themselves, and those behind the list.
-pub record HasItems (source : List ℕ) (in_list : Bool) (at : ℕ) (items behind : Items) : Type 0 where
+pub record HasCommandItems (source : List ℕ) (in_list : Bool) (at : ℕ) (items behind : Items) : Type 0 where
   pub tokens : List Token
   pub after : List Token
   pub read : AreTokens source at tokens
   pub nested : AreItems source tokens items after
-  pub end : IsEnd source in_list after behind
+  pub end : IsListEnd source in_list after behind
 
 -- The nodes are those of the first of the items, and the others stand from this place on.
 pub record IsFirst (source : List ℕ) (in_list : Bool) (nodes : List Node) (at : ℕ) (items behind : Items) : Type 0 where
@@ -60,9 +60,9 @@ pub record IsFirst (source : List ℕ) (in_list : Bool) (nodes : List Node) (at 
   pub others : Items
   pub split : items ≡ item first others
   pub here : IsNode source nodes 0 first (length nodes)
-  pub left : HasItems source in_list at others behind
+  pub left : HasCommandItems source in_list at others behind
 
 -- There was an item; or there was none, and what stands behind the list stands from this place on.
-abbrev pub IsFound : List ℕ → Bool → List Node → ℕ → Items → Items → Bool → Type 0
-IsFound source in_list nodes at items behind true = IsFirst source in_list nodes at items behind
-IsFound source in_list nodes at items behind false = (items ≡ no_items) × HasItems source false at behind no_items
+abbrev pub IsItemRead : List ℕ → Bool → List Node → ℕ → Items → Items → Bool → Type 0
+IsItemRead source in_list nodes at items behind true = IsFirst source in_list nodes at items behind
+IsItemRead source in_list nodes at items behind false = (items ≡ no_items) × HasCommandItems source false at behind no_items

@@ -5,8 +5,8 @@ ghost use Rattle.sexpr.specs.Items.{Items, no_items, name_spelled};
 ghost use Rattle.sexpr.specs.Source as at;
 ghost use Rattle.sexpr.specs.Tokens.{next_token, token_text};
 ghost use Rattle.text_items.specs.ItemShapes as shape;
-ghost use Rattle.alethe_text.specs.ProofTexts.{behind_answer, commands_in};
-ghost use Rattle.alethe_items.specs.TextItems.{HasItems, IsFound, behind_list, is_open, is_close, is_bracket, begins_bracket};
+ghost use Rattle.alethe_text.specs.ProofTexts.{behind_answer, unwrapped_commands};
+ghost use Rattle.alethe_items.specs.TextItems.{HasCommandItems, IsItemRead, behind_list, is_open, is_close, is_bracket, begins_bracket};
 
 use sexpr::{Lexer, Token, TokenKind, symbol_name};
 use std::alloc::AllocError;
@@ -58,8 +58,8 @@ fn is_answer(text: &Lexer<'_>, token: Token) -> bool
 
 /// Goes behind the answer of the solver, where the text begins with it.
 pub fn skip_answer(lexer: &mut Lexer<'_>)
-    requires { (items : Items) × HasItems (at.source lexer.old) false (at.position lexer.old) items no_items }
-    ensures items { (items : Items) → HasItems (at.source lexer.old) false (at.position lexer.old) items no_items → HasItems (at.source lexer.new) false (at.position lexer.new) (behind_answer items) no_items }
+    requires { (items : Items) × HasCommandItems (at.source lexer.old) false (at.position lexer.old) items no_items }
+    ensures items { (items : Items) → HasCommandItems (at.source lexer.old) false (at.position lexer.old) items no_items → HasCommandItems (at.source lexer.new) false (at.position lexer.new) (behind_answer items) no_items }
     ensures source { at.source lexer.new ≡ at.source lexer.old }
     ensures behind { at.position lexer.old ≤ at.position lexer.new }
     ensures inside { at.position lexer.old ≤ length (at.source lexer.old) → at.position lexer.new ≤ length (at.source lexer.old) }
@@ -77,8 +77,8 @@ pub fn skip_answer(lexer: &mut Lexer<'_>)
 
 /// Goes into the list of the commands, where they stand in one, and answers whether they do.
 pub fn enter_list(lexer: &mut Lexer<'_>) -> bool
-    requires { (items : Items) × HasItems (at.source lexer.old) false (at.position lexer.old) items no_items }
-    ensures items { (items : Items) → HasItems (at.source lexer.old) false (at.position lexer.old) items no_items → HasItems (at.source lexer.new) result (at.position lexer.new) (commands_in items) (behind_list items) }
+    requires { (items : Items) × HasCommandItems (at.source lexer.old) false (at.position lexer.old) items no_items }
+    ensures items { (items : Items) → HasCommandItems (at.source lexer.old) false (at.position lexer.old) items no_items → HasCommandItems (at.source lexer.new) result (at.position lexer.new) (unwrapped_commands items) (behind_list items) }
     ensures source { at.source lexer.new ≡ at.source lexer.old }
     ensures behind { at.position lexer.old ≤ at.position lexer.new }
     ensures inside { at.position lexer.old ≤ length (at.source lexer.old) → at.position lexer.new ≤ length (at.source lexer.old) }
@@ -103,8 +103,8 @@ pub fn next_item(
     in_list: bool,
     nodes: &mut Vec<Node>,
 ) -> Result<bool, AllocError>
-    requires { (items : Items) × (behind : Items) × HasItems (at.source lexer.old) in_list (at.position lexer.old) items behind }
-    ensures item { (items behind : Items) → HasItems (at.source lexer.old) in_list (at.position lexer.old) items behind → IfOk result (IsFound (at.source lexer.new) in_list nodes.new.items (at.position lexer.new) items behind) }
+    requires { (items : Items) × (behind : Items) × HasCommandItems (at.source lexer.old) in_list (at.position lexer.old) items behind }
+    ensures item { (items behind : Items) → HasCommandItems (at.source lexer.old) in_list (at.position lexer.old) items behind → IfOk result (IsItemRead (at.source lexer.new) in_list nodes.new.items (at.position lexer.new) items behind) }
     ensures source { at.source lexer.new ≡ at.source lexer.old }
     ensures behind { at.position lexer.old ≤ at.position lexer.new }
     ensures inside { IfOk result (λ found. IsTrue found → at.position lexer.new ≤ length (at.source lexer.old)) }
@@ -126,8 +126,8 @@ pub fn next_item(
 
 /// The place of the next item, where there is one.
 pub fn excess(lexer: Lexer<'_>) -> Option<u64>
-    requires { (items : Items) × HasItems (at.source lexer) false (at.position lexer) items no_items }
-    ensures { (items : Items) → HasItems (at.source lexer.entry) false (at.position lexer.entry) items no_items → result ≡ shape.excess items }
+    requires { (items : Items) × HasCommandItems (at.source lexer) false (at.position lexer) items no_items }
+    ensures { (items : Items) → HasCommandItems (at.source lexer.entry) false (at.position lexer.entry) items no_items → result ≡ shape.excess items }
 {
     let mut ahead = lexer;
     let Ok(found) = ahead.next() else {

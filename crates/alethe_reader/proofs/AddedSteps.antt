@@ -7,7 +7,7 @@ use Rattle.std.proofs.Math.Seq.{take-append_seam}
 use Rattle.sym_table.specs.Table.{Table}
 use Rattle.term_model.specs.Terms.{Var, Term}
 use Rattle.term_pool.specs.Views.{TermsView, RefersTo, ReferToAll}
-use Rattle.rule_model.specs.Proofs.{Step, Items, no_items, with_assume, with_step, with_subproof}
+use Rattle.rule_model.specs.Proofs.{Step, ProofItems, no_items, with_assume, with_step, with_subproof}
 use Rattle.rule_model.specs.RuleNames.{rule_named, left_out_rules, IsSymbolName}
 use Rattle.rule_model.specs.Scopes.{Anchor, Nesting, outermost, inside, Scope, at, own_bindings, first_index, commands_in, next_index, next_scope}
 use Rattle.rule_model.specs.Visibility.{Sight, sight, seen, visible, assumes_in}
@@ -35,7 +35,7 @@ use Rattle.alethe_reader.proofs.StoredItems.{commands_same}
 use Rattle.alethe_reader.proofs.WrittenStays.{first_same, ids_same}
 
 -- the indices of the assumes of a scope
-assumes_indices : {V T : Type 0} (nesting : Nesting V T) (items : Items V T) → map (λ (c : Sight). c.index) (assumes_seen nesting items) ≡ assumes_in nesting items
+assumes_indices : {V T : Type 0} (nesting : Nesting V T) (items : ProofItems V T) → map (λ (c : Sight). c.index) (assumes_seen nesting items) ≡ assumes_in nesting items
 assumes_indices nesting no_items = refl
 assumes_indices nesting (with_assume items id t) =
     map-append (λ (c : Sight). c.index) (assumes_seen nesting items) (sight (first_index nesting + commands_in items) id ∷ [])
@@ -66,10 +66,10 @@ module _ (s : Table) (v : TermsView) where
   open_same (inside around before anchor) outermost id h = absurd h
   open_same (inside around before anchor) (inside outer behind other) id h = ap (bytes_eq id) h.2
 
-  seen_same : (n : Nesting ℕ ℕ) (m : Nesting Var Term) (is : Items ℕ ℕ) (ps : Items Var Term) → StandForNesting s v n m → StandForItems s v is ps → seen n is ≡ seen m ps
+  seen_same : (n : Nesting ℕ ℕ) (m : Nesting Var Term) (is : ProofItems ℕ ℕ) (ps : ProofItems Var Term) → StandForNesting s v n m → StandForItems s v is ps → seen n is ≡ seen m ps
   seen_same n m is ps h k = sym (sights_seen (at n is)) ∙ (ap sights_of (ids_same s v (at n is) (at m ps) h k) ∙ sights_seen (at m ps))
 
-  assumes_same : (n : Nesting ℕ ℕ) (m : Nesting Var Term) → first_index n ≡ first_index m → (is : Items ℕ ℕ) (ps : Items Var Term) → StandForItems s v is ps → assumes_in n is ≡ assumes_in m ps
+  assumes_same : (n : Nesting ℕ ℕ) (m : Nesting Var Term) → first_index n ≡ first_index m → (is : ProofItems ℕ ℕ) (ps : ProofItems Var Term) → StandForItems s v is ps → assumes_in n is ≡ assumes_in m ps
   assumes_same n m e _ _ no_items_stand = refl
   assumes_same n m e _ _ (assume_stands is ps id r t h refers) = both (assumes_same n m e is ps h) e (commands_same s v is ps h)
     where
@@ -189,7 +189,7 @@ module _ (s : Table) (v : TermsView) (settings : ProofSettings) (d : Session) (n
   written_around : (e : Session) (a : OpenAnchor) → is_open_id p.scope.nesting of.id ≡ true → IsAnchorOf p.scope.nesting a → e.builder ≡ take_step d.builder step
       → e.ids ≡ take a.ids d.ids ++ in_use step.id role.Step (next_index d.builder) ∷ []
       → ((front : List OpenAnchor) (last : OpenAnchor) → d.anchors.items ≡ front ++ last ∷ [] → e.anchors.items ≡ front)
-      → ((around : Nesting Var Term) (before : Items Var Term) (other : Anchor Var Term) → a.variables ≡ length other.bindings → AreBound s v d.bound (inside around before other) → AreBound s v e.bound around)
+      → ((around : Nesting Var Term) (before : ProofItems Var Term) (other : Anchor Var Term) → a.variables ≡ length other.bindings → AreBound s v d.bound (inside around before other) → AreBound s v e.bound around)
       → IsWritten s v e (steps.with_step of p)
   written_around e a opened anchor_of built used popped left =
       subst (IsWritten s v e) (sym scoped) (go d.builder.nesting p.scope.nesting h.written.nesting refl refl anchor_of opened)
@@ -259,7 +259,7 @@ module _ (s : Table) (v : TermsView) (settings : ProofSettings) (d : Session) (n
   pub added_around : (e : Session) (a : OpenAnchor) → n.closes ≡ Some a → e.reader ≡ d.reader → e.builder ≡ take_step d.builder step
       → e.ids ≡ take a.ids d.ids ++ in_use step.id role.Step (next_index d.builder) ∷ []
       → ((front : List OpenAnchor) (last : OpenAnchor) → d.anchors.items ≡ front ++ last ∷ [] → e.anchors.items ≡ front)
-      → ((around : Nesting Var Term) (before : Items Var Term) (other : Anchor Var Term) → a.variables ≡ length other.bindings → AreBound s v d.bound (inside around before other) → AreBound s v e.bound around)
+      → ((around : Nesting Var Term) (before : ProofItems Var Term) (other : Anchor Var Term) → a.variables ≡ length other.bindings → AreBound s v d.bound (inside around before other) → AreBound s v e.bound around)
       → IsSession s v settings e (steps.with_step of p)
   added_around e a some same built used popped left =
       let closes = subst (IsClosing d.ids p of.id h.here) some h.closes in

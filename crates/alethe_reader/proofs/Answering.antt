@@ -6,7 +6,7 @@ use Rattle.sexpr.specs.declared.causes.Refusal.{Refusal}
 use Rattle.sym_table.specs.Table.{Table, Keeps}
 use Rattle.term_model.specs.Terms.{Term}
 use Rattle.term_pool.specs.Views.{TermsView, KeepsTerms}
-use Rattle.problem_text.specs.Outcomes.{Outcome, done, goes_on, and_then}
+use Rattle.problem_text.specs.Outcomes.{Outcome, done, going_on, and_then}
 use Rattle.term_names.specs.Making.{PlacesCellsOf}
 use Rattle.term_names.specs.declared.faults.ReadFault.{ReadFault}
 use Rattle.term_reader.proofs.Staying.{places_none, places_more, places_then, lacks_more}
@@ -17,7 +17,7 @@ use Rattle.alethe_reader.specs.Answers.{WasRead, Comes, IsAnswer, Answers, Keeps
 pub read_on : {A B : Type 0} (o : Outcome ProofState A) (next : A → Reading B) → ((a : A) → KeepsRead (next a)) → (x : Term) → WasRead o x → WasRead (and_then o next) x
 read_on {A} {B} o next keeps x h = go o.result o.state h
   where
-    go : (r : Result A Refusal) (p : ProofState) → Contains p.script.terms x → WasRead (goes_on r p next) x
+    go : (r : Result A Refusal) (p : ProofState) → Contains p.script.terms x → WasRead (going_on r p next) x
     go (Ok a) p h = (keeps a).keeps x p h
     go (Err refusal) p h = h
 
@@ -27,7 +27,7 @@ module _ {A B T U : Type 0} {s : Table} {old mid : TermsView} {M : T → A → P
   stops {fault} h = record { answer = go fault h.answer; placed = places_more s old.pass mid.pass _ _ (read_on o next keeps) h.placed }
     where
       go : (fault : ReadFault) → IsAnswer s mid.pass M o (Err fault) → IsAnswer s mid.pass N (and_then o next) (Err fault)
-      go (ReadFault.Text refusal) e = ap (λ (r : Result A Refusal). (goes_on r o.state next).result) e
+      go (ReadFault.Text refusal) e = ap (λ (r : Result A Refusal). (going_on r o.state next).result) e
       go ReadFault.PoolFull e = lacks_more s mid.pass _ _ (read_on o next keeps) e
       go ReadFault.Memory e = tt
 

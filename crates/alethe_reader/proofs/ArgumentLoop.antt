@@ -11,7 +11,7 @@ use Rattle.term_pool.specs.Views.{TermsView, KeepsTerms}
 use Rattle.text_items.specs.declared.nodes.Node.{Node}
 use Rattle.text_items.specs.Nodes.{IsNode, AreNodes}
 use Rattle.text_items.proofs.NodeSteps.{AreMore, more_nodes, no_nodes, node_behind, node_inside, nodes_ordered}
-use Rattle.problem_text.specs.Outcomes.{Outcome, done, goes_on, and_then}
+use Rattle.problem_text.specs.Outcomes.{Outcome, done, going_on, and_then}
 use Rattle.term_names.specs.Making.{PlacesCellsOf}
 use Rattle.term_names.specs.Standing.{AddsNoSymbols}
 use Rattle.term_names.specs.declared.faults.ReadFault.{ReadFault}
@@ -19,7 +19,7 @@ use Rattle.term_reader.specs.ProblemViews.{ReaderView, IsReaderOf}
 use Rattle.term_reader.proofs.Staying.{adds_none, adds_then, keeps_none, keeps_then, places_none, places_more, places_then}
 use Rattle.alethe_commands.specs.CommandNodes.{AreArguments}
 use Rattle.alethe_text.specs.Anchors.{bound_names, argument_read, arguments_read}
-use Rattle.alethe_text.specs.Commands.{Argument, argument_fault, each_argument_fault, argument_of, arguments_of}
+use Rattle.alethe_text.specs.Commands.{Argument, argument_fault, each_argument_fault, argument_of, arguments_in}
 use Rattle.alethe_text.specs.ProofTerms.{place_in}
 use Rattle.alethe_text.specs.States.{ProofSettings, ProofState, Reading, ◌>>=◌, give}
 use Rattle.alethe_reader.specs.Answers.{WasRead, Answers, KeepsRead}
@@ -52,15 +52,15 @@ module _ (source : List ℕ) (nodes : List Node) (k : ℕ) (others : List Argume
       record {
         first = a.first;
         behind = a.behind;
-        rest = arguments_of a.others;
+        rest = arguments_in a.others;
         here = a.here;
         fit = f.0;
-        split = h.same ∙ ap arguments_of a.split;
+        split = h.same ∙ ap arguments_in a.split;
         there = record { items = a.others; there = a.there; fit = f.1; same = refl };
       }
 
   pub no_argument : k ≡ m → others ≡ []
-  no_argument e = h.same ∙ ap arguments_of (no_nodes source nodes k h.items m h.there e)
+  no_argument e = h.same ∙ ap arguments_in (no_nodes source nodes k h.items m h.there e)
 
   pub arguments_ordered : k ≤ m
   arguments_ordered = nodes_ordered source nodes k h.items m h.there
@@ -69,7 +69,7 @@ module _ (source : List ℕ) (nodes : List Node) (k : ℕ) (others : List Argume
 nothing_after : (o : Outcome ProofState (List (Var × Term))) → and_then o (λ more. give ([] ++ more)) ≡ o
 nothing_after o = go o.result
   where
-    go : (r : Result (List (Var × Term)) Refusal) → goes_on r o.state (λ more. give ([] ++ more)) ≡ record { result = r; state = o.state }
+    go : (r : Result (List (Var × Term)) Refusal) → going_on r o.state (λ more. give ([] ++ more)) ≡ record { result = r; state = o.state }
     go (Ok more) = refl
     go (Err refusal) = refl
 
@@ -77,7 +77,7 @@ regrouped : (read : List (Var × Term)) (b : Var × Term) (o : Outcome ProofStat
     → and_then (and_then o (λ bs. give (b ∷ bs))) (λ more. give (read ++ more)) ≡ and_then o (λ more. give ((read ++ b ∷ []) ++ more))
 regrouped read b o = go o.result
   where
-    go : (r : Result (List (Var × Term)) Refusal) → and_then (goes_on r o.state (λ bs. give (b ∷ bs))) (λ more. give (read ++ more)) ≡ goes_on r o.state (λ more. give ((read ++ b ∷ []) ++ more))
+    go : (r : Result (List (Var × Term)) Refusal) → and_then (going_on r o.state (λ bs. give (b ∷ bs))) (λ more. give (read ++ more)) ≡ going_on r o.state (λ more. give ((read ++ b ∷ []) ++ more))
     go (Ok more) = ap (λ cs. done cs o.state) (sym (append_assoc read (b ∷ []) more))
     go (Err refusal) = refl
 

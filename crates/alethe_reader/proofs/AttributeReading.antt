@@ -11,10 +11,10 @@ use Rattle.rule_model.specs.Proofs.{Step, Fraction}
 use Rattle.rule_model.specs.RuleNames.{left_out_rules}
 use Rattle.rule_model.specs.Scopes.{Nesting}
 use Rattle.rule_model.specs.Visibility.{Sight}
-use Rattle.proof_store.specs.Ratios.{fraction_of}
+use Rattle.proof_store.specs.Ratios.{fraction_of_ratio}
 use Rattle.text_items.specs.declared.nodes.Node.{Node}
 use Rattle.text_items.specs.ItemShapes.{Name}
-use Rattle.problem_text.specs.Outcomes.{Outcome, done, goes_on, and_then}
+use Rattle.problem_text.specs.Outcomes.{Outcome, done, going_on, and_then}
 use Rattle.problem_text.specs.Words.{is_among}
 use Rattle.term_names.specs.Faults.{IsFaultOf}
 use Rattle.term_names.specs.Making.{PlacesCellsOf}
@@ -22,7 +22,7 @@ use Rattle.term_names.specs.Standing.{AddsNoSymbols}
 use Rattle.term_names.specs.declared.faults.ReadFault.{ReadFault}
 use Rattle.term_reader.specs.ProblemViews.{ReaderView, IsReaderOf}
 use Rattle.term_reader.proofs.Staying.{adds_none, keeps_none, places_none, places_more, places_then}
-use Rattle.alethe_commands.specs.CommandNodes.{AreAttributes, HasFirstAttribute, IsWithin}
+use Rattle.alethe_commands.specs.CommandNodes.{AreAttributes, HasFirstAttribute, LiesWithin}
 use Rattle.alethe_commands.specs.declared.attributes.StepAttribute.{StepAttribute}
 use Rattle.alethe_text.specs.Arguments.{takes_coefficients, takes_pivots, named_among, pivots_from, arguments_from}
 use Rattle.alethe_text.specs.Coefficients.{coefficients_from}
@@ -58,7 +58,7 @@ module _ (s : Table) (v : TermsView) (settings : ProofSettings) (at : text.Stand
   unfolding attribute_read ◌>>=◌
   rule_answers n (Ok _) judged after = answers before p refl (ap (λ (o : Outcome ProofState ⊤). and_then o (λ _. give before)) judged) after
   rule_answers n (Err (ReadFault.Text refusal)) judged after =
-      refuses refl (ap (λ (r : Result ⊤ Refusal). (goes_on r (demand (not (is_among left_out_rules n.name)) LeftOut n.place p).state (λ _. give before)).result) judged)
+      refuses refl (ap (λ (r : Result ⊤ Refusal). (going_on r (demand (not (is_among left_out_rules n.name)) LeftOut n.place p).state (λ _. give before)).result) judged)
   rule_answers n (Err ReadFault.PoolFull) judged after = absurd judged
   rule_answers n (Err ReadFault.Memory) judged after = absurd judged
 
@@ -67,7 +67,7 @@ module _ (s : Table) (v : TermsView) (settings : ProofSettings) (at : text.Stand
       → Answers s v v (AreReadAttributes s v settings at.nesting e p before) (and_then (text.indices_of sights ns p) (λ is. give (put is))) result
   indices_answer put sights ns indices (Ok _) are after = answers (put indices) p refl (ap (λ (o : Outcome ProofState (List ℕ)). and_then o (λ is. give (put is))) are) after
   indices_answer put sights ns indices (Err (ReadFault.Text refusal)) are after =
-      refuses refl (ap (λ (r : Result (List ℕ) Refusal). (goes_on r (text.indices_of sights ns p).state (λ is. give (put is))).result) are)
+      refuses refl (ap (λ (r : Result (List ℕ) Refusal). (going_on r (text.indices_of sights ns p).state (λ is. give (put is))).result) are)
   indices_answer put sights ns indices (Err ReadFault.PoolFull) are after = absurd are
   indices_answer put sights ns indices (Err ReadFault.Memory) are after = no_memory refl
 
@@ -90,10 +90,10 @@ module _ (s : Table) (v : TermsView) (settings : ProofSettings) (at : text.Stand
   are_ratios items takes = one_of (takes_coefficients before.rule) _ _ p takes
 
   ratios_read : (parts : StepParts) (read : Result (Option (List Fraction)) Refusal) (result : Result ⊤ ReadFault) → AreRatios parts result read
-      → AreReadAttributes s v settings at.nesting e p before tt (record before { ratios = if parts.has_ratios then Some (map fraction_of parts.ratios.items) else None }) p
+      → AreReadAttributes s v settings at.nesting e p before tt (record before { ratios = if parts.has_ratios then Some (map fraction_of_ratio parts.ratios.items) else None }) p
       → Answers s v v (AreReadAttributes s v settings at.nesting e p before) (and_then (given read p) (λ qs. give (record before { ratios = qs }))) result
   ratios_read parts read (Ok _) are after =
-      answers (record before { ratios = if parts.has_ratios then Some (map fraction_of parts.ratios.items) else None }) p refl
+      answers (record before { ratios = if parts.has_ratios then Some (map fraction_of_ratio parts.ratios.items) else None }) p refl
       (ap (λ (r : Result (Option (List Fraction)) Refusal). and_then (given r p) (λ qs. give (record before { ratios = qs }))) are) after
   ratios_read parts read (Err (ReadFault.Text refusal)) are after =
       refuses refl (ap (λ (r : Result (Option (List Fraction)) Refusal). (and_then (given r p) (λ qs. give (record before { ratios = qs }))).result) are)
@@ -101,7 +101,7 @@ module _ (s : Table) (v : TermsView) (settings : ProofSettings) (at : text.Stand
   ratios_read parts read (Err ReadFault.Memory) are after = no_memory refl
 
   pub ratios_answer : (items : Items) → takes_coefficients before.rule ≡ true → (parts : StepParts) (result : Result ⊤ ReadFault) → AreRatios parts result (coefficients_from items)
-      → AreReadAttributes s v settings at.nesting e p before tt (record before { ratios = if parts.has_ratios then Some (map fraction_of parts.ratios.items) else None }) p
+      → AreReadAttributes s v settings at.nesting e p before tt (record before { ratios = if parts.has_ratios then Some (map fraction_of_ratio parts.ratios.items) else None }) p
       → Answers s v v (AreReadAttributes s v settings at.nesting e p before) (attribute_read settings at (arguments items) before p) result
   ratios_answer items takes parts result are after = same_outcome (are_ratios items takes) (ratios_read parts (coefficients_from items) result are after)
 
@@ -215,13 +215,13 @@ module _ (source : List ℕ) (nodes : List Node) (settings : ProofSettings) (at 
           }
 
 -- the nodes of an attribute's arguments lie where the attribute does
-pub own_fit : (low high : ℕ) (a : StepAttribute) → IsWithin low a high → own_nodes a ≤ high - low
+pub own_fit : (low high : ℕ) (a : StepAttribute) → LiesWithin low a high → own_nodes a ≤ high - low
 own_fit low high (StepAttribute.Rule k) h = omega arith
 own_fit low high (StepAttribute.Premises first last) h = omega arith
 own_fit low high (StepAttribute.Arguments first last) h = omega (arith, h.0, h.1)
 own_fit low high (StepAttribute.Discharge first last) h = omega arith
 
-pub nodes_fit : (low high count : ℕ) (a : StepAttribute) → IsWithin low a high → nodes_from a count ≤ count - low
+pub nodes_fit : (low high count : ℕ) (a : StepAttribute) → LiesWithin low a high → nodes_from a count ≤ count - low
 nodes_fit low high count (StepAttribute.Rule k) h = omega arith
 nodes_fit low high count (StepAttribute.Premises first last) h = omega arith
 nodes_fit low high count (StepAttribute.Arguments first last) h = omega (arith, h.0)

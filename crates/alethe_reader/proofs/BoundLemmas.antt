@@ -10,7 +10,7 @@ use Rattle.term_model.specs.Terms.{Var, Term}
 use Rattle.term_pool.specs.Views.{TermsView}
 use Rattle.rule_model.specs.Contexts.{put_in_each, images}
 use Rattle.rule_model.specs.Judged.{open_anchors}
-use Rattle.rule_model.specs.Proofs.{Items}
+use Rattle.rule_model.specs.Proofs.{ProofItems}
 use Rattle.rule_model.specs.Replacement.{Replacement}
 use Rattle.rule_model.specs.Scopes.{Anchor, Nesting, outermost, inside, own_bindings}
 use Rattle.rule_model.specs.Visibility.{open_bindings}
@@ -89,7 +89,7 @@ images_many n = sym (length-map (images_in n) (λ b. b.0.name)) ∙ ap (λ ns. l
 
 -- the scope of the innermost anchor is left
 module _ (s : Table) (v : TermsView) (d : BoundVariables) where
-  pub bound_many : (around : Nesting Var Term) (before : Items Var Term) (anchor : Anchor Var Term) → AreBound s v d (inside around before anchor)
+  pub bound_many : (around : Nesting Var Term) (before : ProofItems Var Term) (anchor : Anchor Var Term) → AreBound s v d (inside around before anchor)
       → length d.images.items ≡ length (images_in around) + length anchor.bindings
   bound_many around before anchor h =
       sym (AllZip-long (IsBindingOf s v) d.images.items (images_in (inside around before anchor)) h.images)
@@ -100,7 +100,7 @@ module _ (s : Table) (v : TermsView) (d : BoundVariables) where
   enough_bound outermost h = omega arith
   enough_bound (inside around before anchor) h = omega (arith, bound_many around before anchor h)
 
-  pub bound_left : (e : BoundVariables) (left : ℕ) (around : Nesting Var Term) (before : Items Var Term) (anchor : Anchor Var Term)
+  pub bound_left : (e : BoundVariables) (left : ℕ) (around : Nesting Var Term) (before : ProofItems Var Term) (anchor : Anchor Var Term)
       → left ≡ length d.images.items - length anchor.bindings → AreBound s v d (inside around before anchor)
       → e.names ≡ take left d.names → e.images.items ≡ take left d.images.items → AreBound s v e around
   bound_left e left around before anchor is h names same = record {

@@ -12,7 +12,7 @@ use Rattle.text_items.specs.declared.nodes.Node.{Node}
 use Rattle.text_items.specs.Nodes.{IsNode, AreNodes}
 use Rattle.text_items.specs.Stepping.{IsItemAt, IsItemNode}
 use Rattle.text_items.proofs.NodeSteps.{AreMore, more_nodes, no_nodes}
-use Rattle.problem_text.specs.Outcomes.{Outcome, done, goes_on, and_then}
+use Rattle.problem_text.specs.Outcomes.{Outcome, done, going_on, and_then}
 use Rattle.term_names.specs.Making.{PlacesCellsOf}
 use Rattle.term_names.specs.Standing.{AddsNoSymbols}
 use Rattle.term_names.specs.declared.faults.ReadFault.{ReadFault}
@@ -44,7 +44,7 @@ behind ts us = give (ts ++ us)
 same_outcome : (o : Outcome ProofState (List Term)) → and_then o (behind []) ≡ o
 same_outcome o = go o.result o.state
   where
-    go : (r : Result (List Term) Refusal) (q : ProofState) → goes_on r q (behind []) ≡ record { result = r; state = q }
+    go : (r : Result (List Term) Refusal) (q : ProofState) → going_on r q (behind []) ≡ record { result = r; state = q }
     go (Ok ts) q = refl
     go (Err refusal) q = refl
 
@@ -106,7 +106,7 @@ module _ (source : List ℕ) (nodes : List Node) (settings : ProofSettings) (nes
       assoc : (o : Outcome ProofState Term) → and_then (and_then o (λ t u. and_then (formulas_in settings nesting there.others u) (λ ts. give (t ∷ ts)))) (behind h.formulas) ≡ and_then o tail
       assoc o = go o.result o.state
         where
-          go : (r : Result Term Refusal) (u : ProofState) → and_then (goes_on r u (λ t u. and_then (formulas_in settings nesting there.others u) (λ ts. give (t ∷ ts)))) (behind h.formulas) ≡ goes_on r u tail
+          go : (r : Result Term Refusal) (u : ProofState) → and_then (going_on r u (λ t u. and_then (formulas_in settings nesting there.others u) (λ ts. give (t ∷ ts)))) (behind h.formulas) ≡ going_on r u tail
           go (Ok t) u = refl
           go (Err refusal) u = refl
 
@@ -149,6 +149,6 @@ module _ (source : List ℕ) (nodes : List Node) (settings : ProofSettings) (nes
           joins : (t : Term) (o : Outcome ProofState (List Term)) → and_then (and_then o (λ ts. give (t ∷ ts))) (behind h.formulas) ≡ and_then o (behind (h.formulas ++ t ∷ []))
           joins t o = go o.result o.state
             where
-              go : (r : Result (List Term) Refusal) (u : ProofState) → and_then (goes_on r u (λ ts. give (t ∷ ts))) (behind h.formulas) ≡ goes_on r u (behind (h.formulas ++ t ∷ []))
+              go : (r : Result (List Term) Refusal) (u : ProofState) → and_then (going_on r u (λ ts. give (t ∷ ts))) (behind h.formulas) ≡ going_on r u (behind (h.formulas ++ t ∷ []))
               go (Ok us) u = ap (λ xs. done xs u) (sym (append_assoc h.formulas (t ∷ []) us))
               go (Err refusal) u = refl

@@ -8,7 +8,7 @@ use Rattle.rule_model.specs.Visibility.{Sight}
 use Rattle.text_items.specs.declared.nodes.Node.{Node}
 use Rattle.text_items.specs.ItemShapes.{Name}
 use Rattle.text_items.specs.NameNodes.{IsNameNode}
-use Rattle.problem_text.specs.Outcomes.{Outcome, done, goes_on, and_then}
+use Rattle.problem_text.specs.Outcomes.{Outcome, done, going_on, and_then}
 use Rattle.term_names.specs.Faults.{IsFaultOf}
 use Rattle.term_names.specs.declared.faults.ReadFault.{ReadFault}
 use Rattle.alethe_commands.specs.CommandNodes.{AreNameNodes}
@@ -58,7 +58,7 @@ pub record AreSoFar (source : List ℕ) (nodes : List Node) (sights : List Sight
 same_outcome : (o : Outcome ProofState (List ℕ)) → and_then o (behind []) ≡ o
 same_outcome o = go o.result o.state
   where
-    go : (r : Result (List ℕ) Refusal) (q : ProofState) → goes_on r q (behind []) ≡ record { result = r; state = q }
+    go : (r : Result (List ℕ) Refusal) (q : ProofState) → going_on r q (behind []) ≡ record { result = r; state = q }
     go (Ok is) q = refl
     go (Err refusal) q = refl
 
@@ -105,6 +105,6 @@ module _ (source : List ℕ) (nodes : List Node) (sights : List Sight) (p : Proo
           joins : (n : ℕ) (o : Outcome ProofState (List ℕ)) → and_then (and_then o (λ is. give (n ∷ is))) (behind indices) ≡ and_then o (behind (indices ++ n ∷ []))
           joins n o = go o.result o.state
             where
-              go : (r : Result (List ℕ) Refusal) (q : ProofState) → and_then (goes_on r q (λ is. give (n ∷ is))) (behind indices) ≡ goes_on r q (behind (indices ++ n ∷ []))
+              go : (r : Result (List ℕ) Refusal) (q : ProofState) → and_then (going_on r q (λ is. give (n ∷ is))) (behind indices) ≡ going_on r q (behind (indices ++ n ∷ []))
               go (Ok is) q = ap (λ xs. done xs q) (sym (append_assoc indices (n ∷ []) is))
               go (Err refusal) q = refl

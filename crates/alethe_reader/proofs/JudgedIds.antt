@@ -18,7 +18,7 @@ use Rattle.alethe_reader.specs.declared.ids.Found.{Found}
 use Rattle.alethe_reader.specs.declared.ids.Role.{Role}
 use Rattle.alethe_reader.specs.declared.ids.Role.TheVariants.{Assume, Step, Anchor}
 use Rattle.alethe_reader.specs.Ids.{Used, IsUnused, IsUsedAt}
-use Rattle.alethe_reader.specs.IdsInUse.{in_use, ids_in, anchor_of, anchors_of, sight_at}
+use Rattle.alethe_reader.specs.IdsInUse.{in_use, ids_in, anchor_id_of, anchor_ids_of, sight_at}
 use Rattle.alethe_reader.specs.Judging.{cause_of}
 use Rattle.alethe_reader.proofs.IdsInUse.{found_seen, unseen, not_open, sights_seen, anchors_open}
 
@@ -47,29 +47,29 @@ turned a b = go (bytes_eq b a) refl
 
 -- the id is that of an open anchor exactly where it stands with the role of one
 open_at : (us : List Used) (id : List ℕ) (role : Role) (number place : ℕ) → slice_get us place ≡ Some (in_use id role number) → ((k : ℕ) (u : Used) → slice_get us k ≡ Some u → u.id ≡ id → k ≡ place)
-    → is_among (anchors_of us) id ≡ is_anchor role
+    → is_among (anchor_ids_of us) id ≡ is_anchor role
 open_at [] id role number place here alone = absurd (cc)
-open_at (u ∷ us) id role number zero here alone = subst (λ v. is_among (anchors_of (v ∷ us)) id ≡ is_anchor role) (sym first) (go role)
+open_at (u ∷ us) id role number zero here alone = subst (λ v. is_among (anchor_ids_of (v ∷ us)) id ≡ is_anchor role) (sym first) (go role)
   where
     first : u ≡ in_use id role number
     first = cc
 
-    rest : is_among (anchors_of us) id ≡ false
+    rest : is_among (anchor_ids_of us) id ≡ false
     rest = not_open us id (λ k v e f. (let g = alone (suc k) v e f in absurd (cc)))
 
-    go : (role : Role) → is_among (anchor_of role (in_use id role number) ++ anchors_of us) id ≡ is_anchor role
+    go : (role : Role) → is_among (anchor_id_of role (in_use id role number) ++ anchor_ids_of us) id ≡ is_anchor role
     go Assume = rest
     go Step = rest
-    go Anchor = ap (λ b. b || is_among (anchors_of us) id) (same_bytes id)
+    go Anchor = ap (λ b. b || is_among (anchor_ids_of us) id) (same_bytes id)
 open_at (u ∷ us) id role number (suc place) here alone = go u.role (open_at us id role number place here (λ k v e f. (let g = alone (suc k) v e f in cc)))
   where
     other : id ≢ u.id
     other e = let g = alone 0 u refl (sym e) in absurd (cc)
 
-    go : (r : Role) → is_among (anchors_of us) id ≡ is_anchor role → is_among (anchor_of r u ++ anchors_of us) id ≡ is_anchor role
+    go : (r : Role) → is_among (anchor_ids_of us) id ≡ is_anchor role → is_among (anchor_id_of r u ++ anchor_ids_of us) id ≡ is_anchor role
     go Assume e = e
     go Step e = e
-    go Anchor e = ap (λ b. b || is_among (anchors_of us) id) (other_bytes id u.id other) ∙ e
+    go Anchor e = ap (λ b. b || is_among (anchor_ids_of us) id) (other_bytes id u.id other) ∙ e
 
 -- what is found among sights has an id that is among theirs
 found_among : (sights : List Sight) (id : List ℕ) (o : Option Sight) → find (λ c. bytes_eq c.id id) sights ≡ o → is_among (map (λ c. c.id) sights) id ≡ is_some o

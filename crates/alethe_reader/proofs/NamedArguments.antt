@@ -11,7 +11,7 @@ use Rattle.text_items.specs.declared.nodes.Node.{Node}
 use Rattle.text_items.specs.Nodes.{IsNode, AreNodes}
 use Rattle.text_items.specs.Stepping.{AreItemsFrom, IsItemNode}
 use Rattle.text_items.proofs.NodeSteps.{AreMore, more_nodes, no_nodes, node_behind, node_inside, nodes_ordered, nodes_inside}
-use Rattle.problem_text.specs.Outcomes.{Outcome, goes_on, and_then}
+use Rattle.problem_text.specs.Outcomes.{Outcome, going_on, and_then}
 use Rattle.problem_text.specs.Terms.{read_term}
 use Rattle.problem_text.specs.TypedTerms.{Typed}
 use Rattle.term_expansion.specs.declared.values.Value.{Value}
@@ -44,7 +44,7 @@ nodes_joined source nodes k m n (item i rest) others (j, is, inside) are = (j, i
 pub and_then_then : {A B C : Type 0} (o : Outcome ProofState A) (next : A → Reading B) (last : B → Reading C) → and_then (and_then o next) last ≡ and_then o (λ a s. and_then (next a s) last)
 and_then_then {A} {B} {C} o next last = go o.result o.state
   where
-    go : (r : Result A Refusal) (s : ProofState) → and_then (goes_on r s next) last ≡ goes_on r s (λ a s. and_then (next a s) last)
+    go : (r : Result A Refusal) (s : ProofState) → and_then (going_on r s next) last ≡ going_on r s (λ a s. and_then (next a s) last)
     go (Ok a) s = refl
     go (Err refusal) s = refl
 
@@ -59,7 +59,7 @@ module _ (settings : ProofSettings) (nesting : Nesting Var Term) where
   named_joined (item i rest) others p =
       go (named_joined rest others) (named_in settings nesting i p).result (named_in settings nesting i p).state
     where
-      go : ((s : ProofState) → named_among settings nesting (joined rest others) s ≡ and_then (named_among settings nesting rest s) (λ _. named_among settings nesting others)) → (r : Result ⊤ Refusal) (s : ProofState) → goes_on r s (λ _. named_among settings nesting (joined rest others)) ≡ and_then (goes_on r s (λ _. named_among settings nesting rest)) (λ _. named_among settings nesting others)
+      go : ((s : ProofState) → named_among settings nesting (joined rest others) s ≡ and_then (named_among settings nesting rest s) (λ _. named_among settings nesting others)) → (r : Result ⊤ Refusal) (s : ProofState) → going_on r s (λ _. named_among settings nesting (joined rest others)) ≡ and_then (going_on r s (λ _. named_among settings nesting rest)) (λ _. named_among settings nesting others)
       go same (Ok a) s = same s
       go same (Err refusal) s = refl
 

@@ -11,7 +11,7 @@ use Rattle.text_items.specs.ItemShapes.{name_at, items_of}
 use Rattle.text_items.specs.Keywords.{is_spelled}
 use Rattle.problem_text.proofs.Outcomes.{all_joined}
 use Rattle.alethe_text.specs.Commands.{Attribute, rule, premises, arguments, discharge, Command, assume, step, anchor, is_symbol_of, shaped, names_in, attribute_of, attribute_with, attributes_of, assume_shape, step_shape, anchor_shape, command_named, command_of}
-use Rattle.alethe_text.specs.ProofTexts.{behind_answer, commands_in, is_list_of_commands}
+use Rattle.alethe_text.specs.ProofTexts.{behind_answer, unwrapped_commands, is_list_of_commands}
 use Rattle.alethe_reader.specs.CommandNames.{HasNames, HaveNames, IsRuleNamed, IsNamed}
 use Rattle.alethe_reader.proofs.SpelledNames.{AreSpelled, text_named, name_is}
 
@@ -93,14 +93,14 @@ inside_named (quoted place spelling) h = tt
 inside_named (string place spelling) h = tt
 inside_named (list place items) h = h
 
-listed : (b : Bool) (i : Item) (rest : Items) → HaveNames (item i rest) → is_list_of_commands i ≡ b → HaveNames (commands_in (item i rest))
+listed : (b : Bool) (i : Item) (rest : Items) → HaveNames (item i rest) → is_list_of_commands i ≡ b → HaveNames (unwrapped_commands (item i rest))
 listed true i rest h e = rw e (inside_named i h.0)
 listed false i rest h e = rw e h
 
-list_named : (items : Items) → HaveNames items → HaveNames (commands_in items)
+list_named : (items : Items) → HaveNames items → HaveNames (unwrapped_commands items)
 list_named no_items h = tt
 list_named (item i rest) h = listed _ i rest h refl
 
 -- the commands of a text have names
-pub commands_named : AreSpelled → (source : List ℕ) (items : Items) → StandsForItems source items → HaveNames (commands_in (behind_answer items))
+pub commands_named : AreSpelled → (source : List ℕ) (items : Items) → StandsForItems source items → HaveNames (unwrapped_commands (behind_answer items))
 commands_named law source items h = list_named (behind_answer items) (behind_named items (text_named law source items h))

@@ -8,7 +8,7 @@ use Rattle.term_model.proofs.Basics.{else_branch}
 use Rattle.term_model.proofs.Tests.{var_eq_decides}
 use Rattle.rule_model.specs.Contexts.{put_in_each, images}
 use Rattle.rule_model.specs.Judged.{open_anchors}
-use Rattle.rule_model.specs.Replacement.{Replacement, term_at}
+use Rattle.rule_model.specs.Replacement.{Replacement, replaced_by}
 use Rattle.rule_model.specs.Scopes.{Nesting, outermost, inside}
 use Rattle.rule_model.specs.Substitution.{put_in, Replaces}
 use Rattle.rule_model.proofs.Substituting.{replaces-cases, term_at-none, put_in_agrees}
@@ -18,11 +18,11 @@ use Rattle.alethe_reader.specs.Bound.{images_in, AreApart}
 use Rattle.alethe_reader.proofs.BoundLemmas.{images_named}
 
 -- one replacement behind another
-at_back : (p q : Replacement) (x : Var) → ¬ Replaces p x → term_at (p ++ q) x ≡ term_at q x
+at_back : (p q : Replacement) (x : Var) → ¬ Replaces p x → replaced_by (p ++ q) x ≡ replaced_by q x
 at_back [] q x n = refl
-at_back (b ∷ p) q x n = else_branch (var_eq b.0 x) b.1 (term_at (p ++ q) x) (λ e. n (inl ((var_eq_decides b.0 x).0 e))) ∙ at_back p q x (λ h. n (inr h))
+at_back (b ∷ p) q x n = else_branch (var_eq b.0 x) b.1 (replaced_by (p ++ q) x) (λ e. n (inl ((var_eq_decides b.0 x).0 e))) ∙ at_back p q x (λ h. n (inr h))
 
-at_front : (p q : Replacement) (x : Var) → Replaces p x → term_at (p ++ q) x ≡ term_at p x
+at_front : (p q : Replacement) (x : Var) → Replaces p x → replaced_by (p ++ q) x ≡ replaced_by p x
 at_front [] q x h = absurd h
 at_front (b ∷ p) q x h = go (var_eq b.0 x) refl (at_front p q x)
   where
@@ -30,7 +30,7 @@ at_front (b ∷ p) q x h = go (var_eq b.0 x) refl (at_front p q x)
     later e (inl same) = absurd (let f = (var_eq_decides b.0 x).1 same in cc)
     later e (inr k) = k
 
-    go : (c : Bool) → var_eq b.0 x ≡ c → (Replaces p x → term_at (p ++ q) x ≡ term_at p x) → cond c b.1 (term_at (p ++ q) x) ≡ cond c b.1 (term_at p x)
+    go : (c : Bool) → var_eq b.0 x ≡ c → (Replaces p x → replaced_by (p ++ q) x ≡ replaced_by p x) → cond c b.1 (replaced_by (p ++ q) x) ≡ cond c b.1 (replaced_by p x)
     go true e k = refl
     go false e k = k (later e h)
 
@@ -52,15 +52,15 @@ others_replaced names q (b ∷ bs) x h e (inl same) = absurd (let f = ap (λ (y 
 others_replaced names q (b ∷ bs) x h e (inr r) = others_replaced names q bs x h.1 e r
 
 -- what is put in for a variable
-swapped : (a b e : Replacement) (x : Var) → term_at a x ≡ term_at b x → (Replaces a x → ¬ Replaces e x) → term_at (a ++ e) x ≡ term_at (e ++ b) x
+swapped : (a b e : Replacement) (x : Var) → replaced_by a x ≡ replaced_by b x → (Replaces a x → ¬ Replaces e x) → replaced_by (a ++ e) x ≡ replaced_by (e ++ b) x
 swapped a b e x same apart = go (replaces-cases a x) (replaces-cases e x)
   where
-    go : Replaces a x ⊎ (¬ Replaces a x) → Replaces e x ⊎ (¬ Replaces e x) → term_at (a ++ e) x ≡ term_at (e ++ b) x
+    go : Replaces a x ⊎ (¬ Replaces a x) → Replaces e x ⊎ (¬ Replaces e x) → replaced_by (a ++ e) x ≡ replaced_by (e ++ b) x
     go (inl r) k = at_front a e x r ∙ (same ∙ sym (at_back e b x (apart r)))
     go (inr n) (inl r) = at_back a e x n ∙ sym (at_front e b x r)
     go (inr n) (inr m) = at_back a e x n ∙ (term_at-none e x m ∙ (sym (term_at-none a x n) ∙ (same ∙ sym (at_back e b x m))))
 
-same_images : (n : Nesting Var Term) → AreApart n → (x : Var) → term_at (images_in n) x ≡ term_at (images (open_anchors n)) x
+same_images : (n : Nesting Var Term) → AreApart n → (x : Var) → replaced_by (images_in n) x ≡ replaced_by (images (open_anchors n)) x
 same_images outermost h x = refl
 same_images (inside around before anchor) h x =
     swapped (images_in around) (images (open_anchors around)) (put_in_each (images (open_anchors around)) anchor.bindings) x (same_images around h.0 x)

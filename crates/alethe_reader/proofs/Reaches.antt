@@ -5,7 +5,7 @@ use Rattle.std.proofs.lemmas.Bool.{ltb-true, ltb-false, lt-ltb, le-ltb, leb-true
 use Rattle.std.proofs.lemmas.List.{append_assoc, length-append}
 use Rattle.std.proofs.lemmas.Option.{slice_get_within}
 use Rattle.term_model.specs.Terms.{Var, Term}
-use Rattle.rule_model.specs.Proofs.{Items}
+use Rattle.rule_model.specs.Proofs.{ProofItems}
 use Rattle.rule_model.specs.Scopes.{Anchor, Nesting, outermost, inside, Scope, at, scope_number}
 use Rattle.rule_model.specs.Visibility.{Sight, sight, seen}
 use Rattle.alethe_text.specs.Ids.{assumes_seen}
@@ -83,7 +83,7 @@ unused_front xs ys id f h past k u e same =
 none_front : (xs ys : List Used) (id : List ℕ) → IsUnused (xs ++ ys) id → IsUnused xs id
 none_front xs ys id h k u e same = h k u (front xs ys k (slice_get_within xs k u e) ∙ e) same
 
-module _ (around : Nesting Var Term) (before : Items Var Term) (anchor : Anchor Var Term) (items : Items Var Term) where
+module _ (around : Nesting Var Term) (before : ProofItems Var Term) (anchor : Anchor Var Term) (items : ProofItems Var Term) where
   abbrev outer : List Used
   outer = ids_in (at around before)
 

@@ -12,7 +12,7 @@ use Rattle.sexpr.specs.Source.{source, position}
 use Rattle.sym_table.specs.Table.{Table}
 use Rattle.term_model.specs.Terms.{Var, Term}
 use Rattle.term_pool.specs.Views.{TermsView}
-use Rattle.rule_model.specs.Proofs.{Items as Proof}
+use Rattle.rule_model.specs.Proofs.{ProofItems as Proof}
 use Rattle.rule_model.specs.Scopes.{Nesting, outermost, inside}
 use Rattle.rule_model.specs.Writing.{unwritten}
 use Rattle.proof_store.specs.Meaning.{StandForItems, no_items_stand}
@@ -25,9 +25,9 @@ use Rattle.term_reader.specs.ProblemViews.{IsReaderOf}
 use Rattle.term_reader.specs.Reading.{EndsWith}
 use Rattle.term_reader.proofs.Staying.{places_more, lacks_more}
 use Rattle.alethe_text.specs.ProofTerms.{place_in}
-use Rattle.alethe_text.specs.ProofTexts.{commands, behind_answer, is_list_of_commands, commands_in, excess_behind, none_behind, closed_proof, finished, proof_from, StandsForProof, IsFirstProofFault}
+use Rattle.alethe_text.specs.ProofTexts.{commands, behind_answer, is_list_of_commands, unwrapped_commands, excess_behind, none_behind, closed_proof, finished, proof_from, StandsForProof, IsFirstProofFault}
 use Rattle.alethe_text.specs.States.{ProofSettings, ProofState, unread, ◌>>=◌}
-use Rattle.alethe_items.specs.TextItems.{HasItems, behind_list}
+use Rattle.alethe_items.specs.TextItems.{HasCommandItems, behind_list}
 use Rattle.alethe_reader.specs.Answers.{WasRead}
 use Rattle.alethe_reader.specs.Bound.{AreBound}
 use Rattle.alethe_reader.specs.CommandNames.{HaveNames}
@@ -65,10 +65,10 @@ excess_same (item i rest) = go (is_list_of_commands i)
     go true = refl
     go false = refl
 
-left_of : (settings : ProofSettings) (items : Items) (p : ProofState) → left_from settings (commands_in (behind_answer items)) (behind_list (behind_answer items)) p ≡ proof_from settings items p
+left_of : (settings : ProofSettings) (items : Items) (p : ProofState) → left_from settings (unwrapped_commands (behind_answer items)) (behind_list (behind_answer items)) p ≡ proof_from settings items p
 unfolding proof_from left_from closing_from
 left_of settings items p =
-    ap (λ (o : Option ℕ). (commands settings (commands_in (behind_answer items)) >>= λ _. none_behind o >>= λ _. finished) p) (excess_same (behind_answer items))
+    ap (λ (o : Option ℕ). (commands settings (unwrapped_commands (behind_answer items)) >>= λ _. none_behind o >>= λ _. finished) p) (excess_same (behind_answer items))
 
 module _ (settings : ProofSettings) (behind : Items) (p : ProofState) where
   excess_refuses : (place : ℕ) → excess behind ≡ Some place → (closing_from settings behind tt p).result ≡ Err (record { cause = BadCommand; at = place })
@@ -124,19 +124,19 @@ module _ (s : Table) (v : TermsView) (settings : ProofSettings) (d : Session) (p
 -- at the start all commands of the text are left
 module _ (spelled : AreSpelled) (text : List ℕ) (settings : ProofSettings) (before : Script) (l m o : Lexer) (in_list : Bool) (whole : source l ≡ text) (start : position l ≡ 0) where
   abbrev pub Skips : Type 0
-  Skips = (items : Items) → HasItems (source l) false (position l) items no_items → HasItems (source m) false (position m) (behind_answer items) no_items
+  Skips = (items : Items) → HasCommandItems (source l) false (position l) items no_items → HasCommandItems (source m) false (position m) (behind_answer items) no_items
 
   abbrev pub Enters : Type 0
-  Enters = (items : Items) → HasItems (source m) false (position m) items no_items → HasItems (source o) in_list (position o) (commands_in items) (behind_list items)
+  Enters = (items : Items) → HasCommandItems (source m) false (position m) items no_items → HasCommandItems (source o) in_list (position o) (unwrapped_commands items) (behind_list items)
 
-  pub all_items : (items : Items) → StandsForItems text items → HasItems (source l) false (position l) items no_items
+  pub all_items : (items : Items) → StandsForItems text items → HasCommandItems (source l) false (position l) items no_items
   all_items items h =
-      subst (λ (x : List ℕ). HasItems x false (position l) items no_items) (sym whole)
-      (subst (λ (n : ℕ). HasItems text false n items no_items) (sym start) (record { tokens = h.tokens; after = []; read = h.read; nested = h.nested; end = (refl, refl) }))
+      subst (λ (x : List ℕ). HasCommandItems x false (position l) items no_items) (sym whole)
+      (subst (λ (n : ℕ). HasCommandItems text false n items no_items) (sym start) (record { tokens = h.tokens; after = []; read = h.read; nested = h.nested; end = (refl, refl) }))
 
   pub starts_here : Skips → Enters → (items : Items) → StandsForItems text items → AreLeft (source o) settings in_list (position o) (unread before) (proof_from settings items (unread before))
   starts_here skips enters items h = record {
-    items = commands_in (behind_answer items);
+    items = unwrapped_commands (behind_answer items);
     behind = behind_list (behind_answer items);
     here = enters (behind_answer items) (skips items (all_items items h));
     named = commands_named spelled text items h;
@@ -173,7 +173,7 @@ module _ (text : List ℕ) (settings : ProofSettings) (before : Script) (form : 
 
     -- Once all commands were read, and what is left is finished.
     abbrev pub Finishes : Result (Proof ℕ ℕ) ReadFault → Type 0
-    Finishes result = (p : ProofState) (behind : Items) → HasItems source false at behind no_items → IsSession s new settings d p → IsFinished s new p (closing_from settings behind tt p) result
+    Finishes result = (p : ProofState) (behind : Items) → HasCommandItems source false at behind no_items → IsSession s new settings d p → IsFinished s new p (closing_from settings behind tt p) result
 
     ended : {u : Unit {0}} (result : Result (Proof ℕ ℕ) ReadFault) → Reads (Ok u) → Finishes result → (p : ProofState) × IsFinished s new p (whole_of form.0) result
     ended result reads finishes =
@@ -197,7 +197,7 @@ module _ (text : List ℕ) (settings : ProofSettings) (before : Script) (form : 
     fault_of : (result : Result (Proof ℕ ℕ) ReadFault) (r : Refusal) → result ≡ Err (ReadFault.Text r) → (p : ProofState) × IsFinished s new p (whole_of form.0) result → (whole_of form.0).result ≡ Err r
     fault_of result r e (p, h) = subst (λ (x : Result (Proof ℕ ℕ) ReadFault). IsFinished s new p (whole_of form.0) x) e h
 
-    pub some_end : {u : Unit {0}} → Reads (Ok u) → (p : ProofState) × (behind : Items) × HasItems source false at behind no_items × IsSession s new settings d p
+    pub some_end : {u : Unit {0}} → Reads (Ok u) → (p : ProofState) × (behind : Items) × HasCommandItems source false at behind no_items × IsSession s new settings d p
     some_end reads = let (p, none, session) = (reads form.0 form.1).outcome in (p, none.behind, none.here, session)
 
     module _ {u : Unit {0}} (result : Result (Proof ℕ ℕ) ReadFault) (reads : Reads (Ok u)) (finishes : Finishes result) where

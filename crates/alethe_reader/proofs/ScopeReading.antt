@@ -7,7 +7,7 @@ use Rattle.term_model.specs.Terms.{Var, Term}
 use Rattle.term_pool.specs.StandsFor.{variable_leaf}
 use Rattle.term_pool.specs.Views.{TermsView}
 use Rattle.proof_store.specs.Meaning.{IsBindingOf}
-use Rattle.rule_model.specs.Proofs.{Items}
+use Rattle.rule_model.specs.Proofs.{ProofItems}
 use Rattle.rule_model.specs.Scopes.{Anchor, Nesting, inside}
 use Rattle.rule_model.specs.Visibility.{open_bindings}
 use Rattle.problem_text.specs.Names.{Bound, Place, itself}
@@ -78,7 +78,7 @@ pub entered_all : (bs : List (Var × Term)) (around : List Bound) (k : ℕ) → 
 entered_all bs around k h = ap (λ (cs : List (Var × Term)). map (λ b. itself b.0) (reverse cs) ++ around) (take_all k bs h ∙ sym (take_all (length bs) bs (omega arith)))
 
 -- all are in scope
-pub all_entered : (around : Nesting Var Term) (before : Items Var Term) (anchor : Anchor Var Term) → variables_in (inside around before anchor) ≡ entered (length anchor.bindings) anchor.bindings (variables_in around)
+pub all_entered : (around : Nesting Var Term) (before : ProofItems Var Term) (anchor : Anchor Var Term) → variables_in (inside around before anchor) ≡ entered (length anchor.bindings) anchor.bindings (variables_in around)
 all_entered around before anchor =
     ap (map (λ b. itself b.0)) (reverse-append (open_bindings around) anchor.bindings)
     ∙ (map-append (λ b. itself b.0) (reverse anchor.bindings) (reverse (open_bindings around))
@@ -88,7 +88,7 @@ all_entered around before anchor =
 abbrev pub place_with : ProofSettings → Nesting Var Term → Anchor Var Term → ℕ → Place
 place_with settings around anchor left = record (place_in settings around) { scope = entered left anchor.bindings (variables_in around) }
 
-module _ (s : Table) (v : TermsView) (r : ReaderView) (sc : Script) (settings : ProofSettings) (around : Nesting Var Term) (before : Items Var Term) (anchor : Anchor Var Term) where
+module _ (s : Table) (v : TermsView) (r : ReaderView) (sc : Script) (settings : ProofSettings) (around : Nesting Var Term) (before : ProofItems Var Term) (anchor : Anchor Var Term) where
   pub reader_inside : IsReaderOf s v r sc (place_with settings around anchor (length anchor.bindings)) → IsReaderOf s v r sc (place_in settings (inside around before anchor))
   reader_inside h = subst (λ bs. IsReaderOf s v r sc (record (place_in settings around) { scope = bs })) (sym (all_entered around before anchor)) h
 

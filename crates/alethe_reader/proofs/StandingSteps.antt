@@ -9,14 +9,14 @@ use Rattle.sexpr.specs.declared.causes.Refusal.{Refusal}
 use Rattle.sym_table.specs.Table.{Table}
 use Rattle.term_model.specs.Terms.{Var, Term}
 use Rattle.term_pool.specs.Views.{TermsView}
-use Rattle.rule_model.specs.Proofs.{Items}
+use Rattle.rule_model.specs.Proofs.{ProofItems}
 use Rattle.rule_model.specs.RuleNames.{IsSymbolName}
 use Rattle.rule_model.specs.Scopes.{Anchor, Nesting, outermost, inside, Scope, at, scope_number}
 use Rattle.rule_model.specs.Visibility.{seen}
 use Rattle.rule_model.specs.Writing.{is_open_id}
 use Rattle.proof_store.specs.Meaning.{IsBindingOf}
 use Rattle.text_items.specs.ItemShapes.{Name}
-use Rattle.problem_text.specs.Outcomes.{Outcome, done, given, goes_on, and_then}
+use Rattle.problem_text.specs.Outcomes.{Outcome, done, given, going_on, and_then}
 use Rattle.alethe_text.specs.Ids.{assumes_seen, Standing as TextStanding, id_judged, stands_in, closes_scope, standing_of}
 use Rattle.alethe_text.specs.States.{ProofState, ◌>>=◌, give, seen_in}
 use Rattle.alethe_reader.specs.declared.ids.Found.{Found}
@@ -74,7 +74,7 @@ anchor_place : (xs : List Used) (u : Used) (ys : List Used) → slice_get (xs ++
 anchor_place [] u ys = refl
 anchor_place (x ∷ xs) u ys = anchor_place xs u ys
 
-module _ (around : Nesting Var Term) (before : Items Var Term) (anchor : Anchor Var Term) (items : Items Var Term) where
+module _ (around : Nesting Var Term) (before : ProofItems Var Term) (anchor : Anchor Var Term) (items : ProofItems Var Term) where
   abbrev whole : List Used
   whole = ids_in (at (inside around before anchor) items)
 
@@ -107,7 +107,7 @@ module _ (around : Nesting Var Term) (before : Items Var Term) (anchor : Anchor 
       go false g = refl
 
 -- the id of an open anchor is in use
-not_open_id : (n : Nesting Var Term) (items : Items Var Term) (id : List ℕ) → IsUnused (ids_in (at n items)) id → is_open_id n id ≡ false
+not_open_id : (n : Nesting Var Term) (items : ProofItems Var Term) (id : List ℕ) → IsUnused (ids_in (at n items)) id → is_open_id n id ≡ false
 not_open_id outermost items id h = refl
 not_open_id (inside around before anchor) items id h = unused_not_open around before anchor items id h
 

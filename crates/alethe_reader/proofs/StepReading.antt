@@ -11,11 +11,11 @@ use Rattle.text_items.specs.declared.nodes.Node.{Node}
 use Rattle.sym_table.specs.Table.{Table, Keeps}
 use Rattle.term_model.specs.Terms.{Var, Term}
 use Rattle.term_pool.specs.Views.{TermsView, ReferToAll, KeepsTerms}
-use Rattle.rule_model.specs.Proofs.{Step, Items as Proof}
+use Rattle.rule_model.specs.Proofs.{Step, ProofItems as Proof}
 use Rattle.rule_model.specs.RuleNames.{rule_named, IsSymbolName}
 use Rattle.rule_model.specs.Scopes.{Anchor, Nesting, outermost, inside, own_bindings}
 use Rattle.text_items.specs.ItemShapes.{Name}
-use Rattle.problem_text.specs.Outcomes.{Outcome, done, goes_on, and_then}
+use Rattle.problem_text.specs.Outcomes.{Outcome, done, going_on, and_then}
 use Rattle.term_names.specs.Standing.{AddsNoSymbols}
 use Rattle.term_names.specs.declared.faults.ReadFault.{ReadFault}
 use Rattle.term_reader.proofs.Staying.{adds_none, keeps_none, refers_stays}
@@ -74,7 +74,7 @@ module _ (settings : ProofSettings) (n : Name) (literals : Items) (attributes : 
   keeps_after at clause = keeps_then (attributes_read settings at attributes (before clause)) added (keeps_attributes settings at attributes (before clause)) keeps_added
 
   pub no_standing : {s : Table} {v w : TermsView} {M : ⊤ → ⊤ → ProofState → Type 0} (refusal : Refusal) → w ≡ v → (standing_of n p).result ≡ Err refusal → Answers s v w M (step_read settings n literals attributes p) (Err (ReadFault.Text refusal))
-  no_standing refusal same e = same_outcome stepped (refuses same (ap (λ (r : Result Standing Refusal). (goes_on r (standing_of n p).state after_standing).result) e))
+  no_standing refusal same e = same_outcome stepped (refuses same (ap (λ (r : Result Standing Refusal). (going_on r (standing_of n p).state after_standing).result) e))
 
   module _ (here : Standing) (comes : standing_of n p ≡ done here p) where
     stood : step_read settings n literals attributes p ≡ after_standing here p

@@ -11,7 +11,7 @@ use Rattle.rule_model.specs.Scopes.{Nesting}
 use Rattle.rule_model.specs.Visibility.{Sight}
 use Rattle.text_items.specs.ItemShapes.{Name}
 use Rattle.problem_text.specs.Forms.{form_of}
-use Rattle.problem_text.specs.Outcomes.{Outcome, goes_on}
+use Rattle.problem_text.specs.Outcomes.{Outcome, going_on}
 use Rattle.problem_text.specs.Scripts.{Script}
 use Rattle.problem_text.specs.Terms.{read_term}
 use Rattle.problem_text.proofs.Growing as growing

@@ -5,7 +5,7 @@ use Rattle.std.proofs.lemmas.List.Elements.{Contains-append_left}
 use Rattle.sexpr.specs.declared.causes.Cause.{Cause}
 use Rattle.sexpr.specs.Items.{Item, word, quoted, string, list, Items, no_items, item}
 use Rattle.term_model.specs.Terms.{Var, Term}
-use Rattle.rule_model.specs.Proofs.{Step, Items as Proof}
+use Rattle.rule_model.specs.Proofs.{Step, ProofItems as Proof}
 use Rattle.rule_model.specs.Scopes.{Nesting, outermost, inside}
 use Rattle.text_items.specs.ItemShapes.{Name, excess}
 use Rattle.problem_text.specs.Scripts.{with_term, with_let_name}

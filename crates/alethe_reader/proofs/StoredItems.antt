@@ -4,19 +4,19 @@ use Rattle.std.specs.List.{AllZip}
 use Rattle.sym_table.specs.Table.{Table, Keeps}
 use Rattle.term_model.specs.Terms.{Var, Term}
 use Rattle.term_pool.specs.Views.{TermsView, RefersTo}
-use Rattle.rule_model.specs.Proofs.{Step, Items, no_items, with_assume, with_step, with_subproof}
+use Rattle.rule_model.specs.Proofs.{Step, ProofItems, no_items, with_assume, with_step, with_subproof}
 use Rattle.rule_model.specs.Scopes.{commands_in, subproofs_in}
 use Rattle.proof_store.specs.Meaning.{IsBindingOf, IsPivotOf, IsStepOf, StandForItems, no_items_stand, assume_stands, step_stands, subproof_stands}
 
 -- as many commands, and subproofs
-pub commands_same : (s : Table) (v : TermsView) (is : Items ℕ ℕ) (ps : Items Var Term) → StandForItems s v is ps → commands_in is ≡ commands_in ps
+pub commands_same : (s : Table) (v : TermsView) (is : ProofItems ℕ ℕ) (ps : ProofItems Var Term) → StandForItems s v is ps → commands_in is ≡ commands_in ps
 commands_same s v _ _ no_items_stand = refl
 commands_same s v _ _ (assume_stands is ps id r t h k) = ap suc (commands_same s v is ps h)
 commands_same s v _ _ (step_stands is ps a of h k) = ap suc (commands_same s v is ps h)
 commands_same s v _ _ (subproof_stands is ps bs cs within proof a of h b k l) =
     let outer = commands_same s v is ps h in let deep = commands_same s v within proof k in omega arith
 
-pub subproofs_same : (s : Table) (v : TermsView) (is : Items ℕ ℕ) (ps : Items Var Term) → StandForItems s v is ps → subproofs_in is ≡ subproofs_in ps
+pub subproofs_same : (s : Table) (v : TermsView) (is : ProofItems ℕ ℕ) (ps : ProofItems Var Term) → StandForItems s v is ps → subproofs_in is ≡ subproofs_in ps
 subproofs_same s v _ _ no_items_stand = refl
 subproofs_same s v _ _ (assume_stands is ps id r t h k) = subproofs_same s v is ps h
 subproofs_same s v _ _ (step_stands is ps a of h k) = subproofs_same s v is ps h
@@ -42,7 +42,7 @@ step_stays s z v w stay step' of h = record {
   ratios = h.ratios;
 }
 
-pub items_stay : (s z : Table) (v w : TermsView) → Keeps s z → ((r : ℕ) (t : Term) → RefersTo s v r t → RefersTo z w r t) → (is : Items ℕ ℕ) (ps : Items Var Term) → StandForItems s v is ps → StandForItems z w is ps
+pub items_stay : (s z : Table) (v w : TermsView) → Keeps s z → ((r : ℕ) (t : Term) → RefersTo s v r t → RefersTo z w r t) → (is : ProofItems ℕ ℕ) (ps : ProofItems Var Term) → StandForItems s v is ps → StandForItems z w is ps
 items_stay s z v w keeps stay _ _ no_items_stand = no_items_stand
 items_stay s z v w keeps stay _ _ (assume_stands is ps id r t h refers) = assume_stands is ps id r t (items_stay s z v w keeps stay is ps h) (stay r t refers)
 items_stay s z v w keeps stay _ _ (step_stands is ps step' of h stands) = step_stands is ps step' of (items_stay s z v w keeps stay is ps h) (step_stays s z v w stay step' of stands)

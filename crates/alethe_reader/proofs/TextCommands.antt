@@ -6,10 +6,10 @@ use Rattle.sexpr.specs.Items.{Item, Items, no_items, item}
 use Rattle.sym_table.specs.Table.{Table}
 use Rattle.term_model.specs.Terms.{Var, Term}
 use Rattle.term_pool.specs.Views.{TermsView}
-use Rattle.rule_model.specs.Proofs.{Items as Proof}
+use Rattle.rule_model.specs.Proofs.{ProofItems as Proof}
 use Rattle.text_items.specs.Nodes.{IsNode}
 use Rattle.text_items.specs.declared.nodes.Node.{Node}
-use Rattle.problem_text.specs.Outcomes.{Outcome, done, goes_on, and_then}
+use Rattle.problem_text.specs.Outcomes.{Outcome, done, going_on, and_then}
 use Rattle.term_names.specs.declared.faults.ReadFault.{ReadFault}
 use Rattle.term_reader.proofs.Staying.{places_none, places_more}
 use Rattle.alethe_text.specs.Commands.{Command, command_of}
@@ -18,7 +18,7 @@ use Rattle.alethe_text.specs.States.{ProofSettings, ProofState, Reading, ◌>>=�
 use Rattle.alethe_commands.specs.CommandNodes.{IsCommand, SaysCommand}
 use Rattle.alethe_commands.specs.declared.commands.Command as code
 use Rattle.alethe_reader.specs.Answers.{WasRead, Answers}
-use Rattle.alethe_items.specs.TextItems.{HasItems, IsFirst}
+use Rattle.alethe_items.specs.TextItems.{HasCommandItems, IsFirst}
 use Rattle.alethe_reader.specs.CommandNames.{HasNames, HaveNames, IsNamed}
 use Rattle.alethe_reader.specs.Sessions.{IsSession, StandsAfter}
 use Rattle.alethe_reader.specs.TextReading.{closing_from, left_from, AreLeft, NoneLeft, ReadsCommand}
@@ -30,7 +30,7 @@ use Rattle.alethe_reader.proofs.StillReadCommands.{keeps_left}
 then_then : {A B C : Type 0} (o : Outcome ProofState A) (f : A → Reading B) (g : B → Reading C) → and_then (and_then o f) g ≡ and_then o (λ a s. and_then (f a s) g)
 then_then {A} {B} {C} o f g = go o.result o.state
   where
-    go : (r : Result A Refusal) (s : ProofState) → and_then (goes_on r s f) g ≡ goes_on r s (λ a t. and_then (f a t) g)
+    go : (r : Result A Refusal) (s : ProofState) → and_then (going_on r s f) g ≡ going_on r s (λ a t. and_then (f a t) g)
     go (Ok a) s = refl
     go (Err refusal) s = refl
 
@@ -39,13 +39,13 @@ abbrev then_rest : ProofSettings → Items → Items → Outcome ProofState ⊤ 
 then_rest settings rest behind o = and_then o (λ _. left_from settings rest behind)
 
 abbrev first_of : ProofSettings → Items → Items → ProofState → Result Command Refusal → Outcome ProofState (Proof Var Term)
-first_of settings rest behind p r = goes_on r p (λ c q. then_rest settings rest behind (performed settings c q))
+first_of settings rest behind p r = going_on r p (λ c q. then_rest settings rest behind (performed settings c q))
 
 unfolds : (settings : ProofSettings) (i : Item) (rest behind : Items) (p : ProofState) → left_from settings (item i rest) behind p ≡ first_of settings rest behind p (command_of i)
 unfolding left_from commands ◌>>=◌
 unfolds settings i rest behind p = go (command_of i)
   where
-    go : (r : Result Command Refusal) → and_then (goes_on r p (λ c q. and_then (performed settings c q) (λ _. commands settings rest))) (closing_from settings behind) ≡ first_of settings rest behind p r
+    go : (r : Result Command Refusal) → and_then (going_on r p (λ c q. and_then (performed settings c q) (λ _. commands settings rest))) (closing_from settings behind) ≡ first_of settings rest behind p r
     go (Ok c) = then_then (performed settings c p) (λ _. commands settings rest) (closing_from settings behind)
     go (Err refusal) = refl
 
@@ -59,12 +59,12 @@ pub record HasFirst (source : List ℕ) (nodes : List Node) (in_list : Bool) (at
   pub others : Items
   pub behind : Items
   pub here : IsNode source nodes 0 first (length nodes)
-  pub left : HasItems source in_list at others behind
+  pub left : HasCommandItems source in_list at others behind
   pub named : HasNames first × HaveNames others
   pub comes : first_of settings others behind p (command_of first) ≡ whole
 
 module _ (settings : ProofSettings) (in_list : Bool) (p : ProofState) (whole : Outcome ProofState (Proof Var Term)) where
-  pub has_first : (old new : List ℕ) (nodes : List Node) (from at : ℕ) → ((items behind : Items) → HasItems old in_list from items behind → IsFirst new in_list nodes at items behind)
+  pub has_first : (old new : List ℕ) (nodes : List Node) (from at : ℕ) → ((items behind : Items) → HasCommandItems old in_list from items behind → IsFirst new in_list nodes at items behind)
       → AreLeft old settings in_list from p whole → HasFirst new nodes in_list at settings p whole
   has_first old new nodes from at found h =
       let f = found h.items h.behind h.here in
@@ -78,7 +78,7 @@ module _ (settings : ProofSettings) (in_list : Bool) (p : ProofState) (whole : O
         comes = sym (unfolds settings f.first f.others h.behind p) ∙ (ap (λ x. left_from settings x h.behind p) (sym f.split) ∙ h.comes);
       }
 
-  pub none_left : (old new : List ℕ) (from at : ℕ) → ((items behind : Items) → HasItems old in_list from items behind → (items ≡ no_items) × HasItems new false at behind no_items)
+  pub none_left : (old new : List ℕ) (from at : ℕ) → ((items behind : Items) → HasCommandItems old in_list from items behind → (items ≡ no_items) × HasCommandItems new false at behind no_items)
       → AreLeft old settings in_list from p whole → NoneLeft new settings at p whole
   none_left old new from at none h =
       let (e, left) = none h.items h.behind h.here in
@@ -106,7 +106,7 @@ module _ (settings : ProofSettings) (in_list : Bool) (p : ProofState) (whole : O
 
   -- a command more
   pub performs_well : {source : List ℕ} {s : Table} {old new : TermsView} {d : Session} {at : ℕ} {u : ⊤} (others behind : Items) (o : Outcome ProofState ⊤)
-      → HasItems source in_list at others behind → HaveNames others → then_rest settings others behind o ≡ whole
+      → HasCommandItems source in_list at others behind → HaveNames others → then_rest settings others behind o ≡ whole
       → Answers s old new (StandsAfter s new settings d) o (Ok u) → ReadsCommand source s old new settings d in_list at whole (Ok true)
   performs_well {source} {s} {old} {new} others behind o here named comes h = record {
     outcome =
@@ -135,7 +135,7 @@ module _ (settings : ProofSettings) (in_list : Bool) (p : ProofState) (whole : O
 
 pub some_first : (in_list : Bool) (old new : List ℕ) (nodes slice : List Node) (from at : ℕ) (s : Table) (v : TermsView) (d : Session)
     → slice ≡ nodes
-    → ((items behind : Items) → HasItems old in_list from items behind → IsFirst new in_list nodes at items behind)
+    → ((items behind : Items) → HasCommandItems old in_list from items behind → IsFirst new in_list nodes at items behind)
     → (settings : ProofSettings) × (p : ProofState) × (whole : Outcome ProofState (Proof Var Term)) × AreLeft old settings in_list from p whole × IsSession s v settings d p
     → (i : Item) × IsNode new slice 0 i (length slice)
 some_first in_list old new nodes slice from at s v d same found (settings, p, whole, left, _) =
@@ -152,7 +152,7 @@ found_in source nodes slice r same found =
 
 pub some_shape : (in_list : Bool) (old new : List ℕ) (nodes slice more : List Node) (from at : ℕ) (s : Table) (v : TermsView) (d : Session) (c : code.Command)
     → slice ≡ nodes → more ≡ nodes
-    → ((items behind : Items) → HasItems old in_list from items behind → IsFirst new in_list nodes at items behind)
+    → ((items behind : Items) → HasCommandItems old in_list from items behind → IsFirst new in_list nodes at items behind)
     → ((i : Item) → IsNode new slice 0 i (length slice) → IsCommand new slice (Ok c) (command_of i))
     → (settings : ProofSettings) × (p : ProofState) × (whole : Outcome ProofState (Proof Var Term)) × AreLeft old settings in_list from p whole × IsSession s v settings d p
     → (x : Command) × SaysCommand new more c x × IsNamed x

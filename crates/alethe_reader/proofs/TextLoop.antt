@@ -6,7 +6,7 @@ use Rattle.sexpr.specs.Source.{source, position}
 use Rattle.sym_table.specs.Table.{Table}
 use Rattle.term_model.specs.Terms.{Var, Term}
 use Rattle.term_pool.specs.Views.{TermsView, KeepsTerms}
-use Rattle.rule_model.specs.Proofs.{Items as Proof}
+use Rattle.rule_model.specs.Proofs.{ProofItems as Proof}
 use Rattle.problem_text.specs.Outcomes.{Outcome}
 use Rattle.term_names.specs.Making.{PlacesCellsOf}
 use Rattle.term_names.specs.Standing.{AddsNoSymbols}

@@ -5,7 +5,7 @@ use Rattle.std.specs.List.{AllZip}
 use Rattle.sym_table.specs.Table.{Table, Keeps}
 use Rattle.term_model.specs.Terms.{Var, Term}
 use Rattle.term_pool.specs.Views.{TermsView, RefersTo, KeepsTerms}
-use Rattle.rule_model.specs.Proofs.{Step as ProofStep, Items, no_items, with_assume, with_step, with_subproof}
+use Rattle.rule_model.specs.Proofs.{Step as ProofStep, ProofItems, no_items, with_assume, with_step, with_subproof}
 use Rattle.rule_model.specs.Scopes.{Nesting, outermost, inside, Scope, at, first_index, scope_number, commands_in, subproofs_in}
 use Rattle.proof_store.specs.Meaning.{IsBindingOf, IsStepOf, StandForItems, no_items_stand, assume_stands, step_stands, subproof_stands}
 use Rattle.term_reader.proofs.Staying.{refers_stays}
@@ -28,7 +28,7 @@ module _ (s z : Table) (v w : TermsView) (table : Keeps s z) (terms : KeepsTerms
   bindings_stay (b ∷ bs) (c ∷ cs) h =
       (record { variable = table.leaves b.0 _ h.0.variable; term = refers_stays s z v w table terms b.1 c.1 h.0.term }, bindings_stay bs cs h.1)
 
-  pub stored_stay : (is : Items ℕ ℕ) (ps : Items Var Term) → StandForItems s v is ps → StandForItems z w is ps
+  pub stored_stay : (is : ProofItems ℕ ℕ) (ps : ProofItems Var Term) → StandForItems s v is ps → StandForItems z w is ps
   stored_stay is ps h = items_stay s z v w table (refers_stays s z v w table terms) is ps h
 
   pub nesting_stays : (n : Nesting ℕ ℕ) (m : Nesting Var Term) → StandForNesting s v n m → StandForNesting z w n m
@@ -72,7 +72,7 @@ module _ (s : Table) (v : TermsView) where
   number_same (inside around before anchor) (inside outer behind other) h =
       let a = number_same around outer h.0 in let b = subproofs_same s v before behind h.1 in cc
 
-  own_same : (n : Nesting ℕ ℕ) (m : Nesting Var Term) → first_index n ≡ first_index m → (is : Items ℕ ℕ) (ps : Items Var Term) → StandForItems s v is ps → own_ids n is ≡ own_ids m ps
+  own_same : (n : Nesting ℕ ℕ) (m : Nesting Var Term) → first_index n ≡ first_index m → (is : ProofItems ℕ ℕ) (ps : ProofItems Var Term) → StandForItems s v is ps → own_ids n is ≡ own_ids m ps
   own_same n m e _ _ no_items_stand = refl
   own_same n m e _ _ (assume_stands is ps id r t h refers) = both (own_same n m e is ps h) (e) (commands_same s v is ps h)
     where

@@ -6,7 +6,7 @@ use Rattle.term_pool.specs.Views.{TermsView, ReferToAll}
 use Rattle.rule_model.specs.Proofs.{Fraction, Step}
 use Rattle.rule_model.specs.Visibility.{Sight}
 use Rattle.rule_model.specs.WellFormed.{HasRule}
-use Rattle.proof_store.specs.Ratios.{fraction_of}
+use Rattle.proof_store.specs.Ratios.{fraction_of_ratio}
 use Rattle.term_reader.specs.ProblemViews.{IsReaderOf}
 use Rattle.alethe_text.specs.Ids.{Standing}
 use Rattle.alethe_text.specs.ProofTerms.{place_in}
@@ -20,7 +20,7 @@ use Rattle.alethe_reader.specs.declared.stepping.NewStep.{NewStep}
 
 -- its coefficients, and the step over references
 abbrev pub ratios_of : StepParts → Option (List Fraction)
-ratios_of d = if d.has_ratios then Some (map fraction_of d.ratios.items) else None
+ratios_of d = if d.has_ratios then Some (map fraction_of_ratio d.ratios.items) else None
 
 abbrev pub step_of : StepParts → NewStep → Step ℕ
 step_of d n = record {

@@ -4,7 +4,7 @@ use Rattle.sexpr.specs.Items.{Items, StandsForItems}
 use Rattle.sym_table.specs.Table.{Table}
 use Rattle.term_model.specs.Terms.{Var, Term}
 use Rattle.term_pool.specs.Views.{TermsView}
-use Rattle.rule_model.specs.Proofs.{Items as Proof}
+use Rattle.rule_model.specs.Proofs.{ProofItems as Proof}
 use Rattle.proof_store.specs.Meaning.{StandForItems}
 use Rattle.problem_text.specs.Scripts.{Script}
 use Rattle.alethe_text.specs.ProofTexts.{proof_from, StandsForProof}

@@ -6,7 +6,7 @@ use Rattle.term_model.specs.Terms.{Var, Term}
 use Rattle.term_pool.specs.Views.{TermsView}
 use Rattle.rule_model.specs.Proofs.{Step, Fraction}
 use Rattle.rule_model.specs.Scopes.{Nesting}
-use Rattle.proof_store.specs.Ratios.{fraction_of}
+use Rattle.proof_store.specs.Ratios.{fraction_of_ratio}
 use Rattle.coefficients.specs.declared.stops.Stop.{Stop}
 use Rattle.problem_text.specs.Outcomes.{Outcome, done}
 use Rattle.term_names.specs.declared.faults.ReadFault.{ReadFault}
@@ -27,7 +27,7 @@ pub record ArePartsOf (d : StepParts) (step : Step Term) : Type 0 where
   pub premises : d.premises.items ≡ step.premises
   pub discharged : d.discharged.items ≡ step.discharged
   pub pivots : step.pivots ≡ []
-  pub ratios : (if d.has_ratios then Some (map fraction_of d.ratios.items) else None) ≡ step.ratios
+  pub ratios : (if d.has_ratios then Some (map fraction_of_ratio d.ratios.items) else None) ≡ step.ratios
 
 -- nothing of the step's attributes is read
 pub record IsBare (step : Step Term) : Type 0 where
@@ -79,7 +79,7 @@ IsJudged o p (Err ReadFault.Memory) = ⊥
 
 -- the parts have these coefficients, or the first number is refused that is too wide, or memory was wanting
 abbrev pub AreRatios : StepParts → Result ⊤ ReadFault → Result (Option (List Fraction)) Refusal → Type 0
-AreRatios d (Ok _) expected = expected ≡ Ok (if d.has_ratios then Some (map fraction_of d.ratios.items) else None)
+AreRatios d (Ok _) expected = expected ≡ Ok (if d.has_ratios then Some (map fraction_of_ratio d.ratios.items) else None)
 AreRatios d (Err (ReadFault.Text refusal)) expected = expected ≡ Err refusal
 AreRatios d (Err ReadFault.PoolFull) expected = ⊥
 AreRatios d (Err ReadFault.Memory) expected = ⊤

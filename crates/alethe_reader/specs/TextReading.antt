@@ -4,7 +4,7 @@ use Rattle.sexpr.specs.Items.{Items, no_items}
 use Rattle.sym_table.specs.Table.{Table}
 use Rattle.term_model.specs.Terms.{Var, Term}
 use Rattle.term_pool.specs.Views.{TermsView}
-use Rattle.rule_model.specs.Proofs.{Items as Proof}
+use Rattle.rule_model.specs.Proofs.{ProofItems as Proof}
 use Rattle.rule_model.specs.Scopes.{Scope, next_index, next_scope}
 use Rattle.proof_store.specs.Meaning.{StandForItems}
 use Rattle.text_items.specs.ItemShapes.{excess}
@@ -15,7 +15,7 @@ use Rattle.term_reader.specs.Reading.{EndsWith}
 use Rattle.alethe_text.specs.ProofTexts.{commands, none_behind, finished}
 use Rattle.alethe_text.specs.States.{ProofSettings, ProofState, Reading, ◌>>=◌}
 use Rattle.alethe_reader.specs.Answers.{WasRead}
-use Rattle.alethe_items.specs.TextItems.{HasItems}
+use Rattle.alethe_items.specs.TextItems.{HasCommandItems}
 use Rattle.alethe_reader.specs.CommandNames.{HaveNames}
 use Rattle.alethe_reader.specs.Sessions.{IsSession}
 use Rattle.alethe_reader.specs.declared.session.Session.{Session}
@@ -34,14 +34,14 @@ left_from settings items behind = commands settings items >>= closing_from setti
 pub record AreLeft (source : List ℕ) (settings : ProofSettings) (in_list : Bool) (at : ℕ) (p : ProofState) (whole : Outcome ProofState (Proof Var Term)) : Type 0 where
   pub items : Items
   pub behind : Items
-  pub here : HasItems source in_list at items behind
+  pub here : HasCommandItems source in_list at items behind
   pub named : HaveNames items
   pub comes : left_from settings items behind p ≡ whole
 
 -- No command is left, and what stands behind their list stands from this place on.
 pub record NoneLeft (source : List ℕ) (settings : ProofSettings) (at : ℕ) (p : ProofState) (whole : Outcome ProofState (Proof Var Term)) : Type 0 where
   pub behind : Items
-  pub here : HasItems source false at behind no_items
+  pub here : HasCommandItems source false at behind no_items
   pub comes : closing_from settings behind tt p ≡ whole
 
 -- A command was read, and others may be left; or none was left; or it has a fault.

@@ -3,7 +3,7 @@ ghost use Rattle.std.specs.Prelude.{◌≡◌, ◌∷◌, [], ◌++◌, map, len
 ghost use Rattle.sym_table.specs.Table.{Table};
 ghost use Rattle.term_model.specs.Terms.{Var, Term};
 ghost use Rattle.term_pool.specs.Views.{TermsView};
-ghost use Rattle.rule_model.specs.Proofs.{Items};
+ghost use Rattle.rule_model.specs.Proofs.{ProofItems};
 ghost use Rattle.rule_model.specs.Scopes.{Anchor, Nesting, outermost, inside, own_bindings};
 ghost use Rattle.problem_text.specs.Words.{is_among};
 ghost use Rattle.alethe_reader.specs.Bound.{AreBound};
@@ -70,7 +70,7 @@ impl BoundVariables {
     /// Leaves the scope of the innermost anchor, which binds so many variables.
     pub(crate) fn leave(&mut self, count: usize)
         requires { (s : Table) × (v : TermsView) × (nesting : Nesting Var Term) × AreBound s v self.old nesting × (count ≡ length (own_bindings nesting)) }
-        ensures { (s : Table) (v : TermsView) (around : Nesting Var Term) (before : Items Var Term) (anchor : Anchor Var Term) → count ≡ length anchor.bindings → AreBound s v self.old (inside around before anchor) → AreBound s v self.new around }
+        ensures { (s : Table) (v : TermsView) (around : Nesting Var Term) (before : ProofItems Var Term) (anchor : Anchor Var Term) → count ≡ length anchor.bindings → AreBound s v self.old (inside around before anchor) → AreBound s v self.new around }
     {
         let left = self.images.len() - count;
         self.images.truncate(left);

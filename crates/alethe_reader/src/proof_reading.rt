@@ -12,7 +12,7 @@ ghost use Rattle.term_names.specs.declared.faults.ReadFault.TheVariants as fault
 ghost use Rattle.term_reader.specs.ProblemViews.{IsProblemOf};
 ghost use Rattle.alethe_text.specs.ProofTexts.{IsFirstProofFault};
 ghost use Rattle.alethe_text.specs.States.{ProofSettings, ProofState, unread};
-ghost use Rattle.alethe_items.specs.TextItems.{HasItems};
+ghost use Rattle.alethe_items.specs.TextItems.{HasCommandItems};
 ghost use Rattle.alethe_reader.specs.Reading.{IsCounted, IsProofOf};
 ghost use Rattle.alethe_reader.specs.Sessions.{IsSession};
 ghost use Rattle.alethe_reader.specs.TextReading.{NoneLeft, IsFinished, IsShort, closing_from};
@@ -55,8 +55,8 @@ fn new_session<'a>(alloc: Global, problem: &'a Problem, flags: Flags) -> Session
 
 /// The proof that was read, where nothing stands behind the list of its commands and no anchor is open.
 fn finish(lexer: Lexer<'_>, session: Session<'_>) -> Result<Proof, ReadFault>
-    requires { (s : Table) × (v : TermsView) × (settings : ProofSettings) × (p : ProofState) × (behind : Items) × HasItems (at.source lexer) false (at.position lexer) behind no_items × IsSession s v settings session p }
-    ensures { (s : Table) (v : TermsView) (settings : ProofSettings) (p : ProofState) (behind : Items) → HasItems (at.source lexer) false (at.position lexer) behind no_items → IsSession s v settings session p → IsFinished s v p (closing_from settings behind tt p) result }
+    requires { (s : Table) × (v : TermsView) × (settings : ProofSettings) × (p : ProofState) × (behind : Items) × HasCommandItems (at.source lexer) false (at.position lexer) behind no_items × IsSession s v settings session p }
+    ensures { (s : Table) (v : TermsView) (settings : ProofSettings) (p : ProofState) (behind : Items) → HasCommandItems (at.source lexer) false (at.position lexer) behind no_items → IsSession s v settings session p → IsFinished s v p (closing_from settings behind tt p) result }
 {
     if let Some(place) = excess(lexer) {
         return Err(ReadFault::Text(refused(Cause::BadCommand, place)));

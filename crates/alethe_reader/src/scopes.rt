@@ -4,7 +4,7 @@ ghost use Rattle.std.specs.List.{AllZip};
 ghost use Rattle.sym_table.specs.Table.{Table};
 ghost use Rattle.term_model.specs.Terms.{Var, Term};
 ghost use Rattle.term_pool.specs.Views.{TermsView};
-ghost use Rattle.rule_model.specs.Proofs.{Items};
+ghost use Rattle.rule_model.specs.Proofs.{ProofItems};
 ghost use Rattle.rule_model.specs.Scopes.{Anchor, Nesting, inside, own_bindings};
 ghost use Rattle.proof_store.specs.Meaning.{IsBindingOf};
 ghost use Rattle.problem_text.specs.Names.{Place};
@@ -34,7 +34,7 @@ pub(crate) fn enter_variables(reader: &mut TermReader<'_>, opened: &[(u32, Ref)]
 /// Takes the variables of the innermost anchor, which are so many, out of scope.
 pub(crate) fn leave_variables(reader: &mut TermReader<'_>, count: usize)
     requires { (s : Table) × (v : TermsView) × (sc : Script) × (settings : ProofSettings) × (nesting : Nesting Var Term) × IsReaderOf s v reader.old sc (place_in settings nesting) × (count ≡ length (own_bindings nesting)) }
-    ensures { (s : Table) (v : TermsView) (sc : Script) (settings : ProofSettings) (around : Nesting Var Term) (before : Items Var Term) (anchor : Anchor Var Term) → count ≡ length anchor.bindings → IsReaderOf s v reader.old sc (place_in settings (inside around before anchor)) → IsReaderOf s v reader.new sc (place_in settings around) }
+    ensures { (s : Table) (v : TermsView) (sc : Script) (settings : ProofSettings) (around : Nesting Var Term) (before : ProofItems Var Term) (anchor : Anchor Var Term) → count ≡ length anchor.bindings → IsReaderOf s v reader.old sc (place_in settings (inside around before anchor)) → IsReaderOf s v reader.new sc (place_in settings around) }
 {
     let mut left = count;
     'variables: while left > 0 {

@@ -5,7 +5,7 @@ ghost use Rattle.sexpr.specs.Source.{source};
 ghost use Rattle.sym_table.specs.Table.{Table};
 ghost use Rattle.term_model.specs.Terms.{Var, Term};
 ghost use Rattle.term_pool.specs.Views.{TermsView, KeepsTerms};
-ghost use Rattle.rule_model.specs.Proofs.{Step, Items as Proof};
+ghost use Rattle.rule_model.specs.Proofs.{Step, ProofItems as Proof};
 ghost use Rattle.rule_model.specs.RuleNames.{IsSymbolName};
 ghost use Rattle.rule_model.specs.Scopes.{Anchor, Nesting, inside, own_bindings, next_index, next_scope};
 ghost use Rattle.rule_model.specs.Writing as writing;

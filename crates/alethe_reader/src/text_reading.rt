@@ -5,11 +5,11 @@ ghost use Rattle.sexpr.specs.Source as at;
 ghost use Rattle.sym_table.specs.Table.{Table};
 ghost use Rattle.term_model.specs.Terms.{Var, Term};
 ghost use Rattle.term_pool.specs.Views.{TermsView, KeepsTerms};
-ghost use Rattle.rule_model.specs.Proofs.{Items as Proof};
+ghost use Rattle.rule_model.specs.Proofs.{ProofItems as Proof};
 ghost use Rattle.problem_text.specs.Outcomes.{Outcome};
 ghost use Rattle.term_names.specs.Standing.{AddsNoSymbols};
 ghost use Rattle.alethe_text.specs.States.{ProofSettings, ProofState};
-ghost use Rattle.alethe_items.specs.TextItems.{HasItems};
+ghost use Rattle.alethe_items.specs.TextItems.{HasCommandItems};
 ghost use Rattle.alethe_reader.specs.Sessions.{IsSession};
 ghost use Rattle.alethe_reader.specs.TextReading.{AreLeft, ReadsCommand, ReadsAll, IsShort, most_after};
 

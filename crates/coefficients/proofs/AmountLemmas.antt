@@ -12,7 +12,7 @@ use Rattle.alethe_text.specs.Commands.{is_symbol_of}
 use Rattle.alethe_text.specs.Coefficients as text
 use Rattle.alethe_text.specs.Coefficients.{is_wide, figure_spelled, amount_spelled, figure_of, divisor_of, quotient_of, opposite_of, amount_of, coefficient_of, numerator_spelled, denominator_spelled}
 use Rattle.coefficients.specs.Fractions.{IsNarrowPair}
-use Rattle.coefficients.specs.Amounts.{IsFigureFound, IsAmountFound, ratio_spelled, quotient_among, divided, with_sign}
+use Rattle.coefficients.specs.Amounts.{IsFigureFound, IsAmountFound, ratio_spelled, quotient_among, divided, with_minus}
 use Rattle.coefficients.specs.declared.fractions.Pair.{Pair}
 use Rattle.coefficients.specs.declared.figures.Figure.{Figure}
 use Rattle.coefficients.specs.declared.amounts.Amount.{Amount}
@@ -108,12 +108,12 @@ quotient_opposite start place items head n d m same split slash some =
     ap (λ p. divided p true m d) same ∙ sym (quotient_three place items head n d split slash ∙ ap (quotient_by place n d) some)
 
 abbrev coefficient_by : Item → Option Item → Option text.Coefficient
-coefficient_by i o = elim o [ Some j ↦ with_sign true (amount_of j) | None ↦ with_sign false (amount_of i) ]
+coefficient_by i o = elim o [ Some j ↦ with_minus true (amount_of j) | None ↦ with_minus false (amount_of i) ]
 
-pub coefficient_alone : (i : Item) → opposite_of i ≡ None → with_sign false (amount_of i) ≡ coefficient_of i
+pub coefficient_alone : (i : Item) → opposite_of i ≡ None → with_minus false (amount_of i) ≡ coefficient_of i
 unfolding coefficient_of
 coefficient_alone i e = sym (ap (coefficient_by i) e)
 
-pub coefficient_opposite : (i j : Item) → opposite_of i ≡ Some j → with_sign true (amount_of j) ≡ coefficient_of i
+pub coefficient_opposite : (i j : Item) → opposite_of i ≡ Some j → with_minus true (amount_of j) ≡ coefficient_of i
 unfolding coefficient_of
 coefficient_opposite i j e = sym (ap (coefficient_by i) e)

@@ -10,7 +10,7 @@ use Rattle.text_items.proofs.NodeItems.{children}
 use Rattle.text_items.proofs.NodeSteps.{more_nodes, no_nodes}
 use Rattle.alethe_text.specs.Commands.{is_symbol_of}
 use Rattle.alethe_text.specs.Coefficients.{opposite_of}
-use Rattle.coefficients.specs.Amounts.{IsItemFound}
+use Rattle.coefficients.specs.Amounts.{IsItemThere}
 use Rattle.coefficients.specs.Three.{are_three, HasThree}
 
 -- what stands behind a minus, by what stands in the list
@@ -63,7 +63,7 @@ module _ (s : List ℕ) (ns : List Node) (k : ℕ) (i : Item) (m : ℕ) (is : Is
   -- there are two, of which the first is the minus
   pub is_opposite : (two : ℕ) (h : HasSecond s ns (k + 1) (items_of i) two node.next) (other : Node)
       → ((j : Item) (n : ℕ) → IsNode s ns two j n → IsItemNode s j n other) → other.next ≡ node.next
-      → (b : Bool) → ((j : Item) (n : ℕ) → IsNode s ns (k + 1) j n → b ≡ is_symbol_of (codes "-") j) → b ≡ true → IsItemFound s ns (Some two) (opposite_of i)
+      → (b : Bool) → ((j : Item) (n : ℕ) → IsNode s ns (k + 1) j n → b ≡ is_symbol_of (codes "-") j) → b ≡ true → IsItemThere s ns (Some two) (opposite_of i)
   is_opposite two h other tells same b judged minus =
       (h.two, h.behind, two_among two h other tells same b judged ∙ ap (λ b. if b then Some h.two else None) minus, h.second_there)
 

@@ -5,7 +5,7 @@ use Rattle.std.proofs.lemmas.Bool.Decides.{nat_tests}
 use Rattle.std.proofs.lemmas.Nat.{div-add-mod', mod-mul-add, mod_below}
 use Rattle.std.proofs.lemmas.Nat.Gcd.{dvd_trans, IsGcd-from_zero, IsGcd-swap, IsGcd-from_mod, same_from_IsGcd}
 use Rattle.std.proofs.Math.Nat.{dvd-mod_iff, dvd-mul_right, dvd-mul_right_of_dvd, mul-dvd-mul_right, div-mul_cancel, mul-div_cancel, mul_comm, mul_assoc, mul-mul-mul_comm, mul-pos, mul-zero, zero-mul, one-mul, add-mul, mul-lt-mul_of_pos_right, one-dvd, pos_of_dvd_of_pos, pow-succ', pow-le-pow_right, dvd_of_mul-dvd-mul_right}
-use Rattle.coefficients.specs.Fractions.{IsPair, IsNarrowPair}
+use Rattle.coefficients.specs.Fractions.{IsFractionPair, IsNarrowPair}
 use Rattle.coefficients.specs.declared.fractions.Pair.{Pair}
 use Rattle.alethe_text.specs.Coefficients.{common_divisor_in, common_divisor, lowest}
 
@@ -146,11 +146,11 @@ crossed a p b q t u v w x z y o tops bottoms first second =
     coprime_product_or a b (suc c) h k = coprime_product a b (suc c) (omega arith) h k
 
 -- the same, of pairs as the code has them
-pub times_of : (a b : ℕ) (c : Pair) → 0 < b → IsPair c (lowest (a, b)) → IsTimes a b c.num c.den
+pub times_of : (a b : ℕ) (c : Pair) → 0 < b → IsFractionPair c (lowest (a, b)) → IsTimes a b c.num c.den
 times_of a b c some h =
     subst (λ n. IsTimes a b n c.den) (sym h.num) (subst (λ n. IsTimes a b (lowest (a, b)).0 n) (sym h.den) (lowest_times a b some))
 
-pub divided_is : (a b g : ℕ) (c : Pair) → IsGcd a b g → c.num ≡ a / g → c.den ≡ b / g → IsPair c (lowest (a, b))
+pub divided_is : (a b g : ℕ) (c : Pair) → IsGcd a b g → c.num ≡ a / g → c.den ≡ b / g → IsFractionPair c (lowest (a, b))
 divided_is a b g c is e f =
     let same = same_from_IsGcd a b g (common_divisor a b) is (divisor_is a b) in
     record { num = e ∙ ap (λ n. a / n) same; den = f ∙ ap (λ n. b / n) same }
@@ -159,8 +159,8 @@ pub divisor_some : (a b g : ℕ) → IsGcd a b g → 0 < b → 0 < g
 divisor_some a b g is some = pos_of_dvd_of_pos is.1 some
 
 -- the parts of a quotient, as the code takes out what is common
-pub quotient_is : (above below tops bottoms first second : Pair) → 0 < above.den → 0 < below.num → IsPair tops (lowest (above.num, below.num)) → IsPair bottoms (lowest (below.den, above.den))
-    → IsPair first (lowest (tops.num, bottoms.den)) → IsPair second (lowest (bottoms.num, tops.den))
+pub quotient_is : (above below tops bottoms first second : Pair) → 0 < above.den → 0 < below.num → IsFractionPair tops (lowest (above.num, below.num)) → IsFractionPair bottoms (lowest (below.den, above.den))
+    → IsFractionPair first (lowest (tops.num, bottoms.den)) → IsFractionPair second (lowest (bottoms.num, tops.den))
     → ◌≡◌ {A = ℕ × ℕ} (first.num * second.num, first.den * second.den) (lowest (above.num * below.den, above.den * below.num))
 quotient_is above below tops bottoms first second over some t b f s =
     let t' = times_of above.num below.num tops some t in

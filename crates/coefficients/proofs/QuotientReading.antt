@@ -7,7 +7,7 @@ use Rattle.sexpr.specs.declared.causes.Refusal.{Refusal}
 use Rattle.rule_model.specs.Proofs.{Fraction}
 use Rattle.problem_text.specs.Commands.{refused}
 use Rattle.alethe_text.specs.Coefficients as text
-use Rattle.alethe_text.specs.Coefficients.{is_wide, figure_fault, width_fault, parts_of, lowest, coefficient_read}
+use Rattle.alethe_text.specs.Coefficients.{is_wide, figure_fault, width_fault, fraction_parts, lowest, coefficient_read}
 use Rattle.coefficients.specs.Fractions.{IsNarrowPair}
 use Rattle.coefficients.specs.Amounts.{IsFigure, narrowed, pair_read}
 use Rattle.coefficients.specs.declared.fractions.Pair.{Pair}

@@ -6,11 +6,11 @@ use Rattle.sexpr.specs.declared.causes.Refusal.{Refusal}
 use Rattle.rule_model.specs.Proofs.{Fraction}
 use Rattle.text_items.specs.declared.nodes.Node.{Node}
 use Rattle.text_items.specs.Nodes.{IsNode}
-use Rattle.proof_store.specs.Ratios.{fraction_of}
+use Rattle.proof_store.specs.Ratios.{fraction_of_ratio}
 use Rattle.proof_store.specs.declared.answers.Ratio.{Ratio}
 use Rattle.alethe_text.specs.Commands.{is_symbol_of}
 use Rattle.alethe_text.specs.Coefficients as text
-use Rattle.alethe_text.specs.Coefficients.{width_fault, is_negative, parts_of, figure_of, divisor_of, quotient_of, numerator_spelled, denominator_spelled}
+use Rattle.alethe_text.specs.Coefficients.{width_fault, is_negative, fraction_parts, figure_of, divisor_of, quotient_of, numerator_spelled, denominator_spelled}
 use Rattle.coefficients.specs.Fractions.{IsNarrowPair}
 use Rattle.coefficients.specs.declared.fractions.Pair.{Pair}
 use Rattle.coefficients.specs.declared.figures.Figure.{Figure}
@@ -29,10 +29,10 @@ IsFigureFound (Some c) o = (f : text.Figure) × (o ≡ Some f) × IsFigure c f
 -- an amount: a figure or a ratio by its numbers, or a quotient by its figures
 pub record IsPlain (place : ℕ) (parts : Option Pair) (a : text.Amount) : Type 0 where
   pub positive : is_negative a ≡ false
-  pub over : 0 < (parts_of a).1
-  pub narrow : IsNarrowPair parts (parts_of a)
-  pub fault : (2 ^ 127 ≤ (parts_of a).0) ⊎ (2 ^ 127 ≤ (parts_of a).1) → width_fault a ≡ Some place
-  pub none : (parts_of a).0 < 2 ^ 127 → (parts_of a).1 < 2 ^ 127 → width_fault a ≡ None
+  pub over : 0 < (fraction_parts a).1
+  pub narrow : IsNarrowPair parts (fraction_parts a)
+  pub fault : (2 ^ 127 ≤ (fraction_parts a).0) ⊎ (2 ^ 127 ≤ (fraction_parts a).1) → width_fault a ≡ Some place
+  pub none : (fraction_parts a).0 < 2 ^ 127 → (fraction_parts a).1 < 2 ^ 127 → width_fault a ≡ None
 
 pub record IsQuotient (place : ℕ) (negative : Bool) (num den : Figure) (a : text.Amount) : Type 0 where
   pub above : text.Figure
@@ -51,9 +51,9 @@ IsAmountFound None o = o ≡ None
 IsAmountFound (Some c) o = (a : text.Amount) × (o ≡ Some a) × IsAmount c a
 
 -- the item, where there is one, begins at the node
-abbrev pub IsItemFound : List ℕ → List Node → Option ℕ → Option Item → Type 0
-IsItemFound source nodes None o = o ≡ None
-IsItemFound source nodes (Some k) o = (i : Item) × (m : ℕ) × (o ≡ Some i) × IsNode source nodes k i m
+abbrev pub IsItemThere : List ℕ → List Node → Option ℕ → Option Item → Type 0
+IsItemThere source nodes None o = o ≡ None
+IsItemThere source nodes (Some k) o = (i : Item) × (m : ℕ) × (o ≡ Some i) × IsNode source nodes k i m
 
 -- what ratios and lists spell
 abbrev pub ratio_spelled : ℕ → List ℕ → Option text.Amount
@@ -67,16 +67,16 @@ quotient_among place other = None
 abbrev pub divided : ℕ → Bool → Item → Item → Option text.Amount
 divided place negative n d = option_and_then (λ f. option_map (text.quotient place negative f) (divisor_of d)) (figure_of n)
 
-abbrev pub with_sign : Bool → Option text.Amount → Option text.Coefficient
-with_sign negative o = option_map (λ (a : text.Amount). record { negative = negative; amount = a }) o
+abbrev pub with_minus : Bool → Option text.Amount → Option text.Coefficient
+with_minus negative o = option_map (λ (a : text.Amount). record { negative = negative; amount = a }) o
 
 -- what a coefficient was read as
 abbrev pub read_as : Result (Option Ratio) Refusal → Result (Option Fraction) Refusal
-read_as (Ok q) = Ok (option_map fraction_of q)
+read_as (Ok q) = Ok (option_map fraction_of_ratio q)
 read_as (Err refusal) = Err refusal
 
 abbrev pub amount_read_as : Result Ratio Refusal → Result (Option Fraction) Refusal
-amount_read_as (Ok q) = Ok (Some (fraction_of q))
+amount_read_as (Ok q) = Ok (Some (fraction_of_ratio q))
 amount_read_as (Err refusal) = Err refusal
 
 -- the parts, or the fault of a number that is too wide

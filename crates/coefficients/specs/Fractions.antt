@@ -3,15 +3,15 @@ use Rattle.std.specs.Prelude.{◌≡◌, ◌⊎◌, ℕ, ◌^◌, ◌<◌, ◌�
 use Rattle.coefficients.specs.declared.fractions.Pair.{Pair}
 
 -- the number, unless it is too wide
-abbrev pub IsNarrow : Option ℕ → ℕ → Type 0
-IsNarrow (Some v) n = (v ≡ n) × (n < 2 ^ 127)
-IsNarrow None n = 2 ^ 127 ≤ n
+abbrev pub IsNarrowNumber : Option ℕ → ℕ → Type 0
+IsNarrowNumber (Some v) n = (v ≡ n) × (n < 2 ^ 127)
+IsNarrowNumber None n = 2 ^ 127 ≤ n
 
-pub record IsPair (c : Pair) (p : ℕ × ℕ) : Type 0 where
+pub record IsFractionPair (c : Pair) (p : ℕ × ℕ) : Type 0 where
   pub num : c.num ≡ p.0
   pub den : c.den ≡ p.1
 
 -- the pair, unless one of its numbers is too wide
 abbrev pub IsNarrowPair : Option Pair → ℕ × ℕ → Type 0
-IsNarrowPair (Some c) p = IsPair c p × (p.0 < 2 ^ 127) × (p.1 < 2 ^ 127)
+IsNarrowPair (Some c) p = IsFractionPair c p × (p.0 < 2 ^ 127) × (p.1 < 2 ^ 127)
 IsNarrowPair None p = (2 ^ 127 ≤ p.0) ⊎ (2 ^ 127 ≤ p.1)

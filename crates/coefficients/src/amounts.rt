@@ -6,7 +6,7 @@ ghost use Rattle.text_items.specs.ItemShapes.{items_of};
 ghost use Rattle.text_items.specs.Nodes.{IsNode};
 ghost use Rattle.text_items.specs.Stepping.{IsItemAt};
 ghost use Rattle.alethe_text.specs.Coefficients as spec;
-ghost use Rattle.coefficients.specs.Amounts.{IsFigureFound, IsAmountFound, ratio_spelled, quotient_among, divided, with_sign, read_as};
+ghost use Rattle.coefficients.specs.Amounts.{IsFigureFound, IsAmountFound, ratio_spelled, quotient_among, divided, with_minus, read_as};
 
 use crate::figures::{Figure, behind, figure_spelled, is_zero, position_of, ratio_parts};
 use crate::fractions::Pair;
@@ -56,7 +56,7 @@ fn amount_read(
     k: usize,
 ) -> Result<Option<Ratio>, Refusal>
     requires { IsItemAt (source text.now) nodes.now k }
-    ensures { (i : Item) (m : ℕ) → IsNode (source text.now) nodes.now k i m → read_as result ≡ spec.coefficient_read (with_sign negative (spec.amount_of i)) }
+    ensures { (i : Item) (m : ℕ) → IsNode (source text.now) nodes.now k i m → read_as result ≡ spec.coefficient_read (with_minus negative (spec.amount_of i)) }
 {
     let Some(amount) = amount_at(text, nodes, k) else {
         return Ok(None);

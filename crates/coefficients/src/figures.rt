@@ -4,7 +4,7 @@ ghost use Rattle.std.specs.List.{position_or_len};
 ghost use Rattle.sexpr.specs.Words.{numeral_value};
 ghost use Rattle.alethe_text.specs.Coefficients as text;
 ghost use Rattle.coefficients.specs.Amounts.{IsFigureFound};
-ghost use Rattle.coefficients.specs.Fractions.{IsNarrow, IsNarrowPair};
+ghost use Rattle.coefficients.specs.Fractions.{IsNarrowNumber, IsNarrowPair};
 
 use crate::fractions::{Pair, power_of_ten, product, sum};
 use sexpr::{WordKind, word_kind};
@@ -78,7 +78,7 @@ pub(crate) fn is_zero(digits: &[u8]) -> bool
 
 /// The number that digits stand for, and None where it is above 2^127 - 1.
 fn natural(digits: &[u8]) -> Option<u128>
-    ensures { IsNarrow result (numeral_value digits.now) }
+    ensures { IsNarrowNumber result (numeral_value digits.now) }
 {
     let value = numeral(digits)?;
     Some(value.unsigned_abs())

@@ -1,9 +1,9 @@
 //! Fractions of natural numbers below 2^127, and their lowest terms.
 ghost use Rattle.std.specs.Prelude.{◌≡◌, ◌*◌, ◌+◌, ◌^◌, ◌<◌};
 ghost use Rattle.std.specs.Int.{IsGcd};
-ghost use Rattle.proof_store.specs.Ratios.{fraction_of};
+ghost use Rattle.proof_store.specs.Ratios.{fraction_of_ratio};
 ghost use Rattle.alethe_text.specs.Coefficients as text;
-ghost use Rattle.coefficients.specs.Fractions.{IsNarrow, IsPair, IsNarrowPair};
+ghost use Rattle.coefficients.specs.Fractions.{IsNarrowNumber, IsFractionPair, IsNarrowPair};
 
 use proof_store::Ratio;
 
@@ -16,7 +16,7 @@ pub(crate) struct Pair {
 
 /// The number, and None where it is above 2^127 - 1.
 fn narrow(value: u128) -> Option<u128>
-    ensures { IsNarrow result value }
+    ensures { IsNarrowNumber result value }
 {
     if value <= 170141183460469231731687303715884105727 {
         Some(value)
@@ -27,21 +27,21 @@ fn narrow(value: u128) -> Option<u128>
 
 /// The product, and None where it is above 2^127 - 1.
 pub(crate) fn product(a: u128, b: u128) -> Option<u128>
-    ensures { IsNarrow result (a * b) }
+    ensures { IsNarrowNumber result (a * b) }
 {
     narrow(a.checked_mul(b)?)
 }
 
 /// The sum, and None where it is above 2^127 - 1.
 pub(crate) fn sum(a: u128, b: u128) -> Option<u128>
-    ensures { IsNarrow result (a + b) }
+    ensures { IsNarrowNumber result (a + b) }
 {
     narrow(a.checked_add(b)?)
 }
 
 /// The power of ten, and None where it is above 2^127 - 1. Costs 39 steps at most.
 pub(crate) fn power_of_ten(exponent: usize) -> Option<u128>
-    ensures { IsNarrow result (10 ^ exponent) }
+    ensures { IsNarrowNumber result (10 ^ exponent) }
 {
     let mut power = 1u128;
     let mut k = 0;
@@ -69,7 +69,7 @@ fn common_divisor(a: u128, b: u128) -> u128
 /// The same fraction in lowest terms.
 pub(crate) fn lowest(p: Pair) -> Pair
     requires { 0 < p.den }
-    ensures { IsPair result (text.lowest (p.num, p.den)) }
+    ensures { IsFractionPair result (text.lowest (p.num, p.den)) }
 {
     let divisor = common_divisor(p.num, p.den);
     Pair {
@@ -113,7 +113,7 @@ pub(crate) fn quotient(above: Pair, below: Pair) -> Option<Pair>
 pub(crate) fn signed(negative: bool, p: Pair) -> Ratio
     requires num { p.num < 2 ^ 127 }
     requires den { p.den < 2 ^ 127 }
-    ensures { fraction_of result ≡ text.signed negative (p.num, p.den) }
+    ensures { fraction_of_ratio result ≡ text.signed negative (p.num, p.den) }
 {
     let num = p.num as i128;
     Ratio::Plain {

@@ -5,7 +5,7 @@ ghost use Rattle.sexpr.specs.Source.{source};
 ghost use Rattle.text_items.specs.Nodes.{AreNodes};
 ghost use Rattle.text_items.specs.Stepping.{AreItemsFrom};
 ghost use Rattle.alethe_text.specs.Coefficients as spec;
-ghost use Rattle.proof_store.specs.Ratios.{fraction_of};
+ghost use Rattle.proof_store.specs.Ratios.{fraction_of_ratio};
 ghost use Rattle.coefficients.specs.Prefixes.{so_far, with_one};
 ghost use Rattle.coefficients.specs.Readings.{AreCoefficients};
 ghost use Rattle.coefficients.specs.declared.stops.Stop.TheVariants as Stop;
@@ -44,7 +44,7 @@ pub fn coefficients_at(
 
 /// Puts what was found behind the coefficients. Answers whether all until now are coefficients, and what was found too.
 fn keep(all: bool, found: Option<Ratio>, ratios: &mut Vec<Ratio>) -> Result<bool, Stop>
-    ensures kept { IfOk result (λ still. so_far still ratios.new.items ≡ with_one (so_far all ratios.old.items) (option_map fraction_of found)) }
+    ensures kept { IfOk result (λ still. so_far still ratios.new.items ≡ with_one (so_far all ratios.old.items) (option_map fraction_of_ratio found)) }
     ensures memory { IfErr result (λ stop. stop ≡ Stop.Memory) }
 {
     let Some(ratio) = found else {

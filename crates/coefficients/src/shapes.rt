@@ -6,7 +6,7 @@ ghost use Rattle.text_items.specs.Nodes.{IsNode, AreNodes};
 ghost use Rattle.text_items.specs.Stepping.{IsItemAt, AreItemsFrom};
 ghost use Rattle.alethe_text.specs.Commands as shape;
 ghost use Rattle.alethe_text.specs.Coefficients.{opposite_of};
-ghost use Rattle.coefficients.specs.Amounts.{IsItemFound};
+ghost use Rattle.coefficients.specs.Amounts.{IsItemThere};
 ghost use Rattle.coefficients.specs.Three.{AreThree};
 
 use sexpr::Lexer;
@@ -35,7 +35,7 @@ pub(crate) fn is_symbol(text: &Lexer<'_>, nodes: &[Node], name: &[u8], k: usize)
 /// The node of what stands behind the minus of `(- i)`.
 pub(crate) fn opposite(text: &Lexer<'_>, nodes: &[Node], k: usize) -> Option<usize>
     requires { IsItemAt (source text.now) nodes.now k }
-    ensures { (i : Item) (m : ℕ) → IsNode (source text.now) nodes.now k i m → IsItemFound (source text.now) nodes.now result (opposite_of i) }
+    ensures { (i : Item) (m : ℕ) → IsNode (source text.now) nodes.now k i m → IsItemThere (source text.now) nodes.now result (opposite_of i) }
 {
     let end = node_at(nodes, k).next;
     let inside = second(nodes, k + 1, end)?;

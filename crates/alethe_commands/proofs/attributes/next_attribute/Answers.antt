@@ -2,7 +2,7 @@
 use Rattle.std.proofs.Common.{◌≤◌, arith, sym, subst}
 use Rattle.sexpr.specs.Source.{source}
 use Rattle.text_items.proofs.NodeSteps.{first_at, others_from, further, node_behind, nodes_ordered}
-use Rattle.alethe_commands.specs.CommandNodes.{HasFirstAttribute, IsWithin}
+use Rattle.alethe_commands.specs.CommandNodes.{HasFirstAttribute, LiesWithin}
 use Rattle.alethe_commands.proofs.AttributesByNodes.{none_left, some_from, item_here, within_more}
 use Rattle.alethe_commands.proofs.attributes.next_attribute.Goals as goal
 
@@ -71,7 +71,7 @@ returns-in-Some-clause-within c =
     let here = item_here text nodes c.items.k c.node_at-value.result (first_at text nodes c.items.k c.args.end c.items.invariant.there c.items-test.true) (c.node_at-value.ensures text) in
     let h = c.in-Some.ensures.some c.requires.0 here.0 c.node_at-value.result.next (c.items.invariant.kept c.requires.0 c.requires.1) here.1 in
     let before : c.args.at.now ≤ c.node_at-value.result.next = omega (arith, c.items.invariant.later, node_behind text nodes c.items.k here.0 c.node_at-value.result.next here.1) in
-    subst (λ n. IsWithin c.args.at.now c.in-Some.attribute n) (sym (c.node_at.ensures text h.given h.behind h.here).next)
+    subst (λ n. LiesWithin c.args.at.now c.in-Some.attribute n) (sym (c.node_at.ensures text h.given h.behind h.here).next)
     (within_more c.args.at.now c.node_at-value.result.next h.behind c.in-Some.attribute before h.within)
 
 pub returns-clause-none : goal.returns-clause-none
