@@ -1,0 +1,33 @@
+use Rattle.std.proofs.Common.{◌≡◌, ◌^◌, ◌∙◌, ℕ, Err, ap, refl, arith, inr}
+use Rattle.term_model.specs.Terms.{Term}
+use Rattle.term_names.specs.Making.{PlacesCellsOf, LacksCellOf}
+use Rattle.alethe_reader.specs.Reading.{IsCounted, IsProofOf}
+use Rattle.term_reader.specs.ProblemViews.{IsProblemOf}
+use Rattle.term_reader.proofs.Staying.{lacks_more}
+use Rattle.carcara_cli.specs.Cells.{HasMoreCells}
+use Rattle.carcara_cli.specs.Pools.{HoldsOnly}
+use Rattle.carcara_cli.specs.Reading.{settings_of, IsReadOf}
+use Rattle.carcara_cli.proofs.CellLemmas.{has_more_cells, holds_more}
+use Rattle.carcara_cli.proofs.JudgementLemmas.{judged_proof}
+use Rattle.carcara_cli.proofs.VerdictLemmas.{Corresponds, short_stands}
+use Rattle.carcara_cli.proofs.judging.judge_proof.Goals as goal
+
+pub returns-in-Err-PoolFull : goal.returns-in-Err-PoolFull
+returns-in-Err-PoolFull c = λ bits places.
+    let t = c.args.texts.now in
+    let before = c.requires.problem in
+    let s = c.args.symbols in
+    let z = c.read_proof.new.symbols in
+    let old = c.args.terms.pass in
+    let new = c.read_proof.new.terms.pass in
+    let P : Term → Type 0 = IsCounted t.proof.now (settings_of t.replaces_lets) before.script in
+    let Q : Term → Type 0 = IsReadOf t.problem.now t.replaces_lets t.proof.now in
+    let more : (u : Term) → P u → Q u = λ u h. inr (record { script = before.script; stands = before.stands; counted = h }) in
+    let placed : PlacesCellsOf z old new P = rw (c.flags_of.ensures) at (c.read_proof.ensures.placed before.script before.is) in
+    let lacks : LacksCellOf z new P = rw (c.flags_of.ensures) at (c.read_proof.ensures.full before.script before.is (c.in-Err-PoolFull.is ∙ ap Err c.in-Err-PoolFull.field-0-is)) in
+    let holds : HoldsOnly z new Q = holds_more s z old new P Q more c.read_proof.ensures.symbols.keeps c.read_proof.ensures.keeps.pass c.requires.holds placed in
+    let cells : HasMoreCells Q (2 ^ bits) =
+    has_more_cells z new Q c.pool_full.ensures.table (c.read_proof.ensures.keeps.pass.shares ∙ c.requires.shares)
+    c.pool_full.ensures.one_reference c.pool_full.ensures.in_order holds (lacks_more z new P Q more lacks) (2 ^ bits)
+    (c.read_proof.ensures.keeps.pass.places ∙ places) in
+    rw c.pool_full.ensures.full cells
