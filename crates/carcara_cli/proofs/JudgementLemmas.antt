@@ -56,6 +56,7 @@ module _ (problem : List ℕ) (replaces_lets : Bool) (text : List ℕ) (bits : �
   }
 
   pub judged_proof : (j : Judgement) → IsJudgedProof (flags_of replaces_lets) s v asserted refs j → IsJudgement problem replaces_lets text bits j
+  unfolding checked_as
   judged_proof Valid h = checked_as Valid h Verdict.Valid h.named
   judged_proof (Holey holes) h = (checked_as (Holey holes) h Verdict.Holey h.named.0, h.named.1 ∙ holes_stand refs read.proof s v same 0 h.statuses)
   judged_proof NoEmptyClause h = checked_as NoEmptyClause h Verdict.NoEmpty h.named

@@ -6,3 +6,4 @@ pub mod CellSums
 pub mod TermsOfTexts
 pub mod ScopedTerms
 pub mod ScopedProofs
+pub mod TruthClauses

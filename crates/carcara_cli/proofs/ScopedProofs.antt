@@ -32,8 +32,8 @@ use Rattle.carcara_cli.proofs.ScopedTerms.{IsGood, IsTermIn, IsStepWith, Keeps, 
 -- so are the terms around a scope
 abbrev AreGoodAround : Nesting Var Term → Type 0
 AreGoodAround outermost = ⊤
-AreGoodAround (inside around before anchor) =
-    AreGoodAround around × AreWellSorted around before × AllByRecursion (IsBindingIn around) anchor.bindings
+AreGoodAround (inside around before top) =
+    AreGoodAround around × AreWellSorted around before × AllByRecursion (IsBindingIn around) top.bindings
 
 -- those in a scope and around it
 record IsGoodScope (scope : Scope Var Term) : Type 0 where
@@ -68,7 +68,7 @@ assume_good settings n i s h =
 -- where a step with an id belongs
 abbrev outer_of : Nesting Var Term → Nesting Var Term
 outer_of outermost = outermost
-outer_of (inside around before anchor) = around
+outer_of (inside around before top) = around
 
 abbrev owner : Nesting Var Term → List ℕ → Nesting Var Term
 owner nesting id = if is_open_id nesting id then outer_of nesting else nesting
@@ -101,7 +101,7 @@ Stands id p t = Keeps (λ scope. (p.nesting ≡ owner scope.nesting id) × IsGoo
 
 outer_stands : (nesting : Nesting Var Term) (items : Proof Var Term) → (closes_scope nesting items).nesting ≡ outer_of nesting
 outer_stands outermost items = refl
-outer_stands (inside around before anchor) items = refl
+outer_stands (inside around before top) items = refl
 
 standing_good : (n : Name) (s : ProofState) → Keeps IsGoodScope s → Ends (Stands n.name) (standing_of n s)
 unfolding standing_of

@@ -49,16 +49,20 @@ replaced_in_parts [] ys x h = inr h
 replaced_in_parts (b ∷ xs) ys x (inl h) = inl (inl h)
 replaced_in_parts (b ∷ xs) ys x (inr h) = elim (replaced_in_parts xs ys x h) [ inl l ↦ inl (inr l) | inr r ↦ inr r ]
 
+first_or_later : (b : Var × Term) (bs : List (Var × Term)) (x : Var) → Replaces (b ∷ []) x ⊎ Replaces bs x → Replaces (b ∷ bs) x
+first_or_later b bs x (inl (inl e)) = inl e
+first_or_later b bs x (inl (inr none)) = absurd none
+first_or_later b bs x (inr h) = inr h
+
+swapped : (b : Var × Term) (xs bs : List (Var × Term)) (x : Var) → (Replaces xs x → Replaces bs x) → Replaces xs x ⊎ Replaces (b ∷ []) x → Replaces (b ∷ []) x ⊎ Replaces bs x
+swapped b xs bs x k (inl h) = inr (k h)
+swapped b xs bs x k (inr h) = inl h
+
 replaced_in_reverse : (bs : List (Var × Term)) (x : Var) → Replaces (reverse bs) x → Replaces bs x
 replaced_in_reverse [] x h = h
 replaced_in_reverse (b ∷ bs) x h =
     let apart : Replaces (reverse bs ++ b ∷ []) x = rw (reverse-append (b ∷ []) bs) at h in
-    go (replaced_in_parts (reverse bs) (b ∷ []) x apart)
-  where
-    go : Replaces (reverse bs) x ⊎ Replaces (b ∷ []) x → Replaces (b ∷ bs) x
-    go (inl r) = inr (replaced_in_reverse bs x r)
-    go (inr (inl e)) = inl e
-    go (inr (inr none)) = absurd none
+    first_or_later b bs x (swapped b (reverse bs) bs x (replaced_in_reverse bs x) (replaced_in_parts (reverse bs) (b ∷ []) x apart))
 
 bound_by_anchors : (nesting : Nesting Var Term) (x : Var) → Replaces (open_bindings nesting) x → IsBoundBy (open_anchors nesting) x
 bound_by_anchors outermost x h = h

@@ -1,5 +1,5 @@
 -- A verdict on a proof over references is one on the proof over terms for which it stands.
-use Rattle.std.proofs.Common.{◌≡◌, ℕ, zero, suc, ◌<◌, List, [], ◌∷◌, length, slice_get, Some, refl, sym, ◌∙◌, arith}
+use Rattle.std.proofs.Common.{◌≡◌, ℕ, zero, suc, ◌<◌, List, [], ◌∷◌, length, slice_get, Some, Result, Ok, Err, IfOk, refl, sym, ◌∙◌, arith}
 use Rattle.std.specs.List.{AllZip}
 use Rattle.sym_table.specs.Table.{Table}
 use Rattle.term_model.specs.Terms.{Var, Term}
@@ -83,3 +83,8 @@ verdict_within statuses refs (Verdict.Unknown i) h = status_within statuses i St
 verdict_within statuses refs Verdict.NoEmpty h = tt
 verdict_within statuses refs Verdict.Holey h = tt
 verdict_within statuses refs Verdict.Valid h = tt
+
+-- what holds of an answer holds in weaker words
+pub if_ok_more : {A E : Type 0} (P Q : A → Type 0) → ((a : A) → P a → Q a) → (r : Result A E) → IfOk r P → IfOk r Q
+if_ok_more P Q more (Ok a) h = more a h
+if_ok_more P Q more (Err e) h = h

@@ -87,6 +87,7 @@ fn add_hole_line(hole: &Hole, text: &mut Vec<u8>) -> Result<(), AllocError>
 }
 
 /// The lines of a proof that has holes.
+#[tactic(auto, using(crate::proofs::HoleLemmas::lines_step, crate::proofs::HoleLemmas::lines_end))]
 fn holey_text(alloc: Global, holes: &[Hole]) -> Result<Vec<u8>, AllocError>
     ensures { IfOk result (λ v. v.items ≡ holey_text holes.now) }
 {

@@ -1,6 +1,11 @@
 //! The judgement of the two texts.
 ghost use Rattle.std.specs.Prelude.{◌≡◌, ◌≤◌, ◌+◌, ◌^◌, ℕ, [], length, false, IfOk};
 ghost use Rattle.proof_store.specs.Checks.{StandForSome};
+ghost use Rattle.proof_store.specs.Meaning.{StandForItems};
+ghost use Rattle.term_model.specs.Terms.{Var, Term};
+ghost use Rattle.rule_model.specs.Conditions.{IsClauseOfTruths};
+ghost use Rattle.rule_model.specs.Proofs.{Items};
+ghost use Rattle.rule_model.specs.Reading.{clause_at};
 ghost use Rattle.rules_resolution.specs.Steps.{IsShort};
 ghost use Rattle.term_reader.specs.ProblemViews.{IsNewTable};
 ghost use Rattle.step_check.specs.Statuses.{AreAsserted, AreStatusesOf};
@@ -11,12 +16,14 @@ ghost use Rattle.carcara_cli.specs.Judging.{IsJudgedProof};
 ghost use Rattle.carcara_cli.specs.TopCall.{most_bytes};
 
 use crate::judgement::Judgement;
-use crate::laws::proofs_are_short;
+use crate::laws::proofs_have_scoped_terms;
 use crate::naming::named;
 use crate::pools::{LEAST_BITS, MOST_BITS, pool_bits, pool_full};
 use alethe_reader::read_proof;
+use alethe_text::laws::proofs_are_short;
 use pair_pool::{Memory, Pool};
-use proof_store::{Proof, RuleStop, commands_correspond, terms_correspond};
+use problem_text::laws::{scripts_are_closed, scripts_are_well_sorted};
+use proof_store::{Proof, RuleStop, commands_correspond, proofs_stand_for_one, terms_correspond};
 use smtlib_reader::{Flags, Problem, ReadFault, read_problem};
 use std::alloc::Global;
 use step_check::statuses;
@@ -58,6 +65,7 @@ fn judge_commands(
     requires stand { StandForSome symbols.now terms.old proof.now }
     requires asserted { AreAsserted symbols.now terms.old problem.now.assertions }
     requires short { IsShort proof.now }
+    requires sorted { (of : Items Var Term) (i : ℕ) → StandForItems symbols.now terms.old proof.now of → IsClauseOfTruths (clause_at of i) }
     ensures { IfOk result (IsJudgedProof flags symbols.now terms.old problem.now.assertions proof.now) }
 {
     let list = match statuses(alloc, proof, problem, symbols, flags, terms) {
@@ -87,8 +95,12 @@ fn judge_proof(
 {
     problems_stay();
     proofs_are_short();
+    scripts_are_well_sorted();
+    scripts_are_closed();
+    proofs_have_scoped_terms();
     commands_correspond();
     terms_correspond();
+    proofs_stand_for_one();
     let flags = flags_of(texts.replaces_lets);
     let proof = match read_proof(alloc, texts.proof, flags, problem, symbols, &mut terms) {
         Ok(proof) => proof,
@@ -96,6 +108,8 @@ fn judge_proof(
         Err(ReadFault::PoolFull) => return Ok(pool_full(symbols, terms)),
         Err(ReadFault::Memory) => return Err(Memory),
     };
+    let _leaves = symbols.count();
+    terms.one_to_one();
     judge_commands(alloc, flags, problem, &proof, symbols, &mut terms)
 }
 

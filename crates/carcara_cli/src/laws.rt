@@ -1,12 +1,11 @@
 //! Laws of the definitions. Each is the contract of a function that does nothing.
-ghost use Rattle.std.specs.Prelude.{◌<◌, ◌≤◌, ◌++◌, ℕ, List, length, Bool};
+ghost use Rattle.std.specs.Prelude.{◌<◌, ◌++◌, ℕ, List, Bool};
 ghost use Rattle.sexpr.specs.Items.{Items, StandsForItems};
 ghost use Rattle.term_model.specs.Terms.{Var, Term};
 ghost use Rattle.term_model.specs.Unsatisfiable.{Unsatisfiable};
 ghost use Rattle.rule_model.specs.declared.statuses.Verdict.{Verdict};
 ghost use Rattle.rule_model.specs.Proofs.{Items as Proof};
 ghost use Rattle.rule_model.specs.Truth.{IsWellSortedProof};
-ghost use Rattle.rules_resolution.specs.Steps.{IsShort};
 ghost use Rattle.problem_text.specs.Problems.{problem, StandsForProblem};
 ghost use Rattle.problem_text.specs.Scripts.{Script};
 ghost use Rattle.problem_text.specs.Soundness.{IsSound, HasScopedTerms};
@@ -16,7 +15,6 @@ ghost use Rattle.carcara_cli.specs.Reading.{settings_of, IsReadOf};
 ghost use Rattle.carcara_cli.specs.Cells.{HasMoreCells};
 ghost use Rattle.carcara_cli.specs.CellSums.{cells_in_all};
 ghost use Rattle.carcara_cli.specs.Judgement.{IsCheckedAs};
-ghost use Rattle.carcara_cli.specs.TopCall.{most_bytes};
 
 use alethe_text::laws::proofs_are_well_formed;
 use problem_text::laws::{scripts_are_closed, scripts_are_well_sorted, texts_have_one_reading};
@@ -27,13 +25,6 @@ use rule_model::laws::soundness::valid_proofs_are_refutations;
 pub fn proofs_have_scoped_terms()
     ensures { (source : List ℕ) (settings : ProofSettings) (before : Script) (proof : Proof Var Term) (after : Script) → IsSound before → HasScopedTerms before → StandsForProof source settings before proof after → IsWellSortedProof proof }
 {}
-
-/// A text that is no longer than a file may be stands for a proof in which no clause and no list of premises has 2^32 items.
-pub fn proofs_are_short()
-    ensures { (source : List ℕ) (settings : ProofSettings) (before : Script) (proof : Proof Var Term) (after : Script) → length source ≤ most_bytes → StandsForProof source settings before proof after → IsShort proof }
-{
-    sexpr::tokens_are_spelled();
-}
 
 /// Where the verdict on the proof is `valid`, the problem's text stands for assertions that no interpretation makes all
 /// true.

@@ -29,7 +29,6 @@ fn hole_at(alloc: Global, proof: &Proof, index: u32) -> Result<Hole, AllocError>
 }
 
 /// The holes of a proof, in file order.
-#[tactic(auto, using(crate::proofs::HoleLemmas::none_left, crate::proofs::HoleLemmas::one_hole, crate::proofs::HoleLemmas::no_hole))]
 fn holes_of(
     alloc: Global,
     statuses: &[Status],
