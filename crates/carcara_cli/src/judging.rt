@@ -68,6 +68,7 @@ fn judge_commands(
     requires sorted { (of : Items Var Term) (i : ℕ) → StandForItems symbols.now terms.old proof.now of → IsClauseOfTruths (clause_at of i) }
     ensures { IfOk result (IsJudgedProof flags symbols.now terms.old problem.now.assertions proof.now) }
 {
+    commands_correspond();
     let list = match statuses(alloc, proof, problem, symbols, flags, terms) {
         Ok(list) => list,
         Err(RuleStop::Memory) => return Err(Memory),

@@ -19,15 +19,15 @@ pub returns-in-Err-PoolFull : goal.returns-in-Err-PoolFull
 returns-in-Err-PoolFull c = λ bits places.
     let t = c.args.texts.now in
     let before = c.requires.problem in
-    let s = c.args.symbols in
+    let s = c.args.symbols.now in
     let z = c.read_proof.new.symbols in
     let old = c.args.terms.pass in
     let new = c.read_proof.new.terms.pass in
     let P : Term → Type 0 = IsCounted t.proof.now (settings_of t.replaces_lets) before.script in
     let Q : Term → Type 0 = IsReadOf t.problem.now t.replaces_lets t.proof.now in
     let more : (u : Term) → P u → Q u = λ u h. inr (record { script = before.script; stands = before.stands; counted = h }) in
-    let placed : PlacesCellsOf z old new P = rw (c.flags_of.ensures) at (c.read_proof.ensures.placed before.script before.is) in
-    let lacks : LacksCellOf z new P = rw (c.flags_of.ensures) at (c.read_proof.ensures.full before.script before.is (c.in-Err-PoolFull.is ∙ ap Err c.in-Err-PoolFull.field-0-is)) in
+    let placed : PlacesCellsOf z old new P = rw (c.flags_of-flags.ensures) at (c.read_proof.ensures.placed before.script before.is) in
+    let lacks : LacksCellOf z new P = rw (c.flags_of-flags.ensures) at (c.read_proof.ensures.full before.script before.is (c.in-Err-PoolFull.is ∙ ap Err c.in-Err-PoolFull.field-0-is)) in
     let holds : HoldsOnly z new Q = holds_more s z old new P Q more c.read_proof.ensures.symbols.keeps c.read_proof.ensures.keeps.pass c.requires.holds placed in
     let cells : HasMoreCells Q (2 ^ bits) =
     has_more_cells z new Q c.pool_full.ensures.table (c.read_proof.ensures.keeps.pass.shares ∙ c.requires.shares)
@@ -39,11 +39,11 @@ pub returns : goal.returns
 returns c = λ bits places.
     let t = c.args.texts.now in
     let before = c.requires.problem in
-    let s = c.args.symbols in
+    let s = c.args.symbols.now in
     let z = c.read_proof.new.symbols in
     let w = c.read_proof.new.terms in
     let stays : IsProblemOf z w c.args.problem.now before.script = c.problems_stay.ensures s z c.args.terms w c.args.problem.now before.script c.read_proof.ensures.symbols c.read_proof.ensures.keeps before.is in
-    let read : IsProofOf t.proof.now (settings_of t.replaces_lets) before.script z w c.in-Ok.proof = search (rules, c.read_proof.ensures.proof before.script before.is, c.in-Ok.is, c.flags_of.ensures) in
+    let read : IsProofOf t.proof.now (settings_of t.replaces_lets) before.script z w c.in-Ok.proof = search (rules, c.read_proof.ensures.proof before.script before.is, c.in-Ok.is, c.flags_of-flags.ensures) in
     let same : Corresponds z w c.in-Ok.proof read.proof = record {
       count = c.commands_correspond.ensures.commands z w c.in-Ok.proof read.proof read.refer;
       ids = λ i. c.commands_correspond.ensures.id z w c.in-Ok.proof read.proof i read.refer;
@@ -53,7 +53,7 @@ returns c = λ bits places.
       clauses = λ i. c.terms_correspond.ensures.clause z w c.in-Ok.proof read.proof i read.refer;
     } in
     if_ok_more _ _ (λ j h. judged_proof t.problem.now t.replaces_lets t.proof.now bits before.script z w c.args.problem.now.assertions c.in-Ok.proof before.stands stays.assertions read same j h) _
-    (rw c.flags_of.ensures at c.judge_commands.ensures)
+    (rw c.flags_of-flags.ensures at c.judge_commands.ensures)
 
 pub judge_commands-requires-clause-short : goal.judge_commands-requires-clause-short
 judge_commands-requires-clause-short c =
@@ -61,7 +61,7 @@ judge_commands-requires-clause-short c =
     let before = c.requires.problem in
     let z = c.read_proof.new.symbols in
     let w = c.read_proof.new.terms in
-    let read : IsProofOf t.proof.now (settings_of t.replaces_lets) before.script z w c.in-Ok.proof = search (rules, c.read_proof.ensures.proof before.script before.is, c.in-Ok.is, c.flags_of.ensures) in
+    let read : IsProofOf t.proof.now (settings_of t.replaces_lets) before.script z w c.in-Ok.proof = search (rules, c.read_proof.ensures.proof before.script before.is, c.in-Ok.is, c.flags_of-flags.ensures) in
     let same : Corresponds z w c.in-Ok.proof read.proof = record {
       count = c.commands_correspond.ensures.commands z w c.in-Ok.proof read.proof read.refer;
       ids = λ i. c.commands_correspond.ensures.id z w c.in-Ok.proof read.proof i read.refer;
@@ -81,7 +81,7 @@ judge_commands-requires-clause-stand c =
     let before = c.requires.problem in
     let z = c.read_proof.new.symbols in
     let w = c.read_proof.new.terms in
-    let read : IsProofOf t.proof.now (settings_of t.replaces_lets) before.script z w c.in-Ok.proof = search (rules, c.read_proof.ensures.proof before.script before.is, c.in-Ok.is, c.flags_of.ensures) in
+    let read : IsProofOf t.proof.now (settings_of t.replaces_lets) before.script z w c.in-Ok.proof = search (rules, c.read_proof.ensures.proof before.script before.is, c.in-Ok.is, c.flags_of-flags.ensures) in
     record { proof = read.proof; stand = read.refer }
 
 pub judge_commands-requires-clause-asserted : goal.judge_commands-requires-clause-asserted
@@ -89,7 +89,7 @@ judge_commands-requires-clause-asserted c =
     let before = c.requires.problem in
     let z = c.read_proof.new.symbols in
     let w = c.read_proof.new.terms in
-    let stays : IsProblemOf z w c.args.problem.now before.script = c.problems_stay.ensures c.args.symbols z c.args.terms w c.args.problem.now before.script c.read_proof.ensures.symbols c.read_proof.ensures.keeps before.is in
+    let stays : IsProblemOf z w c.args.problem.now before.script = c.problems_stay.ensures c.args.symbols.now z c.args.terms w c.args.problem.now before.script c.read_proof.ensures.symbols c.read_proof.ensures.keeps before.is in
     record { assertions = before.script.assertions; refer = stays.assertions }
 
 pub judge_commands-requires-clause-sorted : goal.judge_commands-requires-clause-sorted
@@ -98,9 +98,9 @@ judge_commands-requires-clause-sorted c = λ of i stands.
     let before = c.requires.problem in
     let z = c.read_proof.new.symbols in
     let w = c.read_proof.new.terms in
-    let read : IsProofOf t.proof.now (settings_of t.replaces_lets) before.script z w c.in-Ok.proof = search (rules, c.read_proof.ensures.proof before.script before.is, c.in-Ok.is, c.flags_of.ensures) in
+    let read : IsProofOf t.proof.now (settings_of t.replaces_lets) before.script z w c.in-Ok.proof = search (rules, c.read_proof.ensures.proof before.script before.is, c.in-Ok.is, c.flags_of-flags.ensures) in
     let sound = c.scripts_are_well_sorted.ensures t.problem.now t.replaces_lets before.script before.stands in
     let scoped = c.scripts_are_closed.ensures t.problem.now t.replaces_lets before.script before.stands in
     let sorted = c.proofs_have_scoped_terms.ensures t.proof.now (settings_of t.replaces_lets) before.script read.proof read.after sound scoped read.stands in
-    let same : of ≡ read.proof = c.proofs_stand_for_one.ensures.one z w c.in-Ok.proof of read.proof c.count.ensures.table c.one_to_one.ensures stands read.refer in
+    let same : of ≡ read.proof = c.proofs_stand_for_one.ensures.one z w c.in-Ok.proof of read.proof c.count-leaves.ensures.table c.one_to_one.ensures stands read.refer in
     subst (λ p. IsClauseOfTruths (clause_at p i)) (sym same) (clauses_of_truths read.proof i sorted)
