@@ -1,12 +1,12 @@
 -- The holes that are found on the way over the commands.
-use Rattle.std.proofs.Common.{◌≡◌, ◌≢◌, ℕ, zero, suc, ◌+◌, ◌<◌, ◌≤◌, List, [], ◌∷◌, ◌++◌, length, drop, slice_get, slice_index_or, Option, Some, None, true, false, refl, sym, ap, ◌∙◌, arith, append_assoc, append-nil}
+use Rattle.std.proofs.Common.{◌≡◌, ◌≢◌, ℕ, zero, suc, ◌+◌, ◌<◌, ◌≤◌, List, [], ◌∷◌, ◌++◌, length, drop, slice_get, slice_index_or, Some, refl, sym, ap, ◌∙◌, arith, append_assoc, append-nil}
 use Rattle.std.specs.List.{flat_map}
 use Rattle.std.proofs.Math.Numerals.{add-one}
 use Rattle.rule_model.specs.declared.statuses.Status.{Status}
 use Rattle.rule_model.specs.Proofs.{Items}
 use Rattle.rule_model.specs.Reading.{id_at, rule_name_at}
-use Rattle.carcara_cli.specs.Answering.{TellsHole}
-use Rattle.carcara_cli.specs.Holes.{Hole, holes_from}
+use Rattle.carcara_cli.specs.declared.judgement.Hole as code
+use Rattle.carcara_cli.specs.Holes.{Hole, holes_from, told_hole}
 
 module _ {V T : Type 0} (proof : Items V T) where
   -- behind the last command there is none
@@ -56,23 +56,3 @@ module _ {A : Type 0} (f : A → List ℕ) where
 
   pub lines_end : (xs : List A) (k : ℕ) (text whole : List ℕ) → length xs ≤ k → text ++ flat_map f (drop k xs) ≡ whole → text ≡ whole
   lines_end xs k text whole h kept = sym (append-nil text) ∙ ap (λ l. text ++ l) (sym (no_lines xs k h)) ∙ kept
-
-module _ {V T : Type 0} (proof : Items V T) where
-  -- a command that is no hole adds none
-  pub none_added : (k : ℕ) (statuses : List Status) (found : List Hole) → TellsHole (slice_get statuses k) false → found ++ holes_from proof (k + 1) (drop (k + 1) statuses) ≡ found ++ holes_from proof k (drop k statuses)
-  none_added k statuses found h = ap (λ l. found ++ l) (rw (add-one k) (sym (go (slice_get statuses k) refl h)))
-    where
-      go : (o : Option Status) → slice_get statuses k ≡ o → TellsHole o false → holes_from proof k (drop k statuses) ≡ holes_from proof (suc k) (drop (suc k) statuses)
-      go None e t = absurd t
-      go (Some s) e t = more_behind proof k k statuses s e t
-
-  -- and a hole adds itself
-  pub one_added : (k : ℕ) (statuses : List Status) (found : List Hole) → TellsHole (slice_get statuses k) true
-      → (found ++ record { id = id_at proof k; rule = rule_name_at proof k } ∷ []) ++ holes_from proof (k + 1) (drop (k + 1) statuses) ≡ found ++ holes_from proof k (drop k statuses)
-  one_added k statuses found h =
-      append_assoc found (record { id = id_at proof k; rule = rule_name_at proof k } ∷ []) (holes_from proof (k + 1) (drop (k + 1) statuses))
-      ∙ ap (λ l. found ++ l) (rw (add-one k) (sym (go (slice_get statuses k) refl h)))
-    where
-      go : (o : Option Status) → slice_get statuses k ≡ o → TellsHole o true → holes_from proof k (drop k statuses) ≡ record { id = id_at proof k; rule = rule_name_at proof k } ∷ holes_from proof (suc k) (drop (suc k) statuses)
-      go None e t = absurd t
-      go (Some s) e t = one_behind proof k k statuses (e ∙ ap Some t)

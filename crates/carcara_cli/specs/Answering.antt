@@ -1,5 +1,5 @@
 -- Private. What the parts of the top call say on the way to an answer.
-use Rattle.std.specs.Prelude.{◌≡◌, ◌≢◌, ℕ, ◌<◌, Bool, true, false, List, map, ⊤, Option, None, Some}
+use Rattle.std.specs.Prelude.{◌≡◌, ℕ, ◌<◌, List, map, ⊤, Option, None, Some}
 use Rattle.file_ports.specs.declared.whole.ReadStop.{ReadStop}
 use Rattle.file_ports.specs.declared.whole.ReadStop.TheVariants as stop
 use Rattle.rule_model.specs.declared.statuses.Status.{Status}
@@ -19,12 +19,6 @@ abbrev pub IsUnread : ReadStop → Answer → Type 0
 IsUnread stop.Fault a = a ≡ ReadFault
 IsUnread stop.TooLong a = a ≡ TooLong
 IsUnread stop.Memory a = ⊥
-
--- the answer to whether a command is a hole
-abbrev pub TellsHole : Option Status → Bool → Type 0
-TellsHole None hole = ⊥
-TellsHole (Some status) true = status ≡ Status.Hole
-TellsHole (Some status) false = status ≢ Status.Hole
 
 -- a command that a verdict names is one of so many
 abbrev pub NamesOneOf : ℕ → Verdict → Type 0

@@ -1,8 +1,8 @@
 //! The judgement that a verdict is, with the ids and rules that it names.
-ghost use Rattle.std.specs.Prelude.{◌≡◌, ◌<◌, ◌+◌, ◌++◌, length, map, drop, slice_get, IfOk, OnOk};
+ghost use Rattle.std.specs.Prelude.{◌≡◌, ◌<◌, length, map, IfOk};
 ghost use Rattle.rule_model.specs.Reading.{id_at, rule_name_at};
 ghost use Rattle.rule_model.specs.Scopes.{commands_in};
-ghost use Rattle.carcara_cli.specs.Answering.{TellsHole, NamesOneOf, IsNamed};
+ghost use Rattle.carcara_cli.specs.Answering.{NamesOneOf, IsNamed};
 ghost use Rattle.carcara_cli.specs.Holes.{holes_from, told_hole};
 
 use crate::judgement::{Hole, Judgement};
@@ -28,35 +28,7 @@ fn hole_at(alloc: Global, proof: &Proof, index: u32) -> Result<Hole, AllocError>
     Ok(Hole { id, rule })
 }
 
-/// Whether the status at an index is that of a hole.
-fn is_hole(statuses: &[Status], index: u32) -> bool
-    requires { index < length statuses.now }
-    ensures { TellsHole (slice_get statuses.now index) result }
-{
-    matches!(statuses[index as usize], Status::Hole)
-}
-
-/// The command at an index behind the holes before it, where it is one.
-#[tactic(auto, using(crate::proofs::HoleLemmas::none_added, crate::proofs::HoleLemmas::one_added))]
-fn add_hole(
-    alloc: Global,
-    statuses: &[Status],
-    proof: &Proof,
-    index: u32,
-    holes: &mut Vec<Hole>,
-) -> Result<(), AllocError>
-    requires count { length statuses.now ≡ commands_in proof.now }
-    requires within { index < commands_in proof.now }
-    ensures { OnOk result (map told_hole holes.new.items ++ holes_from proof.now (index + 1) (drop (index + 1) statuses.now) ≡ map told_hole holes.old.items ++ holes_from proof.now index (drop index statuses.now)) }
-{
-    if is_hole(statuses, index) {
-        holes.push(hole_at(alloc, proof, index)?)?;
-    }
-    Ok(())
-}
-
 /// The holes of a proof, in file order.
-#[tactic(auto, using(crate::proofs::HoleLemmas::none_behind))]
 fn holes_of(
     alloc: Global,
     statuses: &[Status],
@@ -67,7 +39,9 @@ fn holes_of(
 {
     let mut holes = Vec::new(alloc);
     'commands: for index in 0..proof.count() {
-        add_hole(alloc, statuses, proof, index, &mut holes)?;
+        if matches!(statuses[index as usize], Status::Hole) {
+            holes.push(hole_at(alloc, proof, index)?)?;
+        }
     }
     Ok(holes)
 }
