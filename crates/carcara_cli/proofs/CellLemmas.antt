@@ -6,7 +6,7 @@ use Rattle.pair_pool.specs.Views.{PassView, IsListed, IsPlaced, IsSeen, IsOneToO
 use Rattle.sym_table.specs.Table.{Table, IsTable, Keeps}
 use Rattle.term_model.specs.Terms.{Term}
 use Rattle.term_pool.specs.Views.{KeepsPass}
-use Rattle.term_names.specs.Making.{PlacesCellsOf, LacksCellOf, IsCellOf}
+use Rattle.term_names.specs.Making.{PlacesCellsOf, LacksCellOf, IsWantedCell}
 use Rattle.term_reader.proofs.Staying.{cell_stays, cell_more}
 use Rattle.carcara_cli.specs.Cells.{IsCellOfRead, HasMoreCells}
 use Rattle.carcara_cli.specs.Pools.{HoldsOnly}
@@ -36,7 +36,7 @@ module _ (s : Table) (pass : PassView) (IsRead : Term → Type 0)
     (lacks : LacksCellOf s pass IsRead) where
   -- a cell that stands in the table is one of a term that is read
   abbrev IsOfText : ℕ → ℕ → Type 0
-  IsOfText a b = IsCellOf s pass IsRead a b
+  IsOfText a b = IsWantedCell s pass IsRead a b
 
   of_text : (r a b : ℕ) → IsSeen pass r a b → IsOfText a b
   of_text r a b seen = holds r a b (order.whole all r a b seen)

@@ -3,12 +3,12 @@ use Rattle.std.proofs.Common.{◌≡◌, ◌≢◌, ℕ, zero, suc, ◌+◌, ◌
 use Rattle.std.specs.List.{flat_map}
 use Rattle.std.proofs.Math.Numerals.{add-one}
 use Rattle.rule_model.specs.declared.statuses.Status.{Status}
-use Rattle.rule_model.specs.Proofs.{Items}
+use Rattle.rule_model.specs.Proofs.{ProofItems}
 use Rattle.rule_model.specs.Reading.{id_at, rule_name_at}
 use Rattle.carcara_cli.specs.declared.judgement.Hole as code
 use Rattle.carcara_cli.specs.Holes.{Hole, holes_from, told_hole}
 
-module _ {V T : Type 0} (proof : Items V T) where
+module _ {V T : Type 0} (proof : ProofItems V T) where
   -- behind the last command there is none
   pub none_behind : (i k : ℕ) (statuses : List Status) → length statuses ≤ k → holes_from proof i (drop k statuses) ≡ []
   none_behind i zero [] e = refl

@@ -6,7 +6,7 @@ use Rattle.term_model.specs.Unsatisfiable.{Unsatisfiable}
 use Rattle.term_pool.specs.Views.{TermsView, ReferToAll}
 use Rattle.rule_model.specs.declared.statuses.Status.{Status}
 use Rattle.rule_model.specs.declared.statuses.Verdict.{Verdict}
-use Rattle.rule_model.specs.Proofs.{Items}
+use Rattle.rule_model.specs.Proofs.{ProofItems}
 use Rattle.problem_text.specs.Problems.{StandsForProblem}
 use Rattle.problem_text.specs.Scripts.{Script}
 use Rattle.alethe_text.specs.ProofTexts.{StandsForProof}
@@ -30,7 +30,7 @@ use Rattle.carcara_cli.specs.Answering.{IsUnread, IsNamed}
 use Rattle.carcara_cli.proofs.VerdictLemmas.{Corresponds, verdict_stands}
 
 -- the same commands have the same holes
-holes_stand : (refs : Items ℕ ℕ) (proof : Items Var Term) (s : Table) (v : TermsView) → Corresponds s v refs proof → (i : ℕ) (statuses : List Status) → holes_from refs i statuses ≡ holes_from proof i statuses
+holes_stand : (refs : ProofItems ℕ ℕ) (proof : ProofItems Var Term) (s : Table) (v : TermsView) → Corresponds s v refs proof → (i : ℕ) (statuses : List Status) → holes_from refs i statuses ≡ holes_from proof i statuses
 holes_stand refs proof s v same i [] = refl
 holes_stand refs proof s v same i (Status.Ok ∷ statuses) = holes_stand refs proof s v same (suc i) statuses
 holes_stand refs proof s v same i (Status.Hole ∷ statuses) = rw (same.ids i, same.rules i, holes_stand refs proof s v same (suc i) statuses) refl
@@ -38,7 +38,7 @@ holes_stand refs proof s v same i (Status.Faulty cause ∷ statuses) = holes_sta
 holes_stand refs proof s v same i (Status.Wide ∷ statuses) = holes_stand refs proof s v same (suc i) statuses
 
 module _ (problem : List ℕ) (replaces_lets : Bool) (text : List ℕ) (bits : ℕ) (script : Script)
-    (s : Table) (v : TermsView) (asserted : List ℕ) (refs : Items ℕ ℕ)
+    (s : Table) (v : TermsView) (asserted : List ℕ) (refs : ProofItems ℕ ℕ)
     (problem_text : StandsForProblem problem replaces_lets script)
     (assertions : ReferToAll s v asserted script.assertions)
     (read : IsProofOf text (settings_of replaces_lets) script s v refs)

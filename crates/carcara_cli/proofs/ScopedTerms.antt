@@ -22,7 +22,7 @@ use Rattle.rule_model.specs.Visibility.{Sight, open_bindings}
 use Rattle.text_items.specs.ItemShapes.{Name}
 use Rattle.problem_text.specs.Forms.{form_of}
 use Rattle.problem_text.specs.Names.{Bound, Place, itself}
-use Rattle.problem_text.specs.Soundness.{IsRead, IsSound, HasScopedTerms, IsScoped, AreThemselves, AreSorted as AreBoundSorted}
+use Rattle.problem_text.specs.Soundness.{IsRead, IsSound, HasScopedTerms, IsScoped, AreThemselves, AreBoundSorted as AreBoundSorted}
 use Rattle.problem_text.specs.Scripts.{Script}
 use Rattle.problem_text.specs.Terms.{read_term}
 use Rattle.problem_text.specs.TypedTerms.{Typed}

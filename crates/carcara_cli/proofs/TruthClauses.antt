@@ -8,7 +8,7 @@ use Rattle.term_model.specs.Sorts.{IsOf}
 use Rattle.term_model.specs.Terms.{Var, Term}
 use Rattle.rule_model.specs.Commands.{Line, Entry, entry_of, lines_in}
 use Rattle.rule_model.specs.Conditions.{IsClauseOfTruths}
-use Rattle.rule_model.specs.Proofs.{Items, no_items, with_assume, with_step, with_subproof}
+use Rattle.rule_model.specs.Proofs.{ProofItems, no_items, with_assume, with_step, with_subproof}
 use Rattle.rule_model.specs.Reading.{clause_of, clause_at}
 use Rattle.rule_model.specs.Scopes.{Nesting, outermost, inner}
 use Rattle.rule_model.specs.Truth.{IsLiteralIn, AreWellSorted, IsWellSortedProof}
@@ -21,7 +21,7 @@ truths : (nesting : Nesting Var Term) (ts : List Term) → AllByRecursion (IsLit
 truths nesting [] h = All-nil (λ t. IsOf t Sort.Bool)
 truths nesting (t ∷ ts) h = All-cons (λ t. IsOf t Sort.Bool) t ts h.0.sort (truths nesting ts h.1)
 
-lines_of_truths : (nesting : Nesting Var Term) (items : Items Var Term) → AreWellSorted nesting items → AllByRecursion IsTruthLine (lines_in nesting items)
+lines_of_truths : (nesting : Nesting Var Term) (items : ProofItems Var Term) → AreWellSorted nesting items → AllByRecursion IsTruthLine (lines_in nesting items)
 lines_of_truths nesting no_items sorted = tt
 lines_of_truths nesting (with_assume items id t) sorted =
     all_joined _ (lines_in nesting items) _ (lines_of_truths nesting items sorted.0) (truths nesting (t ∷ []) (sorted.1, tt), tt)
@@ -38,5 +38,5 @@ truths_at (l ∷ lines) zero h = h.0
 truths_at (l ∷ lines) (suc i) h = truths_at lines i h.1
 
 -- each clause is of terms of Bool
-pub clauses_of_truths : (proof : Items Var Term) (i : ℕ) → IsWellSortedProof proof → IsClauseOfTruths (clause_at proof i)
+pub clauses_of_truths : (proof : ProofItems Var Term) (i : ℕ) → IsWellSortedProof proof → IsClauseOfTruths (clause_at proof i)
 clauses_of_truths proof i sorted = truths_at (lines_in outermost proof) i (lines_of_truths outermost proof sorted)

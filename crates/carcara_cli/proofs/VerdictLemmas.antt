@@ -6,7 +6,7 @@ use Rattle.term_model.specs.Terms.{Var, Term}
 use Rattle.term_pool.specs.Views.{TermsView, RefersTo}
 use Rattle.rule_model.specs.declared.statuses.Status.{Status}
 use Rattle.rule_model.specs.declared.statuses.Verdict.{Verdict}
-use Rattle.rule_model.specs.Proofs.{Items}
+use Rattle.rule_model.specs.Proofs.{ProofItems}
 use Rattle.rule_model.specs.Reading.{id_at, rule_name_at, clause_at, premises_at, scope_at}
 use Rattle.rule_model.specs.Scopes.{commands_in}
 use Rattle.rule_model.specs.Statuses.{ReachesEmpty, IsVerdict}
@@ -33,7 +33,7 @@ module _ {A B : Type 0} (R : A → B → Type 0) where
   zip_length (x ∷ xs) (y ∷ ys) h = let rest = zip_length xs ys h.1 in omega (arith, rest)
 
 -- the two have the same commands
-pub record Corresponds (s : Table) (v : TermsView) (refs : Items ℕ ℕ) (proof : Items Var Term) : Type 0 where
+pub record Corresponds (s : Table) (v : TermsView) (refs : ProofItems ℕ ℕ) (proof : ProofItems Var Term) : Type 0 where
   pub count : commands_in refs ≡ commands_in proof
   pub ids : (i : ℕ) → id_at refs i ≡ id_at proof i
   pub rules : (i : ℕ) → rule_name_at refs i ≡ rule_name_at proof i
@@ -41,7 +41,7 @@ pub record Corresponds (s : Table) (v : TermsView) (refs : Items ℕ ℕ) (proof
   pub premises : (i : ℕ) → premises_at refs i ≡ premises_at proof i
   pub clauses : (i : ℕ) → AllZip (RefersTo s v) (clause_at refs i) (clause_at proof i)
 
-module _ (s : Table) (v : TermsView) (refs : Items ℕ ℕ) (proof : Items Var Term) (same : Corresponds s v refs proof) where
+module _ (s : Table) (v : TermsView) (refs : ProofItems ℕ ℕ) (proof : ProofItems Var Term) (same : Corresponds s v refs proof) where
   reaches : ReachesEmpty refs → ReachesEmpty proof
   reaches h = record {
     index = h.index;
@@ -77,7 +77,7 @@ status_within [] i status e = absurd (cc)
 status_within (z ∷ statuses) zero status e = omega arith
 status_within (z ∷ statuses) (suc i) status e = let h = status_within statuses i status e in omega (arith, h)
 
-pub verdict_within : (statuses : List Status) (refs : Items ℕ ℕ) (of : Verdict) → IsVerdict statuses refs of → NamesOneOf (length statuses) of
+pub verdict_within : (statuses : List Status) (refs : ProofItems ℕ ℕ) (of : Verdict) → IsVerdict statuses refs of → NamesOneOf (length statuses) of
 verdict_within statuses refs (Verdict.InvalidAt i cause) h = status_within statuses i (Status.Faulty cause) h.here
 verdict_within statuses refs (Verdict.Unknown i) h = status_within statuses i Status.Wide h.here
 verdict_within statuses refs Verdict.NoEmpty h = tt

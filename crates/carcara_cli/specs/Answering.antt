@@ -4,7 +4,7 @@ use Rattle.file_ports.specs.declared.whole.ReadStop.{ReadStop}
 use Rattle.file_ports.specs.declared.whole.ReadStop.TheVariants as stop
 use Rattle.rule_model.specs.declared.statuses.Status.{Status}
 use Rattle.rule_model.specs.declared.statuses.Verdict.{Verdict}
-use Rattle.rule_model.specs.Proofs.{Items}
+use Rattle.rule_model.specs.Proofs.{ProofItems}
 use Rattle.rule_model.specs.Reading.{id_at}
 use Rattle.carcara_cli.specs.declared.answer.Answer.{Answer}
 use Rattle.carcara_cli.specs.declared.answer.Answer.TheVariants.{ReadFault, TooLong}
@@ -27,7 +27,7 @@ NamesOneOf n (Verdict.Unknown i) = i < n
 NamesOneOf n v = ⊤
 
 -- the judgement that a verdict is, with the ids that it names
-abbrev pub IsNamed : {V T : Type 0} → List Status → Items V T → Verdict → Judgement → Type 0
+abbrev pub IsNamed : {V T : Type 0} → List Status → ProofItems V T → Verdict → Judgement → Type 0
 IsNamed statuses proof v Valid = v ≡ Verdict.Valid
 IsNamed statuses proof v (Holey holes) = (v ≡ Verdict.Holey) × (map told_hole holes.items ≡ holes_from proof 0 statuses)
 IsNamed statuses proof v NoEmptyClause = v ≡ Verdict.NoEmpty

@@ -1,7 +1,7 @@
 -- Public. The holes of a proof: the commands that the check leaves open.
 use Rattle.std.specs.Prelude.{ℕ, suc, List, [], ◌∷◌}
 use Rattle.rule_model.specs.declared.statuses.Status.{Status}
-use Rattle.rule_model.specs.Proofs.{Items}
+use Rattle.rule_model.specs.Proofs.{ProofItems}
 use Rattle.rule_model.specs.Reading.{id_at, rule_name_at}
 use Rattle.carcara_cli.specs.declared.judgement.Hole as code
 
@@ -11,7 +11,7 @@ pub record Hole : Type 0 where
   pub rule : List ℕ
 
 -- The holes among the commands from an index on, in file order, where these are their statuses.
-abbrev pub holes_from : {V T : Type 0} → Items V T → ℕ → List Status → List Hole
+abbrev pub holes_from : {V T : Type 0} → ProofItems V T → ℕ → List Status → List Hole
 holes_from proof i [] = []
 holes_from proof i (Status.Hole ∷ statuses) =
     record { id = id_at proof i; rule = rule_name_at proof i } ∷ holes_from proof (suc i) statuses

@@ -4,7 +4,7 @@ use Rattle.sexpr.specs.declared.causes.Refusal.{Refusal}
 use Rattle.term_model.specs.Terms.{Var, Term}
 use Rattle.rule_model.specs.declared.statuses.Status.{Status}
 use Rattle.rule_model.specs.declared.statuses.Verdict.{Verdict}
-use Rattle.rule_model.specs.Proofs.{Items}
+use Rattle.rule_model.specs.Proofs.{ProofItems}
 use Rattle.rule_model.specs.Reading.{id_at}
 use Rattle.rule_model.specs.Statuses.{AreStatuses, IsVerdict}
 use Rattle.problem_text.specs.Problems.{StandsForProblem, IsFirstFault}
@@ -21,7 +21,7 @@ use Rattle.carcara_cli.specs.Holes.{holes_from, told_hole}
 -- replaced where that is asked for.
 pub record IsCheckedAs (problem : List ℕ) (replaces_lets : Bool) (proof : List ℕ) (v : Verdict) : Type 0 where
   pub script : Script
-  pub commands : Items Var Term
+  pub commands : ProofItems Var Term
   pub after : Script
   pub statuses : List Status
   pub problem_text : StandsForProblem problem replaces_lets script

@@ -4,7 +4,7 @@ use Rattle.pair_pool.specs.Views.{PassView, IsPlaced}
 use Rattle.sym_table.specs.Table.{Table}
 use Rattle.term_model.specs.Terms.{Term}
 use Rattle.term_pool.specs.Views.{TermsView}
-use Rattle.term_names.specs.Making.{IsCellOf}
+use Rattle.term_names.specs.Making.{IsWantedCell}
 use Rattle.term_reader.specs.ProblemViews.{ProblemView, IsProblemOf}
 use Rattle.problem_text.specs.Problems.{StandsForProblem}
 use Rattle.problem_text.specs.Scripts.{Script}
@@ -18,7 +18,7 @@ pub record IsPoolSize (bytes most bits : ℕ) : Type 0 where
 
 -- what stands in the pass are cells of terms that are wanted
 abbrev pub HoldsOnly : Table → PassView → (Term → Type 0) → Type 0
-HoldsOnly s pass IsWanted = (r a b : ℕ) → IsPlaced pass r a b → IsCellOf s pass IsWanted a b
+HoldsOnly s pass IsWanted = (r a b : ℕ) → IsPlaced pass r a b → IsWantedCell s pass IsWanted a b
 
 -- what was read of the problem's text, in a table and a pool
 pub record IsReadProblem (text : List ℕ) (replaces_lets : Bool) (s : Table) (v : TermsView) (p : ProblemView) : Type 0 where

@@ -4,7 +4,7 @@ ghost use Rattle.proof_store.specs.Checks.{StandForSome};
 ghost use Rattle.proof_store.specs.Meaning.{StandForItems};
 ghost use Rattle.term_model.specs.Terms.{Var, Term};
 ghost use Rattle.rule_model.specs.Conditions.{IsClauseOfTruths};
-ghost use Rattle.rule_model.specs.Proofs.{Items};
+ghost use Rattle.rule_model.specs.Proofs.{ProofItems};
 ghost use Rattle.rule_model.specs.Reading.{clause_at};
 ghost use Rattle.rules_resolution.specs.Steps.{IsShort};
 ghost use Rattle.term_reader.specs.ProblemViews.{IsNewTable};
@@ -65,7 +65,7 @@ fn judge_commands(
     requires stand { StandForSome symbols.now terms.old proof.now }
     requires asserted { AreAsserted symbols.now terms.old problem.now.assertions }
     requires short { IsShort proof.now }
-    requires sorted { (of : Items Var Term) (i : ℕ) → StandForItems symbols.now terms.old proof.now of → IsClauseOfTruths (clause_at of i) }
+    requires sorted { (of : ProofItems Var Term) (i : ℕ) → StandForItems symbols.now terms.old proof.now of → IsClauseOfTruths (clause_at of i) }
     ensures { IfOk result (IsJudgedProof flags symbols.now terms.old problem.now.assertions proof.now) }
 {
     commands_correspond();

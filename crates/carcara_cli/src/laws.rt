@@ -4,7 +4,7 @@ ghost use Rattle.sexpr.specs.Items.{Items, StandsForItems};
 ghost use Rattle.term_model.specs.Terms.{Var, Term};
 ghost use Rattle.term_model.specs.Unsatisfiable.{Unsatisfiable};
 ghost use Rattle.rule_model.specs.declared.statuses.Verdict.{Verdict};
-ghost use Rattle.rule_model.specs.Proofs.{Items as Proof};
+ghost use Rattle.rule_model.specs.Proofs.{ProofItems as Proof};
 ghost use Rattle.rule_model.specs.Truth.{IsWellSortedProof};
 ghost use Rattle.problem_text.specs.Problems.{problem, StandsForProblem};
 ghost use Rattle.problem_text.specs.Scripts.{Script};
