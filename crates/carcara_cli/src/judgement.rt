@@ -58,12 +58,7 @@ fn text_of_step_cause(cause: StepCause) -> &'static [u8]
 }
 
 /// The lines of a verdict by which a command decides.
-fn step_text(
-    alloc: Global,
-    verdict: &[u8],
-    id: &[u8],
-    cause: &[u8],
-) -> Result<Vec<u8>, AllocError>
+fn step_text(alloc: Global, verdict: &[u8], id: &[u8], cause: &[u8]) -> Result<Vec<u8>, AllocError>
     ensures { IfOk result (λ v. v.items ≡ step_text verdict.now id.now cause.now) }
 {
     let mut text = Vec::from_slice(alloc, verdict)?;
@@ -120,7 +115,12 @@ pub fn text_of_judgement(alloc: Global, judgement: &Judgement) -> Result<Vec<u8>
         Judgement::Valid => Vec::from_slice(alloc, b"valid\n"),
         Judgement::Holey(holes) => holey_text(alloc, holes),
         Judgement::NoEmptyClause => Vec::from_slice(alloc, b"invalid\nno empty clause\n"),
-        Judgement::Faulty(id, cause) => step_text(alloc, b"invalid", id, text_of_step_cause(*cause)),
+        Judgement::Faulty(id, cause) => step_text(
+            alloc,
+            b"invalid",
+            id,
+            text_of_step_cause(*cause),
+        ),
         Judgement::TooWide(id) => step_text(alloc, b"unknown", id, b"too wide"),
         Judgement::RefusedProblem(refusal) => refusal_text(alloc, b"problem ", *refusal),
         Judgement::RefusedProof(refusal) => refusal_text(alloc, b"proof ", *refusal),

@@ -29,11 +29,7 @@ fn hole_at(alloc: Global, proof: &Proof, index: u32) -> Result<Hole, AllocError>
 }
 
 /// The holes of a proof, in file order.
-fn holes_of(
-    alloc: Global,
-    statuses: &[Status],
-    proof: &Proof,
-) -> Result<Vec<Hole>, AllocError>
+fn holes_of(alloc: Global, statuses: &[Status], proof: &Proof) -> Result<Vec<Hole>, AllocError>
     requires { length statuses.now ≡ commands_in proof.now }
     ensures { IfOk result (λ v. map told_hole v.items ≡ holes_from proof.now 0 statuses.now) }
 {
@@ -61,7 +57,10 @@ pub fn named(
         Verdict::Valid => Ok(Judgement::Valid),
         Verdict::Holey => Ok(Judgement::Holey(holes_of(alloc, statuses, proof)?)),
         Verdict::NoEmpty => Ok(Judgement::NoEmptyClause),
-        Verdict::InvalidAt(index, cause) => Ok(Judgement::Faulty(id_of(alloc, proof, index)?, cause)),
+        Verdict::InvalidAt(index, cause) => Ok(Judgement::Faulty(
+            id_of(alloc, proof, index)?,
+            cause,
+        )),
         Verdict::Unknown(index) => Ok(Judgement::TooWide(id_of(alloc, proof, index)?)),
     }
 }
