@@ -3,7 +3,7 @@ use Rattle.std.proofs.Common.{◌≡◌, ◌≢◌, ◌⊎◌, inl, inr, ℕ, ze
 use Rattle.std.specs.Str.{bytes_eq}
 use Rattle.std.proofs.lemmas.List.{length-set, length_push, get_or_append_left, get_or-set_same, get_or-set_other}
 use Rattle.std.proofs.lemmas.Option.{slice_get-map, slice_get_within, slice_get-get_or, get_or_from_slice_get}
-use Rattle.term_names.specs.Held.{IsNumbered}
+use Rattle.term_names.specs.NameNumbers.{IsNumbered}
 use Rattle.term_names.specs.NameNumbers.{AreApart}
 use Rattle.term_names.proofs.HeldVariables.{at_place}
 use Rattle.alethe_reader.specs.declared.ids.Held.{Held}

@@ -5,7 +5,7 @@ use Rattle.std.proofs.Math.Seq.{take-append_seam}
 use Rattle.std.proofs.lemmas.List.{append_assoc, append-nil, map-append}
 use Rattle.std.proofs.lemmas.Option.{slice_get-map}
 use Rattle.std.proofs.lemmas.Slice.Eq.{bytes_eq-Decides}
-use Rattle.rule_model.specs.Proofs.{Step as ProofStep, Items, no_items, with_assume, with_step, with_subproof}
+use Rattle.rule_model.specs.Proofs.{Step as ProofStep, ProofItems, no_items, with_assume, with_step, with_subproof}
 use Rattle.rule_model.specs.Scopes.{Anchor as ProofAnchor, Nesting, outermost, inside, Scope, at, first_index, scope_number, commands_in, next_index, next_scope}
 use Rattle.rule_model.specs.Visibility.{Sight, sight, direct, seen_around, seen, open_ids}
 use Rattle.rule_model.specs.RuleNames.{IsSymbolName}
@@ -18,18 +18,18 @@ use Rattle.alethe_reader.specs.declared.ids.Role.TheVariants.{Assume, Step, Anch
 use Rattle.alethe_reader.specs.declared.ids.Found.{Found}
 use Rattle.alethe_reader.specs.Ids.{Used, IsUnused, IsUsedAt}
 use Rattle.alethe_text.specs.Ids.{assumes_seen}
-use Rattle.alethe_reader.specs.IdsInUse.{in_use, own_ids, ids_around, ids_in, sight_of, sights_of, anchor_of, anchors_of, sight_at, hidden, hide}
+use Rattle.alethe_reader.specs.IdsInUse.{in_use, own_ids, ids_around, ids_in, sight_of, sights_of, anchor_id_of, anchor_ids_of, sight_at, hidden, hide}
 
 pub sights_append : (us vs : List Used) → sights_of (us ++ vs) ≡ sights_of us ++ sights_of vs
 sights_append [] vs = refl
 sights_append (u ∷ us) vs = ap (λ l. sight_of u.role u ++ l) (sights_append us vs) ∙ sym (append_assoc (sight_of u.role u) (sights_of us) (sights_of vs))
 
-pub anchors_append : (us vs : List Used) → anchors_of (us ++ vs) ≡ anchors_of us ++ anchors_of vs
+pub anchors_append : (us vs : List Used) → anchor_ids_of (us ++ vs) ≡ anchor_ids_of us ++ anchor_ids_of vs
 anchors_append [] vs = refl
-anchors_append (u ∷ us) vs = ap (λ l. anchor_of u.role u ++ l) (anchors_append us vs) ∙ sym (append_assoc (anchor_of u.role u) (anchors_of us) (anchors_of vs))
+anchors_append (u ∷ us) vs = ap (λ l. anchor_id_of u.role u ++ l) (anchors_append us vs) ∙ sym (append_assoc (anchor_id_of u.role u) (anchor_ids_of us) (anchor_ids_of vs))
 
 module _ {V T : Type 0} where
-  own_sights : (nesting : Nesting V T) (items : Items V T) → sights_of (own_ids nesting items) ≡ direct nesting items
+  own_sights : (nesting : Nesting V T) (items : ProofItems V T) → sights_of (own_ids nesting items) ≡ direct nesting items
   own_sights nesting no_items = refl
   own_sights nesting (with_assume items id t) =
       sights_append (own_ids nesting items) (in_use id Assume (first_index nesting + commands_in items) ∷ [])
@@ -41,7 +41,7 @@ module _ {V T : Type 0} where
       sights_append (own_ids nesting items) (in_use s.id Step (first_index nesting + (commands_in items + commands_in proof)) ∷ [])
       ∙ ap (λ l. l ++ sight (first_index nesting + (commands_in items + commands_in proof)) s.id ∷ []) (own_sights nesting items)
 
-  own_anchors : (nesting : Nesting V T) (items : Items V T) → anchors_of (own_ids nesting items) ≡ []
+  own_anchors : (nesting : Nesting V T) (items : ProofItems V T) → anchor_ids_of (own_ids nesting items) ≡ []
   own_anchors nesting no_items = refl
   own_anchors nesting (with_assume items id t) =
       anchors_append (own_ids nesting items) (in_use id Assume (first_index nesting + commands_in items) ∷ []) ∙ ap (λ l. l ++ []) (own_anchors nesting items)
@@ -65,13 +65,13 @@ module _ {V T : Type 0} where
       both : {a b c d : List Sight} → a ≡ b → c ≡ d → a ++ c ≡ b ++ d
       both e f = cc
 
-  around_anchors : (nesting : Nesting V T) → anchors_of (ids_around nesting) ≡ open_ids nesting
+  around_anchors : (nesting : Nesting V T) → anchor_ids_of (ids_around nesting) ≡ open_ids nesting
   around_anchors outermost = refl
   around_anchors (inside around before anchor) =
       anchors_append (ids_around around ++ own_ids around before) (in_use anchor.id Anchor (scope_number (inside around before anchor)) ∷ [])
       ∙ ap (λ l. l ++ anchor.id ∷ []) (anchors_append (ids_around around) (own_ids around before)
-      ∙ (ap (λ l. anchors_of (ids_around around) ++ l) (own_anchors around before)
-      ∙ (append_nil (anchors_of (ids_around around)) ∙ around_anchors around)))
+      ∙ (ap (λ l. anchor_ids_of (ids_around around) ++ l) (own_anchors around before)
+      ∙ (append_nil (anchor_ids_of (ids_around around)) ∙ around_anchors around)))
     where
       append_nil : (l : List (List ℕ)) → l ++ [] ≡ l
       append_nil [] = refl
@@ -85,11 +85,11 @@ module _ {V T : Type 0} where
       both : {a b c d : List Sight} → a ≡ b → c ≡ d → a ++ c ≡ b ++ d
       both e f = cc
 
-  pub anchors_open : (scope : Scope V T) → anchors_of (ids_in scope) ≡ open_ids scope.nesting
+  pub anchors_open : (scope : Scope V T) → anchor_ids_of (ids_in scope) ≡ open_ids scope.nesting
   anchors_open scope =
       anchors_append (ids_around scope.nesting) (own_ids scope.nesting scope.items)
-      ∙ (ap (λ l. anchors_of (ids_around scope.nesting) ++ l) (own_anchors scope.nesting scope.items)
-      ∙ (append_nil (anchors_of (ids_around scope.nesting)) ∙ around_anchors scope.nesting))
+      ∙ (ap (λ l. anchor_ids_of (ids_around scope.nesting) ++ l) (own_anchors scope.nesting scope.items)
+      ∙ (append_nil (anchor_ids_of (ids_around scope.nesting)) ∙ around_anchors scope.nesting))
     where
       append_nil : (l : List (List ℕ)) → l ++ [] ≡ l
       append_nil [] = refl
@@ -115,14 +115,14 @@ unseen (u ∷ us) id h = go u.role (unseen us id (unused_rest u us id h))
     go Step e = ap (λ b. cond b (Some (sight u.number u.id)) (find (λ c. bytes_eq c.id id) (sights_of us))) (differs u.id id (h 0 u refl)) ∙ e
     go Anchor e = e
 
-pub not_open : (us : List Used) (id : List ℕ) → IsUnused us id → is_among (anchors_of us) id ≡ false
+pub not_open : (us : List Used) (id : List ℕ) → IsUnused us id → is_among (anchor_ids_of us) id ≡ false
 not_open [] id h = refl
 not_open (u ∷ us) id h = go u.role (not_open us id (unused_rest u us id h))
   where
-    go : (role : Role) → is_among (anchors_of us) id ≡ false → is_among (anchor_of role u ++ anchors_of us) id ≡ false
+    go : (role : Role) → is_among (anchor_ids_of us) id ≡ false → is_among (anchor_id_of role u ++ anchor_ids_of us) id ≡ false
     go Assume e = e
     go Step e = e
-    go Anchor e = ap (λ b. b || is_among (anchors_of us) id) (differs id u.id (λ f. h 0 u refl (sym f))) ∙ e
+    go Anchor e = ap (λ b. b || is_among (anchor_ids_of us) id) (differs id u.id (λ f. h 0 u refl (sym f))) ∙ e
 
 -- The id stands at this place, with this role, and at no other.
 record IsAt (us : List Used) (id : List ℕ) (role : Role) (number place : ℕ) : Type 0 where
@@ -197,7 +197,7 @@ at_hidden us id role number place h = record {
 }
 
 module _ {V T : Type 0} where
-  own_assumes : (nesting : Nesting V T) (items : Items V T) → sights_of (map hide (own_ids nesting items)) ≡ assumes_seen nesting items
+  own_assumes : (nesting : Nesting V T) (items : ProofItems V T) → sights_of (map hide (own_ids nesting items)) ≡ assumes_seen nesting items
   own_assumes nesting no_items = refl
   own_assumes nesting (with_assume items id t) =
       ap sights_of (map-append hide (own_ids nesting items) (in_use id Assume (first_index nesting + commands_in items) ∷ []))
@@ -254,7 +254,7 @@ module _ {V T : Type 0} where
   ids_open scope anchor = append-nil (ids_in scope ++ in_use anchor.id Anchor (next_scope scope) ∷ [])
 
   -- A scope is left: what was in use where its anchor stands is in use again.
-  pub ids_close : (around : Nesting V T) (before : Items V T) (anchor : ProofAnchor V T) (items : Items V T) (s : ProofStep T) →
+  pub ids_close : (around : Nesting V T) (before : ProofItems V T) (anchor : ProofAnchor V T) (items : ProofItems V T) (s : ProofStep T) →
       ids_in (close_scope (inside around before anchor) items s)
       ≡ take (length (ids_in (at around before))) (ids_in (at (inside around before anchor) items)) ++ in_use s.id Step (next_index (at (inside around before anchor) items)) ∷ []
   ids_close around before anchor items s =

@@ -1,7 +1,7 @@
 -- Public. The ids that are in use where a scope is written: those of the commands that are visible there and of the anchors
 -- that are open, in the order of the text.
 use Rattle.std.specs.Prelude.{ℕ, ◌+◌, List, [], ◌∷◌, ◌++◌, Option, Some, None}
-use Rattle.rule_model.specs.Proofs.{Items, no_items, with_assume, with_step, with_subproof}
+use Rattle.rule_model.specs.Proofs.{ProofItems, no_items, with_assume, with_step, with_subproof}
 use Rattle.rule_model.specs.Scopes.{Nesting, outermost, inside, Scope, first_index, scope_number, commands_in}
 use Rattle.rule_model.specs.Visibility.{Sight, sight}
 use Rattle.alethe_reader.specs.declared.ids.Role.{Role}
@@ -12,7 +12,7 @@ abbrev pub in_use : List ℕ → Role → ℕ → Used
 in_use id role number = record { id = id; role = role; number = number }
 
 -- those of the commands that stand directly in a scope
-abbrev pub own_ids : {V T : Type 0} → Nesting V T → Items V T → List Used
+abbrev pub own_ids : {V T : Type 0} → Nesting V T → ProofItems V T → List Used
 own_ids nesting no_items = []
 own_ids nesting (with_assume items id t) = own_ids nesting items ++ in_use id Assume (first_index nesting + commands_in items) ∷ []
 own_ids nesting (with_step items s) = own_ids nesting items ++ in_use s.id Step (first_index nesting + commands_in items) ∷ []
@@ -38,14 +38,14 @@ abbrev pub sights_of : List Used → List Sight
 sights_of [] = []
 sights_of (u ∷ us) = sight_of u.role u ++ sights_of us
 
-abbrev pub anchor_of : Role → Used → List (List ℕ)
-anchor_of Assume u = []
-anchor_of Step u = []
-anchor_of Anchor u = u.id ∷ []
+abbrev pub anchor_id_of : Role → Used → List (List ℕ)
+anchor_id_of Assume u = []
+anchor_id_of Step u = []
+anchor_id_of Anchor u = u.id ∷ []
 
-abbrev pub anchors_of : List Used → List (List ℕ)
-anchors_of [] = []
-anchors_of (u ∷ us) = anchor_of u.role u ++ anchors_of us
+abbrev pub anchor_ids_of : List Used → List (List ℕ)
+anchor_ids_of [] = []
+anchor_ids_of (u ∷ us) = anchor_id_of u.role u ++ anchor_ids_of us
 
 -- the command of an id in use, where it is one
 abbrev pub sight_at : Role → ℕ → List ℕ → Option Sight

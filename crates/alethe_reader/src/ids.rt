@@ -1,6 +1,6 @@
 //! The ids that are in use: those of visible commands and of open anchors.
 ghost use Rattle.std.specs.Prelude.{◌≡◌, ◌++◌, [], ◌∷◌, length, take, IfOk, OnOk, OnErr};
-ghost use Rattle.term_names.specs.Held.{IsNumbered};
+ghost use Rattle.term_names.specs.NameNumbers.{IsNumbered};
 ghost use Rattle.alethe_reader.specs.Ids.{IsUnused, IsFound};
 
 use std::alloc::Global;

@@ -2,7 +2,7 @@
 //! contracts are the laws.
 ghost use Rattle.std.specs.Prelude.{◌≡◌, ◌<◌, ◌≤◌, ◌++◌, [], ◌∷◌, ℕ, List, Bool, false, take, length, find, bytes_eq, None};
 ghost use Rattle.problem_text.specs.Words.{is_among};
-ghost use Rattle.rule_model.specs.Proofs.{Items, Step};
+ghost use Rattle.rule_model.specs.Proofs.{ProofItems, Step};
 ghost use Rattle.rule_model.specs.RuleNames.{IsSymbolName};
 ghost use Rattle.rule_model.specs.Scopes.{Anchor, Nesting, inside, Scope, at, next_index, next_scope};
 ghost use Rattle.rule_model.specs.Visibility.{seen, open_ids};
@@ -20,7 +20,7 @@ pub fn ids_follow_the_proof()
     ensures assume { (scope : Scope ℕ ℕ) (id : List ℕ) (t : ℕ) → ids_in (add_assume scope id t) ≡ ids_in scope ++ in_use id role.Assume (next_index scope) ∷ [] }
     ensures step { (scope : Scope ℕ ℕ) (s : Step ℕ) → ids_in (add_step scope s) ≡ ids_in scope ++ in_use s.id role.Step (next_index scope) ∷ [] }
     ensures anchor { (scope : Scope ℕ ℕ) (anchor : Anchor ℕ ℕ) → ids_in (open_anchor scope anchor) ≡ ids_in scope ++ in_use anchor.id role.Anchor (next_scope scope) ∷ [] }
-    ensures closing { (around : Nesting ℕ ℕ) (before : Items ℕ ℕ) (anchor : Anchor ℕ ℕ) (items : Items ℕ ℕ) (s : Step ℕ) →
+    ensures closing { (around : Nesting ℕ ℕ) (before : ProofItems ℕ ℕ) (anchor : Anchor ℕ ℕ) (items : ProofItems ℕ ℕ) (s : Step ℕ) →
         ids_in (close_scope (inside around before anchor) items s)
         ≡ take (length (ids_in (at around before))) (ids_in (at (inside around before anchor) items)) ++ in_use s.id role.Step (next_index (at (inside around before anchor) items)) ∷ [] }
 {}

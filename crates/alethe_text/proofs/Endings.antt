@@ -5,7 +5,7 @@ use Rattle.sexpr.specs.declared.causes.Cause.{Cause}
 use Rattle.sexpr.specs.declared.causes.Refusal.{Refusal}
 use Rattle.term_model.specs.Terms.{Var, Term}
 use Rattle.rule_model.specs.Scopes.{Scope}
-use Rattle.problem_text.specs.Outcomes.{Outcome, goes_on}
+use Rattle.problem_text.specs.Outcomes.{Outcome, going_on}
 use Rattle.problem_text.specs.Scripts.{Script}
 use Rattle.alethe_text.specs.States.{ProofState, Reading, ◌>>=◌, demand, found, given, seen_in, changed, in_script}
 
@@ -16,7 +16,7 @@ After Q (Err refusal) s = ⊤
 abbrev pub Ends : {A : Type 0} → (A → ProofState → Type 0) → Outcome ProofState A → Type 0
 Ends Q o = After Q o.result o.state
 
-after_goes : {A B : Type 0} (Q : A → ProofState → Type 0) (R : B → ProofState → Type 0) (r : Result A Refusal) (s : ProofState) (next : A → Reading B) → After Q r s → ((a : A) (t : ProofState) → Q a t → Ends R (next a t)) → Ends R (goes_on r s next)
+after_goes : {A B : Type 0} (Q : A → ProofState → Type 0) (R : B → ProofState → Type 0) (r : Result A Refusal) (s : ProofState) (next : A → Reading B) → After Q r s → ((a : A) (t : ProofState) → Q a t → Ends R (next a t)) → Ends R (going_on r s next)
 after_goes Q R (Ok a) s next h k = k a s h
 after_goes Q R (Err refusal) s next h k = tt
 

@@ -4,7 +4,7 @@ use Rattle.std.proofs.lemmas.List.{map-append}
 use Rattle.std.proofs.lemmas.Slice.Eq.{bytes_eq-Decides}
 use Rattle.term_model.specs.Terms.{Var, Term}
 use Rattle.rule_model.specs.declared.rules.Rule.{Rule}
-use Rattle.rule_model.specs.Proofs.{Step, Items, no_items, with_assume, with_step, with_subproof}
+use Rattle.rule_model.specs.Proofs.{Step, ProofItems, no_items, with_assume, with_step, with_subproof}
 use Rattle.rule_model.specs.RuleNames.{rule_named, left_out_rules, IsSymbolName}
 use Rattle.rule_model.specs.Scopes.{Anchor, Nesting, outermost, inside, Scope, at, first_index, commands_in}
 use Rattle.rule_model.specs.Visibility.{sight, assumes_in}
@@ -52,7 +52,7 @@ has_rule p id word step h k = record {
   lowest = h.lowest;
 }
 
-assumes_indices : (nesting : Nesting Var Term) (items : Items Var Term) → map (λ c. c.index) (assumes_seen nesting items) ≡ assumes_in nesting items
+assumes_indices : (nesting : Nesting Var Term) (items : ProofItems Var Term) → map (λ c. c.index) (assumes_seen nesting items) ≡ assumes_in nesting items
 assumes_indices nesting no_items = refl
 assumes_indices nesting (with_assume items id t) =
     map-append (λ c. c.index) (assumes_seen nesting items) (sight (first_index nesting + commands_in items) id ∷ [])
@@ -91,13 +91,13 @@ standing_placed scope id word step h new read kept = record {
 }
 
 -- the scope of an anchor with this id may be opened, written and closed
-abbrev IsSubproof : Nesting Var Term → Items Var Term → Anchor Var Term → Items Var Term → Step Term → List ℕ → Type 0
+abbrev IsSubproof : Nesting Var Term → ProofItems Var Term → Anchor Var Term → ProofItems Var Term → Step Term → List ℕ → Type 0
 IsSubproof around before anchor items step id =
     MayOpen around before (record anchor { id = id })
     × AreWellFormed (inside around before (record anchor { id = id })) items
     × MayClose around before (inside around before (record anchor { id = id })) items step
 
-closing_placed : (nesting : Nesting Var Term) (items : Items Var Term) (id word : List ℕ) (step : Step Term) → IsPlaced (at nesting items) → is_open_id nesting id ≡ true → IsReadStep (closes_scope nesting items) id word step → IsKeptWord word → IsPlaced (close_scope nesting items step)
+closing_placed : (nesting : Nesting Var Term) (items : ProofItems Var Term) (id word : List ℕ) (step : Step Term) → IsPlaced (at nesting items) → is_open_id nesting id ≡ true → IsReadStep (closes_scope nesting items) id word step → IsKeptWord word → IsPlaced (close_scope nesting items step)
 closing_placed outermost items id word step h e read kept = absurd (cc)
 closing_placed (inside around before anchor) items id word step h e read kept =
     let same : anchor.id ≡ step.id = sym ((bytes_eq-Decides id anchor.id).0 e) ∙ sym read.same_id in

@@ -12,9 +12,9 @@ use Rattle.sexpr.specs.Items.{Item, word, quoted, string, list, Items, no_items,
 use Rattle.rule_model.specs.Proofs.{Fraction}
 use Rattle.rule_model.specs.WellFormed.{IsLowest}
 use Rattle.problem_text.specs.Commands.{refused}
-use Rattle.problem_text.specs.Sorts.{chained}
+use Rattle.problem_text.specs.Sorts.{result_then}
 use Rattle.alethe_text.specs.Commands.{is_symbol_of}
-use Rattle.alethe_text.specs.Coefficients.{Figure, Amount, figure, ratio, quotient, Coefficient, figure_spelled, figure_of, divisor_of, opposite_of, quotient_of, numerator_spelled, denominator_spelled, amount_spelled, amount_of, coefficient_of, parts_of, lowest, is_negative, is_wide, figure_fault, width_fault, fraction_of, coefficient_read, coefficients_from}
+use Rattle.alethe_text.specs.Coefficients.{Figure, Amount, figure, ratio, quotient, Coefficient, figure_spelled, figure_of, divisor_of, opposite_of, quotient_of, numerator_spelled, denominator_spelled, amount_spelled, amount_of, coefficient_of, fraction_parts, lowest, is_negative, is_wide, figure_fault, width_fault, fraction_of, coefficient_read, coefficients_from}
 use Rattle.alethe_text.proofs.Lists.{or_parts}
 use Rattle.alethe_text.proofs.LowestTerms.{lowest_is}
 
@@ -23,7 +23,7 @@ ten_power k = one-le-pow k 10 (omega arith)
 
 -- the denominator is over 0
 abbrev HasDenominator : Amount → Type 0
-HasDenominator a = 0 < (parts_of a).1
+HasDenominator a = 0 < (fraction_parts a).1
 
 figures : (o : Option Figure) → IfSome (option_map figure o) HasDenominator
 figures None = tt
@@ -111,7 +111,7 @@ abbrev IsNarrowPair : ℕ × ℕ → Type 0
 IsNarrowPair p = (p.0 < 2 ^ 127) × (p.1 < 2 ^ 127)
 
 -- the parts in lowest terms of an amount that is not too wide
-narrow_parts : (a : Amount) → width_fault a ≡ None → IsNarrowPair (lowest (parts_of a))
+narrow_parts : (a : Amount) → width_fault a ≡ None → IsNarrowPair (lowest (fraction_parts a))
 narrow_parts (figure f) e =
     let parts = or_parts (is_wide f.digits) (is_wide (10 ^ f.behind_point)) (no_fault _ f.place e) in
     (below f.digits 0 _ (narrow_number f.digits parts.0), below (10 ^ f.behind_point) 0 _ (narrow_number (10 ^ f.behind_point) parts.1))
@@ -119,7 +119,7 @@ narrow_parts (ratio place n d) e =
     let parts = or_parts (is_wide n) (is_wide d) (no_fault _ place e) in
     (below n 0 _ (narrow_number n parts.0), below d 0 _ (narrow_number d parts.1))
 narrow_parts (quotient place negative n d) e =
-    let p = lowest (parts_of (quotient place negative n d)) in
+    let p = lowest (fraction_parts (quotient place negative n d)) in
     let last = (or_none (figure_fault d) _ (or_none (figure_fault n) _ e).1).1 in
     let parts = or_parts (is_wide p.0) (is_wide p.1) (no_fault _ place last) in
     (narrow_number p.0 parts.0, narrow_number p.1 parts.1)
@@ -127,7 +127,7 @@ narrow_parts (quotient place negative n d) e =
 fraction_lowest : (c : Coefficient) → HasDenominator c.amount → width_fault c.amount ≡ None → IsLowest (fraction_of c)
 fraction_lowest c h e =
     let narrow = narrow_parts c.amount e in
-    lowest_is (if c.negative then not (is_negative c.amount) else is_negative c.amount) (parts_of c.amount) h narrow.0 narrow.1
+    lowest_is (if c.negative then not (is_negative c.amount) else is_negative c.amount) (fraction_parts c.amount) h narrow.0 narrow.1
 
 read_lowest : (o : Option Coefficient) → IfSome o (λ c. HasDenominator c.amount) → IfOk (coefficient_read o) (λ q. IfSome q IsLowest)
 read_lowest None h = tt
@@ -137,7 +137,7 @@ read_lowest (Some c) h = go (width_fault c.amount) refl
     go (Some place) e = tt
     go None e = fraction_lowest c h e
 
-chained_ok : {A B : Type 0} (Q : A → Type 0) (R : B → Type 0) (r : Result A Refusal) (next : A → Result B Refusal) → IfOk r Q → ((a : A) → Q a → IfOk (next a) R) → IfOk (chained r next) R
+chained_ok : {A B : Type 0} (Q : A → Type 0) (R : B → Type 0) (r : Result A Refusal) (next : A → Result B Refusal) → IfOk r Q → ((a : A) → Q a → IfOk (next a) R) → IfOk (result_then r next) R
 chained_ok Q R (Ok a) next h k = k a h
 chained_ok Q R (Err refusal) next h k = tt
 

@@ -4,7 +4,7 @@ use Rattle.sexpr.specs.declared.causes.Refusal.{Refusal}
 use Rattle.sexpr.specs.Form.{HasForm, IsFormFault}
 use Rattle.sexpr.specs.Items.{Items, StandsForItems}
 use Rattle.term_model.specs.Terms.{Var, Term}
-use Rattle.rule_model.specs.Proofs.{Items as Proof}
+use Rattle.rule_model.specs.Proofs.{ProofItems as Proof}
 use Rattle.problem_text.specs.Scripts.{Script}
 use Rattle.alethe_text.specs.States.{ProofSettings, unread}
 use Rattle.alethe_text.specs.ProofTexts.{proof_from, StandsForProof, IsProofCommandFault, IsFirstProofFault}

@@ -10,7 +10,7 @@ use Rattle.sexpr.specs.declared.causes.Cause.TheVariants.{Repeated, BadAnchor, S
 use Rattle.sexpr.specs.Items.{Item, Items, no_items, item}
 use Rattle.term_model.specs.Terms.{Var, sort_eq, Term}
 use Rattle.rule_model.specs.Heights.{height}
-use Rattle.rule_model.specs.Proofs.{Step, Items as Proof}
+use Rattle.rule_model.specs.Proofs.{Step, ProofItems as Proof}
 use Rattle.rule_model.specs.Scopes.{Nesting, outermost, inside, Scope, at}
 use Rattle.rule_model.specs.Visibility.{visible_ids, open_ids}
 use Rattle.rule_model.specs.Writing.{is_open_id, add_step, close_scope, take_step}
@@ -26,7 +26,7 @@ use Rattle.alethe_text.specs.ProofTerms.{term_in, formula_in, formulas_in}
 use Rattle.alethe_text.specs.Soundness.{IsFormula, HasTerms, IsBinding, AreSorted, AreSortedAround}
 use Rattle.alethe_text.specs.Steps.{assume_read, rule_word, bare_step, attributes_read, step_read}
 use Rattle.alethe_text.specs.Anchors.{bound_names, sort_given, image_of, argument_read, arguments_read, anchor_read}
-use Rattle.alethe_text.specs.ProofTexts.{performed, commands, behind_answer, commands_in, excess_behind, none_behind, closed_proof, proof_from, StandsForProof}
+use Rattle.alethe_text.specs.ProofTexts.{performed, commands, behind_answer, unwrapped_commands, excess_behind, none_behind, closed_proof, proof_from, StandsForProof}
 use Rattle.alethe_text.proofs.Endings.{After, Ends, and_next, looked, asked, asked_last, given_next, changed_next, always}
 use Rattle.alethe_text.proofs.SortedReadings.{Keeps, term_reads, formula_reads, formulas_read, attributes_reads}
 
@@ -171,8 +171,8 @@ none_keeps (Some place) s h = tt
 proof_sorted : (settings : ProofSettings) (items : Items) (before : Script) → IsSound before → Ends Whole (proof_from settings items (unread before))
 unfolding proof_from
 proof_sorted settings items before sound =
-    and_next Sound Whole (commands settings (commands_in (behind_answer items))) _ (unread before)
-    (commands_sorted settings (commands_in (behind_answer items)) (unread before) (record { script = sound; scope = record { around = tt; here = tt } }))
+    and_next Sound Whole (commands settings (unwrapped_commands (behind_answer items))) _ (unread before)
+    (commands_sorted settings (unwrapped_commands (behind_answer items)) (unread before) (record { script = sound; scope = record { around = tt; here = tt } }))
     (λ _ s h. and_next Sound Whole (none_behind (excess_behind (behind_answer items))) _ s (none_keeps (excess_behind (behind_answer items)) s h)
     (λ _ t k. looked Whole (λ s. s) _ t (closed_whole t.scope.nesting t.scope.items t.anchors t k.scope.here k.script)))
 

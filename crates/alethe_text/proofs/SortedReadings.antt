@@ -15,7 +15,7 @@ use Rattle.rule_model.specs.Visibility.{Sight, open_bindings}
 use Rattle.text_items.specs.ItemShapes.{Name}
 use Rattle.problem_text.specs.Forms.{form_of}
 use Rattle.problem_text.specs.Names.{itself}
-use Rattle.problem_text.specs.Soundness.{IsRead, IsSound, AreSorted as AreBoundSorted}
+use Rattle.problem_text.specs.Soundness.{IsRead, IsSound, AreBoundSorted as AreBoundSorted}
 use Rattle.problem_text.specs.Terms.{read_term}
 use Rattle.problem_text.specs.TypedTerms.{Typed}
 use Rattle.problem_text.specs.Words.{is_among}

@@ -5,7 +5,7 @@ use Rattle.std.specs.List.{AllByRecursion}
 use Rattle.std.proofs.lemmas.List.Elements.{All-nil}
 use Rattle.sexpr.specs.Items.{Item, word, quoted, string, list, Items, no_items, item}
 use Rattle.term_model.specs.Terms.{Var, Term}
-use Rattle.rule_model.specs.Proofs.{Items as Proof}
+use Rattle.rule_model.specs.Proofs.{ProofItems as Proof}
 use Rattle.rule_model.specs.RuleNames.{left_out_rules, IsSymbolName}
 use Rattle.rule_model.specs.Scopes.{Nesting, outermost, inside, Scope}
 use Rattle.rule_model.specs.WellFormed.{AreWellFormed, IsWellFormed}
@@ -16,7 +16,7 @@ use Rattle.alethe_text.specs.States.{ProofSettings, ProofState, unread}
 use Rattle.alethe_text.specs.Ids.{Standing, standing_of}
 use Rattle.alethe_text.specs.ProofTerms.{formulas_in}
 use Rattle.alethe_text.specs.Steps.{rule_word, bare_step, attributes_read, step_read}
-use Rattle.alethe_text.specs.ProofTexts.{performed, commands, behind_answer, is_list_of_commands, commands_in, excess_behind, none_behind, closed_proof, proof_from, StandsForProof}
+use Rattle.alethe_text.specs.ProofTexts.{performed, commands, behind_answer, is_list_of_commands, unwrapped_commands, excess_behind, none_behind, closed_proof, proof_from, StandsForProof}
 use Rattle.alethe_text.proofs.Endings.{After, Ends, and_next, looked, given_next}
 use Rattle.alethe_text.proofs.Lists.{not_among}
 use Rattle.alethe_text.proofs.SymbolNames.{AreSpelled, HasNames, HaveNames, text_named}
@@ -72,7 +72,7 @@ inside_named (quoted place spelling) h = tt
 inside_named (string place spelling) h = tt
 inside_named (list place items) h = h
 
-inner_named : (items : Items) → HaveNames items → HaveNames (commands_in items)
+inner_named : (items : Items) → HaveNames items → HaveNames (unwrapped_commands items)
 inner_named no_items h = tt
 inner_named (item i rest) h = go (is_list_of_commands i)
   where
@@ -94,8 +94,8 @@ none_formed (Some place) s h = tt
 proof_formed : (settings : ProofSettings) (items : Items) (before : Script) → HaveNames items → Ends Whole (proof_from settings items (unread before))
 unfolding proof_from
 proof_formed settings items before named =
-    and_next Placed Whole (commands settings (commands_in (behind_answer items))) _ (unread before)
-    (commands_formed settings (commands_in (behind_answer items)) (unread before) (inner_named (behind_answer items) (behind_named items named)) (record { around = tt; here = tt }))
+    and_next Placed Whole (commands settings (unwrapped_commands (behind_answer items))) _ (unread before)
+    (commands_formed settings (unwrapped_commands (behind_answer items)) (unread before) (inner_named (behind_answer items) (behind_named items named)) (record { around = tt; here = tt }))
     (λ _ s h. and_next Placed Whole (none_behind (excess_behind (behind_answer items))) _ s (none_formed (excess_behind (behind_answer items)) s h)
     (λ _ t k. looked Whole (λ s. s) _ t (closed_formed t.scope.nesting t.scope.items t.anchors t k.here)))
 

@@ -9,7 +9,7 @@ use Rattle.sexpr.specs.Words.{is_numeral, is_decimal, is_ratio, numeral_value}
 use Rattle.sexpr.specs.Items.{Item, word, quoted, string, list, Items, no_items, item}
 use Rattle.rule_model.specs.Proofs.{Fraction}
 use Rattle.problem_text.specs.Commands.{refused}
-use Rattle.problem_text.specs.Sorts.{chained}
+use Rattle.problem_text.specs.Sorts.{result_then}
 use Rattle.alethe_text.specs.Commands.{is_symbol_of}
 
 -- A numeral or a decimal, where it stands: the number of its digits without the point, and how many stand behind the point.
@@ -99,10 +99,10 @@ unfoldable pub common_divisor : ℕ → ℕ → ℕ
 common_divisor a b = common_divisor_in (suc b) a b
 
 -- numerator and denominator, as they are spelled and in lowest terms
-abbrev pub parts_of : Amount → ℕ × ℕ
-parts_of (figure f) = (f.digits, 10 ^ f.behind_point)
-parts_of (ratio place n d) = (n, d)
-parts_of (quotient place negative n d) = (n.digits * 10 ^ d.behind_point, 10 ^ n.behind_point * d.digits)
+abbrev pub fraction_parts : Amount → ℕ × ℕ
+fraction_parts (figure f) = (f.digits, 10 ^ f.behind_point)
+fraction_parts (ratio place n d) = (n, d)
+fraction_parts (quotient place negative n d) = (n.digits * 10 ^ d.behind_point, 10 ^ n.behind_point * d.digits)
 
 abbrev pub lowest : ℕ × ℕ → ℕ × ℕ
 lowest p = (p.0 / common_divisor p.0 p.1, p.1 / common_divisor p.0 p.1)
@@ -125,7 +125,7 @@ width_fault (figure f) = figure_fault f
 width_fault (ratio place n d) = if is_wide n || is_wide d then Some place else None
 width_fault (quotient place negative n d) =
     option_or (figure_fault n) (option_or (figure_fault d)
-    (if is_wide (lowest (parts_of (quotient place negative n d))).0 || is_wide (lowest (parts_of (quotient place negative n d))).1
+    (if is_wide (lowest (fraction_parts (quotient place negative n d))).0 || is_wide (lowest (fraction_parts (quotient place negative n d))).1
     then Some place else None))
 
 -- numerator over denominator, with a sign
@@ -133,7 +133,7 @@ abbrev pub signed : Bool → ℕ × ℕ → Fraction
 signed negative p = record { num = if negative then neg_ℤ (pos p.0) else pos p.0; den = pos p.1 }
 
 abbrev pub fraction_of : Coefficient → Fraction
-fraction_of c = signed (if c.negative then not (is_negative c.amount) else is_negative c.amount) (lowest (parts_of c.amount))
+fraction_of c = signed (if c.negative then not (is_negative c.amount) else is_negative c.amount) (lowest (fraction_parts c.amount))
 
 abbrev pub coefficient_read : Option Coefficient → Result (Option Fraction) Refusal
 coefficient_read None = Ok None
@@ -143,5 +143,5 @@ coefficient_read (Some c) = elim (width_fault c.amount) [ Some place ↦ refused
 unfoldable pub coefficients_from : Items → Result (Option (List Fraction)) Refusal
 coefficients_from no_items = Ok (Some [])
 coefficients_from (item i rest) =
-    chained (coefficient_read (coefficient_of i)) (λ q. chained (coefficients_from rest) (λ qs.
+    result_then (coefficient_read (coefficient_of i)) (λ q. result_then (coefficients_from rest) (λ qs.
     Ok (option_and_then (λ first. option_map (λ others. first ∷ others) qs) q)))

@@ -136,9 +136,9 @@ abbrev pub argument_of : Item → Argument
 argument_of (list place (item assigns (item x (item t rest)))) = assigned_to place x t
 argument_of other = variable_alone (place_of other)
 
-abbrev pub arguments_of : Items → List Argument
-arguments_of no_items = []
-arguments_of (item i rest) = argument_of i ∷ arguments_of rest
+abbrev pub arguments_in : Items → List Argument
+arguments_in no_items = []
+arguments_in (item i rest) = argument_of i ∷ arguments_in rest
 
 abbrev pub argument_items : Items → Items
 argument_items (item keyword (item items rest)) = items_of items
@@ -155,7 +155,7 @@ abbrev pub anchor_shape : ℕ → Items → Result Command Refusal
 anchor_shape place (item keyword (item id rest)) =
     shaped (earlier (attributes_fault anchor_keywords place (item keyword (item id rest)))
     (option_or (word_fault (codes ":step") keyword) (option_or (symbol_fault id) (arguments_fault rest))))
-    (anchor place (name_at id) (arguments_of (argument_items rest)))
+    (anchor place (name_at id) (arguments_in (argument_items rest)))
 anchor_shape place _ = refused BadCommand place
 
 -- The command of this word, whose place is the second. Functions are defined in proofs together with quantifiers, which are

@@ -4,7 +4,7 @@ use Rattle.sexpr.specs.declared.causes.Refusal.{Refusal}
 use Rattle.term_model.specs.Terms.{Var, Term}
 use Rattle.rule_model.specs.RuleNames.{rule_named}
 use Rattle.rule_model.specs.declared.rules.Rule.{Rule}
-use Rattle.rule_model.specs.Proofs.{Step, Items as Proof}
+use Rattle.rule_model.specs.Proofs.{Step, ProofItems as Proof}
 use Rattle.problem_text.specs.Examples.{first_fault, items_in, script_in}
 use Rattle.problem_text.specs.Outcomes.{Outcome}
 use Rattle.alethe_text.specs.Commands.{command_of}
@@ -17,13 +17,13 @@ use Rattle.alethe_text.specs.Steps.{assume_read, attribute_read, attributes_read
 use Rattle.alethe_text.specs.Anchors.{argument_read, arguments_read, anchor_read}
 use Rattle.alethe_text.specs.ProofTexts.{performed, commands, proof_from}
 
-abbrev pub fault_of : {A : Type 0} → Result A Refusal → Option Refusal
-fault_of (Ok a) = None
-fault_of (Err refusal) = Some refusal
+abbrev pub text_fault_of : {A : Type 0} → Result A Refusal → Option Refusal
+text_fault_of (Ok a) = None
+text_fault_of (Err refusal) = Some refusal
 
-abbrev pub value_of : {A : Type 0} → Result A Refusal → Option A
-value_of (Ok a) = Some a
-value_of (Err refusal) = None
+abbrev pub read_value : {A : Type 0} → Result A Refusal → Option A
+read_value (Ok a) = Some a
+read_value (Err refusal) = None
 
 -- what a text comes to behind a problem
 unfoldable pub proof_read : ProofSettings → List ℕ → List ℕ → Outcome ProofState (Proof Var Term)
@@ -37,15 +37,15 @@ usual = record { replaces_lets = false; is_strict = false }
 -- the first fault of the commands of a text, and the proof for which it stands
 unfoldable pub first_fault_behind : List ℕ → List ℕ → Option Refusal
 unfolding proof_read
-first_fault_behind problem text = fault_of (proof_read usual problem text).result
+first_fault_behind problem text = text_fault_of (proof_read usual problem text).result
 
 unfoldable pub proof_behind : List ℕ → List ℕ → Option (Proof Var Term)
 unfolding proof_read
-proof_behind problem text = value_of (proof_read usual problem text).result
+proof_behind problem text = read_value (proof_read usual problem text).result
 
 unfoldable pub strict : List ℕ → List ℕ → Option (Proof Var Term)
 unfolding proof_read
-strict problem text = value_of (proof_read (record { replaces_lets = false; is_strict = true }) problem text).result
+strict problem text = read_value (proof_read (record { replaces_lets = false; is_strict = true }) problem text).result
 
 -- a step with an empty clause and nothing else
 abbrev pub plain_step : List ℕ → Rule → List ℕ → Step Term

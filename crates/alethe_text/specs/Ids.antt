@@ -3,7 +3,7 @@ use Rattle.std.specs.Prelude.{ℕ, ◌+◌, not, if◌then◌else◌, List, [], 
 use Rattle.sexpr.specs.declared.causes.Cause.{Cause}
 use Rattle.sexpr.specs.declared.causes.Cause.TheVariants.{Repeated, NoStep, BadAnchor}
 use Rattle.term_model.specs.Terms.{Var, Term}
-use Rattle.rule_model.specs.Proofs.{Items, no_items, with_assume, with_step, with_subproof}
+use Rattle.rule_model.specs.Proofs.{ProofItems, no_items, with_assume, with_step, with_subproof}
 use Rattle.rule_model.specs.Scopes.{Nesting, outermost, inside, Scope, first_index, commands_in}
 use Rattle.rule_model.specs.Visibility.{Sight, sight, seen, visible_ids, open_ids}
 use Rattle.rule_model.specs.Writing.{is_open_id}
@@ -20,7 +20,7 @@ id_judged of_anchor n = do
   demand (not (is_among (visible_ids scope.nesting scope.items) n.name)) Repeated n.place
 
 -- the assumes that stand directly in a scope
-abbrev pub assumes_seen : {V T : Type 0} → Nesting V T → Items V T → List Sight
+abbrev pub assumes_seen : {V T : Type 0} → Nesting V T → ProofItems V T → List Sight
 assumes_seen nesting no_items = []
 assumes_seen nesting (with_assume items id t) =
     assumes_seen nesting items ++ sight (first_index nesting + commands_in items) id ∷ []
@@ -37,7 +37,7 @@ abbrev pub stands_in : Scope Var Term → Standing
 stands_in scope = record { nesting = scope.nesting; sees = seen scope.nesting scope.items; discharges = [] }
 
 -- a step that closes a scope belongs to the scope around
-abbrev pub closes_scope : Nesting Var Term → Items Var Term → Standing
+abbrev pub closes_scope : Nesting Var Term → ProofItems Var Term → Standing
 closes_scope outermost items = record { nesting = outermost; sees = []; discharges = [] }
 closes_scope (inside around before anchor) items = record {
   nesting = around;

@@ -5,7 +5,7 @@ use Rattle.sexpr.specs.declared.causes.Refusal.{Refusal}
 use Rattle.sexpr.specs.Form.{IsFormFault}
 use Rattle.sexpr.specs.Items.{Item, word, quoted, string, list, Items, no_items, item, StandsForItems}
 use Rattle.term_model.specs.Terms.{Var, Term}
-use Rattle.rule_model.specs.Proofs.{Items as Proof}
+use Rattle.rule_model.specs.Proofs.{ProofItems as Proof}
 use Rattle.rule_model.specs.Scopes.{Nesting, outermost, inside}
 use Rattle.text_items.specs.ItemShapes.{excess, items_of}
 use Rattle.text_items.specs.Spelling.{is_list_item}
@@ -43,9 +43,9 @@ is_list_of_commands (list place no_items) = true
 is_list_of_commands (list place (item head others)) = is_list_item head
 
 -- The commands stand by themselves or in one list, and behind such a list stands nothing.
-abbrev pub commands_in : Items → Items
-commands_in no_items = no_items
-commands_in (item i rest) = if is_list_of_commands i then items_of i else item i rest
+abbrev pub unwrapped_commands : Items → Items
+unwrapped_commands no_items = no_items
+unwrapped_commands (item i rest) = if is_list_of_commands i then items_of i else item i rest
 
 abbrev pub excess_behind : Items → Option ℕ
 excess_behind no_items = None
@@ -66,7 +66,7 @@ finished = seen_in (λ s. s) >>= λ s. closed_proof s.scope.nesting s.scope.item
 -- what the items of a whole text come to
 unfoldable pub proof_from : ProofSettings → Items → Reading (Proof Var Term)
 proof_from settings items = do
-  _ ← commands settings (commands_in (behind_answer items))
+  _ ← commands settings (unwrapped_commands (behind_answer items))
   _ ← none_behind (excess_behind (behind_answer items))
   finished
 

@@ -5,7 +5,7 @@ use Rattle.std.specs.List.{AllByRecursion}
 use Rattle.term_model.specs.declared.symbols.Sort.{Sort}
 use Rattle.term_model.specs.Terms.{Var, Term}
 use Rattle.rule_model.specs.Heights.{height}
-use Rattle.rule_model.specs.Proofs.{Step, Items, no_items, with_assume, with_step, with_subproof}
+use Rattle.rule_model.specs.Proofs.{Step, ProofItems, no_items, with_assume, with_step, with_subproof}
 use Rattle.rule_model.specs.Scopes.{Nesting, outermost, inside, inner}
 use Rattle.problem_text.specs.Limits.{most_height}
 use Rattle.problem_text.specs.Soundness.{IsRead}
@@ -30,7 +30,7 @@ pub record IsBinding (nesting : Nesting Var Term) (b : Var × Term) : Type 0 whe
   pub image : height (image_of nesting b.1) ≤ most_height
 
 -- the terms of the items of a scope
-abbrev pub AreSorted : Nesting Var Term → Items Var Term → Type 0
+abbrev pub AreSorted : Nesting Var Term → ProofItems Var Term → Type 0
 AreSorted nesting no_items = ⊤
 AreSorted nesting (with_assume items id t) = AreSorted nesting items × IsFormula t
 AreSorted nesting (with_step items s) = AreSorted nesting items × HasTerms s

@@ -3,7 +3,7 @@ use Rattle.std.proofs.Common.{◌≡◌, ◌<◌, ◌≤◌, ◌+◌, ℕ, suc, 
 use Rattle.std.proofs.lemmas.List.{map-append}
 use Rattle.std.proofs.lemmas.List.Elements.{All-contains, All-push}
 use Rattle.rule_model.specs.RuleNames.{IsSymbolName}
-use Rattle.rule_model.specs.Proofs.{Items, with_assume}
+use Rattle.rule_model.specs.Proofs.{ProofItems, with_assume}
 use Rattle.rule_model.specs.Scopes.{Nesting, outermost, Scope, commands_in, first_index, next_index}
 use Rattle.rule_model.specs.Visibility.{direct, seen, sight, visible_ids, open_ids}
 use Rattle.rule_model.specs.WellFormed.{IsNewId}

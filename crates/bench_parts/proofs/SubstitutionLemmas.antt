@@ -7,7 +7,7 @@ use Rattle.sym_table.specs.Table.{Table, IsLeaf}
 use Rattle.term_model.specs.declared.symbols.Sort.{Sort}
 use Rattle.term_model.specs.Terms.{variable}
 use Rattle.term_pool.specs.Views.{TermsView, IsTerm}
-use Rattle.contexts.specs.PutIn.{IsReplacement}
+use Rattle.contexts.specs.PutIn.{AreReplacementBy}
 use Rattle.bench_parts.specs.Applications.{IsVariable, KeepsReferences}
 
 pub is_variable : (s : Table) (k : ℕ) (name : List ℕ) (sort : Sort) → IsLeaf s k (Leaf.variable name sort) → k < 2 ^ 30 → IsVariable s k
@@ -19,7 +19,7 @@ variable_is_term s v r k h known = record {
   refers = record { tree = leaf k; known = known; stands = h.leaf };
 }
 
-pub is_replacement : (s : Table) (v : TermsView) (k r : ℕ) → IsVariable s k → IsTerm s v r → IsReplacement s v ((k, r) ∷ [])
+pub is_replacement : (s : Table) (v : TermsView) (k r : ℕ) → IsVariable s k → IsTerm s v r → AreReplacementBy s v ((k, r) ∷ [])
 is_replacement s v k r h value = record { means = (h.variable, value.means) ∷ []; are = (h.leaf, value.refers, tt) }
 
 pub stays : (s : Table) (old new : TermsView) (r : ℕ) → KeepsReferences old new → IsTerm s old r → IsTerm s new r

@@ -9,7 +9,7 @@ use Rattle.term_pool.specs.declared.shape.Shape.{Shape}
 use Rattle.term_pool.specs.Reading.{arguments_of, list_of_bindings, IsShapeOf, HasArgument}
 use Rattle.term_pool.specs.StandsFor.{function_leaf}
 use Rattle.term_pool.specs.Views.{TermsView, RefersTo, ReferToAll, IsTerm, KeepsTerms}
-use Rattle.term_pool.specs.Building.{IsApplication}
+use Rattle.term_pool.specs.Building.{IsAppliedLeaf}
 use Rattle.bench_parts.specs.Applications.{IsDeclaredLeaf, KeepsHeads, KeepsReferences}
 
 pub keeps_references : (old new : TermsView) → KeepsTerms old new → KeepsReferences old new
@@ -37,13 +37,13 @@ same_list : (ts : List Term) → list_of (terms_of ts) ≡ ts
 same_list [] = refl
 same_list (t ∷ ts) = rw (same_list ts) refl
 
-pub application_is_term : (s : Table) (old new : TermsView) (head r : ℕ) (rs : List ℕ) → IsDeclaredLeaf s head → All (IsTerm s old) rs → ((s : Table) (ts : List Term) (t : Term) → ReferToAll s old rs ts → IsApplication s head ts t → RefersTo s new r t) → IsTerm s new r
+pub application_is_term : (s : Table) (old new : TermsView) (head r : ℕ) (rs : List ℕ) → IsDeclaredLeaf s head → All (IsTerm s old) rs → ((s : Table) (ts : List Term) (t : Term) → ReferToAll s old rs ts → IsAppliedLeaf s head ts t → RefersTo s new r t) → IsTerm s new r
 application_is_term s old new head r rs is_head all term =
     let all_means = means_of s old rs all in
     let t = call is_head.function (terms_of all_means.terms) in
     record { means = t; refers = term s all_means.terms t all_means.refer (is_head.leaf, same_list all_means.terms) }
 
-pub ok_is_term : {E : Type 0} → (result : Result ℕ E) (s : Table) (old new : TermsView) (head : ℕ) (rs : List ℕ) → IsDeclaredLeaf s head → All (IsTerm s old) rs → IfOk result (λ r. (s : Table) (ts : List Term) (t : Term) → ReferToAll s old rs ts → IsApplication s head ts t → RefersTo s new r t) → IfOk result (IsTerm s new)
+pub ok_is_term : {E : Type 0} → (result : Result ℕ E) (s : Table) (old new : TermsView) (head : ℕ) (rs : List ℕ) → IsDeclaredLeaf s head → All (IsTerm s old) rs → IfOk result (λ r. (s : Table) (ts : List Term) (t : Term) → ReferToAll s old rs ts → IsAppliedLeaf s head ts t → RefersTo s new r t) → IfOk result (IsTerm s new)
 ok_is_term (Ok r) s old new head rs is_head all term = application_is_term s old new head r rs is_head all term
 ok_is_term (Err e) s old new head rs is_head all term = tt
 

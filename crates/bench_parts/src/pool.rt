@@ -1,7 +1,7 @@
 //! Cells of a pool: interning pairs of leaves, finding them again, a chain of pairs, and its parts.
 
 ghost use Rattle.std.specs.Prelude.{◌≡◌, ◌≤◌, ◌<◌, ◌^◌, IfOk};
-ghost use Rattle.pair_pool.specs.Views.{IsOf, IsKnown};
+ghost use Rattle.pair_pool.specs.Views.{IsPassOf, IsKnown};
 
 use pair_pool::{Memory, Pass, Pool, PoolFull, Ref};
 use std::alloc::Global;
@@ -52,8 +52,8 @@ pub fn run(alloc: Global, case: &str, bits: &str, count: &str) -> Result<u64, St
 
 /// Interns so many pairs of leaves.
 fn pairs(pool: &Pool, pass: &mut Pass, count: u32) -> Result<u64, PoolFull>
-    requires { IsOf pool.now pass.old }
-    ensures { IsOf pool.now pass.new }
+    requires { IsPassOf pool.now pass.old }
+    ensures { IsPassOf pool.now pass.new }
 {
     let mut sum: u64 = 0;
     'pairs: for k in 0..count {
@@ -65,8 +65,8 @@ fn pairs(pool: &Pool, pass: &mut Pass, count: u32) -> Result<u64, PoolFull>
 
 /// The last of so many pairs, of which each holds the one before.
 fn chain(pool: &Pool, pass: &mut Pass, count: u32) -> Result<Ref, PoolFull>
-    requires { IsOf pool.now pass.old }
-    ensures of_pool { IsOf pool.now pass.new }
+    requires { IsPassOf pool.now pass.old }
+    ensures of_pool { IsPassOf pool.now pass.new }
     ensures known { IfOk result (λ r. IsKnown pass.new r) }
 {
     let mut last = Ref::leaf(0);
@@ -78,7 +78,7 @@ fn chain(pool: &Pool, pass: &mut Pass, count: u32) -> Result<Ref, PoolFull>
 
 /// The sum of the numbers of the second parts, from a reference down the first parts, at most so many.
 fn walk(pool: &Pool, pass: &mut Pass, from: Ref, count: u32) -> u64
-    requires of_pool { IsOf pool.now pass.old }
+    requires of_pool { IsPassOf pool.now pass.old }
     requires known { IsKnown pass.old from }
 {
     let mut r = from;

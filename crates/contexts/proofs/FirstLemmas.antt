@@ -4,7 +4,7 @@ use Rattle.std.specs.HashMap.{get}
 use Rattle.std.proofs.lemmas.Bool.Decides.{eqb_tells}
 use Rattle.pair_pool.specs.Trees.{Tree, leaf}
 use Rattle.pair_pool.specs.Views.{PassView, Knows}
-use Rattle.rule_model.specs.Replacement.{Replacement, term_at}
+use Rattle.rule_model.specs.Replacement.{Replacement, replaced_by}
 use Rattle.rule_model.specs.Substitution.{put_in}
 use Rattle.sym_table.specs.Leaf.{Leaf}
 use Rattle.sym_table.specs.Table.{Table, IsLeaf, IsTable}
@@ -15,7 +15,7 @@ use Rattle.term_pool.specs.StandsFor.{variable_leaf, StandsFor}
 use Rattle.term_pool.specs.Views.{TermsView, RefersTo}
 use Rattle.contexts.specs.Becoming.{becomes, Images, IsImageAt, AreImages, HasImages}
 use Rattle.contexts.specs.Firsts.{first_for}
-use Rattle.contexts.specs.PutIn.{StandForReplacement, IsReplacement, PlacesTerm, LacksRoomFor}
+use Rattle.contexts.specs.PutIn.{StandForReplacement, AreReplacementBy, PlacesTerm, LacksRoomFor}
 use Rattle.contexts.proofs.CellBuilding.{placed-none}
 use Rattle.contexts.proofs.Links.{one_variable, one_leaf, same_some}
 use Rattle.contexts.proofs.Standing.{PutsFor, becomes_stands}
@@ -52,7 +52,7 @@ first_more old new bs at b above inside is here others before k =
 pub record HasTrees (s : Table) (v : TermsView) (bs : List (ℕ × ℕ)) (q : Replacement) : Type 0 where
   pub trees : ℕ → Tree
   pub are : (k : ℕ) → IsImageAt v.pass (first_for bs k) k (trees k)
-  pub variables : (k : ℕ) (x : Var) → IsLeaf s k (variable_leaf x) → StandsFor s (trees k) (term_at q x)
+  pub variables : (k : ℕ) (x : Var) → IsLeaf s k (variable_leaf x) → StandsFor s (trees k) (replaced_by q x)
   pub others : (k : ℕ) (l : Leaf) → IsLeaf s k l → ((x : Var) → ¬ (l ≡ variable_leaf x)) → trees k ≡ leaf k
 
 more_trees : (s : Table) → IsTable s → (v : TermsView) (b : ℕ × ℕ) (bs : List (ℕ × ℕ)) (x : Var) (t : Term) (q : Replacement) → IsLeaf s b.0 (variable_leaf x) → RefersTo s v b.1 t → HasTrees s v bs q → HasTrees s v (b ∷ bs) ((x, t) ∷ q)
@@ -67,7 +67,7 @@ more_trees s table v b bs x t q here refers h = record {
     at true k before = refers.known
     at false k before = before
 
-    put_at : (k : ℕ) (y : Var) → IsLeaf s k (variable_leaf y) → (c d : Bool) → eqb b.0 k ≡ c → ((c ≡ true) × (b.0 ≡ k)) ⊎ ((c ≡ false) × (b.0 ≢ k)) → var_eq x y ≡ d → StandsFor s (if c then refers.tree else h.trees k) (if d then t else term_at q y)
+    put_at : (k : ℕ) (y : Var) → IsLeaf s k (variable_leaf y) → (c d : Bool) → eqb b.0 k ≡ c → ((c ≡ true) × (b.0 ≡ k)) ⊎ ((c ≡ false) × (b.0 ≢ k)) → var_eq x y ≡ d → StandsFor s (if c then refers.tree else h.trees k) (if d then t else replaced_by q y)
     put_at k y is true true e tells f = refers.stands
     put_at k y is true false e (inl both) f =
         absurd (let same = one_variable s k x y (subst (λ j. IsLeaf s j (variable_leaf x)) both.1 here) is in let g = (var_eq_decides x y).1 same in cc)
@@ -94,7 +94,7 @@ module _ (s : Table) (table : IsTable s) (v : TermsView) (bs : List (ℕ × ℕ)
       let t = trees_of s table v bs q h in
       subst (λ (o : Option ℕ). IsImageAt v.pass o k (t.trees k)) (sym (firsts k)) (t.are k)
 
-  pub have_images : IsReplacement s v bs → HasImages v.pass images
+  pub have_images : AreReplacementBy s v bs → HasImages v.pass images
   have_images h = record { trees = (trees_of s table v bs h.means h.are).trees; are = images_are h.means h.are }
 
   puts_for : (q : Replacement) (h : StandForReplacement s v bs q) → PutsFor s (trees_of s table v bs q h).trees [] q

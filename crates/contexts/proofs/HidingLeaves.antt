@@ -9,7 +9,7 @@ use Rattle.term_pool.specs.Trees.{pair_leaves}
 use Rattle.term_pool.specs.Views.{IsKnownCell}
 use Rattle.contexts.specs.Becoming.{image, Images, IsImageAt, AreImages}
 use Rattle.contexts.specs.FreeLeaves.{IsFreeLeaf}
-use Rattle.contexts.specs.Hiding.{IsImage, AddsHidden, AddsFree, Hides}
+use Rattle.contexts.specs.Hiding.{IsReplacedLeaf, AddsHidden, AddsFree, Hides}
 use Rattle.contexts.specs.Shapes.{HasListShape, IsBindingList}
 use Rattle.contexts.proofs.LeavingValues.{IsBinding}
 use Rattle.contexts.proofs.Sets.{has-test}
@@ -83,7 +83,7 @@ hidden_more images hidden before leaves old new k h e f = rw (e, f) (record {
   only = only;
 })
   where
-    all : (j : ℕ) → Contains (before ++ k ∷ []) j → IsImage images j → Contains hidden j ⊎ Contains (old ++ k ∷ []) j
+    all : (j : ℕ) → Contains (before ++ k ∷ []) j → IsReplacedLeaf images j → Contains hidden j ⊎ Contains (old ++ k ∷ []) j
     all j i is =
         elim (Contains-push_cases before k j i)
         [ inl was ↦ elim (h.all j was is) [ inl a ↦ inl a | inr b ↦ inr (Contains-append_left old (k ∷ []) j b) ] | inr same ↦ inr (subst (Contains (old ++ k ∷ [])) same (Contains-push old k)) ]
@@ -93,10 +93,10 @@ hidden_more images hidden before leaves old new k h e f = rw (e, f) (record {
         elim (Contains-push_cases old k j i)
         [ inl was ↦ elim (h.only j was) [ inl n ↦ inl n | inr b ↦ inr (Contains-append_left before (k ∷ []) j b) ] | inr same ↦ inr (subst (Contains (before ++ k ∷ [])) same (Contains-push before k)) ]
 
-pub hidden_skip : (images : Images) (hidden before leaves now : List ℕ) (k : ℕ) → AddsHidden images hidden before [] now → leaves ≡ before ++ k ∷ [] → (IsImage images k → Contains hidden k) → AddsHidden images hidden leaves [] now
+pub hidden_skip : (images : Images) (hidden before leaves now : List ℕ) (k : ℕ) → AddsHidden images hidden before [] now → leaves ≡ before ++ k ∷ [] → (IsReplacedLeaf images k → Contains hidden k) → AddsHidden images hidden leaves [] now
 hidden_skip images hidden before leaves now k h e skip = rw e (record {
   kept = λ j i. absurd (none_in j i);
-  all = λ j i is. elim (Contains-push_cases before k j i) [ inl was ↦ h.all j was is | inr same ↦ inl (subst (Contains hidden) same (skip (subst (IsImage images) (sym same) is))) ];
+  all = λ j i is. elim (Contains-push_cases before k j i) [ inl was ↦ h.all j was is | inr same ↦ inl (subst (Contains hidden) same (skip (subst (IsReplacedLeaf images) (sym same) is))) ];
   only = λ j i. elim (h.only j i) [ inl n ↦ inl n | inr b ↦ inr (Contains-append_left before (k ∷ []) j b) ];
 })
 
@@ -128,13 +128,13 @@ free_skip p before leaves r old now k h e never = rw e (record {
 })
 
 -- what matters below the let
-image_agrees : (p : PassView) (images : Images) (f : ℕ → Tree) → AreImages p images f → (under all : List ℕ) (k : ℕ) → (Contains under k → Contains all k) → (Contains all k → IsImage images k → Contains under k) → image f under k ≡ image f all k
+image_agrees : (p : PassView) (images : Images) (f : ℕ → Tree) → AreImages p images f → (under all : List ℕ) (k : ℕ) → (Contains under k → Contains all k) → (Contains all k → IsReplacedLeaf images k → Contains under k) → image f under k ≡ image f all k
 image_agrees p images f are under all k there back =
     go (list_any (nat_eq k) under) (list_any (nat_eq k) all) (get nat_eq images k) refl (are k)
     (λ e. (has-test all k).1 (there ((has-test under k).0 e)))
     (λ e is. (has-test under k).1 (back ((has-test all k).0 e) is))
   where
-    go : (a b : Bool) (o : Option ℕ) → get nat_eq images k ≡ o → IsImageAt p o k (f k) → (a ≡ true → b ≡ true) → (b ≡ true → IsImage images k → a ≡ true) → (if a then leaf k else f k) ≡ (if b then leaf k else f k)
+    go : (a b : Bool) (o : Option ℕ) → get nat_eq images k ≡ o → IsImageAt p o k (f k) → (a ≡ true → b ≡ true) → (b ≡ true → IsReplacedLeaf images k → a ≡ true) → (if a then leaf k else f k) ≡ (if b then leaf k else f k)
     go true true o e at h g = refl
     go true false o e at h g = absurd (let x = h refl in cc)
     go false false o e at h g = refl
@@ -176,7 +176,7 @@ hides_under p images hidden leaves new first second under list body h are one tw
     is_new (inl a) = was a
     is_new (inr b) = into k (two.all u known_u k b free)
 
-    back : Contains (hidden ++ pair_leaves t) k → IsImage images k → Contains under k
+    back : Contains (hidden ++ pair_leaves t) k → IsReplacedLeaf images k → Contains under k
     back i is =
         elim (Contains-append_cases hidden (pair_leaves t) k i)
         [ inl a ↦ was a | inr b ↦ is_new (h.all k (subst (λ (z : List ℕ). Contains z k) (sym (are t known shape)) b) is) ]

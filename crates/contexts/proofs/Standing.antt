@@ -7,7 +7,7 @@ use Rattle.sym_table.specs.Leaf.{Leaf, operator, let_head}
 use Rattle.sym_table.specs.Table.{Table, IsLeaf, IsTable}
 use Rattle.term_model.specs.FreeVariables.{Binds}
 use Rattle.term_model.specs.Terms.{Var, Term, numeral, variable, operation, call, let_in, Terms, no_terms, term, Bindings, no_bindings, binding}
-use Rattle.rule_model.specs.Replacement.{Replacement, term_at}
+use Rattle.rule_model.specs.Replacement.{Replacement, replaced_by}
 use Rattle.rule_model.specs.Substitution.{unbound, put_in, put_in_all, put_in_bound}
 use Rattle.rule_model.proofs.Substituting.{binds-cases, term_at-bound, term_at-unbound}
 use Rattle.term_pool.specs.Heights.{is_let_head}
@@ -22,7 +22,7 @@ use Rattle.contexts.proofs.Sets.{has-test}
 
 -- what is put in for leaves is what the replacement puts in for variables, and other leaves stay
 pub record PutsFor (s : Table) (f : ℕ → Tree) (hidden : List ℕ) (q : Replacement) : Type 0 where
-  pub variables : (k : ℕ) (x : Var) → IsLeaf s k (variable_leaf x) → StandsFor s (image f hidden k) (term_at q x)
+  pub variables : (k : ℕ) (x : Var) → IsLeaf s k (variable_leaf x) → StandsFor s (image f hidden k) (replaced_by q x)
   pub others : (k : ℕ) (l : Leaf) → IsLeaf s k l → ((x : Var) → ¬ (l ≡ variable_leaf x)) → image f hidden k ≡ leaf k
 
 pub if_true : (b : Bool) (x y : Tree) → b ≡ true → (if b then x else y) ≡ x
@@ -56,16 +56,16 @@ module _ (s : Table) (table : IsTable s) (f : ℕ → Tree) where
       shape : HasListShape list
       shape = bindings_shape s table bs list p
 
-      bound : (k : ℕ) (x : Var) → IsLeaf s k (variable_leaf x) → Binds bs x ⊎ (¬ Binds bs x) → StandsFor s (image f (hidden ++ pair_leaves list) k) (term_at (unbound bs q) x)
+      bound : (k : ℕ) (x : Var) → IsLeaf s k (variable_leaf x) → Binds bs x ⊎ (¬ Binds bs x) → StandsFor s (image f (hidden ++ pair_leaves list) k) (replaced_by (unbound bs q) x)
       bound k x here (inl b) =
           subst (λ (u : Term). StandsFor s (image f (hidden ++ pair_leaves list) k) u) (sym (term_at-bound bs q x b))
           (subst (λ (t : Tree). IsLeafOf s t (variable_leaf x)) (sym (image_bound f hidden (pair_leaves list) k (binds_listed k list shape (binds_back s table k x here bs list p b)))) here)
       bound k x here (inr n) =
           subst (λ (u : Term). StandsFor s (image f (hidden ++ pair_leaves list) k) u) (sym (term_at-unbound bs q x n))
-          (subst (λ (t : Tree). StandsFor s t (term_at q x)) (sym (image_unbound f hidden (pair_leaves list) k (λ c. n (binds_there s table k x here bs list p (listed_binds k list shape c)))))
+          (subst (λ (t : Tree). StandsFor s t (replaced_by q x)) (sym (image_unbound f hidden (pair_leaves list) k (λ c. n (binds_there s table k x here bs list p (listed_binds k list shape c)))))
           (h.variables k x here))
 
-      vars : (k : ℕ) (x : Var) → IsLeaf s k (variable_leaf x) → StandsFor s (image f (hidden ++ pair_leaves list) k) (term_at (unbound bs q) x)
+      vars : (k : ℕ) (x : Var) → IsLeaf s k (variable_leaf x) → StandsFor s (image f (hidden ++ pair_leaves list) k) (replaced_by (unbound bs q) x)
       vars k x here = bound k x here (binds-cases bs x)
 
       rest : (k : ℕ) (l : Leaf) → IsLeaf s k l → ((x : Var) → ¬ (l ≡ variable_leaf x)) → image f (hidden ++ pair_leaves list) k ≡ leaf k

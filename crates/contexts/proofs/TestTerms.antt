@@ -8,9 +8,9 @@ use Rattle.sym_table.specs.Table.{Table, IsLeaf}
 use Rattle.term_model.specs.declared.symbols.Op.{Op}
 use Rattle.term_model.specs.declared.symbols.Sort.{Sort}
 use Rattle.term_model.specs.Terms.{Var, Term, Bindings, variable, operation, let_in, no_terms, term, no_bindings, binding}
-use Rattle.term_pool.specs.Building.{IsApplication, AreBindings}
+use Rattle.term_pool.specs.Building.{IsAppliedLeaf, AreBindings}
 use Rattle.term_pool.specs.Views.{TermsView, RefersTo, ReferToAll, IsTerm}
-use Rattle.contexts.specs.PutIn.{IsReplacement}
+use Rattle.contexts.specs.PutIn.{AreReplacementBy}
 
 pub constant_is_term : (s : Table) (v : TermsView) (r k : ℕ) (op : Op) → Knows v.pass r (leaf k) → IsLeaf s k (operator op) → IsTerm s v r
 constant_is_term s v r k op known is =
@@ -29,10 +29,10 @@ module _ (s : Table) (x : ℕ) (name : List ℕ) (sort : Sort) (is : IsLeaf s x 
     refers = makes s (binding var h.means no_bindings) k.means (is, h.refers, tt) k.refers;
   }
 
-  pub replaces : (v : TermsView) (value : ℕ) → IsTerm s v value → IsReplacement s v ((x, value) ∷ [])
+  pub replaces : (v : TermsView) (value : ℕ) → IsTerm s v value → AreReplacementBy s v ((x, value) ∷ [])
   replaces v value h = record { means = (var, h.means) ∷ []; are = (is, h.refers, tt) }
 
-pub negation_is_term : (s : Table) (old new : TermsView) (head r t : ℕ) → IsLeaf s head (operator Op.Not) → IsTerm s old t → ((s : Table) (ts : List Term) (u : Term) → ReferToAll s old (t ∷ []) ts → IsApplication s head ts u → RefersTo s new r u) → IsTerm s new r
+pub negation_is_term : (s : Table) (old new : TermsView) (head r t : ℕ) → IsLeaf s head (operator Op.Not) → IsTerm s old t → ((s : Table) (ts : List Term) (u : Term) → ReferToAll s old (t ∷ []) ts → IsAppliedLeaf s head ts u → RefersTo s new r u) → IsTerm s new r
 negation_is_term s old new head r t is h makes = record {
   means = operation Op.Not (term h.means no_terms);
   refers = makes s (h.means ∷ []) (operation Op.Not (term h.means no_terms)) (h.refers, tt) (is, refl);

@@ -16,7 +16,7 @@ use Rattle.contexts.specs.declared.places.Visit.TheVariants.{Part, Done}
 use Rattle.contexts.specs.Becoming.{image, becomes, bindings_become, Images, IsImageAt, AreImages}
 use Rattle.contexts.specs.Hiding.{Hides}
 use Rattle.contexts.specs.Layers.{shadowed, KeepsLayers}
-use Rattle.contexts.specs.Places.{Lists, reference_of, layer_of, HasPlaceShape, becomes_there, IsSpot, image_of_leaf, leaf_there, other, Memory, remembered, IsMemory, IsUnder, HasDone, PlacesImage, LacksRoomForImage, IsReady, Visits, HasHead}
+use Rattle.contexts.specs.Places.{Lists, reference_of, layer_of, HasPlaceShape, becomes_there, IsSpot, image_of_leaf, leaf_there, other, Memory, remembered, IsMemory, IsUnder, HasDone, PlacesImage, LacksRoomForImage, IsReady, Visits, HasLetHead}
 use Rattle.contexts.specs.Shapes.{HasShape, HasLetShape, HasListShape, IsShaped, IsLetRest, IsBindingList}
 use Rattle.contexts.proofs.Agreeing.{becomes_agree}
 use Rattle.contexts.proofs.CellBuilding.{placed-none}
@@ -192,7 +192,7 @@ pub image_is_known : (p : PassView) (images : Images) (lists : Lists) (memo : Me
 image_is_known p images lists memo d T ready h = record { tree = T ready.trees; stands = h ready.trees ready.are ready.right }
 
 -- a cell that is no let
-pub plain_composed : (p : PassView) (images : Images) (lists : Lists) (r a b layer : ℕ) (k : IsSplit p r HasShape) → ((s t : Tree) → Knows p r (cell s t) → Knows p a s) → ((s t : Tree) → Knows p r (cell s t) → Knows p b t) → HasHead p r false → layer < length lists → IsComposed p images lists lists (Term r layer) (Term a layer) (Term b layer) cell
+pub plain_composed : (p : PassView) (images : Images) (lists : Lists) (r a b layer : ℕ) (k : IsSplit p r HasShape) → ((s t : Tree) → Knows p r (cell s t) → Knows p a s) → ((s t : Tree) → Knows p r (cell s t) → Knows p b t) → HasLetHead p r false → layer < length lists → IsComposed p images lists lists (Term r layer) (Term a layer) (Term b layer) cell
 plain_composed p images lists r a b layer k first second head inside =
     let no = head k.first k.second k.known in
     let shapes = from_false (is_let_head k.first) (HasLetShape k.second) (HasShape k.first × HasShape k.second) no k.shape in
@@ -286,7 +286,7 @@ let_composed p images before after r head rest list body layer inner k keeps ins
         ∙ ap (λ z. cell k.top (cell (bindings_become f (shadowed after layer) k.bindings) z))
         (sym (becomes_agree f k.under (shadowed after inner) (shadowed before layer ++ pair_leaves k.bindings) k.body_shape (λ j free. hides f are k.bindings k.under k.list_known k.list_shape k.body_known j free)))
 
-pub plain_of_spot : (p : PassView) → HasPartsOfTrees p → (images : Images) (lists : Lists) (r a b layer : ℕ) → IsSpot p lists (Term r layer) → ((s t : Tree) → Knows p r (cell s t) → Knows p a s) → ((s t : Tree) → Knows p r (cell s t) → Knows p b t) → HasHead p r false → IsComposed p images lists lists (Term r layer) (Term a layer) (Term b layer) cell
+pub plain_of_spot : (p : PassView) → HasPartsOfTrees p → (images : Images) (lists : Lists) (r a b layer : ℕ) → IsSpot p lists (Term r layer) → ((s t : Tree) → Knows p r (cell s t) → Knows p a s) → ((s t : Tree) → Knows p r (cell s t) → Knows p b t) → HasLetHead p r false → IsComposed p images lists lists (Term r layer) (Term a layer) (Term b layer) cell
 plain_of_spot p parts images lists r a b layer spot first second head =
     plain_composed p images lists r a b layer (split p parts r HasShape spot.tree spot.known spot.shape spot.high) first second head spot.inside
 
@@ -320,7 +320,7 @@ binding_is_cell p parts lists r binding rest layer spot first second = go spot.t
     go (cell (leaf j) b) known shape = absurd shape.0
     go (cell (cell c t) b) known shape = record { first = c; second = t; stands = first (cell c t) b known }
 
-pub let_rest_of : (p : PassView) → HasPartsOfTrees p → (lists : Lists) (r head rest layer : ℕ) → IsSpot p lists (Term r layer) → HasHead p r true → ((s t : Tree) → Knows p r (cell s t) → Knows p rest t) → IsLetRest p rest
+pub let_rest_of : (p : PassView) → HasPartsOfTrees p → (lists : Lists) (r head rest layer : ℕ) → IsSpot p lists (Term r layer) → HasLetHead p r true → ((s t : Tree) → Knows p r (cell s t) → Knows p rest t) → IsLetRest p rest
 let_rest_of p parts lists r head rest layer spot is second = go spot.tree spot.known spot.shape
   where
     go : (t : Tree) → Knows p r t → HasShape t → IsLetRest p rest
@@ -331,7 +331,7 @@ let_rest_of p parts lists r head rest layer spot is second = go spot.tree spot.k
       shape = from_true (is_let_head a) (HasLetShape b) (HasShape a × HasShape b) (is a b known) shape;
     }
 
-pub let_split : (p : PassView) → HasPartsOfTrees p → (lists : Lists) (r head rest list body layer : ℕ) → IsSpot p lists (Term r layer) → HasHead p r true → ((s t : Tree) → Knows p r (cell s t) → Knows p head s) → ((s t : Tree) → Knows p r (cell s t) → Knows p rest t) → ((s t : Tree) → Knows p rest (cell s t) → Knows p list s) → ((s t : Tree) → Knows p rest (cell s t) → Knows p body t) → IsLetSplit p r head rest list body
+pub let_split : (p : PassView) → HasPartsOfTrees p → (lists : Lists) (r head rest list body layer : ℕ) → IsSpot p lists (Term r layer) → HasLetHead p r true → ((s t : Tree) → Knows p r (cell s t) → Knows p head s) → ((s t : Tree) → Knows p r (cell s t) → Knows p rest t) → ((s t : Tree) → Knows p rest (cell s t) → Knows p list s) → ((s t : Tree) → Knows p rest (cell s t) → Knows p body t) → IsLetSplit p r head rest list body
 let_split p parts lists r head rest list body layer spot is first second third fourth = go spot.tree spot.known spot.shape
   where
     go : (t : Tree) → Knows p r t → HasShape t → IsLetSplit p r head rest list body

@@ -9,13 +9,13 @@ use Rattle.contexts.specs.FreeLeaves.{IsFreeLeaf}
 use Rattle.contexts.specs.Shapes.{HasListShape}
 
 -- something is put in for leaf k
-abbrev pub IsImage : Images → ℕ → Type 0
-IsImage images k = (r : ℕ) × (get nat_eq images k ≡ Some r)
+abbrev pub IsReplacedLeaf : Images → ℕ → Type 0
+IsReplacedLeaf images k = (r : ℕ) × (get nat_eq images k ≡ Some r)
 
 -- the new list has of these leaves those for which something is put in and that were not hidden
 pub record AddsHidden (images : Images) (hidden leaves old new : List ℕ) : Type 0 where
   pub kept : (k : ℕ) → Contains old k → Contains new k
-  pub all : (k : ℕ) → Contains leaves k → IsImage images k → Contains hidden k ⊎ Contains new k
+  pub all : (k : ℕ) → Contains leaves k → IsReplacedLeaf images k → Contains hidden k ⊎ Contains new k
   pub only : (k : ℕ) → Contains new k → Contains old k ⊎ Contains leaves k
 
 -- behind the old leaves stand those of the list that stand free in what the reference stands for

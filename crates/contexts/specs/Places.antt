@@ -132,5 +132,5 @@ pub record Visits (old new : PassView) (images : Images) (before after : Lists) 
       IfErr result (λ e. e ≡ TermStop.PoolFull → (f : ℕ → Tree) → AreImages old images f → IsMemory old f before memo → LacksRoomForImage old new f before place)
 
 -- the head of the cell r is that of a let, or it is not
-abbrev pub HasHead : PassView → ℕ → Bool → Type 0
-HasHead pass r is_let = (a b : Tree) → Knows pass r (cell a b) → is_let_head a ≡ is_let
+abbrev pub HasLetHead : PassView → ℕ → Bool → Type 0
+HasLetHead pass r is_let = (a b : Tree) → Knows pass r (cell a b) → is_let_head a ≡ is_let

@@ -19,7 +19,7 @@ StandForReplacement s v (b ∷ bs) (c ∷ q) =
     IsLeaf s b.0 (variable_leaf c.0) × RefersTo s v b.1 c.1 × StandForReplacement s v bs q
 
 -- by the table the bindings are some replacement
-pub record IsReplacement (s : Table) (v : TermsView) (bindings : List (ℕ × ℕ)) : Type 0 where
+pub record AreReplacementBy (s : Table) (v : TermsView) (bindings : List (ℕ × ℕ)) : Type 0 where
   pub means : Replacement
   pub are : StandForReplacement s v bindings means
 

@@ -4,7 +4,7 @@ ghost use Rattle.std.specs.Prelude.{◌≡◌, ◌<◌, ℕ, [], IfOk, OnOk, Con
 ghost use Rattle.pair_pool.specs.Trees.{Tree};
 ghost use Rattle.pair_pool.specs.Views.{Knows};
 ghost use Rattle.term_pool.specs.Trees.{pair_leaves};
-ghost use Rattle.contexts.specs.Hiding.{AddsFree, AddsHidden, Hides, IsImage};
+ghost use Rattle.contexts.specs.Hiding.{AddsFree, AddsHidden, Hides, IsReplacedLeaf};
 ghost use Rattle.contexts.specs.Layers.{shadowed, KeepsLayers};
 ghost use Rattle.contexts.specs.Shapes.{HasListShape, IsBindingList, IsShaped};
 
@@ -36,7 +36,7 @@ fn bound_by(alloc: Global, terms: &mut Terms<'_>, list: Ref) -> Result<Vec<u32>,
 
 /// Whether something is put in for a leaf that is not hidden yet.
 fn is_new(images: &HashMap<u32, Ref>, hidden: &[u32], leaf: u32) -> bool
-    ensures { result ≡ false → IsImage images.now leaf → Contains hidden.now leaf }
+    ensures { result ≡ false → IsReplacedLeaf images.now leaf → Contains hidden.now leaf }
 {
     images.contains_key(&leaf) && !hidden.contains(&leaf)
 }

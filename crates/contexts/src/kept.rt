@@ -9,7 +9,7 @@ ghost use Rattle.term_model.specs.Terms.{Term};
 ghost use Rattle.term_pool.specs.Views.{TermsView, IsTerm, RefersTo, KeepsTerms};
 ghost use Rattle.term_pool.specs.declared.stop.TermStop.TheVariants as TermStop;
 ghost use Rattle.contexts.specs.Kept.{IsRight, bindings_of};
-ghost use Rattle.contexts.specs.PutIn.{IsReplacement, LacksRoomFor, PlacesTerm, StandForReplacement};
+ghost use Rattle.contexts.specs.PutIn.{AreReplacementBy, LacksRoomFor, PlacesTerm, StandForReplacement};
 
 use crate::putting::put;
 use crate::substitution::images_of;
@@ -37,7 +37,7 @@ impl Substitution {
         symbols: &Symbols,
         terms: &Terms<'_>,
     ) -> Result<Substitution, Memory>
-        requires { IsReplacement symbols.now terms.now bindings.items }
+        requires { AreReplacementBy symbols.now terms.now bindings.items }
         ensures bindings { IfOk result (λ x. bindings_of x ≡ bindings.items) }
         ensures right { IfOk result (IsRight terms.now) }
     {
@@ -72,7 +72,7 @@ impl Substitution {
         r: Ref,
     ) -> Result<Ref, TermStop>
         requires term { IsTerm symbols.now terms.old r }
-        requires bindings { IsReplacement symbols.now terms.old (bindings_of self.old) }
+        requires bindings { AreReplacementBy symbols.now terms.old (bindings_of self.old) }
         requires right { IsRight terms.old self.old }
         ensures term { IfOk result (λ i. (t : Term) (q : Replacement) → RefersTo symbols.now terms.old r t → StandForReplacement symbols.now terms.old (bindings_of self.old) q → RefersTo symbols.now terms.new i (put_in q t)) }
 

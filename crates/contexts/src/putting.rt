@@ -9,7 +9,7 @@ ghost use Rattle.term_pool.specs.Views.{KeepsTerms};
 ghost use Rattle.term_pool.specs.declared.stop.TermStop.TheVariants as TermStop;
 ghost use Rattle.contexts.specs.Becoming.{AreImages, becomes};
 ghost use Rattle.contexts.specs.Layers.{KeepsLayers};
-ghost use Rattle.contexts.specs.Places.{HasHead, IsReady, IsSpot, IsWalked, Visits};
+ghost use Rattle.contexts.specs.Places.{HasLetHead, IsReady, IsSpot, IsWalked, Visits};
 ghost use Rattle.contexts.specs.Shapes.{IsShaped};
 ghost use Rattle.contexts.specs.declared.places.Place.TheVariants as Place;
 
@@ -33,7 +33,7 @@ fn visit_plain(
 ) -> Result<Visit, TermStop>
     requires spot { IsSpot terms.old.pass layers.now.lists.items (Place.Term r layer) }
     requires ready { IsReady terms.old.pass images.now layers.now.lists.items memo.now }
-    requires head { HasHead terms.old.pass r false }
+    requires head { HasLetHead terms.old.pass r false }
     ensures visits { Visits terms.old.pass terms.new.pass images.now layers.now.lists.items layers.now.lists.items memo.now (Place.Term r layer) result }
     ensures keeps { KeepsTerms terms.old terms.new }
 {
@@ -94,7 +94,7 @@ fn visit_let(
 ) -> Result<Visit, TermStop>
     requires spot { IsSpot terms.old.pass layers.old.lists.items (Place.Term r layer) }
     requires ready { IsReady terms.old.pass images.now layers.old.lists.items memo.now }
-    requires head { HasHead terms.old.pass r true }
+    requires head { HasLetHead terms.old.pass r true }
     ensures visits { Visits terms.old.pass terms.new.pass images.now layers.old.lists.items layers.new.lists.items memo.now (Place.Term r layer) result }
     ensures layers { KeepsLayers layers.old.lists.items layers.new.lists.items }
     ensures keeps { KeepsTerms terms.old terms.new }

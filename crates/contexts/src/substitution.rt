@@ -8,7 +8,7 @@ ghost use Rattle.rule_model.specs.Substitution.{put_in};
 ghost use Rattle.term_model.specs.Terms.{Term};
 ghost use Rattle.term_pool.specs.Views.{IsTerm, RefersTo, KeepsTerms};
 ghost use Rattle.term_pool.specs.declared.stop.TermStop.TheVariants as TermStop;
-ghost use Rattle.contexts.specs.PutIn.{IsReplacement, LacksRoomFor, PlacesTerm, StandForReplacement};
+ghost use Rattle.contexts.specs.PutIn.{AreReplacementBy, LacksRoomFor, PlacesTerm, StandForReplacement};
 ghost use Rattle.contexts.specs.Firsts.{first_for};
 
 use crate::putting::put;
@@ -58,7 +58,7 @@ pub fn put_in(
     r: Ref,
 ) -> Result<Ref, TermStop>
     requires term { IsTerm symbols.now terms.old r }
-    requires bindings { IsReplacement symbols.now terms.old bindings.now }
+    requires bindings { AreReplacementBy symbols.now terms.old bindings.now }
     ensures term { IfOk result (λ i. (t : Term) (q : Replacement) → RefersTo symbols.now terms.old r t → StandForReplacement symbols.now terms.old bindings.now q → RefersTo symbols.now terms.new i (put_in q t)) }
 
     // It places only cells of its answer, and is refused for want of room for one.

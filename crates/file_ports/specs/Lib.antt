@@ -5,3 +5,4 @@ pub mod Schedule
 pub mod Stops
 pub mod Text
 pub mod Texts
+pub mod Pieces

@@ -2,7 +2,8 @@
 ghost use Rattle.std.specs.Prelude.{◌≡◌, ◌≤◌, ◌↔◌, List, ℕ, length, vec_len, IfOk, OnOk, OnErr, IsErrOf};
 ghost use Rattle.std.specs.Io.KnownBytes.{Appends};
 ghost use Rattle.file_ports.specs.Faults.{HasRisen};
-ghost use Rattle.file_ports.specs.Texts.{AreTold, IsLongerThan, AddsPiece, AppendsFront};
+ghost use Rattle.file_ports.specs.Texts.{AreTold, IsLongerThan, AppendsFront};
+ghost use Rattle.file_ports.specs.Pieces.{AddsPiece};
 
 use crate::{Failed, FileNo, Folder, OutStop, Sink};
 use std::alloc::{AllocError, Global};

@@ -3,7 +3,7 @@ use Rattle.std.proofs.Common.{◌≡◌, ℕ, zero, suc, ◌<◌, ◌≤◌, ◌
 use Rattle.std.proofs.lemmas.Bool.{eqb-true, eq-eqb}
 use Rattle.pair_pool.specs.Trees.{Tree, leaf, cell, depth}
 use Rattle.pair_pool.specs.Views.{Cell, PassView, IsListed, HasCell, Knows, IsOneToOne, HasPartsOfTrees, HasListsInOrder}
-use Rattle.pair_pool.specs.Decoding.{parts_in, joined, tree_down, tree_within, HasTreesWithin}
+use Rattle.pair_pool.specs.Decoding.{parts_in, joined_trees, tree_down, tree_within, HasTreesWithin}
 use Rattle.pair_pool.proofs.PassLemmas.{Contains-cons, Contains-head, Contains-cons_cases}
 
 -- what is found is listed
@@ -39,7 +39,7 @@ trees_within p one parts order n r (leaf k) known deep = at n
     is : r ≡ k
     is = (parts.leaf_number r k known).0
 
-    none : (found : Option (ℕ × ℕ)) → parts_in p.known r ≡ found → (f : ℕ → Tree) → joined f r found ≡ leaf k
+    none : (found : Option (ℕ × ℕ)) → parts_in p.known r ≡ found → (f : ℕ → Tree) → joined_trees f r found ≡ leaf k
     none None e f = ap (λ (m : ℕ). leaf m) is
     none (Some m) e f =
         let has : HasCell p r m.0 m.1 = found_listed p.known r m e in
@@ -60,7 +60,7 @@ trees_within p one parts order (suc n) r (cell a b) known deep =
     shallow : (depth a ≤ n) × (depth b ≤ n)
     shallow = (omega arith, omega arith)
 
-    go : ((x : ℕ) × (y : ℕ) × HasCell p r x y × Knows p x a × Knows p y b) → ((q : ℕ) (t : Tree) → Knows p q t → depth t ≤ n → tree_down p.known n q ≡ t) → {found : Option (ℕ × ℕ)} → parts_in p.known r ≡ found → joined (tree_down p.known n) r (parts_in p.known r) ≡ cell a b
+    go : ((x : ℕ) × (y : ℕ) × HasCell p r x y × Knows p x a × Knows p y b) → ((q : ℕ) (t : Tree) → Knows p q t → depth t ≤ n → tree_down p.known n q ≡ t) → {found : Option (ℕ × ℕ)} → parts_in p.known r ≡ found → joined_trees (tree_down p.known n) r (parts_in p.known r) ≡ cell a b
     go (x, y, has, first, second) down e =
         let found = listed_found p.known r x y has in
         let listed = found_listed p.known r found.0 found.1 in

@@ -7,12 +7,12 @@ use Rattle.std.proofs.lemmas.List.Elements.{All-cons, All-nil, All-contains}
 use Rattle.pair_pool.specs.Trees.{Tree}
 use Rattle.pair_pool.specs.Views.{PassView, IsListed, IsPlaced, Knows, IsOneToOne, HasPartsOfTrees, HasListsInOrder}
 use Rattle.pair_pool.specs.Words.{IsCell}
-use Rattle.pair_pool.specs.GoodStates.{State, IsTable, IsGood, TellsTruth, IsSpentIfShareless}
+use Rattle.pair_pool.specs.GoodStates.{State, AreGoodWords, IsGood, TellsTruth, IsSpentIfShareless}
 use Rattle.pair_pool.specs.OnlyPass.{only_pass, only_state, cells_of}
 use Rattle.pair_pool.proofs.PassLemmas.{only_pass_tells_truth, listed_from_cell, cell_from_listed, known_stands, known_one_tree, known_one_reference, known_high, known_bound, known_every_cell, known_first_part, known_second_part}
 use Rattle.pair_pool.proofs.WordLemmas.{one_cell, one_place, words_one_tree, words_one_reference}
 
-pub only_state_good : (words : List ℕ) → IsTable words → IsGood (only_state words)
+pub only_state_good : (words : List ℕ) → AreGoodWords words → IsGood (only_state words)
 only_state_good words table = record {
   table = table;
   passes =
@@ -29,7 +29,7 @@ pub only_truth : (words : List ℕ) → IsGood (only_state words) → TellsTruth
 only_truth words good = only_pass_tells_truth words good.table
 
 -- what a pass of a good state knows
-module _ (words : List ℕ) (pass : PassView) (truth : TellsTruth words pass) (table : IsTable words) where
+module _ (words : List ℕ) (pass : PassView) (truth : TellsTruth words pass) (table : AreGoodWords words) where
   pub one_to_one : IsOneToOne pass
   one_to_one = record {
     one_tree = known_one_tree words pass truth table;

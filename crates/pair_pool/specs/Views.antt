@@ -1,5 +1,5 @@
 -- Public. What contracts see of a pool and of a pass on it. A pass is a user's part in a pool: what that user has seen
--- of the table, what it knows, and what it placed itself. Crates above name `IsOf`, `Knows`, `IsKnown`, `HasCell`,
+-- of the table, what it knows, and what it placed itself. Crates above name `IsPassOf`, `Knows`, `IsKnown`, `HasCell`,
 -- `IsSeen`, `IsPlaced` and the relations between two views below, and no list of cells as such, so another body may
 -- keep the lists in another way.
 use Rattle.std.specs.Prelude.{◌≡◌, ℕ, ◌+◌, ◌<◌, ◌≤◌, ◌^◌, ◌⊎◌, ◌≢◌, List, Contains}
@@ -25,8 +25,8 @@ pub record PassView : Type 0 where
   pub placed : List Cell
 
 -- the pass is one of this pool
-unfoldable pub IsOf : PoolView → PassView → Type 0
-IsOf pool pass = pass.places ≡ 2 ^ pool.bits
+unfoldable pub IsPassOf : PoolView → PassView → Type 0
+IsPassOf pool pass = pass.places ≡ 2 ^ pool.bits
 
 -- the list has the cell (a, b), with the reference r
 unfoldable pub IsListed : List Cell → ℕ → ℕ → ℕ → Type 0

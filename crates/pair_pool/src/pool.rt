@@ -3,7 +3,7 @@
 ghost use Rattle.std.specs.Prelude.{◌≡◌, ◌≢◌, ℕ, ◌+◌, ◌*◌, ◌^◌, ◌<◌, ◌≤◌, [], IfOk, OnOk, OnErr};
 ghost use Rattle.pair_pool.specs.Trees.{Tree, leaf, cell};
 ghost use Rattle.pair_pool.specs.Decoding.{HasTreesWithin};
-ghost use Rattle.pair_pool.specs.Views.{PoolView, PassView, Cell, IsOf, IsSeen, HasCell, IsPlaced, Knows, IsKnown, Grows, AddsAtMost, SeesMore, IsUnchanged, IsFullFor, IsOneToOne, HasPartsOfTrees, HasListsInOrder};
+ghost use Rattle.pair_pool.specs.Views.{PoolView, PassView, Cell, IsPassOf, IsSeen, HasCell, IsPlaced, Knows, IsKnown, Grows, AddsAtMost, SeesMore, IsUnchanged, IsFullFor, IsOneToOne, HasPartsOfTrees, HasListsInOrder};
 
 use crate::reference::Ref;
 use crate::stops::{Memory, PoolFull};
@@ -54,7 +54,7 @@ impl Pool {
         requires least { 12 ≤ bits }
         requires most { bits ≤ 26 }
         ensures bits { IfOk result (λ made. made.0.bits ≡ bits) }
-        ensures of_pool { IfOk result (λ made. IsOf made.0 made.1) }
+        ensures of_pool { IfOk result (λ made. IsPassOf made.0 made.1) }
         ensures places { IfOk result (λ made. made.1.places ≡ 2 ^ bits) }
         ensures shares { IfOk result (λ made. made.1.shares ≡ 65) }
 
@@ -71,7 +71,7 @@ impl Pool {
     /// The number of bits that the pool was made with.
     pub fn bits(&self) -> u32
         ensures bits { result ≡ self.now.bits }
-        ensures places { (pass : PassView) → IsOf self.now pass → pass.places ≡ 2 ^ result }
+        ensures places { (pass : PassView) → IsPassOf self.now pass → pass.places ≡ 2 ^ result }
         ensures most { result ≤ 26 }
     {
         self.bits
@@ -82,7 +82,7 @@ impl Pool {
     /// Equal pairs get one reference. Refuses exactly where the pass has seen every place occupied by another cell; it
     /// then knows what it knew. Places nothing but that cell, and that only where it was not there. Takes no memory.
     pub fn intern(&self, pass: &mut Pass, a: Ref, b: Ref) -> Result<Ref, PoolFull>
-        requires of_pool { IsOf self.now pass.old }
+        requires of_pool { IsPassOf self.now pass.old }
         requires first { IsKnown pass.old a }
         requires second { IsKnown pass.old b }
         ensures cell { IfOk result (λ r. HasCell pass.new r a b) }
@@ -103,7 +103,7 @@ impl Pool {
         ensures refused { OnErr result (Grows pass.new pass.old) }
         ensures refused_known { OnErr result (pass.new.known ≡ pass.old.known) }
         ensures refused_placed { OnErr result (pass.new.placed ≡ pass.old.placed) }
-        ensures of_pool { IsOf self.now pass.new }
+        ensures of_pool { IsPassOf self.now pass.new }
         ensures places { pass.new.places ≡ pass.old.places }
         ensures shares { pass.new.shares ≡ pass.old.shares }
     {
@@ -113,7 +113,7 @@ impl Pool {
 
     /// The two parts of a cell that the pass knows. The pass knows them too. Takes no memory.
     pub fn parts(&self, pass: &mut Pass, r: Ref) -> (Ref, Ref)
-        requires of_pool { IsOf self.now pass.old }
+        requires of_pool { IsPassOf self.now pass.old }
         requires is_cell { 2 ^ 30 ≤ r }
         requires known { IsKnown pass.old r }
         ensures cell { HasCell pass.old r result.0 result.1 }
@@ -126,7 +126,7 @@ impl Pool {
         ensures unchanged { IsUnchanged pass.old pass.new }
         ensures grows { Grows pass.old pass.new }
         ensures no_more { Grows pass.new pass.old }
-        ensures of_pool { IsOf self.now pass.new }
+        ensures of_pool { IsPassOf self.now pass.new }
     {
         let (first, second) = parts_of(&pass.words, r.number());
         (Ref::of_number(first), Ref::of_number(second))

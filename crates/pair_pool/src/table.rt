@@ -1,8 +1,8 @@
 //! The words of a pool's table: making them, the probe, and what a word spells.
 
 ghost use Rattle.std.specs.Prelude.{◌≡◌, ◌≢◌, ℕ, ◌+◌, ◌-◌, ◌*◌, ◌%◌, ◌^◌, ◌<◌, ◌≤◌, ◌⊎◌, length, slice_index, slice_set, replicate, IfOk, OnErr};
-ghost use Rattle.pair_pool.specs.Words.{word_of, probe_start, probe_place, IsCell, IsOther, IsReached};
-ghost use Rattle.pair_pool.specs.GoodStates.{IsTable, IsReference};
+ghost use Rattle.pair_pool.specs.Words.{cell_word, probe_start, probe_place, IsCell, IsOther, IsProbed};
+ghost use Rattle.pair_pool.specs.GoodStates.{AreGoodWords, IsReference};
 ghost use Rattle.pair_pool.specs.Writes.{IsProbe, AddsWord, IsFullOfOthers};
 
 use crate::reference::FIRST_CELL;
@@ -64,16 +64,16 @@ pub(crate) fn insert(
     first: u32,
     second: u32,
 ) -> Result<u32, PoolFull>
-    requires table { IsTable words.old.items }
+    requires table { AreGoodWords words.old.items }
     requires size { length words.old.items ≡ 2 ^ bits }
     requires bits { bits ≤ 26 }
     requires first { IsReference words.old.items first }
     requires second { IsReference words.old.items second }
-    ensures table { IsTable words.new.items }
+    ensures table { AreGoodWords words.new.items }
     ensures adds { IfOk result (λ r. AddsWord words.old.items words.new.items r first second) }
     ensures was_there { (q : ℕ) → IsCell words.old.items q first second → words.new.items ≡ words.old.items }
     ensures length { length words.new.items ≡ length words.old.items }
-    ensures full { OnErr result (IsFullOfOthers words.old.items (word_of first second)) }
+    ensures full { OnErr result (IsFullOfOthers words.old.items (cell_word first second)) }
     ensures kept { OnErr result (words.new.items ≡ words.old.items) }
 {
     let wanted = word_of(first, second);
@@ -90,7 +90,7 @@ pub(crate) fn insert(
 /// The word of the cell (`first`, `second`).
 fn word_of(first: u32, second: u32) -> u64
     requires { first < 2 ^ 31 }
-    ensures { result ≡ word_of first second }
+    ensures { result ≡ cell_word first second }
 {
     (1 << 63) + first as u64 * (1 << 32) + second as u64
 }

@@ -10,17 +10,17 @@ use Rattle.term_model.specs.declared.symbols.Sort.{Sort}
 use Rattle.term_model.specs.Terms.{Term, numeral, sort_eq}
 use Rattle.problem_text.specs.Words.{is_among, is_built_in, logics}
 use Rattle.text_items.specs.ItemShapes.{Name}
-use Rattle.problem_text.specs.Forms.{Form, faulty, number, symbol, application, let_form, annotated, Forms, no_forms, form, Binds, no_binds, bind, form_of}
+use Rattle.problem_text.specs.Forms.{Form, faulty, number, symbol, application, let_form, annotated, Forms, no_forms, form, LetBinds, no_binds, bind, form_of}
 use Rattle.rule_model.specs.Heights.{height}
 use Rattle.problem_text.specs.Limits.{limited, is_low}
-use Rattle.problem_text.specs.Commands.{Command, set_logic, without_effect, declare_sort, declare_fun, define_fun, assert_term, check_sat, exit, command_of}
+use Rattle.problem_text.specs.Commands.{ScriptCommand, set_logic, without_effect, declare_sort, declare_fun, define_fun, assert_term, check_sat, exit, script_command_of}
 use Rattle.problem_text.specs.TypedTerms.{Typed}
 use Rattle.problem_text.specs.Outcomes.{Outcome, done, refuse, given, and_then}
 use Rattle.problem_text.specs.Scripts.{Script, is_taken, with_name, with_named, with_term, with_let_name}
 use Rattle.problem_text.specs.Sorts.{sort_from, sorts_from, parameters_from}
-use Rattle.problem_text.specs.Names.{Place, Meaning, meaning_of, applied, inside, let_term, itself}
+use Rattle.problem_text.specs.Names.{Place, Meaning, meaning_of, meaning_applied, inside, let_term, itself}
 use Rattle.problem_text.specs.Terms.{settled, with_meaning, with_names, term_from, terms_from, bounds_from, read_term}
-use Rattle.problem_text.specs.Problems.{logic_set, sort_declared, function_declared, function_defined, term_asserted, performed, ends, commands}
+use Rattle.problem_text.specs.Problems.{logic_set, sort_declared, function_declared, function_defined, term_asserted, script_performed, ends, script_commands}
 use Rattle.problem_text.proofs.Outcomes.{Ends, ends-and_then, ends-goes_on}
 
 abbrev Anything : {A : Type 0} → A → Type 0
@@ -79,10 +79,10 @@ module _ (x : Term) where
     pub by_term : (f : Form) (p : Place) (s : Script) → HasRead x s → Reads x (term_from f p s)
     by_term (faulty cause place) p s h = (h, tt)
     by_term (number place n) p s h = by_settled p.settings.limit place (Some (record { tree = numeral n; sort = Sort.Int })) s h
-    by_term (symbol n) p s h = by_meaning n.place (meaning_of p s n.name) s _ h (λ m. by_settled p.settings.limit n.place (applied m []) s h)
+    by_term (symbol n) p s h = by_meaning n.place (meaning_of p s n.name) s _ h (λ m. by_settled p.settings.limit n.place (meaning_applied m []) s h)
     by_term (application place head fs) p s h =
         by_meaning head.place (meaning_of p s head.name) s _ h
-        (λ m. reads_then (terms_from fs p s) _ (by_terms fs p s h).0 (λ ts end k. by_settled p.settings.limit place (applied m ts) end k))
+        (λ m. reads_then (terms_from fs p s) _ (by_terms fs p s h).0 (λ ts end k. by_settled p.settings.limit place (meaning_applied m ts) end k))
     by_term (let_form place bs body) p s h =
         reads_then (bounds_from bs [] p s) _ (by_bounds bs [] p s h).0
         (λ bound end k. reads_then (term_from body (inside bound p) end) _ (by_term body (inside bound p) end k).0
@@ -95,7 +95,7 @@ module _ (x : Term) where
         reads_then (term_from f p s) _ (by_term f p s h).0
         (λ t end k. reads_then (terms_from fs p end) _ (by_terms fs p end k).0 (λ ts last l. (l, tt)))
 
-    pub by_bounds : (bs : Binds) (earlier : List (List ℕ)) (p : Place) (s : Script) → HasRead x s → Reads x (bounds_from bs earlier p s)
+    pub by_bounds : (bs : LetBinds) (earlier : List (List ℕ)) (p : Place) (s : Script) → HasRead x s → Reads x (bounds_from bs earlier p s)
     by_bounds no_binds earlier p s h = (h, tt)
     by_bounds (bind n f bs) earlier p s h =
         unless (is_built_in n.name || is_among earlier n.name) Repeated n.place s _ h
@@ -128,8 +128,8 @@ module _ (x : Term) where
       reads_then (read_term i (record { scope = []; settings = limited replaces }) s) _ (by_term (form_of i) _ s h).0
       (λ t end k. where_so (sort_eq t.sort Sort.Bool) SortMismatch (place_of i) end _ k (k, tt))
 
-  pub by_command : (replaces : Bool) (c : Command) (s : Script) → HasRead x s → Reads x (performed replaces c s)
-  unfolding performed
+  pub by_command : (replaces : Bool) (c : ScriptCommand) (s : Script) → HasRead x s → Reads x (script_performed replaces c s)
+  unfolding script_performed
   by_command replaces (set_logic n) s h = by_logic n s h
   by_command replaces without_effect s h = (h, tt)
   by_command replaces (declare_sort n arity_place arity) s h = by_sort n arity_place arity s h
@@ -139,13 +139,13 @@ module _ (x : Term) where
   by_command replaces check_sat s h = (h, tt)
   by_command replaces exit s h = (h, tt)
 
-  by_next : (b replaces : Bool) (c : Command) (s : Script) (next : Script → Outcome Script ⊤) → HasRead x s → ((s : Script) → HasRead x s → Reads x (next s)) → Reads x (if b then done tt s else and_then (performed replaces c s) (λ _ end. next end))
+  by_next : (b replaces : Bool) (c : ScriptCommand) (s : Script) (next : Script → Outcome Script ⊤) → HasRead x s → ((s : Script) → HasRead x s → Reads x (next s)) → Reads x (if b then done tt s else and_then (script_performed replaces c s) (λ _ end. next end))
   by_next true replaces c s next h k = (h, tt)
-  by_next false replaces c s next h k = reads_then (performed replaces c s) (λ _ end. next end) (by_command replaces c s h).0 (λ _ end l. k end l)
+  by_next false replaces c s next h k = reads_then (script_performed replaces c s) (λ _ end. next end) (by_command replaces c s h).0 (λ _ end l. k end l)
 
-  pub by_commands : (items : Items) (replaces : Bool) (s : Script) → HasRead x s → Reads x (commands replaces items s)
-  unfolding commands
+  pub by_commands : (items : Items) (replaces : Bool) (s : Script) → HasRead x s → Reads x (script_commands replaces items s)
+  unfolding script_commands
   by_commands no_items replaces s h = (h, tt)
   by_commands (item i rest) replaces s h =
-      ends-goes_on (HasRead x) Anything Anything (command_of s.is_checked i) s _ h (anything (command_of s.is_checked i))
-      (λ c _. by_next (ends c) replaces c s (commands replaces rest) h (λ end k. by_commands rest replaces end k))
+      ends-goes_on (HasRead x) Anything Anything (script_command_of s.is_checked i) s _ h (anything (script_command_of s.is_checked i))
+      (λ c _. by_next (ends c) replaces c s (script_commands replaces rest) h (λ end k. by_commands rest replaces end k))

@@ -11,7 +11,7 @@ use Rattle.term_model.specs.Terms.{Var, sort_eq}
 use Rattle.term_model.proofs.Tests.{sort_eq_decides}
 use Rattle.problem_text.specs.Words.{is_among, is_built_in, logics}
 use Rattle.text_items.specs.ItemShapes.{Name}
-use Rattle.problem_text.specs.Commands.{Command, set_logic, without_effect, declare_sort, declare_fun, define_fun, assert_term, check_sat, exit, command_of}
+use Rattle.problem_text.specs.Commands.{ScriptCommand, set_logic, without_effect, declare_sort, declare_fun, define_fun, assert_term, check_sat, exit, script_command_of}
 use Rattle.problem_text.specs.TypedTerms.{Typed}
 use Rattle.problem_text.specs.Outcomes.{Outcome, done, refuse, given, and_then}
 use Rattle.problem_text.specs.Scripts.{Macro, Script, empty_script, is_taken, with_name, with_sort, with_function, with_macro, with_assertion}
@@ -19,7 +19,7 @@ use Rattle.problem_text.specs.Limits.{limited}
 use Rattle.problem_text.specs.Sorts.{sort_from, sorts_from, parameters_from}
 use Rattle.problem_text.specs.Names.{itself}
 use Rattle.problem_text.specs.Terms.{read_term}
-use Rattle.problem_text.specs.Problems.{logic_set, sort_declared, function_declared, function_defined, term_asserted, performed, ends, commands, StandsForProblem}
+use Rattle.problem_text.specs.Problems.{logic_set, sort_declared, function_declared, function_defined, term_asserted, script_performed, ends, script_commands, StandsForProblem}
 use Rattle.problem_text.proofs.Outcomes.{Ends, ends-and_then, ends-goes_on}
 
 -- nothing is said of what was read
@@ -79,8 +79,8 @@ module _ (P : Script → Type 0) (replaces : Bool) (same_terms : (s after : Scri
       (λ t after read p₁. where_allowed (sort_eq t.sort Sort.Bool) SortMismatch (place_of i) after _ p₁
       (λ e. (assertion_added t after p₁ read ((sort_eq_decides t.sort Sort.Bool).0 e), tt)))
 
-  performed-kept : (c : Command) (s : Script) → P s → IsDone (performed replaces c s)
-  unfolding performed
+  performed-kept : (c : ScriptCommand) (s : Script) → P s → IsDone (script_performed replaces c s)
+  unfolding script_performed
   performed-kept (set_logic n) s p = logic-kept n s p
   performed-kept without_effect s p = (p, tt)
   performed-kept (declare_sort n arity_place arity) s p = sort-kept n arity_place arity s p
@@ -90,17 +90,17 @@ module _ (P : Script → Type 0) (replaces : Bool) (same_terms : (s after : Scri
   performed-kept check_sat s p = (same_terms s (record s { is_checked = true }) refl refl refl p, tt)
   performed-kept exit s p = (p, tt)
 
-  next-kept : (b : Bool) (c : Command) (s : Script) (next : Script → Outcome Script ⊤) → P s → ((s : Script) → P s → IsDone (next s)) → IsDone (if b then done tt s else and_then (performed replaces c s) (λ _ after. next after))
+  next-kept : (b : Bool) (c : ScriptCommand) (s : Script) (next : Script → Outcome Script ⊤) → P s → ((s : Script) → P s → IsDone (next s)) → IsDone (if b then done tt s else and_then (script_performed replaces c s) (λ _ after. next after))
   next-kept true c s next p k = (p, tt)
   next-kept false c s next p k =
-      ends-and_then P Whatever Whatever (performed replaces c s) (λ _ after. next after) (performed-kept c s p) (λ _ after _ p₁. k after p₁)
+      ends-and_then P Whatever Whatever (script_performed replaces c s) (λ _ after. next after) (performed-kept c s p) (λ _ after _ p₁. k after p₁)
 
-  commands-kept : (items : Items) (s : Script) → P s → IsDone (commands replaces items s)
-  unfolding commands
+  commands-kept : (items : Items) (s : Script) → P s → IsDone (script_commands replaces items s)
+  unfolding script_commands
   commands-kept no_items s p = (p, tt)
   commands-kept (item i rest) s p =
-      ends-goes_on P Whatever Whatever (command_of s.is_checked i) s _ p (any_result (command_of s.is_checked i))
-      (λ c _. next-kept (ends c) c s (commands replaces rest) p (λ after p₁. commands-kept rest after p₁))
+      ends-goes_on P Whatever Whatever (script_command_of s.is_checked i) s _ p (any_result (script_command_of s.is_checked i))
+      (λ c _. next-kept (ends c) c s (script_commands replaces rest) p (λ after p₁. commands-kept rest after p₁))
 
   pub problem-kept : (source : List ℕ) (s : Script) → StandsForProblem source replaces s → P empty_script → P s
   problem-kept source s h p = subst (λ o. P o.state) h.read (commands-kept h.items empty_script p).0

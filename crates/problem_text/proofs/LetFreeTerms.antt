@@ -9,14 +9,14 @@ use Rattle.term_model.specs.Terms.{Var, Fun, Term, numeral, operation, call, let
 use Rattle.term_model.specs.Sorts.{sorts_eq, application_sort, call_sort}
 use Rattle.problem_text.specs.Words.{is_among, is_built_in, operator_named}
 use Rattle.text_items.specs.ItemShapes.{Name}
-use Rattle.problem_text.specs.Forms.{Form, faulty, number, symbol, application, let_form, annotated, Forms, no_forms, form, Binds, no_binds, bind}
+use Rattle.problem_text.specs.Forms.{Form, faulty, number, symbol, application, let_form, annotated, Forms, no_forms, form, LetBinds, no_binds, bind}
 use Rattle.rule_model.specs.Heights.{height}
 use Rattle.problem_text.specs.Limits.{is_low}
 use Rattle.rule_model.specs.Replacement.{replaced, free_variables, HasNoLet, HaveNoLet}
 use Rattle.problem_text.specs.TypedTerms.{Typed}
 use Rattle.problem_text.specs.Outcomes.{Outcome, done, refuse, and_then}
 use Rattle.problem_text.specs.Scripts.{Named, Script, is_taken, with_named, with_term, with_let_name}
-use Rattle.problem_text.specs.Names.{Bound, Place, itself, innermost, is_bound, replacement, Meaning, value, macro, function, operator, meaning_of_bound, meaning_of_named, meaning_of, trees, sorts_of, expansion, applied, bindings_of, inside, let_term}
+use Rattle.problem_text.specs.Names.{Bound, Place, itself, innermost, is_bound, replacement, Meaning, value, macro, function, operator, meaning_of_bound, meaning_of_named, meaning_of, trees, sorts_of, expansion, meaning_applied, let_bindings_of, inside, let_term}
 use Rattle.problem_text.specs.Terms.{settled, with_meaning, with_names, term_from, terms_from, bounds_from}
 use Rattle.problem_text.proofs.Outcomes.{Ends, ends-and_then, all_joined, if_found, if_some-or, if_some-map, if_some-and_then}
 use Rattle.rule_model.proofs.Replacing.{AreLetFree, replaced-let_free}
@@ -101,8 +101,8 @@ module _ (ArePlain : Script → Type 0) (found_plain : (s : Script) (name : List
   zip-free p (x ∷ xs) [] h e = tt
   zip-free p (x ∷ xs) (t ∷ ts) h e = (h.0 e, zip-free p xs ts h.1 e)
 
-  applied-free : (p : Place) (m : Meaning) (ts : List Typed) → IsFreeMeaning p m → AreFreeIn p ts → IfSome (applied m ts) (IsFreeIn p)
-  unfolding applied
+  applied-free : (p : Place) (m : Meaning) (ts : List Typed) → IsFreeMeaning p m → AreFreeIn p ts → IfSome (meaning_applied m ts) (IsFreeIn p)
+  unfolding meaning_applied
   applied-free p (value t) [] fit h = fit
   applied-free p (value t) (a ∷ ts) fit h = tt
   applied-free p (macro m) ts fit h = go (sorts_eq (map (λ x. x.sort) m.parameters) (sorts_of ts))
@@ -135,7 +135,7 @@ module _ (ArePlain : Script → Type 0) (found_plain : (s : Script) (name : List
   let-free : (p : Place) (bs : List Bound) (t : Typed) → IsFreeIn p t → IsFreeIn p (let_term p bs t)
   let-free p bs t h = go p.settings.replaces_lets refl
     where
-      go : (b : Bool) → p.settings.replaces_lets ≡ b → p.settings.replaces_lets ≡ true → HasNoLet (if b then t else record { tree = let_in (bindings_of bs) t.tree; sort = t.sort }).tree
+      go : (b : Bool) → p.settings.replaces_lets ≡ b → p.settings.replaces_lets ≡ true → HasNoLet (if b then t else record { tree = let_in (let_bindings_of bs) t.tree; sort = t.sort }).tree
       go true e f = h e
       go false e f = absurd cc
 
@@ -168,12 +168,12 @@ module _ (ArePlain : Script → Type 0) (found_plain : (s : Script) (name : List
     term-free (faulty cause place) p s h plain = (plain, tt)
     term-free (number place n) p s h plain = settled-free p place (Some (record { tree = numeral n; sort = Sort.Int })) s plain (λ _. tt)
     term-free (symbol n) p s h plain =
-        with_meaning-free p (IsFreeIn p) n.place (meaning_of p s n.name) s (λ m. settled p.settings.limit n.place (applied m []) s) plain (meaning-free p s n.name h plain)
-        (λ m fit. settled-free p n.place (applied m []) s plain (applied-free p m [] fit tt))
+        with_meaning-free p (IsFreeIn p) n.place (meaning_of p s n.name) s (λ m. settled p.settings.limit n.place (meaning_applied m []) s) plain (meaning-free p s n.name h plain)
+        (λ m fit. settled-free p n.place (meaning_applied m []) s plain (applied-free p m [] fit tt))
     term-free (application place head fs) p s h plain =
-        with_meaning-free p (IsFreeIn p) head.place (meaning_of p s head.name) s (λ m. and_then (terms_from fs p s) (λ ts after. settled p.settings.limit place (applied m ts) after)) plain (meaning-free p s head.name h plain)
-        (λ m fit. ends-and_then ArePlain (AreFreeIn p) (IsFreeIn p) (terms_from fs p s) (λ ts after. settled p.settings.limit place (applied m ts) after) (terms-free fs p s h plain)
-        (λ ts after read plain'. settled-free p place (applied m ts) after plain' (applied-free p m ts fit read)))
+        with_meaning-free p (IsFreeIn p) head.place (meaning_of p s head.name) s (λ m. and_then (terms_from fs p s) (λ ts after. settled p.settings.limit place (meaning_applied m ts) after)) plain (meaning-free p s head.name h plain)
+        (λ m fit. ends-and_then ArePlain (AreFreeIn p) (IsFreeIn p) (terms_from fs p s) (λ ts after. settled p.settings.limit place (meaning_applied m ts) after) (terms-free fs p s h plain)
+        (λ ts after read plain'. settled-free p place (meaning_applied m ts) after plain' (applied-free p m ts fit read)))
     term-free (let_form place bs body) p s h plain =
         ends-and_then ArePlain (AreBoundFree p) (IsFreeIn p) (bounds_from bs [] p s) (λ bound after. and_then (term_from body (inside bound p) after) (λ t last. settled p.settings.limit place (Some (let_term p bound t)) last)) (bounds-free bs [] p s h plain)
         (λ bound after fit plain'. ends-and_then ArePlain (IsFreeIn p) (IsFreeIn p) (term_from body (inside bound p) after) (λ t last. settled p.settings.limit place (Some (let_term p bound t)) last) (term-free body (inside bound p) after (inside-free p bound h fit) plain')
@@ -189,7 +189,7 @@ module _ (ArePlain : Script → Type 0) (found_plain : (s : Script) (name : List
         (λ t after read plain'. ends-and_then ArePlain (AreFreeIn p) (AreFreeIn p) (terms_from fs p after) (λ ts last. done (t ∷ ts) last) (terms-free fs p after h plain')
         (λ ts last all plain''. (plain'', (read, all))))
 
-    pub bounds-free : (bs : Binds) (earlier : List (List ℕ)) (p : Place) (s : Script) → AreBoundFree p p.scope → ArePlain s → Ends ArePlain (AreBoundFree p) (bounds_from bs earlier p s)
+    pub bounds-free : (bs : LetBinds) (earlier : List (List ℕ)) (p : Place) (s : Script) → AreBoundFree p p.scope → ArePlain s → Ends ArePlain (AreBoundFree p) (bounds_from bs earlier p s)
     bounds-free no_binds earlier p s h plain = (plain, λ _. tt)
     bounds-free (bind n f bs) earlier p s h plain =
         unless_repeated (AreBoundFree p) (is_built_in n.name || is_among earlier n.name) n.place s _ plain

@@ -10,8 +10,8 @@ use Rattle.problem_text.specs.Words.{operator_named}
 use Rattle.rule_model.specs.Replacement.{replaced, free_variables}
 use Rattle.problem_text.specs.TypedTerms.{Typed}
 use Rattle.problem_text.specs.Scripts.{Script}
-use Rattle.problem_text.specs.Names.{Bound, Place, itself, innermost, is_bound, replacement, Meaning, value, macro, function, operator, meaning_of_bound, meaning_of_named, meaning_of, trees, sorts_of, expansion, applied, bindings_of, inside, let_term}
-use Rattle.problem_text.specs.Soundness.{AreSorted, IsSound}
+use Rattle.problem_text.specs.Names.{Bound, Place, itself, innermost, is_bound, replacement, Meaning, value, macro, function, operator, meaning_of_bound, meaning_of_named, meaning_of, trees, sorts_of, expansion, meaning_applied, let_bindings_of, inside, let_term}
+use Rattle.problem_text.specs.Soundness.{AreBoundSorted, IsSound}
 use Rattle.problem_text.proofs.Outcomes.{all_joined, if_found, if_some-or, if_some-map, if_some-and_then}
 use Rattle.rule_model.specs.Substitution.{HaveTheirSorts}
 use Rattle.rule_model.proofs.Replacing.{replaced-sort}
@@ -23,11 +23,11 @@ IsFit (macro m) = IsOf m.body m.target
 IsFit (function f) = Unit {0}
 IsFit (operator op) = Unit {0}
 
-pub replacement-fits : (scope : List Bound) → AreSorted scope → HaveTheirSorts (replacement scope)
+pub replacement-fits : (scope : List Bound) → AreBoundSorted scope → HaveTheirSorts (replacement scope)
 replacement-fits [] h = tt
 replacement-fits (b ∷ scope) h = (h.0, replacement-fits scope h.1)
 
-pub named-fits : (p : Place) (t : Typed) → AreSorted p.scope → IsOf t.tree t.sort → IfSome (meaning_of_named p t) IsFit
+pub named-fits : (p : Place) (t : Typed) → AreBoundSorted p.scope → IsOf t.tree t.sort → IfSome (meaning_of_named p t) IsFit
 named-fits p t h e = go (list_all (is_bound p.scope) (free_variables t.tree)) p.settings.replaces_lets
   where
     go : (b c : Bool) → IfSome (if b then Some (value (if c then record { tree = replaced (replacement p.scope) t.tree; sort = t.sort } else t)) else None) IsFit
@@ -43,7 +43,7 @@ operators-fit : (o : Option Op) → IfSome (option_map operator o) IsFit
 operators-fit None = tt
 operators-fit (Some op) = tt
 
-pub meaning-fits : (p : Place) (s : Script) (name : List ℕ) → AreSorted p.scope → IsSound s → IfSome (meaning_of p s name) IsFit
+pub meaning-fits : (p : Place) (s : Script) (name : List ℕ) → AreBoundSorted p.scope → IsSound s → IfSome (meaning_of p s name) IsFit
 unfolding meaning_of
 meaning-fits p s name h sound =
     let named = find (λ n. bytes_eq n.name name) s.named in
@@ -83,8 +83,8 @@ parameters-fit (x ∷ xs) (t ∷ ts) e h = (subst (IsOf t.tree) (first e) h.0, p
 abbrev IsTyped : Typed → Type 0
 IsTyped t = IsOf t.tree t.sort
 
-pub applied-fits : (m : Meaning) (ts : List Typed) → IsFit m → AreTyped ts → IfSome (applied m ts) (λ t. IsOf t.tree t.sort)
-unfolding applied
+pub applied-fits : (m : Meaning) (ts : List Typed) → IsFit m → AreTyped ts → IfSome (meaning_applied m ts) (λ t. IsOf t.tree t.sort)
+unfolding meaning_applied
 applied-fits (value t) [] fit h = fit
 applied-fits (value t) (a ∷ ts) fit h = tt
 applied-fits (macro m) ts fit h = go (sorts_eq (map (λ x. x.sort) m.parameters) (sorts_of ts)) refl
@@ -105,24 +105,24 @@ applied-fits (operator op) ts fit h = go (application_sort op (sorts_of ts)) ref
     go None e = tt
     go (Some s) e = record { sorts = sorts_of ts; arguments = arguments-fit ts h; is = e }
 
-pub themselves-fit : (bs : List Bound) → AreSorted (map (λ b. itself b.variable) bs)
+pub themselves-fit : (bs : List Bound) → AreBoundSorted (map (λ b. itself b.variable) bs)
 themselves-fit [] = tt
 themselves-fit (b ∷ bs) = (refl, themselves-fit bs)
 
-pub inside-fits : (p : Place) (bs : List Bound) → AreSorted p.scope → AreSorted bs → AreSorted (inside bs p).scope
+pub inside-fits : (p : Place) (bs : List Bound) → AreBoundSorted p.scope → AreBoundSorted bs → AreBoundSorted (inside bs p).scope
 inside-fits p bs h k = go p.settings.replaces_lets
   where
-    go : (b : Bool) → AreSorted ((if b then bs else map (λ b. itself b.variable) bs) ++ p.scope)
+    go : (b : Bool) → AreBoundSorted ((if b then bs else map (λ b. itself b.variable) bs) ++ p.scope)
     go true = all_joined (λ b. IsOf b.stands_for b.variable.sort) bs p.scope k h
     go false = all_joined (λ b. IsOf b.stands_for b.variable.sort) (map (λ b. itself b.variable) bs) p.scope (themselves-fit bs) h
 
-pub bindings-fit : (bs : List Bound) → AreSorted bs → AreBound (bindings_of bs)
+pub bindings-fit : (bs : List Bound) → AreBoundSorted bs → AreBound (let_bindings_of bs)
 bindings-fit [] h = tt
 bindings-fit (b ∷ bs) h = (h.0, bindings-fit bs h.1)
 
-pub let-fits : (p : Place) (bs : List Bound) (t : Typed) → AreSorted bs → IsOf t.tree t.sort → IsOf (let_term p bs t).tree (let_term p bs t).sort
+pub let-fits : (p : Place) (bs : List Bound) (t : Typed) → AreBoundSorted bs → IsOf t.tree t.sort → IsOf (let_term p bs t).tree (let_term p bs t).sort
 let-fits p bs t h e = go p.settings.replaces_lets
   where
-    go : (b : Bool) → IsTyped (if b then t else record { tree = let_in (bindings_of bs) t.tree; sort = t.sort })
+    go : (b : Bool) → IsTyped (if b then t else record { tree = let_in (let_bindings_of bs) t.tree; sort = t.sort })
     go true = e
     go false = (bindings-fit bs h, e)

@@ -3,13 +3,13 @@ use Rattle.std.proofs.Common.{List, [], ◌∷◌, ◌++◌, Bool, true, false, 
 use Rattle.std.specs.List.{AllByRecursion}
 use Rattle.std.specs.Option.{option_or}
 use Rattle.sexpr.specs.declared.causes.Refusal.{Refusal}
-use Rattle.problem_text.specs.Outcomes.{Outcome, goes_on, and_then}
+use Rattle.problem_text.specs.Outcomes.{Outcome, going_on, and_then}
 
 -- P of the state after a reading, and Q of what was read
 abbrev pub Ends : {S A : Type 0} → (S → Type 0) → (A → Type 0) → Outcome S A → Type 0
 Ends P Q o = P o.state × IfOk o.result Q
 
-pub ends-goes_on : {S A B : Type 0} (P : S → Type 0) (Q : A → Type 0) (R : B → Type 0) (r : Result A Refusal) (s : S) (next : A → S → Outcome S B) → P s → IfOk r Q → ((a : A) → Q a → Ends P R (next a s)) → Ends P R (goes_on r s next)
+pub ends-goes_on : {S A B : Type 0} (P : S → Type 0) (Q : A → Type 0) (R : B → Type 0) (r : Result A Refusal) (s : S) (next : A → S → Outcome S B) → P s → IfOk r Q → ((a : A) → Q a → Ends P R (next a s)) → Ends P R (going_on r s next)
 ends-goes_on P Q R (Ok a) s next p q k = k a q
 ends-goes_on P Q R (Err refusal) s next p q k = (p, tt)
 

@@ -9,15 +9,15 @@ use Rattle.term_model.specs.Terms.{numeral}
 use Rattle.term_model.specs.Sorts.{IsOf}
 use Rattle.problem_text.specs.Words.{is_among, is_built_in}
 use Rattle.text_items.specs.ItemShapes.{Name}
-use Rattle.problem_text.specs.Forms.{Form, faulty, number, symbol, application, let_form, annotated, Forms, no_forms, form, Binds, no_binds, bind}
+use Rattle.problem_text.specs.Forms.{Form, faulty, number, symbol, application, let_form, annotated, Forms, no_forms, form, LetBinds, no_binds, bind}
 use Rattle.rule_model.specs.Heights.{height}
 use Rattle.problem_text.specs.Limits.{is_low}
 use Rattle.problem_text.specs.TypedTerms.{Typed}
 use Rattle.problem_text.specs.Outcomes.{Outcome, done, refuse, and_then}
 use Rattle.problem_text.specs.Scripts.{Named, Script, is_taken, with_named, with_term, with_let_name}
-use Rattle.problem_text.specs.Names.{Place, Meaning, meaning_of, applied, inside, let_term}
+use Rattle.problem_text.specs.Names.{Place, Meaning, meaning_of, meaning_applied, inside, let_term}
 use Rattle.problem_text.specs.Terms.{settled, with_meaning, with_names, term_from, terms_from, bounds_from}
-use Rattle.problem_text.specs.Soundness.{IsReadWithin, AreSorted, IsSound}
+use Rattle.problem_text.specs.Soundness.{IsReadWithin, AreBoundSorted, IsSound}
 use Rattle.problem_text.proofs.Outcomes.{Ends, ends-and_then, all_at_end}
 use Rattle.problem_text.proofs.Meanings.{IsFit, meaning-fits, AreTyped, applied-fits, inside-fits, let-fits}
 
@@ -73,35 +73,35 @@ let_name-sound name s sound = record { named = sound.named; macros = sound.macro
 mutual
   unfolding term_from
 
-  pub term-sound : (f : Form) (p : Place) (s : Script) → AreSorted p.scope → IsSound s → Ends IsSound (IsReadWithin p.settings.limit) (term_from f p s)
+  pub term-sound : (f : Form) (p : Place) (s : Script) → AreBoundSorted p.scope → IsSound s → Ends IsSound (IsReadWithin p.settings.limit) (term_from f p s)
   term-sound (faulty cause place) p s h sound = (sound, tt)
   term-sound (number place n) p s h sound = settled-sound p.settings.limit place (Some (record { tree = numeral n; sort = Sort.Int })) s sound refl
   term-sound (symbol n) p s h sound =
-      with_meaning-sound (IsReadWithin p.settings.limit) n.place (meaning_of p s n.name) s (λ m. settled p.settings.limit n.place (applied m []) s) sound (meaning-fits p s n.name h sound)
-      (λ m fit. settled-sound p.settings.limit n.place (applied m []) s sound (applied-fits m [] fit tt))
+      with_meaning-sound (IsReadWithin p.settings.limit) n.place (meaning_of p s n.name) s (λ m. settled p.settings.limit n.place (meaning_applied m []) s) sound (meaning-fits p s n.name h sound)
+      (λ m fit. settled-sound p.settings.limit n.place (meaning_applied m []) s sound (applied-fits m [] fit tt))
   term-sound (application place head fs) p s h sound =
-      with_meaning-sound (IsReadWithin p.settings.limit) head.place (meaning_of p s head.name) s (λ m. and_then (terms_from fs p s) (λ ts after. settled p.settings.limit place (applied m ts) after)) sound (meaning-fits p s head.name h sound)
-      (λ m fit. ends-and_then IsSound (AreRead p.settings.limit) (IsReadWithin p.settings.limit) (terms_from fs p s) (λ ts after. settled p.settings.limit place (applied m ts) after) (terms-sound fs p s h sound)
-      (λ ts after read sound'. settled-sound p.settings.limit place (applied m ts) after sound' (applied-fits m ts fit (typed_of_read p.settings.limit ts read))))
+      with_meaning-sound (IsReadWithin p.settings.limit) head.place (meaning_of p s head.name) s (λ m. and_then (terms_from fs p s) (λ ts after. settled p.settings.limit place (meaning_applied m ts) after)) sound (meaning-fits p s head.name h sound)
+      (λ m fit. ends-and_then IsSound (AreRead p.settings.limit) (IsReadWithin p.settings.limit) (terms_from fs p s) (λ ts after. settled p.settings.limit place (meaning_applied m ts) after) (terms-sound fs p s h sound)
+      (λ ts after read sound'. settled-sound p.settings.limit place (meaning_applied m ts) after sound' (applied-fits m ts fit (typed_of_read p.settings.limit ts read))))
   term-sound (let_form place bs body) p s h sound =
-      ends-and_then IsSound AreSorted (IsReadWithin p.settings.limit) (bounds_from bs [] p s) (λ bound after. and_then (term_from body (inside bound p) after) (λ t last. settled p.settings.limit place (Some (let_term p bound t)) last)) (bounds-sound bs [] p s h sound)
+      ends-and_then IsSound AreBoundSorted (IsReadWithin p.settings.limit) (bounds_from bs [] p s) (λ bound after. and_then (term_from body (inside bound p) after) (λ t last. settled p.settings.limit place (Some (let_term p bound t)) last)) (bounds-sound bs [] p s h sound)
       (λ bound after fit sound'. ends-and_then IsSound (IsReadWithin p.settings.limit) (IsReadWithin p.settings.limit) (term_from body (inside bound p) after) (λ t last. settled p.settings.limit place (Some (let_term p bound t)) last) (term-sound body (inside bound p) after (inside-fits p bound h fit) sound')
       (λ t last read sound''. settled-sound p.settings.limit place (Some (let_term p bound t)) last sound'' (let-fits p bound t fit read.sorted)))
   term-sound (annotated place f names) p s h sound =
       ends-and_then IsSound (IsReadWithin p.settings.limit) (IsReadWithin p.settings.limit) (term_from f p s) (λ t after. with_names t names after) (term-sound f p s h sound)
       (λ t after read sound'. with_names-sound p.settings.limit names t after sound' read)
 
-  pub terms-sound : (fs : Forms) (p : Place) (s : Script) → AreSorted p.scope → IsSound s → Ends IsSound (AreRead p.settings.limit) (terms_from fs p s)
+  pub terms-sound : (fs : Forms) (p : Place) (s : Script) → AreBoundSorted p.scope → IsSound s → Ends IsSound (AreRead p.settings.limit) (terms_from fs p s)
   terms-sound no_forms p s h sound = (sound, tt)
   terms-sound (form f fs) p s h sound =
       ends-and_then IsSound (IsReadWithin p.settings.limit) (AreRead p.settings.limit) (term_from f p s) (λ t after. and_then (terms_from fs p after) (λ ts last. done (t ∷ ts) last)) (term-sound f p s h sound)
       (λ t after read sound'. ends-and_then IsSound (AreRead p.settings.limit) (AreRead p.settings.limit) (terms_from fs p after) (λ ts last. done (t ∷ ts) last) (terms-sound fs p after h sound')
       (λ ts last all sound''. (sound'', (read, all))))
 
-  pub bounds-sound : (bs : Binds) (earlier : List (List ℕ)) (p : Place) (s : Script) → AreSorted p.scope → IsSound s → Ends IsSound AreSorted (bounds_from bs earlier p s)
+  pub bounds-sound : (bs : LetBinds) (earlier : List (List ℕ)) (p : Place) (s : Script) → AreBoundSorted p.scope → IsSound s → Ends IsSound AreBoundSorted (bounds_from bs earlier p s)
   bounds-sound no_binds earlier p s h sound = (sound, tt)
   bounds-sound (bind n f bs) earlier p s h sound =
-      unless_repeated AreSorted (is_built_in n.name || is_among earlier n.name) n.place s _ sound
-      (ends-and_then IsSound (IsReadWithin p.settings.limit) AreSorted (term_from f p (with_let_name n.name s)) _ (term-sound f p (with_let_name n.name s) h (let_name-sound n.name s sound))
-      (λ t after read sound'. ends-and_then IsSound AreSorted AreSorted (bounds_from bs (n.name ∷ earlier) p after) _ (bounds-sound bs (n.name ∷ earlier) p after h sound')
+      unless_repeated AreBoundSorted (is_built_in n.name || is_among earlier n.name) n.place s _ sound
+      (ends-and_then IsSound (IsReadWithin p.settings.limit) AreBoundSorted (term_from f p (with_let_name n.name s)) _ (term-sound f p (with_let_name n.name s) h (let_name-sound n.name s sound))
+      (λ t after read sound'. ends-and_then IsSound AreBoundSorted AreBoundSorted (bounds_from bs (n.name ∷ earlier) p after) _ (bounds-sound bs (n.name ∷ earlier) p after h sound')
       (λ bound last all sound''. (sound'', (read.sorted, all)))))

@@ -11,7 +11,7 @@ use Rattle.term_model.specs.Terms.{Var, var_eq, sort_eq, Fun, Term, numeral, var
 use Rattle.term_model.specs.Sorts.{sorts_eq, application_sort, call_sort}
 use Rattle.term_model.proofs.Tests.{var_eq_decides, sorts_eq_decides}
 use Rattle.rule_model.specs.Heights.{height}
-use Rattle.rule_model.specs.Replacement.{Replacement, term_at, replaced, replaced_all, replaced_bindings, free_variables}
+use Rattle.rule_model.specs.Replacement.{Replacement, replaced_by, replaced, replaced_all, replaced_bindings, free_variables}
 use Rattle.rule_model.proofs.Freedom.{IsIn, free-listed}
 use Rattle.text_items.specs.ItemShapes.{Name}
 use Rattle.problem_text.specs.Words.{is_among, is_built_in, operator_named}
@@ -21,7 +21,7 @@ use Rattle.problem_text.specs.Limits.{is_low}
 use Rattle.problem_text.specs.TypedTerms.{Typed}
 use Rattle.problem_text.specs.Outcomes.{Outcome, done, refuse, and_then}
 use Rattle.problem_text.specs.Scripts.{Script, is_taken, with_named, with_term, with_let_name}
-use Rattle.problem_text.specs.Names.{Bound, Place, itself, innermost, is_bound, replacement, Meaning, value, macro, function, operator, meaning_of_bound, meaning_of_named, meaning_of, trees, sorts_of, expansion, applied, bindings_of, inside, let_term}
+use Rattle.problem_text.specs.Names.{Bound, Place, itself, innermost, is_bound, replacement, Meaning, value, macro, function, operator, meaning_of_bound, meaning_of_named, meaning_of, trees, sorts_of, expansion, meaning_applied, let_bindings_of, inside, let_term}
 use Rattle.problem_text.specs.Soundness.{AreThemselves}
 use Rattle.problem_text.specs.Terms.{settled, with_meaning, with_names, term_from, terms_from, bounds_from}
 use Rattle.problem_text.proofs.Outcomes.{Ends, ends-and_then, all_joined, if_found, if_some-or, if_some-map, if_some-and_then}
@@ -38,19 +38,19 @@ abbrev pub AreScoped : Script → Type 0
 AreScoped s = AllByRecursion (λ m. IsOver (Contains m.parameters) m.body) s.macros × AllByRecursion IsClosed s.assertions
 
 -- what is put in for a variable that a let binds, and for another one
-behind_let : (V : Var → Type 0) (bs : Bindings) (p r : Replacement) (y : Var) → AllByRecursion (λ b. IsOver V b.1) (replaced_bindings p bs) → ((¬ Binds bs y) → IsOver V (term_at r y)) → IsOver V (term_at (replaced_bindings p bs ++ r) y)
+behind_let : (V : Var → Type 0) (bs : Bindings) (p r : Replacement) (y : Var) → AllByRecursion (λ b. IsOver V b.1) (replaced_bindings p bs) → ((¬ Binds bs y) → IsOver V (replaced_by r y)) → IsOver V (replaced_by (replaced_bindings p bs ++ r) y)
 unfolding replaced_bindings
 behind_let V no_bindings p r y all h = h (λ b. b)
 behind_let V (binding z t bs) p r y all h = go (var_eq z y) refl (behind_let V bs p r y all.1)
   where
-    go : (b : Bool) → var_eq z y ≡ b → (((¬ Binds bs y) → IsOver V (term_at r y)) → IsOver V (term_at (replaced_bindings p bs ++ r) y)) → IsOver V (if b then replaced p t else term_at (replaced_bindings p bs ++ r) y)
+    go : (b : Bool) → var_eq z y ≡ b → (((¬ Binds bs y) → IsOver V (replaced_by r y)) → IsOver V (replaced_by (replaced_bindings p bs ++ r) y)) → IsOver V (if b then replaced p t else replaced_by (replaced_bindings p bs ++ r) y)
     go true e rest = all.0
     go false e rest = rest (λ free. h (λ bound. elim bound [ inl same ↦ absurd (let f = (var_eq_decides z y).1 same in cc) | inr later ↦ free later ]))
 
 mutual
   unfolding replaced
 
-  pub replaced-over : (V : Var → Type 0) (t : Term) (r : Replacement) → ((y : Var) → IsFree y t → IsOver V (term_at r y)) → IsOver V (replaced r t)
+  pub replaced-over : (V : Var → Type 0) (t : Term) (r : Replacement) → ((y : Var) → IsFree y t → IsOver V (replaced_by r y)) → IsOver V (replaced r t)
   replaced-over V (numeral n) r h = λ x free. absurd free
   replaced-over V (variable y) r h = h y refl
   replaced-over V (operation op ts) r h = replaced_all-over V ts r h
@@ -59,32 +59,32 @@ mutual
       replaced-over V t (replaced_bindings r bs ++ r)
       (λ y free. behind_let V bs r r y (replaced_bindings-over V bs r (λ z bound. h z (inl bound))) (λ outside. h y (inr (outside, free))))
 
-  replaced_all-over : (V : Var → Type 0) (ts : Terms) (r : Replacement) → ((y : Var) → IsFreeAmong y ts → IsOver V (term_at r y)) → (x : Var) → IsFreeAmong x (replaced_all r ts) → V x
+  replaced_all-over : (V : Var → Type 0) (ts : Terms) (r : Replacement) → ((y : Var) → IsFreeAmong y ts → IsOver V (replaced_by r y)) → (x : Var) → IsFreeAmong x (replaced_all r ts) → V x
   replaced_all-over V no_terms r h x free = absurd free
   replaced_all-over V (term t ts) r h x (inl free) = replaced-over V t r (λ y e. h y (inl e)) x free
   replaced_all-over V (term t ts) r h x (inr free) = replaced_all-over V ts r (λ y e. h y (inr e)) x free
 
-  replaced_bindings-over : (V : Var → Type 0) (bs : Bindings) (r : Replacement) → ((y : Var) → IsFreeBound y bs → IsOver V (term_at r y)) → AllByRecursion (λ b. IsOver V b.1) (replaced_bindings r bs)
+  replaced_bindings-over : (V : Var → Type 0) (bs : Bindings) (r : Replacement) → ((y : Var) → IsFreeBound y bs → IsOver V (replaced_by r y)) → AllByRecursion (λ b. IsOver V b.1) (replaced_bindings r bs)
   replaced_bindings-over V no_bindings r h = tt
   replaced_bindings-over V (binding z t bs) r h = (replaced-over V t r (λ y e. h y (inl e)), replaced_bindings-over V bs r (λ y e. h y (inr e)))
 
 -- the innermost binding of a name is what is put in
-scope-found : (V : Var → Type 0) (scope : List Bound) (y : Var) → AreOver V scope → is_bound scope y ≡ true → IsOver V (term_at (replacement scope) y)
+scope-found : (V : Var → Type 0) (scope : List Bound) (y : Var) → AreOver V scope → is_bound scope y ≡ true → IsOver V (replaced_by (replacement scope) y)
 scope-found V [] y h e = absurd cc
 scope-found V (b ∷ scope) y h e = go (bytes_eq b.variable.name y.name) (sort_eq b.variable.sort y.sort) refl e (scope-found V scope y h.1)
   where
     go : (m n : Bool) → sort_eq b.variable.sort y.sort ≡ n → option_map_or (λ c. sort_eq c.variable.sort y.sort) (cond m (Some b) (innermost scope y.name)) false ≡ true
-        → (is_bound scope y ≡ true → IsOver V (term_at (replacement scope) y)) → IsOver V (if m && n then b.stands_for else term_at (replacement scope) y)
+        → (is_bound scope y ≡ true → IsOver V (replaced_by (replacement scope) y)) → IsOver V (if m && n then b.stands_for else replaced_by (replacement scope) y)
     go true true f e rest = h.0
     go true false f e rest = absurd cc
     go false n f e rest = rest e
 
 -- where each variable stands for itself
-term_at-itself : (scope : List Bound) (y : Var) → AllByRecursion (λ b. b.stands_for ≡ variable b.variable) scope → term_at (replacement scope) y ≡ variable y
+term_at-itself : (scope : List Bound) (y : Var) → AllByRecursion (λ b. b.stands_for ≡ variable b.variable) scope → replaced_by (replacement scope) y ≡ variable y
 term_at-itself [] y h = refl
 term_at-itself (b ∷ scope) y h = go (var_eq b.variable y) refl (term_at-itself scope y h.1)
   where
-    go : (t : Bool) → var_eq b.variable y ≡ t → term_at (replacement scope) y ≡ variable y → (if t then b.stands_for else term_at (replacement scope) y) ≡ variable y
+    go : (t : Bool) → var_eq b.variable y ≡ t → replaced_by (replacement scope) y ≡ variable y → (if t then b.stands_for else replaced_by (replacement scope) y) ≡ variable y
     go true e rest = let f = (var_eq_decides b.variable y).0 e in let g = h.0 in cc
     go false e rest = rest
 
@@ -107,7 +107,7 @@ IsOverMeaning V (operator op) = ⊤
 named-over : (V : Var → Type 0) (p : Place) (t : Typed) → AreOver V p.scope → AreThemselves p → IfSome (meaning_of_named p t) (IsOverMeaning V)
 named-over V p t h themselves = go (list_all (is_bound p.scope) (free_variables t.tree)) p.settings.replaces_lets refl refl
   where
-    found : list_all (is_bound p.scope) (free_variables t.tree) ≡ true → (y : Var) → IsFree y t.tree → IsOver V (term_at (replacement p.scope) y)
+    found : list_all (is_bound p.scope) (free_variables t.tree) ≡ true → (y : Var) → IsFree y t.tree → IsOver V (replaced_by (replacement p.scope) y)
     found e y free = scope-found V p.scope y h (all-bound p.scope (free_variables t.tree) y e (free-listed t.tree y free))
 
     go : (b c : Bool) → list_all (is_bound p.scope) (free_variables t.tree) ≡ b → p.settings.replaces_lets ≡ c
@@ -158,7 +158,7 @@ first_or_later : (x : Var) (xs : List Var) (y : Var) → Contains (x ∷ xs) y �
 first_or_later x xs y (zero, below, same) = inl same
 first_or_later x xs y (suc k, below, same) = inr (k, omega arith, same)
 
-zip-over : (V : Var → Type 0) (xs : List Var) (ts : List Typed) (y : Var) → map (λ x. x.sort) xs ≡ sorts_of ts → AreAllOver V ts → Contains xs y → IsOver V (term_at (zip xs (map (λ t. t.tree) ts)) y)
+zip-over : (V : Var → Type 0) (xs : List Var) (ts : List Typed) (y : Var) → map (λ x. x.sort) xs ≡ sorts_of ts → AreAllOver V ts → Contains xs y → IsOver V (replaced_by (zip xs (map (λ t. t.tree) ts)) y)
 zip-over V [] ts y e h (k, below, same) = absurd (omega arith)
 zip-over V (x ∷ xs) [] y e h there = absurd cc
 zip-over V (x ∷ xs) (t ∷ ts) y e h there = go (var_eq x y) refl (first_or_later x xs y there) (zip-over V xs ts y (rest e) h.1)
@@ -166,13 +166,13 @@ zip-over V (x ∷ xs) (t ∷ ts) y e h there = go (var_eq x y) refl (first_or_la
     rest : x.sort ∷ map (λ x. x.sort) xs ≡ t.sort ∷ sorts_of ts → map (λ x. x.sort) xs ≡ sorts_of ts
     rest e = cc
 
-    go : (b : Bool) → var_eq x y ≡ b → (x ≡ y) ⊎ Contains xs y → (Contains xs y → IsOver V (term_at (zip xs (map (λ t. t.tree) ts)) y)) → IsOver V (if b then t.tree else term_at (zip xs (map (λ t. t.tree) ts)) y)
+    go : (b : Bool) → var_eq x y ≡ b → (x ≡ y) ⊎ Contains xs y → (Contains xs y → IsOver V (replaced_by (zip xs (map (λ t. t.tree) ts)) y)) → IsOver V (if b then t.tree else replaced_by (zip xs (map (λ t. t.tree) ts)) y)
     go true f c k = h.0
     go false f (inl same) k = absurd (let g = (var_eq_decides x y).1 same in cc)
     go false f (inr later) k = k later
 
-applied-over : (V : Var → Type 0) (m : Meaning) (ts : List Typed) → IsOverMeaning V m → AreAllOver V ts → IfSome (applied m ts) (λ t. IsOver V t.tree)
-unfolding applied
+applied-over : (V : Var → Type 0) (m : Meaning) (ts : List Typed) → IsOverMeaning V m → AreAllOver V ts → IfSome (meaning_applied m ts) (λ t. IsOver V t.tree)
+unfolding meaning_applied
 applied-over V (value t) [] fit h = fit
 applied-over V (value t) (a ∷ ts) fit h = tt
 applied-over V (macro m) ts fit h = go (sorts_eq (map (λ x. x.sort) m.parameters) (sorts_of ts)) refl
@@ -195,13 +195,13 @@ applied-over V (operator op) ts fit h = go (application_sort op (sorts_of ts))
 
 -- Inside a let that is kept its variables are free too.
 abbrev Within : Place → List Bound → (Var → Type 0) → Var → Type 0
-Within p bs V x = V x ⊎ ((p.settings.replaces_lets ≡ false) × Binds (bindings_of bs) x)
+Within p bs V x = V x ⊎ ((p.settings.replaces_lets ≡ false) × Binds (let_bindings_of bs) x)
 
 more-over : (V W : Var → Type 0) (bs : List Bound) → ((x : Var) → V x → W x) → AreOver V bs → AreOver W bs
 more-over V W [] more h = tt
 more-over V W (b ∷ bs) more h = (λ x free. more x (h.0 x free), more-over V W bs more h.1)
 
-themselves-over : (W : Var → Type 0) (bs : List Bound) → ((x : Var) → Binds (bindings_of bs) x → W x) → AreOver W (map (λ b. itself b.variable) bs)
+themselves-over : (W : Var → Type 0) (bs : List Bound) → ((x : Var) → Binds (let_bindings_of bs) x → W x) → AreOver W (map (λ b. itself b.variable) bs)
 themselves-over W [] w = tt
 themselves-over W (b ∷ bs) w = (λ x e. w x (inl e), themselves-over W bs (λ x later. w x (inr later)))
 
@@ -225,7 +225,7 @@ inside-themselves p bs h e = go p.settings.replaces_lets e
     go true f = absurd cc
     go false f = all_joined (λ b. b.stands_for ≡ variable b.variable) (map (λ b. itself b.variable) bs) p.scope (themselves-stand bs) (h e)
 
-bindings-over : (V : Var → Type 0) (bs : List Bound) → AreOver V bs → (x : Var) → IsFreeBound x (bindings_of bs) → V x
+bindings-over : (V : Var → Type 0) (bs : List Bound) → AreOver V bs → (x : Var) → IsFreeBound x (let_bindings_of bs) → V x
 bindings-over V [] h x free = absurd free
 bindings-over V (b ∷ bs) h x (inl free) = h.0 x free
 bindings-over V (b ∷ bs) h x (inr free) = bindings-over V bs h.1 x free
@@ -233,12 +233,12 @@ bindings-over V (b ∷ bs) h x (inr free) = bindings-over V bs h.1 x free
 let-over : (V : Var → Type 0) (p : Place) (bs : List Bound) (t : Typed) → AreOver V bs → IsOver (Within p bs V) t.tree → IsOver V (let_term p bs t).tree
 let-over V p bs t k h = go p.settings.replaces_lets refl
   where
-    out : (x : Var) → (p.settings.replaces_lets ≡ true) ⊎ (¬ Binds (bindings_of bs) x) → Within p bs V x → V x
+    out : (x : Var) → (p.settings.replaces_lets ≡ true) ⊎ (¬ Binds (let_bindings_of bs) x) → Within p bs V x → V x
     out x o (inl v) = v
     out x (inl e) (inr (f, bound)) = absurd cc
     out x (inr outside) (inr (f, bound)) = absurd (outside bound)
 
-    go : (b : Bool) → p.settings.replaces_lets ≡ b → IsOver V (if b then t else record { tree = let_in (bindings_of bs) t.tree; sort = t.sort }).tree
+    go : (b : Bool) → p.settings.replaces_lets ≡ b → IsOver V (if b then t else record { tree = let_in (let_bindings_of bs) t.tree; sort = t.sort }).tree
     go true e = λ x free. out x (inl e) (h x free)
     go false e = λ x free. elim free [ inl bound ↦ bindings-over V bs k x bound | inr inner ↦ out x (inr inner.0) (h x inner.1) ]
 
@@ -272,12 +272,12 @@ mutual
   term-over (faulty cause place) V p s h themselves macros = (macros, tt)
   term-over (number place n) V p s h themselves macros = settled-over V p.settings.limit place (Some (record { tree = numeral n; sort = Sort.Int })) s macros (λ x free. absurd free)
   term-over (symbol n) V p s h themselves macros =
-      with_meaning-over V (λ t. IsOver V t.tree) n.place (meaning_of p s n.name) s (λ m. settled p.settings.limit n.place (applied m []) s) macros (meaning-over V p s n.name h themselves macros)
-      (λ m fit. settled-over V p.settings.limit n.place (applied m []) s macros (applied-over V m [] fit tt))
+      with_meaning-over V (λ t. IsOver V t.tree) n.place (meaning_of p s n.name) s (λ m. settled p.settings.limit n.place (meaning_applied m []) s) macros (meaning-over V p s n.name h themselves macros)
+      (λ m fit. settled-over V p.settings.limit n.place (meaning_applied m []) s macros (applied-over V m [] fit tt))
   term-over (application place head fs) V p s h themselves macros =
-      with_meaning-over V (λ t. IsOver V t.tree) head.place (meaning_of p s head.name) s (λ m. and_then (terms_from fs p s) (λ ts after. settled p.settings.limit place (applied m ts) after)) macros (meaning-over V p s head.name h themselves macros)
-      (λ m fit. ends-and_then AreScoped (AreAllOver V) (λ t. IsOver V t.tree) (terms_from fs p s) (λ ts after. settled p.settings.limit place (applied m ts) after) (terms-over fs V p s h themselves macros)
-      (λ ts after read macros'. settled-over V p.settings.limit place (applied m ts) after macros' (applied-over V m ts fit read)))
+      with_meaning-over V (λ t. IsOver V t.tree) head.place (meaning_of p s head.name) s (λ m. and_then (terms_from fs p s) (λ ts after. settled p.settings.limit place (meaning_applied m ts) after)) macros (meaning-over V p s head.name h themselves macros)
+      (λ m fit. ends-and_then AreScoped (AreAllOver V) (λ t. IsOver V t.tree) (terms_from fs p s) (λ ts after. settled p.settings.limit place (meaning_applied m ts) after) (terms-over fs V p s h themselves macros)
+      (λ ts after read macros'. settled-over V p.settings.limit place (meaning_applied m ts) after macros' (applied-over V m ts fit read)))
   term-over (let_form place bs body) V p s h themselves macros =
       ends-and_then AreScoped (AreOver V) (λ t. IsOver V t.tree) (bounds_from bs [] p s) (λ bound after. and_then (term_from body (inside bound p) after) (λ t last. settled p.settings.limit place (Some (let_term p bound t)) last)) (bounds-over bs [] V p s h themselves macros)
       (λ bound after fit macros'. ends-and_then AreScoped (λ t. IsOver (Within p bound V) t.tree) (λ t. IsOver V t.tree) (term_from body (inside bound p) after) (λ t last. settled p.settings.limit place (Some (let_term p bound t)) last)
@@ -294,7 +294,7 @@ mutual
       (λ t after read macros'. ends-and_then AreScoped (AreAllOver V) (AreAllOver V) (terms_from fs p after) (λ ts last. done (t ∷ ts) last) (terms-over fs V p after h themselves macros')
       (λ ts last all macros''. (macros'', (read, all))))
 
-  bounds-over : (bs : form.Binds) (earlier : List (List ℕ)) (V : Var → Type 0) (p : Place) (s : Script) → AreOver V p.scope → AreThemselves p → AreScoped s → Ends AreScoped (AreOver V) (bounds_from bs earlier p s)
+  bounds-over : (bs : form.LetBinds) (earlier : List (List ℕ)) (V : Var → Type 0) (p : Place) (s : Script) → AreOver V p.scope → AreThemselves p → AreScoped s → Ends AreScoped (AreOver V) (bounds_from bs earlier p s)
   bounds-over no_binds earlier V p s h themselves macros = (macros, tt)
   bounds-over (bind n f bs) earlier V p s h themselves macros =
       unless_repeated V (AreOver V) (is_built_in n.name || is_among earlier n.name) n.place s _ macros

@@ -12,7 +12,7 @@ use Rattle.problem_text.specs.Limits.{limited}
 use Rattle.problem_text.specs.Names.{Place, itself}
 use Rattle.problem_text.specs.Terms.{read_term}
 use Rattle.problem_text.specs.Problems.{StandsForProblem}
-use Rattle.problem_text.specs.Soundness.{IsReadWithin, IsRead, AreSorted, IsSound}
+use Rattle.problem_text.specs.Soundness.{IsReadWithin, IsRead, AreBoundSorted, IsSound}
 use Rattle.problem_text.proofs.Outcomes.{Ends, all_at_end}
 use Rattle.problem_text.proofs.Readings.{term-sound}
 use Rattle.problem_text.proofs.KeptByCommands.{problem-kept}
@@ -25,11 +25,11 @@ same_terms s after e f g sound = record {
   assertions = subst (AllByRecursion (λ t. IsRead (record { tree = t; sort = Sort.Bool }))) g sound.assertions;
 }
 
-parameters-sorted : (xs : List Var) → AreSorted (map itself xs)
+parameters-sorted : (xs : List Var) → AreBoundSorted (map itself xs)
 parameters-sorted [] = tt
 parameters-sorted (x ∷ xs) = (refl, parameters-sorted xs)
 
-pub read-sound : (i : Item) (p : Place) (s : Script) → AreSorted p.scope → IsSound s → Ends IsSound (IsReadWithin p.settings.limit) (read_term i p s)
+pub read-sound : (i : Item) (p : Place) (s : Script) → AreBoundSorted p.scope → IsSound s → Ends IsSound (IsReadWithin p.settings.limit) (read_term i p s)
 read-sound i p s sorted sound = term-sound (form_of i) p s sorted sound
 
 macro_added : (m : Macro) (t : Typed) (s : Script) → IsSound s → IsRead t → m.body ≡ t.tree → t.sort ≡ m.target → IsSound (with_macro m s)

@@ -12,14 +12,14 @@ use Rattle.sexpr.specs.Tokens.{blanks_end, string_end, token_at, next_token, tok
 use Rattle.sexpr.specs.Items.{Item, word, quoted, string, list, Items, no_items, item}
 use Rattle.term_model.specs.Terms.{Term}
 use Rattle.problem_text.specs.Forms.{form_of}
-use Rattle.problem_text.specs.Commands.{command_of}
+use Rattle.problem_text.specs.Commands.{script_command_of}
 use Rattle.rule_model.specs.Heights.{height}
 use Rattle.rule_model.specs.Replacement.{replaced, free_variables}
 use Rattle.problem_text.specs.Scripts.{Script}
 use Rattle.problem_text.specs.Sorts.{sort_from}
-use Rattle.problem_text.specs.Names.{meaning_of, applied}
+use Rattle.problem_text.specs.Names.{meaning_of, meaning_applied}
 use Rattle.problem_text.specs.Terms.{term_from}
-use Rattle.problem_text.specs.Problems.{performed, commands, problem}
+use Rattle.problem_text.specs.Problems.{script_performed, script_commands, problem}
 
 abbrev pub token_read : Result (Option Token) Refusal → Option Token
 token_read (Ok (Some t)) = Some t
@@ -67,7 +67,7 @@ fault cause place = Some (record { cause = cause; at = place })
 
 -- the first fault of the commands of a text
 unfoldable pub first_fault : Bool → List ℕ → Option Refusal
-unfolding is_white ends_comment is_mark is_word_byte is_number blanks_end string_end token_at next_token items_in form_of command_of height replaced free_variables sort_from meaning_of applied term_from performed commands
+unfolding is_white ends_comment is_mark is_word_byte is_number blanks_end string_end token_at next_token items_in form_of script_command_of height replaced free_variables sort_from meaning_of meaning_applied term_from script_performed script_commands
 first_fault replaces_lets text = fault_in (problem replaces_lets (items_in text)).result
 
 -- what the assertions of a text stand for, up to its first fault

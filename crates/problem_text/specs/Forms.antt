@@ -22,16 +22,16 @@ mutual
     number : ℕ → ℕ → Form
     symbol : Name → Form
     application : ℕ → Name → Forms → Form
-    let_form : ℕ → Binds → Form → Form
+    let_form : ℕ → LetBinds → Form → Form
     annotated : ℕ → Form → List Name → Form
 
   pub data Forms : Type 0 where
     no_forms : Forms
     form : Form → Forms → Forms
 
-  pub data Binds : Type 0 where
-    no_binds : Binds
-    bind : Name → Form → Binds → Binds
+  pub data LetBinds : Type 0 where
+    no_binds : LetBinds
+    bind : Name → Form → LetBinds → LetBinds
 
 -- the first of some forms
 abbrev pub first_form : Forms → Form
@@ -89,7 +89,7 @@ unless_faulty None f = f
 
 -- A list whose head is a symbol, with what stands after the head: the items, the forms of the first and of the
 -- others, and the bindings that the first spells.
-abbrev pub symbol_list_form : ℕ → Name → Items → Form → Forms → Binds → Form
+abbrev pub symbol_list_form : ℕ → Name → Items → Form → Forms → LetBinds → Form
 symbol_list_form place head items first others binds =
     if bytes_eq head.name (codes "let") then unless_faulty (let_fault place items) (let_form place binds (first_form others))
     else if bytes_eq head.name (codes "!") then unless_faulty (annotation_fault place items) (annotated place first (names_given items))
@@ -97,7 +97,7 @@ symbol_list_form place head items first others binds =
     else application place head (form first others)
 
 -- A head that is a list is left out. Any other head has to be a symbol.
-abbrev pub list_form : ℕ → Item → Items → Form → Forms → Binds → Form
+abbrev pub list_form : ℕ → Item → Items → Form → Forms → LetBinds → Form
 list_form place head items first others binds =
     if is_some (symbol_name head) then symbol_list_form place (name_at head) items first others binds
     else if is_list_item head then faulty LeftOut (place_of head)
@@ -119,13 +119,13 @@ unfoldable mutual
   forms_of (item i rest) = form (form_of i) (forms_of rest)
 
   -- what the list of a let's bindings spells, where it has that shape
-  pub binds_of : Item → Binds
+  pub binds_of : Item → LetBinds
   binds_of (word place spelling) = no_binds
   binds_of (quoted place spelling) = no_binds
   binds_of (string place spelling) = no_binds
   binds_of (list place items) = binds_in items
 
-  pub binds_in : Items → Binds
+  pub binds_in : Items → LetBinds
   binds_in no_items = no_binds
   binds_in (item (list place (item x (item t rest))) others) = bind (name_at x) (form_of t) (binds_in others)
   binds_in (item other others) = binds_in others

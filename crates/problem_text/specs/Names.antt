@@ -74,18 +74,18 @@ abbrev pub expansion : Macro → List Typed → Term
 expansion m ts = replaced (zip m.parameters (map (λ t. t.tree) ts)) m.body
 
 -- the term that is a meaning applied to these, or none where the sorts do not allow it
-unfoldable pub applied : Meaning → List Typed → Option Typed
-applied (value t) [] = Some t
-applied (value t) (a ∷ ts) = None
-applied (macro m) ts =
+unfoldable pub meaning_applied : Meaning → List Typed → Option Typed
+meaning_applied (value t) [] = Some t
+meaning_applied (value t) (a ∷ ts) = None
+meaning_applied (macro m) ts =
     if sorts_eq (map (λ x. x.sort) m.parameters) (sorts_of ts) then Some (record { tree = expansion m ts; sort = m.target }) else None
-applied (function f) ts = option_map (λ s. record { tree = call f (trees ts); sort = s }) (call_sort f (sorts_of ts))
-applied (operator op) ts = option_map (λ s. record { tree = operation op (trees ts); sort = s }) (application_sort op (sorts_of ts))
+meaning_applied (function f) ts = option_map (λ s. record { tree = call f (trees ts); sort = s }) (call_sort f (sorts_of ts))
+meaning_applied (operator op) ts = option_map (λ s. record { tree = operation op (trees ts); sort = s }) (application_sort op (sorts_of ts))
 
 -- the bindings of a let, as they stand in its term
-abbrev pub bindings_of : List Bound → Bindings
-bindings_of [] = no_bindings
-bindings_of (b ∷ bs) = binding b.variable b.stands_for (bindings_of bs)
+abbrev pub let_bindings_of : List Bound → Bindings
+let_bindings_of [] = no_bindings
+let_bindings_of (b ∷ bs) = binding b.variable b.stands_for (let_bindings_of bs)
 
 -- where the body of a let with these bindings stands
 abbrev pub inside : List Bound → Place → Place
@@ -93,4 +93,4 @@ inside bs p = record p { scope = (if p.settings.replaces_lets then bs else map (
 
 -- a let with this body
 abbrev pub let_term : Place → List Bound → Typed → Typed
-let_term p bs t = if p.settings.replaces_lets then t else record { tree = let_in (bindings_of bs) t.tree; sort = t.sort }
+let_term p bs t = if p.settings.replaces_lets then t else record { tree = let_in (let_bindings_of bs) t.tree; sort = t.sort }

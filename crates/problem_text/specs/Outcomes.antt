@@ -19,9 +19,9 @@ abbrev pub given : {S A : Type 0} → Result A Refusal → S → Outcome S A
 given r s = record { result = r; state = s }
 
 -- One reading and then another. A fault of the first is the fault of both.
-abbrev pub goes_on : {S A B : Type 0} → Result A Refusal → S → (A → S → Outcome S B) → Outcome S B
-goes_on (Ok a) s next = next a s
-goes_on (Err refusal) s next = record { result = Err refusal; state = s }
+abbrev pub going_on : {S A B : Type 0} → Result A Refusal → S → (A → S → Outcome S B) → Outcome S B
+going_on (Ok a) s next = next a s
+going_on (Err refusal) s next = record { result = Err refusal; state = s }
 
 abbrev pub and_then : {S A B : Type 0} → Outcome S A → (A → S → Outcome S B) → Outcome S B
-and_then o next = goes_on o.result o.state next
+and_then o next = going_on o.result o.state next

@@ -8,8 +8,8 @@ use Rattle.term_model.specs.declared.symbols.Sort.{Sort}
 use Rattle.term_model.specs.Terms.{sort_eq, Fun}
 use Rattle.problem_text.specs.Words.{is_among, is_built_in, logics}
 use Rattle.text_items.specs.ItemShapes.{Name}
-use Rattle.problem_text.specs.Commands.{Command, set_logic, without_effect, declare_sort, declare_fun, define_fun, assert_term, check_sat, exit, command_of}
-use Rattle.problem_text.specs.Outcomes.{Outcome, done, refuse, given, and_then, goes_on}
+use Rattle.problem_text.specs.Commands.{ScriptCommand, set_logic, without_effect, declare_sort, declare_fun, define_fun, assert_term, check_sat, exit, script_command_of}
+use Rattle.problem_text.specs.Outcomes.{Outcome, done, refuse, given, and_then, going_on}
 use Rattle.problem_text.specs.Scripts.{Script, empty_script, is_taken, with_name, with_sort, with_function, with_macro, with_assertion}
 use Rattle.problem_text.specs.Limits.{limited}
 use Rattle.problem_text.specs.Sorts.{sort_from, sorts_from, parameters_from}
@@ -52,33 +52,33 @@ term_asserted replaces_lets i s =
     if sort_eq t.sort Sort.Bool then done tt (with_assertion t.tree after) else refuse SortMismatch (place_of i) after)
 
 -- what a command does, where lets of assertions are replaced or not
-unfoldable pub performed : Bool → Command → Script → Outcome Script ⊤
-performed replaces_lets (set_logic n) s = logic_set n s
-performed replaces_lets without_effect s = done tt s
-performed replaces_lets (declare_sort n arity_place arity) s = sort_declared n arity_place arity s
-performed replaces_lets (declare_fun n arguments target) s = function_declared n arguments target s
-performed replaces_lets (define_fun n parameters target body) s = function_defined n parameters target body s
-performed replaces_lets (assert_term i) s = term_asserted replaces_lets i s
-performed replaces_lets check_sat s = done tt (record s { is_checked = true })
-performed replaces_lets exit s = done tt s
+unfoldable pub script_performed : Bool → ScriptCommand → Script → Outcome Script ⊤
+script_performed replaces_lets (set_logic n) s = logic_set n s
+script_performed replaces_lets without_effect s = done tt s
+script_performed replaces_lets (declare_sort n arity_place arity) s = sort_declared n arity_place arity s
+script_performed replaces_lets (declare_fun n arguments target) s = function_declared n arguments target s
+script_performed replaces_lets (define_fun n parameters target body) s = function_defined n parameters target body s
+script_performed replaces_lets (assert_term i) s = term_asserted replaces_lets i s
+script_performed replaces_lets check_sat s = done tt (record s { is_checked = true })
+script_performed replaces_lets exit s = done tt s
 
 -- after an exit nothing is judged
-abbrev pub ends : Command → Bool
+abbrev pub ends : ScriptCommand → Bool
 ends exit = true
 ends other = false
 
-abbrev pub goes_on_after : Bool → Command → Script → (Script → Outcome Script ⊤) → Outcome Script ⊤
-goes_on_after replaces_lets c s next = if ends c then done tt s else and_then (performed replaces_lets c s) (λ _ after. next after)
+abbrev pub goes_on_after : Bool → ScriptCommand → Script → (Script → Outcome Script ⊤) → Outcome Script ⊤
+goes_on_after replaces_lets c s next = if ends c then done tt s else and_then (script_performed replaces_lets c s) (λ _ after. next after)
 
 -- the commands of a text, in their order
-unfoldable pub commands : Bool → Items → Script → Outcome Script ⊤
-commands replaces_lets no_items s = done tt s
-commands replaces_lets (item i rest) s =
-    goes_on (command_of s.is_checked i) s (λ c before. goes_on_after replaces_lets c before (commands replaces_lets rest))
+unfoldable pub script_commands : Bool → Items → Script → Outcome Script ⊤
+script_commands replaces_lets no_items s = done tt s
+script_commands replaces_lets (item i rest) s =
+    going_on (script_command_of s.is_checked i) s (λ c before. goes_on_after replaces_lets c before (script_commands replaces_lets rest))
 
 -- what the items of a whole text come to
 abbrev pub problem : Bool → Items → Outcome Script ⊤
-problem replaces_lets items = commands replaces_lets items empty_script
+problem replaces_lets items = script_commands replaces_lets items empty_script
 
 -- The text is without a fault and stands for this script.
 pub record StandsForProblem (source : List ℕ) (replaces_lets : Bool) (s : Script) : Type 0 where
@@ -97,5 +97,5 @@ abbrev pub IsFirstFault : List ℕ → Bool → Refusal → Type 0
 IsFirstFault source replaces_lets refusal = IsFormFault source refusal ⊎ IsCommandFault source replaces_lets refusal
 
 -- no variable that a let binds has the name of a declared function
-abbrev pub AreApart : Script → Type 0
-AreApart s = (f : Fun) → Contains s.functions f → Contains s.let_names f.name → ⊥
+abbrev pub HasNamesApart : Script → Type 0
+HasNamesApart s = (f : Fun) → Contains s.functions f → Contains s.let_names f.name → ⊥

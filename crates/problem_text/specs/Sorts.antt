@@ -10,9 +10,9 @@ use Rattle.text_items.specs.ItemShapes.{Name, name_at}
 use Rattle.problem_text.specs.Commands.{refused}
 
 -- one result and then another
-abbrev pub chained : {A B : Type 0} → Result A Refusal → (A → Result B Refusal) → Result B Refusal
-chained (Ok a) next = next a
-chained (Err refusal) next = Err refusal
+abbrev pub result_then : {A B : Type 0} → Result A Refusal → (A → Result B Refusal) → Result B Refusal
+result_then (Ok a) next = next a
+result_then (Err refusal) next = Err refusal
 
 -- the declared sort of a name, by its number
 abbrev pub declared_sort : ℕ → Option ℕ → Result Sort Refusal
@@ -39,17 +39,17 @@ sort_from sorts other = sort_spelled sorts (place_of other) (symbol_name other)
 
 abbrev pub sorts_from : List (List ℕ) → Items → Result (List Sort) Refusal
 sorts_from sorts no_items = Ok []
-sorts_from sorts (item i rest) = chained (sort_from sorts i) (λ s. chained (sorts_from sorts rest) (λ ss. Ok (s ∷ ss)))
+sorts_from sorts (item i rest) = result_then (sort_from sorts i) (λ s. result_then (sorts_from sorts rest) (λ ss. Ok (s ∷ ss)))
 
 -- A parameter and its sort, where those before it have these names. No two have one name.
 abbrev pub parameter_from : List (List ℕ) → List (List ℕ) → Item → Result Var Refusal
 parameter_from sorts earlier (list place (item x (item sort rest))) =
     if is_built_in (name_at x).name || is_among earlier (name_at x).name then refused Repeated (place_of x)
-    else chained (sort_from sorts sort) (λ s. Ok (record { name = (name_at x).name; sort = s }))
+    else result_then (sort_from sorts sort) (λ s. Ok (record { name = (name_at x).name; sort = s }))
 parameter_from sorts earlier other = refused BadCommand (place_of other)
 
 -- the parameters of a defined function
 abbrev pub parameters_from : List (List ℕ) → List (List ℕ) → Items → Result (List Var) Refusal
 parameters_from sorts earlier no_items = Ok []
 parameters_from sorts earlier (item i rest) =
-    chained (parameter_from sorts earlier i) (λ x. chained (parameters_from sorts (x.name ∷ earlier) rest) (λ xs. Ok (x ∷ xs)))
+    result_then (parameter_from sorts earlier i) (λ x. result_then (parameters_from sorts (x.name ∷ earlier) rest) (λ xs. Ok (x ∷ xs)))

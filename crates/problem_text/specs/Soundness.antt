@@ -22,8 +22,8 @@ abbrev pub IsRead : Typed → Type 0
 IsRead t = IsReadWithin (Some most_height) t
 
 -- each variable stands for a term of its sort
-abbrev pub AreSorted : List Bound → Type 0
-AreSorted scope = AllByRecursion (λ b. IsOf b.stands_for b.variable.sort) scope
+abbrev pub AreBoundSorted : List Bound → Type 0
+AreBoundSorted scope = AllByRecursion (λ b. IsOf b.stands_for b.variable.sort) scope
 
 -- Named terms have their sorts, a macro's body has its target sort, and assertions are formulas.
 pub record IsSound (s : Script) : Type 0 where

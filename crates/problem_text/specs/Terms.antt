@@ -7,13 +7,13 @@ use Rattle.term_model.specs.declared.symbols.Sort.{Sort}
 use Rattle.term_model.specs.Terms.{numeral}
 use Rattle.problem_text.specs.Words.{is_among, is_built_in}
 use Rattle.text_items.specs.ItemShapes.{Name}
-use Rattle.problem_text.specs.Forms.{Form, faulty, number, symbol, application, let_form, annotated, Forms, no_forms, form, Binds, no_binds, bind, form_of}
+use Rattle.problem_text.specs.Forms.{Form, faulty, number, symbol, application, let_form, annotated, Forms, no_forms, form, LetBinds, no_binds, bind, form_of}
 use Rattle.rule_model.specs.Heights.{height}
 use Rattle.problem_text.specs.Limits.{is_low}
 use Rattle.problem_text.specs.TypedTerms.{Typed}
 use Rattle.problem_text.specs.Outcomes.{Outcome, done, refuse, and_then}
 use Rattle.problem_text.specs.Scripts.{Script, is_taken, with_named, with_term, with_let_name}
-use Rattle.problem_text.specs.Names.{Bound, Place, Meaning, meaning_of, applied, inside, let_term}
+use Rattle.problem_text.specs.Names.{Bound, Place, Meaning, meaning_of, meaning_applied, inside, let_term}
 
 -- A term that begins at this place, where its sorts allow it. It counts as read also where it is too high.
 abbrev pub settled : Option ℕ → ℕ → Option Typed → Script → Outcome Script Typed
@@ -36,10 +36,10 @@ unfoldable mutual
   pub term_from : Form → Place → Script → Outcome Script Typed
   term_from (faulty cause place) p s = refuse cause place s
   term_from (number place n) p s = settled p.settings.limit place (Some (record { tree = numeral n; sort = Sort.Int })) s
-  term_from (symbol n) p s = with_meaning n.place (meaning_of p s n.name) s (λ m. settled p.settings.limit n.place (applied m []) s)
+  term_from (symbol n) p s = with_meaning n.place (meaning_of p s n.name) s (λ m. settled p.settings.limit n.place (meaning_applied m []) s)
   term_from (application place head fs) p s =
       with_meaning head.place (meaning_of p s head.name) s (λ m.
-      and_then (terms_from fs p s) (λ ts after. settled p.settings.limit place (applied m ts) after))
+      and_then (terms_from fs p s) (λ ts after. settled p.settings.limit place (meaning_applied m ts) after))
   term_from (let_form place bs body) p s =
       and_then (bounds_from bs [] p s) (λ bound after.
       and_then (term_from body (inside bound p) after) (λ t last. settled p.settings.limit place (Some (let_term p bound t)) last))
@@ -52,7 +52,7 @@ unfoldable mutual
       and_then (term_from f p s) (λ t after. and_then (terms_from fs p after) (λ ts last. done (t ∷ ts) last))
 
   -- The bindings of a let, where those before them have these names. All their terms are read outside the let.
-  pub bounds_from : Binds → List (List ℕ) → Place → Script → Outcome Script (List Bound)
+  pub bounds_from : LetBinds → List (List ℕ) → Place → Script → Outcome Script (List Bound)
   bounds_from no_binds earlier p s = done [] s
   bounds_from (bind n f bs) earlier p s =
       if is_built_in n.name || is_among earlier n.name then refuse Repeated n.place s

@@ -6,7 +6,7 @@ ghost use Rattle.term_model.specs.declared.symbols.Op.TheVariants as Op;
 ghost use Rattle.term_model.specs.declared.symbols.Sort.TheVariants as Sort;
 ghost use Rattle.term_model.specs.Terms.{numeral, variable, operation, let_in, no_terms, term, no_bindings, binding, not_of};
 ghost use Rattle.problem_text.specs.Examples.{fault, first_fault, assertions_in, script_in};
-ghost use Rattle.problem_text.specs.Problems.{AreApart};
+ghost use Rattle.problem_text.specs.Problems.{HasNamesApart};
 
 /// Commands: their words, their shapes, and what stands after an exit.
 pub fn commands_are_judged_in_order()
@@ -56,6 +56,6 @@ pub fn names_stand_for_terms()
 
 /// Names are apart where no let binds the name of a declared function.
 pub fn names_are_apart_or_not()
-    ensures apart { AreApart (script_in (codes "(declare-const x Bool)(assert (let ((y x)) y))")) }
-    ensures not_apart { AreApart (script_in (codes "(declare-const x Bool)(assert (let ((x x)) x))")) → ⊥ }
+    ensures apart { HasNamesApart (script_in (codes "(declare-const x Bool)(assert (let ((y x)) y))")) }
+    ensures not_apart { HasNamesApart (script_in (codes "(declare-const x Bool)(assert (let ((x x)) x))")) → ⊥ }
 {}

@@ -7,7 +7,7 @@ ghost use Rattle.sexpr.specs.Source.{source};
 ghost use Rattle.problem_text.specs.Scripts.{Script};
 ghost use Rattle.problem_text.specs.Problems.{StandsForProblem, IsFirstFault};
 ghost use Rattle.problem_text.specs.Names.{Place};
-ghost use Rattle.problem_text.specs.Soundness.{IsSound, HasNoLets, AreSorted, IsReadWithin, AreThemselves, IsScoped, HasScopedTerms};
+ghost use Rattle.problem_text.specs.Soundness.{IsSound, HasNoLets, AreBoundSorted, IsReadWithin, AreThemselves, IsScoped, HasScopedTerms};
 ghost use Rattle.problem_text.specs.Terms.{read_term};
 
 pub use rule_model::laws::replacement::{free_variables_are_listed, replacing_lets_keeps_values};
@@ -32,8 +32,8 @@ pub fn scripts_are_closed()
 /// A term that is read behind a sound script, where each variable in scope stands for a term of its sort, is well sorted
 /// and no higher than the limit. The script stays sound, whether a term is read or refused.
 pub fn terms_are_well_sorted()
-    ensures term { (i : Item) (p : Place) (s : Script) → AreSorted p.scope → IsSound s → IfOk (read_term i p s).result (IsReadWithin p.settings.limit) }
-    ensures script { (i : Item) (p : Place) (s : Script) → AreSorted p.scope → IsSound s → IsSound (read_term i p s).state }
+    ensures term { (i : Item) (p : Place) (s : Script) → AreBoundSorted p.scope → IsSound s → IfOk (read_term i p s).result (IsReadWithin p.settings.limit) }
+    ensures script { (i : Item) (p : Place) (s : Script) → AreBoundSorted p.scope → IsSound s → IsSound (read_term i p s).state }
 {}
 
 /// The free variables of a term that is read are those of what the variables in scope stand for: where these stand for

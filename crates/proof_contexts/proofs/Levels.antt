@@ -3,11 +3,11 @@ use Rattle.std.proofs.Common.{◌≡◌, ◌++◌, ℕ, List, [], ◌∷◌, Som
 use Rattle.std.specs.List.{AllByRecursion, AllZip}
 use Rattle.contexts.specs.declared.kept.Substitution.{Substitution}
 use Rattle.contexts.specs.Kept.{IsRight, bindings_of}
-use Rattle.contexts.specs.PutIn.{StandForReplacement, IsReplacement}
+use Rattle.contexts.specs.PutIn.{StandForReplacement, AreReplacementBy}
 use Rattle.pair_pool.specs.Views.{IsOneToOne}
 use Rattle.proof_store.specs.Meaning.{StandForItems, IsBindingOf}
 use Rattle.rule_model.specs.Contexts.{images, put_in_each}
-use Rattle.rule_model.specs.Proofs.{Items}
+use Rattle.rule_model.specs.Proofs.{ProofItems}
 use Rattle.rule_model.specs.Reading.{parent_at, bindings_at}
 use Rattle.rule_model.specs.Replacement.{Replacement}
 use Rattle.sym_table.specs.Table.{Table, IsTable, Keeps}
@@ -28,7 +28,7 @@ pub record Stays : Type 0 where
   pub bindings : (s : Table) (v w : TermsView) (bindings : List (ℕ × ℕ)) (q : Replacement) → KeepsTerms v w → StandForReplacement s v bindings q → StandForReplacement s w bindings q
 
 module _ (stays : Stays) (s : Table) (v w : TermsView) (grows : KeepsTerms v w) where
-  pub level_later : (proof : Items Var Term) (l : Level) → IsLevel s v proof l → IsLevel s w proof l
+  pub level_later : (proof : ProofItems Var Term) (l : Level) → IsLevel s v proof l → IsLevel s w proof l
   level_later proof l h = record {
     anchors = h.anchors;
     open = h.open;
@@ -36,12 +36,12 @@ module _ (stays : Stays) (s : Table) (v w : TermsView) (grows : KeepsTerms v w) 
     right = stays.right v w l.substitution grows h.right;
   }
 
-  pub levels_later : (proof : Items Var Term) (ls : List Level) → AllByRecursion (IsLevel s v proof) ls → AllByRecursion (IsLevel s w proof) ls
+  pub levels_later : (proof : ProofItems Var Term) (ls : List Level) → AllByRecursion (IsLevel s v proof) ls → AllByRecursion (IsLevel s w proof) ls
   levels_later proof [] h = tt
   levels_later proof (l ∷ ls) h = (level_later proof l h.0, levels_later proof ls h.1)
 
   -- the substitution of the scope went on, and the rest is xs before
-  pub kept_later : (refs : Items ℕ ℕ) (old new : OpenScopes) → ((proof : Items Var Term) → StandForItems s v refs proof → StandForItems s w refs proof) → new.around.items ≡ old.around.items → new.here.scope ≡ old.here.scope → bindings_of new.here.substitution ≡ bindings_of old.here.substitution → IsRight w new.here.substitution → AreKept s v refs old → AreKept s w refs new
+  pub kept_later : (refs : ProofItems ℕ ℕ) (old new : OpenScopes) → ((proof : ProofItems Var Term) → StandForItems s v refs proof → StandForItems s w refs proof) → new.around.items ≡ old.around.items → new.here.scope ≡ old.here.scope → bindings_of new.here.substitution ≡ bindings_of old.here.substitution → IsRight w new.here.substitution → AreKept s v refs old → AreKept s w refs new
   kept_later refs old new stay around scope bindings right h = record {
     proof = h.proof;
     stand = stay h.proof h.stand;
@@ -54,12 +54,12 @@ module _ (stays : Stays) (s : Table) (v w : TermsView) (grows : KeepsTerms v w) 
     around = subst (AllByRecursion (IsLevel s w h.proof)) (sym around) (levels_later h.proof old.around.items h.around);
   }
 
-module _ (s : Table) (v : TermsView) (refs : Items ℕ ℕ) (open : OpenScopes) (kept : AreKept s v refs open) where
-  pub are_replacement : IsReplacement s v (bindings_of open.here.substitution)
+module _ (s : Table) (v : TermsView) (refs : ProofItems ℕ ℕ) (open : OpenScopes) (kept : AreKept s v refs open) where
+  pub are_replacement : AreReplacementBy s v (bindings_of open.here.substitution)
   are_replacement = record { means = images kept.here.anchors; are = kept.here.stand }
 
   -- by any proof for which the items stand, and the anchors that are open in its scope
-  pub stand_for_images : IsTable s → IsOneToOne v.pass → ((p q : Items Var Term) → IsTable s → IsOneToOne v.pass → StandForItems s v refs p → StandForItems s v refs q → p ≡ q) → (of : Items Var Term) (anchors : List (List (Var × Term))) → StandForItems s v refs of → AreOpenIn of open.here.scope anchors → StandForReplacement s v (bindings_of open.here.substitution) (images anchors)
+  pub stand_for_images : IsTable s → IsOneToOne v.pass → ((p q : ProofItems Var Term) → IsTable s → IsOneToOne v.pass → StandForItems s v refs p → StandForItems s v refs q → p ≡ q) → (of : ProofItems Var Term) (anchors : List (List (Var × Term))) → StandForItems s v refs of → AreOpenIn of open.here.scope anchors → StandForReplacement s v (bindings_of open.here.substitution) (images anchors)
   stand_for_images table known one of anchors stands here =
       let same = one kept.proof of table known kept.stand stands in
       let both = open_same of open.here.scope kept.here.anchors anchors (subst (λ p. AreOpenIn p open.here.scope kept.here.anchors) same kept.here.open) here in

@@ -3,9 +3,9 @@ use Rattle.std.proofs.Common.{◌≡◌, ◌+◌, ℕ, zero, suc, List, [], ◌�
 use Rattle.std.specs.List.{AllByRecursion}
 use Rattle.std.specs.Option.{option_map, option_map_or}
 use Rattle.std.proofs.lemmas.Option.{slice_get-map}
-use Rattle.rule_model.specs.Commands.{Command, assume, step, closing, Line, Entry, entry_of, lines_in, own_scope, closed_scope, ScopeEntry, scope_entry, scopes_in, scopes}
+use Rattle.rule_model.specs.Commands.{IndexedCommand, assume, step, closing, Line, Entry, entry_of, lines_in, own_scope, closed_scope, ScopeEntry, scope_entry, scopes_in, scopes}
 use Rattle.rule_model.specs.Judged.{open_anchors, anchors_at}
-use Rattle.rule_model.specs.Proofs.{Step, Items, no_items, with_assume, with_step, with_subproof}
+use Rattle.rule_model.specs.Proofs.{Step, ProofItems, no_items, with_assume, with_step, with_subproof}
 use Rattle.rule_model.specs.Reading.{closes_at, scope_at, parent_at, bindings_at}
 use Rattle.rule_model.specs.Scopes.{Nesting, outermost, inside, inner, subproofs_in, scope_number}
 use Rattle.rule_model.proofs.LineReading.{anchors_are, closes_is, scope_is}
@@ -38,7 +38,7 @@ module _ {V T : Type 0} where
   after (x ∷ xs) y ys k e h =
       let same : length (x ∷ xs) + k ≡ suc (length xs + k) = omega arith in rw same (after xs y ys k e h)
 
-  lines_have : (entries : List (ScopeEntry V T)) (nesting : Nesting V T) (items : Items V T) → StandBehind entries (scope_number nesting) (scopes_in nesting items) → HasEntries entries nesting → AllByRecursion (λ l. HasEntries entries l.scope.nesting) (lines_in nesting items)
+  lines_have : (entries : List (ScopeEntry V T)) (nesting : Nesting V T) (items : ProofItems V T) → StandBehind entries (scope_number nesting) (scopes_in nesting items) → HasEntries entries nesting → AllByRecursion (λ l. HasEntries entries l.scope.nesting) (lines_in nesting items)
   unfolding HasEntries StandBehind
   lines_have entries nesting no_items behind has = tt
   lines_have entries nesting (with_assume items id t) behind has =
@@ -62,7 +62,7 @@ module _ {V T : Type 0} where
       subst (λ k. slice_get entries k ≡ Some e) same (behind (length xs + suc j) e (after xs own ys (suc j) e h))) has_deep))
       (has_deep, tt)
 
-  module _ (proof : Items V T) where
+  module _ (proof : ProofItems V T) where
     open_here : (nesting : Nesting V T) → HasEntries (scopes proof) nesting → AreOpenIn proof (scope_number nesting) (open_anchors nesting)
     unfolding HasEntries
     open_here outermost has = refl
@@ -84,7 +84,7 @@ module _ {V T : Type 0} where
         none_some : {k : ℕ} → None ≡ Some k → ⊥
         none_some e = cc
 
-        by_command : (nesting : Nesting V T) (c : Command T) → scope_at proof i ≡ own_scope nesting c → anchors_at proof i ≡ open_anchors nesting → closed_scope nesting c ≡ None → AreOpenIn proof (scope_number nesting) (open_anchors nesting) → AreOpenIn proof (scope_at proof i) (anchors_at proof i)
+        by_command : (nesting : Nesting V T) (c : IndexedCommand T) → scope_at proof i ≡ own_scope nesting c → anchors_at proof i ≡ open_anchors nesting → closed_scope nesting c ≡ None → AreOpenIn proof (scope_number nesting) (open_anchors nesting) → AreOpenIn proof (scope_at proof i) (anchors_at proof i)
         by_command nesting (assume id t) own anchors none h = rw (own, anchors) h
         by_command nesting (step s) own anchors none h = rw (own, anchors) h
         by_command nesting (closing s) own anchors none h = absurd (none_some (sym none))

@@ -1,12 +1,12 @@
 -- Going up to a scope that was entered, and down again.
 use Rattle.std.proofs.Common.{◌≡◌, ◌⊎◌, inl, inr, ◌≤◌, ◌++◌, ℕ, List, [], ◌∷◌, Option, Some, None, refl, sym, ◌∙◌}
-use Rattle.rule_model.specs.Proofs.{Items}
+use Rattle.rule_model.specs.Proofs.{ProofItems}
 use Rattle.rule_model.specs.Reading.{parent_at}
 use Rattle.rule_model.specs.Scopes.{subproofs_in}
 use Rattle.proof_contexts.specs.Ways.{IsWay, IsWayFrom}
 use Rattle.proof_contexts.proofs.Anchors.{some_same}
 
-module _ (proof : Items ℕ ℕ) where
+module _ (proof : ProofItems ℕ ℕ) where
   -- one scope further up
   pub way_up : (k : ℕ) (goal : Option ℕ) (way : List ℕ) → k ≤ subproofs_in proof → IsWay proof (Some k) goal way → IsWay proof (parent_at proof k) goal (way ++ k ∷ [])
   way_up k goal [] within h = (h, within, refl)

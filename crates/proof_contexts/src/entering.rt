@@ -1,7 +1,7 @@
 //! Entering a scope.
 
 ghost use Rattle.std.specs.Prelude.{◌≡◌, ◌≤◌, ℕ, IfOk, OnOk, Some};
-ghost use Rattle.rule_model.specs.Proofs.{Items};
+ghost use Rattle.rule_model.specs.Proofs.{ProofItems};
 ghost use Rattle.rule_model.specs.Reading.{parent_at};
 ghost use Rattle.rule_model.specs.Scopes.{subproofs_in};
 ghost use Rattle.sym_table.specs.Table.{Table};
@@ -22,7 +22,7 @@ use term_pool::{TermStop, Terms};
 impl OpenScopes {
     /// Leaves scopes that are not around scope `k`, as their numbers tell: what stands around a scope has a smaller one.
     fn leave(&mut self, k: u32)
-        ensures { (s : Table) (v : TermsView) (refs : Items ℕ ℕ) → AreKept s v refs self.old → AreKept s v refs self.new }
+        ensures { (s : Table) (v : TermsView) (refs : ProofItems ℕ ℕ) → AreKept s v refs self.old → AreKept s v refs self.new }
     {
         'scopes: while self.here.scope > k {
             let Some(level) = self.around.pop() else {

@@ -3,7 +3,7 @@
 ghost use Rattle.std.specs.Prelude.{◌≡◌, ◌++◌, ◌≤◌, List, IfOk, OnOk};
 ghost use Rattle.std.specs.List.{AllZip};
 ghost use Rattle.contexts.specs.Kept.{IsRight, bindings_of};
-ghost use Rattle.contexts.specs.PutIn.{IsReplacement, StandForReplacement};
+ghost use Rattle.contexts.specs.PutIn.{AreReplacementBy, StandForReplacement};
 ghost use Rattle.proof_store.specs.Meaning.{IsBindingOf};
 ghost use Rattle.rule_model.specs.Contexts.{put_in_each};
 ghost use Rattle.rule_model.specs.Replacement.{Replacement};
@@ -25,7 +25,7 @@ fn image_of(
     terms: &mut Terms<'_>,
 ) -> Result<(u32, Ref), TermStop>
     requires binding { BindTerms symbols.now terms.old (binding ∷ []) }
-    requires outer { IsReplacement symbols.now terms.old (bindings_of outer.old) }
+    requires outer { AreReplacementBy symbols.now terms.old (bindings_of outer.old) }
     requires right { IsRight terms.old outer.old }
     ensures image { IfOk result (λ i. (q : Replacement) (b : Var × Term) → StandForReplacement symbols.now terms.old (bindings_of outer.old) q → IsBindingOf symbols.now terms.old binding b →
         IsBindingOf symbols.now terms.new i (b.0, put_in q b.1)) }
@@ -46,7 +46,7 @@ pub(crate) fn images_with(
     terms: &mut Terms<'_>,
 ) -> Result<Vec<(u32, Ref)>, TermStop>
     requires anchor { BindTerms symbols.now terms.old anchor.now }
-    requires outer { IsReplacement symbols.now terms.old (bindings_of outer.old) }
+    requires outer { AreReplacementBy symbols.now terms.old (bindings_of outer.old) }
     requires right { IsRight terms.old outer.old }
     ensures images { IfOk result (λ list. (q : Replacement) (bound : List (Var × Term)) → StandForReplacement symbols.now terms.old (bindings_of outer.old) q → AllZip (IsBindingOf symbols.now terms.old) anchor.now bound →
         StandForReplacement symbols.now terms.new list.items (put_in_each q bound ++ q)) }

@@ -6,7 +6,7 @@ ghost use Rattle.pair_pool.specs.Views.{IsKnown};
 ghost use Rattle.proof_store.specs.Checks.{StandForSome};
 ghost use Rattle.proof_store.specs.Meaning.{StandForItems};
 ghost use Rattle.rule_model.specs.Contexts.{images};
-ghost use Rattle.rule_model.specs.Proofs.{Items};
+ghost use Rattle.rule_model.specs.Proofs.{ProofItems};
 ghost use Rattle.rule_model.specs.Substitution.{put_in};
 ghost use Rattle.term_model.specs.Terms.{Var, Term};
 ghost use Rattle.term_pool.specs.Views.{IsTerm, RefersTo, KeepsTerms};
@@ -73,13 +73,13 @@ impl OpenScopes {
     ) -> Result<Ref, TermStop>
         requires term { IsTerm symbols.now terms.old r }
         requires kept { AreKept symbols.now terms.old proof.now self.old }
-        ensures term { IfOk result (λ i. (of : Items Var Term) (anchors : List (List (Var × Term))) (t : Term) → StandForItems symbols.now terms.old proof.now of → AreOpenIn of (scope_of self.old) anchors →
+        ensures term { IfOk result (λ i. (of : ProofItems Var Term) (anchors : List (List (Var × Term))) (t : Term) → StandForItems symbols.now terms.old proof.now of → AreOpenIn of (scope_of self.old) anchors →
             RefersTo symbols.now terms.old r t → RefersTo symbols.now terms.new i (put_in (images anchors) t)) }
 
         // It places only cells of its answer, and is refused for want of room for one.
-        ensures placed { (of : Items Var Term) (anchors : List (List (Var × Term))) (t : Term) → StandForItems symbols.now terms.old proof.now of → AreOpenIn of (scope_of self.old) anchors →
+        ensures placed { (of : ProofItems Var Term) (anchors : List (List (Var × Term))) (t : Term) → StandForItems symbols.now terms.old proof.now of → AreOpenIn of (scope_of self.old) anchors →
             RefersTo symbols.now terms.old r t → PlacesTerm symbols.now terms.old.pass terms.new.pass (put_in (images anchors) t) }
-        ensures full { IfErr result (λ e. e ≡ TermStop.PoolFull → (of : Items Var Term) (anchors : List (List (Var × Term))) (t : Term) → StandForItems symbols.now terms.old proof.now of → AreOpenIn of (scope_of self.old) anchors →
+        ensures full { IfErr result (λ e. e ≡ TermStop.PoolFull → (of : ProofItems Var Term) (anchors : List (List (Var × Term))) (t : Term) → StandForItems symbols.now terms.old proof.now of → AreOpenIn of (scope_of self.old) anchors →
             RefersTo symbols.now terms.old r t → LacksRoomFor symbols.now terms.new.pass (put_in (images anchors) t)) }
         ensures known { IfOk result (IsKnown terms.new.pass) }
         ensures keeps { KeepsTerms terms.old terms.new }

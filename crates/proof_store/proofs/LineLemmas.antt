@@ -3,9 +3,9 @@ use Rattle.std.proofs.Common.{◌≡◌, ◌≤◌, ◌<◌, ◌+◌, ℕ, zero,
 use Rattle.std.specs.List.{AllByRecursion}
 use Rattle.std.specs.Option.{option_map, option_map_or, unwrap_or}
 use Rattle.std.proofs.lemmas.Option.{slice_get-map, slice_get_within}
-use Rattle.rule_model.specs.Proofs.{Step, Items, no_items, with_assume, with_step, with_subproof}
+use Rattle.rule_model.specs.Proofs.{Step, ProofItems, no_items, with_assume, with_step, with_subproof}
 use Rattle.rule_model.specs.Scopes.{Anchor, Nesting, outermost, inside, Scope, at, inner, scope_number, subproofs_in}
-use Rattle.rule_model.specs.Commands.{Command, assume, step, closing, Line, Entry, entry_of, own_scope, around_number, closed_scope, lines_in, ScopeEntry, scopes}
+use Rattle.rule_model.specs.Commands.{IndexedCommand, assume, step, closing, Line, Entry, entry_of, own_scope, around_number, closed_scope, lines_in, ScopeEntry, scopes}
 use Rattle.rule_model.specs.Reading.{id_of, id_at, scope_at, closes_at, parent_at, bindings_at, last_inside_at}
 use Rattle.proof_store.specs.declared.drafts.Draft.{Draft}
 use Rattle.proof_store.specs.Stored.{Stored}
@@ -19,7 +19,7 @@ abbrev HasAnchor : Nesting ℕ ℕ → List ℕ → Type 0
 HasAnchor outermost id = ⊥
 HasAnchor (inside around before anchor) id = anchor.id ≡ id
 
-abbrev IsClosing : Nesting ℕ ℕ → Command ℕ → Type 0
+abbrev IsClosing : Nesting ℕ ℕ → IndexedCommand ℕ → Type 0
 IsClosing nesting (assume id t) = Unit {0}
 IsClosing nesting (step s) = Unit {0}
 IsClosing nesting (closing s) = HasAnchor nesting s.id
@@ -31,7 +31,7 @@ all_append : (xs ys : List (Line ℕ ℕ)) → AllByRecursion IsLine xs → AllB
 all_append [] ys h k = k
 all_append (x ∷ xs) ys h k = (h.0, all_append xs ys h.1 k)
 
-lines_close : (nesting : Nesting ℕ ℕ) (items : Items ℕ ℕ) → AllByRecursion IsLine (lines_in nesting items)
+lines_close : (nesting : Nesting ℕ ℕ) (items : ProofItems ℕ ℕ) → AllByRecursion IsLine (lines_in nesting items)
 lines_close nesting no_items = tt
 lines_close nesting (with_assume items id t) = all_append (lines_in nesting items) _ (lines_close nesting items) (tt, tt)
 lines_close nesting (with_step items s) = all_append (lines_in nesting items) _ (lines_close nesting items) (tt, tt)
@@ -49,9 +49,9 @@ line_among P (y ∷ ys) zero x h at = subst P (some_same at) h.0
 line_among P (y ∷ ys) (suc i) x h at = line_among P ys i x h.1 at
 
 -- a command's line, with what is kept of the scope in which it is reached
-record At (d : Draft) (proof : Items ℕ ℕ) (i n : ℕ) (b : Bool) : Type 0 where
+record At (d : Draft) (proof : ProofItems ℕ ℕ) (i n : ℕ) (b : Bool) : Type 0 where
   nesting : Nesting ℕ ℕ
-  command : Command ℕ
+  command : IndexedCommand ℕ
   entry : slice_get (map entry_of (lines_in outermost proof)) i ≡ Some (record { command = command; scope = own_scope nesting command; closes = closed_scope nesting command })
   number : scope_number nesting ≡ n
   closes : closes_own command ≡ b
@@ -68,7 +68,7 @@ both d i n b e f =
     some_same : {a b : Bool} → Some a ≡ Some b → a ≡ b
     some_same e = cc
 
-at_index : (d : Draft) (proof : Items ℕ ℕ) (i n : ℕ) (b : Bool) → IsDraft d (at outermost proof) → option_map (λ s. s.inner) (slice_get d.commands i) ≡ Some n → option_map (λ s. s.closes) (slice_get d.commands i) ≡ Some b → At d proof i n b
+at_index : (d : Draft) (proof : ProofItems ℕ ℕ) (i n : ℕ) (b : Bool) → IsDraft d (at outermost proof) → option_map (λ s. s.inner) (slice_get d.commands i) ≡ Some n → option_map (λ s. s.closes) (slice_get d.commands i) ≡ Some b → At d proof i n b
 at_index d proof i n b h e f =
     let c = both d i n b e f in
     let l = line_at d proof i c.0 h c.1 in
@@ -83,11 +83,11 @@ at_index d proof i n b h e f =
       closing_well = line_among IsLine (lines_in outermost proof) i l.0 (lines_close outermost proof) l.1;
     }
 
-module _ (d : Draft) (proof : Items ℕ ℕ) (i n : ℕ) (b : Bool) (h : IsDraft d (at outermost proof)) (e : option_map (λ s. s.inner) (slice_get d.commands i) ≡ Some n) (f : option_map (λ s. s.closes) (slice_get d.commands i) ≡ Some b) where
+module _ (d : Draft) (proof : ProofItems ℕ ℕ) (i n : ℕ) (b : Bool) (h : IsDraft d (at outermost proof)) (e : option_map (λ s. s.inner) (slice_get d.commands i) ≡ Some n) (f : option_map (λ s. s.closes) (slice_get d.commands i) ≡ Some b) where
   pub read_not_closing : b ≡ false → None ≡ closes_at proof i
   read_not_closing shut = let a = at_index d proof i n b h e f in rw a.entry (go a.nesting a.command (a.closes ∙ shut))
     where
-      go : (nesting : Nesting ℕ ℕ) (c : Command ℕ) → closes_own c ≡ false → None ≡ closed_scope nesting c
+      go : (nesting : Nesting ℕ ℕ) (c : IndexedCommand ℕ) → closes_own c ≡ false → None ≡ closed_scope nesting c
       go nesting (assume id t) s = refl
       go nesting (step t) s = refl
       go nesting (closing t) s = absurd (cc)
@@ -95,7 +95,7 @@ module _ (d : Draft) (proof : Items ℕ ℕ) (i n : ℕ) (b : Bool) (h : IsDraft
   pub read_closing : b ≡ true → Some n ≡ closes_at proof i
   read_closing shut = let a = at_index d proof i n b h e f in rw a.entry (ap Some (sym a.number) ∙ go a.nesting a.command (a.closes ∙ shut))
     where
-      go : (nesting : Nesting ℕ ℕ) (c : Command ℕ) → closes_own c ≡ true → Some (scope_number nesting) ≡ closed_scope nesting c
+      go : (nesting : Nesting ℕ ℕ) (c : IndexedCommand ℕ) → closes_own c ≡ true → Some (scope_number nesting) ≡ closed_scope nesting c
       go nesting (assume id t) s = absurd (cc)
       go nesting (step t) s = absurd (cc)
       go nesting (closing t) s = refl
@@ -103,7 +103,7 @@ module _ (d : Draft) (proof : Items ℕ ℕ) (i n : ℕ) (b : Bool) (h : IsDraft
   pub read_own_scope : b ≡ false → n ≡ scope_at proof i
   read_own_scope shut = let a = at_index d proof i n b h e f in rw a.entry (sym a.number ∙ go a.nesting a.command (a.closes ∙ shut))
     where
-      go : (nesting : Nesting ℕ ℕ) (c : Command ℕ) → closes_own c ≡ false → scope_number nesting ≡ own_scope nesting c
+      go : (nesting : Nesting ℕ ℕ) (c : IndexedCommand ℕ) → closes_own c ≡ false → scope_number nesting ≡ own_scope nesting c
       go nesting (assume id t) s = refl
       go nesting (step t) s = refl
       go nesting (closing t) s = absurd (cc)
@@ -114,7 +114,7 @@ module _ (d : Draft) (proof : Items ℕ ℕ) (i n : ℕ) (b : Bool) (h : IsDraft
       some_same : {a b : Option ℕ} → Some a ≡ Some b → a ≡ b
       some_same e = cc
 
-      go : (nesting : Nesting ℕ ℕ) (c : Command ℕ) → closes_own c ≡ true → IsClosing nesting c → AreAnchored d.scopes nesting → option_map (λ s. s.entry.parent) (slice_get d.scopes (scope_number nesting)) ≡ Some p → unwrap_or p 0 ≡ own_scope nesting c
+      go : (nesting : Nesting ℕ ℕ) (c : IndexedCommand ℕ) → closes_own c ≡ true → IsClosing nesting c → AreAnchored d.scopes nesting → option_map (λ s. s.entry.parent) (slice_get d.scopes (scope_number nesting)) ≡ Some p → unwrap_or p 0 ≡ own_scope nesting c
       go nesting (assume id t) s w k at = absurd (cc)
       go nesting (step t) s w k at = absurd (cc)
       go outermost (closing t) s w k at = absurd w
@@ -130,7 +130,7 @@ module _ (d : Draft) (proof : Items ℕ ℕ) (i n : ℕ) (b : Bool) (h : IsDraft
       some_same : {a b : Step ℕ} → Some a ≡ Some b → a ≡ b
       some_same e = cc
 
-      go : (c : Command ℕ) (s : Step ℕ) → Some s ≡ Some (kept_step c) → closes_own c ≡ false → s.id ≡ id_of c
+      go : (c : IndexedCommand ℕ) (s : Step ℕ) → Some s ≡ Some (kept_step c) → closes_own c ≡ false → s.id ≡ id_of c
       go (assume id t) s own k = ap (λ t. t.id) (some_same own)
       go (step t) s own k = ap (λ t. t.id) (some_same own)
       go (closing t) s own k = absurd (cc)
@@ -141,14 +141,14 @@ module _ (d : Draft) (proof : Items ℕ ℕ) (i n : ℕ) (b : Bool) (h : IsDraft
       some_same : {a b : List ℕ} → Some a ≡ Some b → a ≡ b
       some_same e = cc
 
-      go : (nesting : Nesting ℕ ℕ) (c : Command ℕ) → closes_own c ≡ true → IsClosing nesting c → AreAnchored d.scopes nesting → option_map (λ s. s.id) (slice_get d.scopes (scope_number nesting)) ≡ Some x → x ≡ id_of c
+      go : (nesting : Nesting ℕ ℕ) (c : IndexedCommand ℕ) → closes_own c ≡ true → IsClosing nesting c → AreAnchored d.scopes nesting → option_map (λ s. s.id) (slice_get d.scopes (scope_number nesting)) ≡ Some x → x ≡ id_of c
       go nesting (assume id t) s w k at = absurd (cc)
       go nesting (step t) s w k at = absurd (cc)
       go outermost (closing t) s w k at = absurd w
       go (inside around before anchor) (closing t) s w k at = some_same (sym at ∙ k.1.id) ∙ w
 
 -- the scope in which a command is reached is one of the scopes
-pub inner_within : (d : Draft) (proof : Items ℕ ℕ) (i n : ℕ) → IsDraft d (at outermost proof) → option_map (λ s. s.inner) (slice_get d.commands i) ≡ Some n → n < length d.scopes
+pub inner_within : (d : Draft) (proof : ProofItems ℕ ℕ) (i n : ℕ) → IsDraft d (at outermost proof) → option_map (λ s. s.inner) (slice_get d.commands i) ≡ Some n → n < length d.scopes
 inner_within d proof i n h e =
     let c = some_of (λ (s : Stored). s.inner) (slice_get d.commands i) n e in
     let l = line_at d proof i c.0 h c.1 in
@@ -162,16 +162,16 @@ inner_within d proof i n h e =
         slice_get_within d.scopes (scope_number (inside around before anchor)) s.0 s.1
 
 -- scopes by number
-pub scopes_within : (d : Draft) (proof : Items ℕ ℕ) → IsDraft d (at outermost proof) → length d.scopes ≡ subproofs_in proof + 1
+pub scopes_within : (d : Draft) (proof : ProofItems ℕ ℕ) → IsDraft d (at outermost proof) → length d.scopes ≡ subproofs_in proof + 1
 scopes_within d proof h = let n = scope_count d (at outermost proof) h in omega arith
 
-read_scope : {X : Type 0} (f : ScopeEntry ℕ ℕ → X) (d : Draft) (proof : Items ℕ ℕ) (k : ℕ) (x default : X) → IsDraft d (at outermost proof) → option_map (λ s. f s.entry) (slice_get d.scopes k) ≡ Some x → x ≡ option_map_or f (slice_get (scopes proof) k) default
+read_scope : {X : Type 0} (f : ScopeEntry ℕ ℕ → X) (d : Draft) (proof : ProofItems ℕ ℕ) (k : ℕ) (x default : X) → IsDraft d (at outermost proof) → option_map (λ s. f s.entry) (slice_get d.scopes k) ≡ Some x → x ≡ option_map_or f (slice_get (scopes proof) k) default
 read_scope f d proof k x default h at =
     let s = some_of (λ (s : StoredScope). f s.entry) (slice_get d.scopes k) x at in
     let there : slice_get (scopes proof) k ≡ Some s.0.entry = ap (λ l. slice_get l k) (sym h.scopes) ∙ (slice_get-map (λ (s : StoredScope). s.entry) d.scopes k ∙ ap (option_map (λ (s : StoredScope). s.entry)) s.1) in
     rw there (sym s.2)
 
-module _ (d : Draft) (proof : Items ℕ ℕ) (k : ℕ) (h : IsDraft d (at outermost proof)) where
+module _ (d : Draft) (proof : ProofItems ℕ ℕ) (k : ℕ) (h : IsDraft d (at outermost proof)) where
   pub read_parent : (x : Option ℕ) → option_map (λ s. s.entry.parent) (slice_get d.scopes k) ≡ Some x → x ≡ parent_at proof k
   read_parent x at = read_scope (λ e. e.parent) d proof k x None h at
 

@@ -5,9 +5,9 @@ use Rattle.std.specs.Option.{option_map_or}
 use Rattle.sym_table.specs.Table.{Table, Keeps}
 use Rattle.term_model.specs.Terms.{Var, Term}
 use Rattle.term_pool.specs.Views.{TermsView, RefersTo, KeepsTerms}
-use Rattle.rule_model.specs.Proofs.{Step, Items, no_items, with_assume, with_step, with_subproof}
+use Rattle.rule_model.specs.Proofs.{Step, ProofItems, no_items, with_assume, with_step, with_subproof}
 use Rattle.rule_model.specs.Scopes.{Nesting, outermost, inside, at, inner, commands_in, subproofs_in, scope_number, first_index, parent_number, last_index}
-use Rattle.rule_model.specs.Commands.{Command, assume, step, closing, Line, Entry, entry_of, around_number, lines_in, ScopeEntry, scope_entry, scopes_in, scopes}
+use Rattle.rule_model.specs.Commands.{IndexedCommand, assume, step, closing, Line, Entry, entry_of, around_number, lines_in, ScopeEntry, scope_entry, scopes_in, scopes}
 use Rattle.rule_model.specs.Reading.{id_of, rule_of, rule_name_of, clause_of, premises_of, discharged_of, pivots_of, ratios_of}
 use Rattle.proof_store.specs.Meaning.{IsBindingOf, IsPivotOf, IsStepOf, StandForItems, no_items_stand, assume_stands, step_stands, subproof_stands}
 
@@ -19,14 +19,14 @@ zip_append R (x ∷ xs) [] vs ws h k = absurd h
 zip_append R (x ∷ xs) (y ∷ ys) vs ws h k = (h.0, zip_append R xs ys vs ws h.1 k)
 
 -- as many commands, and subproofs
-pub commands_same : (s : Table) (v : TermsView) (is : Items ℕ ℕ) (ps : Items Var Term) → StandForItems s v is ps → commands_in is ≡ commands_in ps
+pub commands_same : (s : Table) (v : TermsView) (is : ProofItems ℕ ℕ) (ps : ProofItems Var Term) → StandForItems s v is ps → commands_in is ≡ commands_in ps
 commands_same s v _ _ no_items_stand = refl
 commands_same s v _ _ (assume_stands is ps id r t h k) = ap suc (commands_same s v is ps h)
 commands_same s v _ _ (step_stands is ps a of h k) = ap suc (commands_same s v is ps h)
 commands_same s v _ _ (subproof_stands is ps bs cs within proof a of h b k l) =
     let outer = commands_same s v is ps h in let deep = commands_same s v within proof k in omega arith
 
-pub subproofs_same : (s : Table) (v : TermsView) (is : Items ℕ ℕ) (ps : Items Var Term) → StandForItems s v is ps → subproofs_in is ≡ subproofs_in ps
+pub subproofs_same : (s : Table) (v : TermsView) (is : ProofItems ℕ ℕ) (ps : ProofItems Var Term) → StandForItems s v is ps → subproofs_in is ≡ subproofs_in ps
 subproofs_same s v _ _ no_items_stand = refl
 subproofs_same s v _ _ (assume_stands is ps id r t h k) = subproofs_same s v is ps h
 subproofs_same s v _ _ (step_stands is ps a of h k) = subproofs_same s v is ps h
@@ -67,7 +67,7 @@ record SameNumbers (n : Nesting ℕ ℕ) (m : Nesting Var Term) : Type 0 where
   first : first_index n ≡ first_index m
   parent : parent_number n ≡ parent_number m
 
-inner_same : (s : Table) (v : TermsView) (n : Nesting ℕ ℕ) (m : Nesting Var Term) (is : Items ℕ ℕ) (ps : Items Var Term) (bs : List (ℕ × ℕ)) (cs : List (Var × Term)) (a : Step ℕ) (of : Step Term) → SameNumbers n m → StandForItems s v is ps → SameNumbers (inner n is bs a) (inner m ps cs of)
+inner_same : (s : Table) (v : TermsView) (n : Nesting ℕ ℕ) (m : Nesting Var Term) (is : ProofItems ℕ ℕ) (ps : ProofItems Var Term) (bs : List (ℕ × ℕ)) (cs : List (Var × Term)) (a : Step ℕ) (of : Step Term) → SameNumbers n m → StandForItems s v is ps → SameNumbers (inner n is bs a) (inner m ps cs of)
 inner_same s v n m is ps bs cs a of k h =
     let commands = commands_same s v is ps h in
     let subproofs = subproofs_same s v is ps h in record {
@@ -78,7 +78,7 @@ inner_same s v n m is ps bs cs a of k h =
     }
 
 -- commands and scopes that stand for others
-pub data IsCommandOf (s : Table) (v : TermsView) : Command ℕ → Command Term → Type 0 where
+pub data IsCommandOf (s : Table) (v : TermsView) : IndexedCommand ℕ → IndexedCommand Term → Type 0 where
   assume_is : (id : List ℕ) (r : ℕ) (t : Term) → RefersTo s v r t → IsCommandOf s v (assume id r) (assume id t)
   step_is : (step' : Step ℕ) (of : Step Term) → IsStepOf s v step' of → IsCommandOf s v (step step') (step of)
   closing_is : (step' : Step ℕ) (of : Step Term) → IsStepOf s v step' of → IsCommandOf s v (closing step') (closing of)
@@ -93,7 +93,7 @@ pub record IsScopeOf (s : Table) (v : TermsView) (e : ScopeEntry ℕ ℕ) (f : S
   pub bindings : AllZip (IsBindingOf s v) e.bindings f.bindings
   pub last : e.last ≡ f.last
 
-entries_in_stand : (s : Table) (v : TermsView) (n : Nesting ℕ ℕ) (m : Nesting Var Term) (is : Items ℕ ℕ) (ps : Items Var Term) → SameNumbers n m → StandForItems s v is ps → AllZip (IsEntryOf s v) (map entry_of (lines_in n is)) (map entry_of (lines_in m ps))
+entries_in_stand : (s : Table) (v : TermsView) (n : Nesting ℕ ℕ) (m : Nesting Var Term) (is : ProofItems ℕ ℕ) (ps : ProofItems Var Term) → SameNumbers n m → StandForItems s v is ps → AllZip (IsEntryOf s v) (map entry_of (lines_in n is)) (map entry_of (lines_in m ps))
 entries_in_stand s v n m _ _ k no_items_stand = tt
 entries_in_stand s v n m _ _ k (assume_stands is ps id r t h refers) =
     zip_map_append (IsEntryOf s v) entry_of entry_of (lines_in n is) _ (lines_in m ps) _ (entries_in_stand s v n m is ps k h)
@@ -107,14 +107,14 @@ entries_in_stand s v n m _ _ k (subproof_stands is ps bs cs within proof step' o
     (zip_map_append (IsEntryOf s v) entry_of entry_of (lines_in n is) _ (lines_in m ps) _ (entries_in_stand s v n m is ps k h) (entries_in_stand s v (inner n is bs step') (inner m ps cs of) within proof deep g))
     (record { command = closing_is step' of stands; scope = k.number; closes = ap Some deep.number }, tt)
 
-last_same : (s : Table) (v : TermsView) (n : Nesting ℕ ℕ) (m : Nesting Var Term) (is : Items ℕ ℕ) (ps : Items Var Term) → SameNumbers n m → StandForItems s v is ps → last_index n is ≡ last_index m ps
+last_same : (s : Table) (v : TermsView) (n : Nesting ℕ ℕ) (m : Nesting Var Term) (is : ProofItems ℕ ℕ) (ps : ProofItems Var Term) → SameNumbers n m → StandForItems s v is ps → last_index n is ≡ last_index m ps
 last_same s v n m _ _ k no_items_stand = refl
 last_same s v n m _ _ k (assume_stands is ps id r t h refers) = let c = commands_same s v is ps h in let f = k.first in ap Some (omega arith)
 last_same s v n m _ _ k (step_stands is ps step' of h stands) = let c = commands_same s v is ps h in let f = k.first in ap Some (omega arith)
 last_same s v n m _ _ k (subproof_stands is ps bs cs within proof step' of h b g stands) =
     let c = commands_same s v is ps h in let d = commands_same s v within proof g in let f = k.first in ap Some (omega arith)
 
-scopes_in_stand : (s : Table) (v : TermsView) (n : Nesting ℕ ℕ) (m : Nesting Var Term) (is : Items ℕ ℕ) (ps : Items Var Term) → SameNumbers n m → StandForItems s v is ps → AllZip (IsScopeOf s v) (scopes_in n is) (scopes_in m ps)
+scopes_in_stand : (s : Table) (v : TermsView) (n : Nesting ℕ ℕ) (m : Nesting Var Term) (is : ProofItems ℕ ℕ) (ps : ProofItems Var Term) → SameNumbers n m → StandForItems s v is ps → AllZip (IsScopeOf s v) (scopes_in n is) (scopes_in m ps)
 scopes_in_stand s v n m _ _ k no_items_stand = tt
 scopes_in_stand s v n m _ _ k (assume_stands is ps id r t h refers) = scopes_in_stand s v n m is ps k h
 scopes_in_stand s v n m _ _ k (step_stands is ps step' of h stands) = scopes_in_stand s v n m is ps k h
@@ -126,7 +126,7 @@ scopes_in_stand s v n m _ _ k (subproof_stands is ps bs cs within proof step' of
 outermost_same : SameNumbers outermost outermost
 outermost_same = record { number = refl; around = refl; first = refl; parent = refl }
 
-module _ (s : Table) (v : TermsView) (is : Items ℕ ℕ) (ps : Items Var Term) (h : StandForItems s v is ps) where
+module _ (s : Table) (v : TermsView) (is : ProofItems ℕ ℕ) (ps : ProofItems Var Term) (h : StandForItems s v is ps) where
   pub entries_stand : AllZip (IsEntryOf s v) (map entry_of (lines_in outermost is)) (map entry_of (lines_in outermost ps))
   entries_stand = entries_in_stand s v outermost outermost is ps outermost_same h
 
@@ -149,7 +149,7 @@ step_stays s z v w stay step' of h = record {
   ratios = h.ratios;
 }
 
-pub items_stay : (s z : Table) (v w : TermsView) → Keeps s z → ((r : ℕ) (t : Term) → RefersTo s v r t → RefersTo z w r t) → (is : Items ℕ ℕ) (ps : Items Var Term) → StandForItems s v is ps → StandForItems z w is ps
+pub items_stay : (s z : Table) (v w : TermsView) → Keeps s z → ((r : ℕ) (t : Term) → RefersTo s v r t → RefersTo z w r t) → (is : ProofItems ℕ ℕ) (ps : ProofItems Var Term) → StandForItems s v is ps → StandForItems z w is ps
 items_stay s z v w keeps stay _ _ no_items_stand = no_items_stand
 items_stay s z v w keeps stay _ _ (assume_stands is ps id r t h refers) = assume_stands is ps id r t (items_stay s z v w keeps stay is ps h) (stay r t refers)
 items_stay s z v w keeps stay _ _ (step_stands is ps step' of h stands) = step_stands is ps step' of (items_stay s z v w keeps stay is ps h) (step_stays s z v w stay step' of stands)
@@ -163,7 +163,7 @@ module _ (s : Table) (v : TermsView) where
   pub same_id : (e : Entry ℕ) (f : Entry Term) → IsEntryOf s v e f → id_of e.command ≡ id_of f.command
   same_id e f h = go e.command f.command h.command
     where
-      go : (c : Command ℕ) (d : Command Term) → IsCommandOf s v c d → id_of c ≡ id_of d
+      go : (c : IndexedCommand ℕ) (d : IndexedCommand Term) → IsCommandOf s v c d → id_of c ≡ id_of d
       go _ _ (assume_is id r t k) = refl
       go _ _ (step_is a b k) = k.id
       go _ _ (closing_is a b k) = k.id
@@ -171,7 +171,7 @@ module _ (s : Table) (v : TermsView) where
   pub same_rule : (e : Entry ℕ) (f : Entry Term) → IsEntryOf s v e f → rule_of e.command ≡ rule_of f.command
   same_rule e f h = go e.command f.command h.command
     where
-      go : (c : Command ℕ) (d : Command Term) → IsCommandOf s v c d → rule_of c ≡ rule_of d
+      go : (c : IndexedCommand ℕ) (d : IndexedCommand Term) → IsCommandOf s v c d → rule_of c ≡ rule_of d
       go _ _ (assume_is id r t k) = refl
       go _ _ (step_is a b k) = k.rule
       go _ _ (closing_is a b k) = k.rule
@@ -179,7 +179,7 @@ module _ (s : Table) (v : TermsView) where
   pub same_rule_name : (e : Entry ℕ) (f : Entry Term) → IsEntryOf s v e f → rule_name_of e.command ≡ rule_name_of f.command
   same_rule_name e f h = go e.command f.command h.command
     where
-      go : (c : Command ℕ) (d : Command Term) → IsCommandOf s v c d → rule_name_of c ≡ rule_name_of d
+      go : (c : IndexedCommand ℕ) (d : IndexedCommand Term) → IsCommandOf s v c d → rule_name_of c ≡ rule_name_of d
       go _ _ (assume_is id r t k) = refl
       go _ _ (step_is a b k) = k.rule_name
       go _ _ (closing_is a b k) = k.rule_name
@@ -187,7 +187,7 @@ module _ (s : Table) (v : TermsView) where
   pub same_premises : (e : Entry ℕ) (f : Entry Term) → IsEntryOf s v e f → premises_of e.command ≡ premises_of f.command
   same_premises e f h = go e.command f.command h.command
     where
-      go : (c : Command ℕ) (d : Command Term) → IsCommandOf s v c d → premises_of c ≡ premises_of d
+      go : (c : IndexedCommand ℕ) (d : IndexedCommand Term) → IsCommandOf s v c d → premises_of c ≡ premises_of d
       go _ _ (assume_is id r t k) = refl
       go _ _ (step_is a b k) = k.premises
       go _ _ (closing_is a b k) = k.premises
@@ -195,7 +195,7 @@ module _ (s : Table) (v : TermsView) where
   pub same_discharged : (e : Entry ℕ) (f : Entry Term) → IsEntryOf s v e f → discharged_of e.command ≡ discharged_of f.command
   same_discharged e f h = go e.command f.command h.command
     where
-      go : (c : Command ℕ) (d : Command Term) → IsCommandOf s v c d → discharged_of c ≡ discharged_of d
+      go : (c : IndexedCommand ℕ) (d : IndexedCommand Term) → IsCommandOf s v c d → discharged_of c ≡ discharged_of d
       go _ _ (assume_is id r t k) = refl
       go _ _ (step_is a b k) = k.discharged
       go _ _ (closing_is a b k) = k.discharged
@@ -203,7 +203,7 @@ module _ (s : Table) (v : TermsView) where
   pub same_ratios : (e : Entry ℕ) (f : Entry Term) → IsEntryOf s v e f → ratios_of e.command ≡ ratios_of f.command
   same_ratios e f h = go e.command f.command h.command
     where
-      go : (c : Command ℕ) (d : Command Term) → IsCommandOf s v c d → ratios_of c ≡ ratios_of d
+      go : (c : IndexedCommand ℕ) (d : IndexedCommand Term) → IsCommandOf s v c d → ratios_of c ≡ ratios_of d
       go _ _ (assume_is id r t k) = refl
       go _ _ (step_is a b k) = k.ratios
       go _ _ (closing_is a b k) = k.ratios
@@ -211,7 +211,7 @@ module _ (s : Table) (v : TermsView) where
   pub same_clause : (e : Entry ℕ) (f : Entry Term) → IsEntryOf s v e f → AllZip (RefersTo s v) (clause_of e.command) (clause_of f.command)
   same_clause e f h = go e.command f.command h.command
     where
-      go : (c : Command ℕ) (d : Command Term) → IsCommandOf s v c d → AllZip (RefersTo s v) (clause_of c) (clause_of d)
+      go : (c : IndexedCommand ℕ) (d : IndexedCommand Term) → IsCommandOf s v c d → AllZip (RefersTo s v) (clause_of c) (clause_of d)
       go _ _ (assume_is id r t k) = (k, tt)
       go _ _ (step_is a b k) = k.clause
       go _ _ (closing_is a b k) = k.clause
@@ -219,7 +219,7 @@ module _ (s : Table) (v : TermsView) where
   pub same_pivots : (e : Entry ℕ) (f : Entry Term) → IsEntryOf s v e f → AllZip (IsPivotOf s v) (pivots_of e.command) (pivots_of f.command)
   same_pivots e f h = go e.command f.command h.command
     where
-      go : (c : Command ℕ) (d : Command Term) → IsCommandOf s v c d → AllZip (IsPivotOf s v) (pivots_of c) (pivots_of d)
+      go : (c : IndexedCommand ℕ) (d : IndexedCommand Term) → IsCommandOf s v c d → AllZip (IsPivotOf s v) (pivots_of c) (pivots_of d)
       go _ _ (assume_is id r t k) = tt
       go _ _ (step_is a b k) = k.pivots
       go _ _ (closing_is a b k) = k.pivots

@@ -7,7 +7,7 @@ use Rattle.sym_table.specs.Table.{Table, IsLeaf}
 use Rattle.term_model.specs.Terms.{Var, Term, variable}
 use Rattle.term_pool.specs.StandsFor.{variable_leaf, StandsFor}
 use Rattle.term_pool.specs.Views.{TermsView, RefersTo, IsTerm}
-use Rattle.rule_model.specs.Proofs.{Step, Items, no_items, with_assume, with_step, with_subproof}
+use Rattle.rule_model.specs.Proofs.{Step, ProofItems, no_items, with_assume, with_step, with_subproof}
 use Rattle.proof_store.specs.Meaning.{IsBindingOf, IsPivotOf, IsStepOf, StandForItems, no_items_stand, assume_stands, step_stands, subproof_stands, BindsTerm, IsOfTerms, AreOfTerms, IsMeant}
 
 -- lists in step with one list
@@ -81,7 +81,7 @@ module _ (s : Table) (v : TermsView) (known : IsOneToOne v.pass) (one_term : (a 
         ratios = ratios i;
       }
 
-  pub one_proof : (refs : Items ℕ ℕ) (p q : Items Var Term) → StandForItems s v refs p → StandForItems s v refs q → p ≡ q
+  pub one_proof : (refs : ProofItems ℕ ℕ) (p q : ProofItems Var Term) → StandForItems s v refs p → StandForItems s v refs q → p ≡ q
   one_proof _ _ _ no_items_stand no_items_stand = refl
   one_proof _ _ _ (assume_stands is ps id r t h refers) (assume_stands _ qs _ _ u k other) =
       let before = one_proof is ps qs h k in
@@ -138,7 +138,7 @@ module _ (s : Table) (v : TermsView) where
         };
       }
 
-  pub some_proof : (refs : Items ℕ ℕ) → AreOfTerms s v refs → IsMeant s v refs
+  pub some_proof : (refs : ProofItems ℕ ℕ) → AreOfTerms s v refs → IsMeant s v refs
   some_proof no_items h = record { means = no_items; stand = no_items_stand }
   some_proof (with_assume is id r) h =
       let before = some_proof is h.0 in

@@ -2,7 +2,7 @@
 use Rattle.std.proofs.Common.{◌≡◌, ◌≤◌, ◌<◌, ◌-◌, ◌+◌, ℕ, zero, suc, List, [], ◌∷◌, ◌++◌, length, take, drop, slice_get, slice_index, Some, refl, sym, ◌∙◌, ap, arith}
 use Rattle.std.proofs.lemmas.List.{length-append, length-drop, length-take-le, drop-append-le, take-append-le, drop-take, take-take}
 use Rattle.std.proofs.Math.Seq.{take-length, drop-append_seam}
-use Rattle.proof_store.specs.Lists.{parts, start_of, AreEnds}
+use Rattle.proof_store.specs.Lists.{parts, start_of, AreListEnds}
 
 -- as many lists as ends
 pub parts_count : {X : Type 0} (start : ℕ) (es : List ℕ) (xs : List X) → length (parts start es xs) ≡ length es
@@ -21,17 +21,17 @@ start_before start [] i h = absurd (omega arith)
 start_before start (e ∷ es) zero h = refl
 start_before start (e ∷ es) (suc i) h = start_before e es i (omega arith)
 
-pub ends_go_up : (start : ℕ) (es : List ℕ) (end : ℕ) → AreEnds start es end → start ≤ end
+pub ends_go_up : (start : ℕ) (es : List ℕ) (end : ℕ) → AreListEnds start es end → start ≤ end
 ends_go_up start [] end h = omega arith
 ends_go_up start (e ∷ es) end h = let rest = ends_go_up e es end h.1 in let first = h.0 in omega arith
 
 -- a list starts before it ends, and ends within the items
-pub starts_before_end : (start : ℕ) (es : List ℕ) (end i : ℕ) → AreEnds start es end → i < length es → start_of start es i ≤ slice_index es i
+pub starts_before_end : (start : ℕ) (es : List ℕ) (end i : ℕ) → AreListEnds start es end → i < length es → start_of start es i ≤ slice_index es i
 starts_before_end start [] end i h l = absurd (omega arith)
 starts_before_end start (e ∷ es) end zero h l = h.0
 starts_before_end start (e ∷ es) end (suc i) h l = starts_before_end e es end i h.1 (omega arith)
 
-pub ends_within : (start : ℕ) (es : List ℕ) (end i : ℕ) → AreEnds start es end → i < length es → slice_index es i ≤ end
+pub ends_within : (start : ℕ) (es : List ℕ) (end i : ℕ) → AreListEnds start es end → i < length es → slice_index es i ≤ end
 ends_within start [] end i h l = absurd (omega arith)
 ends_within start (e ∷ es) end zero h l = ends_go_up e es end h.1
 ends_within start (e ∷ es) end (suc i) h l = ends_within e es end i h.1 (omega arith)
@@ -43,7 +43,7 @@ same_part start e xs ys h l =
     rw (drop-append-le start xs ys (omega arith)) (take-append-le (e - start) (drop start xs) ys within)
 
 -- one more list
-pub parts_add : {X : Type 0} (start : ℕ) (es : List ℕ) (xs ys : List X) → AreEnds start es (length xs) → parts start (es ++ length (xs ++ ys) ∷ []) (xs ++ ys) ≡ parts start es xs ++ ys ∷ []
+pub parts_add : {X : Type 0} (start : ℕ) (es : List ℕ) (xs ys : List X) → AreListEnds start es (length xs) → parts start (es ++ length (xs ++ ys) ∷ []) (xs ++ ys) ≡ parts start es xs ++ ys ∷ []
 parts_add start [] xs ys h = rw (h, length-append xs ys) (ap (λ l. l ∷ []) (last xs ys))
   where
     last : {X : Type 0} (xs ys : List X) → take ((length xs + length ys) - length xs) (drop (length xs) (xs ++ ys)) ≡ ys
@@ -53,22 +53,22 @@ parts_add start [] xs ys h = rw (h, length-append xs ys) (ap (λ l. l ∷ []) (l
 parts_add start (e ∷ es) xs ys h =
     rw (same_part start e xs ys h.0 (ends_go_up e es (length xs) h.1)) (ap (λ l. take (e - start) (drop start xs) ∷ l) (parts_add e es xs ys h.1))
 
-pub ends_add : (start : ℕ) (es : List ℕ) (end n : ℕ) → AreEnds start es end → end ≤ n → AreEnds start (es ++ n ∷ []) n
+pub ends_add : (start : ℕ) (es : List ℕ) (end n : ℕ) → AreListEnds start es end → end ≤ n → AreListEnds start (es ++ n ∷ []) n
 ends_add start [] end n h l = (omega arith, refl)
 ends_add start (e ∷ es) end n h l = (h.0, ends_add e es end n h.1 l)
 
 -- the lists up to a place
-pub starts_within : (start : ℕ) (es : List ℕ) (end i : ℕ) → AreEnds start es end → i ≤ length es → start_of start es i ≤ end
+pub starts_within : (start : ℕ) (es : List ℕ) (end i : ℕ) → AreListEnds start es end → i ≤ length es → start_of start es i ≤ end
 starts_within start es end zero h l = ends_go_up start es end h
 starts_within start [] end (suc i) h l = absurd (omega arith)
 starts_within start (e ∷ es) end (suc i) h l = starts_within e es end i h.1 (omega arith)
 
-pub starts_after : (start : ℕ) (es : List ℕ) (end i : ℕ) → AreEnds start es end → i ≤ length es → start ≤ start_of start es i
+pub starts_after : (start : ℕ) (es : List ℕ) (end i : ℕ) → AreListEnds start es end → i ≤ length es → start ≤ start_of start es i
 starts_after start es end zero h l = omega arith
 starts_after start [] end (suc i) h l = absurd (omega arith)
 starts_after start (e ∷ es) end (suc i) h l = let rest = starts_after e es end i h.1 (omega arith) in let first = h.0 in omega arith
 
-pub ends_take : (start : ℕ) (es : List ℕ) (end i : ℕ) → AreEnds start es end → i ≤ length es → AreEnds start (take i es) (start_of start es i)
+pub ends_take : (start : ℕ) (es : List ℕ) (end i : ℕ) → AreListEnds start es end → i ≤ length es → AreListEnds start (take i es) (start_of start es i)
 ends_take start es end zero h l = refl
 ends_take start [] end (suc i) h l = absurd (omega arith)
 ends_take start (e ∷ es) end (suc i) h l = (h.0, ends_take e es end i h.1 (omega arith))
@@ -80,11 +80,11 @@ cut_part start e n xs h l =
     ap (λ k. take (e - start) (drop start (take k xs))) (sym whole)
     ∙ (ap (λ ys. take (e - start) ys) (drop-take start (n - start) xs) ∙ take-take (e - start) (n - start) (drop start xs) (omega arith))
 
-pub parts_take : {X : Type 0} (start : ℕ) (es : List ℕ) (xs : List X) (i : ℕ) → AreEnds start es (length xs) → i ≤ length es → parts start (take i es) (take (start_of start es i) xs) ≡ take i (parts start es xs)
+pub parts_take : {X : Type 0} (start : ℕ) (es : List ℕ) (xs : List X) (i : ℕ) → AreListEnds start es (length xs) → i ≤ length es → parts start (take i es) (take (start_of start es i) xs) ≡ take i (parts start es xs)
 parts_take start es xs zero h l = refl
 parts_take start [] xs (suc i) h l = absurd (omega arith)
 parts_take start (e ∷ es) xs (suc i) h l =
     rw (cut_part start e (start_of e es i) xs (starts_after e es (length xs) i h.1 (omega arith)) h.0) (ap (λ t. take (e - start) (drop start xs) ∷ t) (parts_take e es xs i h.1 (omega arith)))
 
-pub ends_cut : {X : Type 0} (es : List ℕ) (xs : List X) (i : ℕ) → AreEnds 0 es (length xs) → i ≤ length es → AreEnds 0 (take i es) (length (take (start_of 0 es i) xs))
+pub ends_cut : {X : Type 0} (es : List ℕ) (xs : List X) (i : ℕ) → AreListEnds 0 es (length xs) → i ≤ length es → AreListEnds 0 (take i es) (length (take (start_of 0 es i) xs))
 ends_cut es xs i h l = rw (length-take-le (start_of 0 es i) xs (starts_within 0 es (length xs) i h l)) (ends_take 0 es (length xs) i h l)

@@ -5,7 +5,7 @@ use Rattle.std.specs.Str.{bytes_eq}
 use Rattle.std.proofs.lemmas.List.{length-append, map-append}
 use Rattle.std.proofs.lemmas.Slice.Eq.{bytes_eq-Decides}
 use Rattle.std.proofs.lemmas.Option.{slice_get-map, slice_get_within}
-use Rattle.rule_model.specs.Proofs.{Step, Items, no_items, with_subproof}
+use Rattle.rule_model.specs.Proofs.{Step, ProofItems, no_items, with_subproof}
 use Rattle.rule_model.specs.Scopes.{Anchor, Nesting, outermost, inside, Scope, at, inner, scope_number, next_index, next_scope}
 use Rattle.rule_model.specs.Commands.{closing, lines_to, scopes_to}
 use Rattle.rule_model.specs.WellFormed.{HasRule, MayOpen, MayClose, AreWellFormed}
@@ -29,7 +29,7 @@ owner_of outermost = 0
 owner_of (inside around before anchor) = scope_number around
 
 -- a step with the id of the open anchor closes the scope
-close_at : (d : Draft) (nesting : Nesting ℕ ℕ) (items : Items ℕ ℕ) (c : NewCommand) → proof_of d ≡ at nesting items → IsDraft d (at nesting items) → is_open_id nesting c.id.now ≡ true → MayTake (at nesting items) (step_of_new c) → suc (length d.commands) < 2 ^ 32 - 1 → Writes (record (with_command d (stored_in c [] d.here d.pending true) (owner_of nesting)) { here = owner_of nesting }) (take_step (at nesting items) (step_of_new c))
+close_at : (d : Draft) (nesting : Nesting ℕ ℕ) (items : ProofItems ℕ ℕ) (c : NewCommand) → proof_of d ≡ at nesting items → IsDraft d (at nesting items) → is_open_id nesting c.id.now ≡ true → MayTake (at nesting items) (step_of_new c) → suc (length d.commands) < 2 ^ 32 - 1 → Writes (record (with_command d (stored_in c [] d.here d.pending true) (owner_of nesting)) { here = owner_of nesting }) (take_step (at nesting items) (step_of_new c))
 close_at d outermost items c is h same may few = absurd (cc)
 close_at d (inside around before anchor) items c is h same may few =
     let scope = at (inside around before anchor) items in
@@ -64,14 +64,14 @@ close_writes d c h same may few =
     close_at d (proof_of d).nesting (proof_of d).items c refl h same may (omega arith)
 
 -- the scope around stands at the scope's number
-owner_at : (d : Draft) (nesting : Nesting ℕ ℕ) (items : Items ℕ ℕ) → IsDraft d (at nesting items) → 0 < d.here → option_map (λ s. s.entry.parent) (slice_get d.scopes d.here) ≡ Some (Some (owner_of nesting))
+owner_at : (d : Draft) (nesting : Nesting ℕ ℕ) (items : ProofItems ℕ ℕ) → IsDraft d (at nesting items) → 0 < d.here → option_map (λ s. s.entry.parent) (slice_get d.scopes d.here) ≡ Some (Some (owner_of nesting))
 owner_at d outermost items h there = let here = h.here in absurd (omega arith)
 owner_at d (inside around before anchor) items h there = rw h.here h.open_scopes.1.parent
 
 pub owner_is : (d : Draft) → IsDraft d (proof_of d) → 0 < d.here → option_map (λ s. s.entry.parent) (slice_get d.scopes d.here) ≡ Some (Some (owner_of (proof_of d).nesting))
 owner_is d h there = owner_at d (proof_of d).nesting (proof_of d).items h there
 
-owner_below : (nesting : Nesting ℕ ℕ) (items : Items ℕ ℕ) → owner_of nesting < next_scope (at nesting items)
+owner_below : (nesting : Nesting ℕ ℕ) (items : ProofItems ℕ ℕ) → owner_of nesting < next_scope (at nesting items)
 owner_below outermost items = omega arith
 owner_below (inside around before anchor) items = omega arith
 
@@ -79,7 +79,7 @@ pub owner_within : (d : Draft) → IsDraft d (proof_of d) → owner_of (proof_of
 owner_within d h = rw (scope_count d (proof_of d) h) (owner_below (proof_of d).nesting (proof_of d).items)
 
 -- the id of the innermost open anchor stands at its scope's number
-open_at : (d : Draft) (nesting : Nesting ℕ ℕ) (items : Items ℕ ℕ) (id x : List ℕ) → IsDraft d (at nesting items) → 0 < d.here → option_map (λ s. s.id) (slice_get d.scopes d.here) ≡ Some x → is_open_id nesting id ≡ bytes_eq id x
+open_at : (d : Draft) (nesting : Nesting ℕ ℕ) (items : ProofItems ℕ ℕ) (id x : List ℕ) → IsDraft d (at nesting items) → 0 < d.here → option_map (λ s. s.id) (slice_get d.scopes d.here) ≡ Some x → is_open_id nesting id ≡ bytes_eq id x
 open_at d outermost items id x h there at = let here = h.here in absurd (omega arith)
 open_at d (inside around before anchor) items id x h there at =
     let own : option_map (λ s. s.id) (slice_get d.scopes d.here) ≡ Some anchor.id = rw h.here h.open_scopes.1.id in
@@ -92,7 +92,7 @@ open_at d (inside around before anchor) items id x h there at =
 pub open_id_is : (d : Draft) (id x : List ℕ) → IsDraft d (proof_of d) → 0 < d.here → option_map (λ s. s.id) (slice_get d.scopes d.here) ≡ Some x → is_open_id (proof_of d).nesting id ≡ bytes_eq id x
 open_id_is d id x h there at = open_at d (proof_of d).nesting (proof_of d).items id x h there at
 
-shut_at : (d : Draft) (nesting : Nesting ℕ ℕ) (items : Items ℕ ℕ) (id : List ℕ) → IsDraft d (at nesting items) → d.here ≡ 0 → is_open_id nesting id ≡ false
+shut_at : (d : Draft) (nesting : Nesting ℕ ℕ) (items : ProofItems ℕ ℕ) (id : List ℕ) → IsDraft d (at nesting items) → d.here ≡ 0 → is_open_id nesting id ≡ false
 shut_at d outermost items id h e = refl
 shut_at d (inside around before anchor) items id h e = let here = h.here in absurd (omega arith)
 

@@ -7,7 +7,7 @@ use Rattle.std.proofs.lemmas.List.{length-append, length-map, map-append}
 use Rattle.std.proofs.lemmas.Slice.Eq.{bytes_eq-Decides}
 use Rattle.rule_model.specs.declared.rules.Rule.{Rule}
 use Rattle.rule_model.specs.RuleNames.{word_of, is_assume, is_unknown, rule_named}
-use Rattle.rule_model.specs.Proofs.{Step, Items, with_subproof}
+use Rattle.rule_model.specs.Proofs.{Step, ProofItems, with_subproof}
 use Rattle.rule_model.specs.Scopes.{Anchor, Nesting, outermost, inside, Scope, at, inner, scope_number, next_index, next_scope}
 use Rattle.rule_model.specs.Commands.{assume, step, closing, lines_to, scopes_to}
 use Rattle.rule_model.specs.WellFormed.{IsNewId, HasRule, MayOpen, MayStand, MayClose, AreWellFormed}
@@ -18,7 +18,7 @@ use Rattle.rule_model.proofs.Writing.{entry_last, lines_assume, lines_step, line
 use Rattle.proof_store.specs.declared.answers.Ratio.{Ratio}
 use Rattle.proof_store.specs.declared.commands.NewCommand.{NewCommand}
 use Rattle.proof_store.specs.declared.drafts.Draft.{Draft}
-use Rattle.proof_store.specs.Ratios.{fraction_of, fractions}
+use Rattle.proof_store.specs.Ratios.{fraction_of_ratio, fractions}
 use Rattle.proof_store.specs.Steps.{anchor_with}
 use Rattle.proof_store.specs.Stored.{Stored, named, stored}
 use Rattle.proof_store.specs.StoredScopes.{StoredScope, scope_with}
@@ -69,7 +69,7 @@ no_assume : (s : Step ℕ) → HasRule s → is_assume s.rule ≡ false
 no_assume s h = ap is_assume h.named ∙ named_no_assume s.rule_name
 
 -- the coefficients that are kept are those that were handed in
-same_ratios : (qs : Option (Bor (List Ratio))) → option_map (map fraction_of) (option_map (λ (q : Bor (List Ratio)). q.now) qs) ≡ fractions qs
+same_ratios : (qs : Option (Bor (List Ratio))) → option_map (map fraction_of_ratio) (option_map (λ (q : Bor (List Ratio)). q.now) qs) ≡ fractions qs
 same_ratios None = refl
 same_ratios (Some q) = refl
 

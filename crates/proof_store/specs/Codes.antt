@@ -3,7 +3,7 @@ use Rattle.std.proofs.Common.{◌≡◌, ◌⊎◌, inl, inr, ap, ℕ, zero, suc
 use Rattle.std.specs.Option.{option_map}
 use Rattle.std.specs.Coded.{Coded, code_by, coded×, coded⊎, coded_ℕ, coded_ℤ, coded_bool, coded_list, coded_option}
 use Rattle.rule_model.specs.declared.rules.Rule.{Rule}
-use Rattle.rule_model.specs.Proofs.{Fraction, Step, Items}
+use Rattle.rule_model.specs.Proofs.{Fraction, Step, ProofItems}
 use Rattle.rule_model.specs.Scopes.{Anchor, outermost, Scope}
 use Rattle.proof_store.specs.Events.{Event, assumed, stepped, opened, closed, written, events_in, events_of, items_back, scope_back}
 
@@ -95,10 +95,10 @@ rule_number Rule.ProdSimplify = 82
 rule_number Rule.MinusSimplify = 83
 rule_number Rule.UnaryMinusSimplify = 84
 
-abbrev pub rule_at : List Rule → ℕ → Rule
-rule_at [] n = Rule.Unknown
-rule_at (rule ∷ rules) zero = rule
-rule_at (rule ∷ rules) (suc n) = rule_at rules n
+abbrev pub rule_of_code : List Rule → ℕ → Rule
+rule_of_code [] n = Rule.Unknown
+rule_of_code (rule ∷ rules) zero = rule
+rule_of_code (rule ∷ rules) (suc n) = rule_of_code rules n
 
 abbrev pub rules : List Rule
 rules =
@@ -117,7 +117,7 @@ rules =
     ∷ Rule.AndSimplify ∷ Rule.OrSimplify ∷ Rule.LaGeneric ∷ Rule.LaDisequality ∷ Rule.LaTotality ∷ Rule.LaRwEq
     ∷ Rule.SumSimplify ∷ Rule.ProdSimplify ∷ Rule.MinusSimplify ∷ Rule.UnaryMinusSimplify ∷ []
 
-pub rule_back : (rule : Rule) → rule_at rules (rule_number rule) ≡ rule
+pub rule_back : (rule : Rule) → rule_of_code rules (rule_number rule) ≡ rule
 rule_back Rule.Assume = refl
 rule_back Rule.Unknown = refl
 rule_back Rule.Hole = refl
@@ -205,7 +205,7 @@ rule_back Rule.MinusSimplify = refl
 rule_back Rule.UnaryMinusSimplify = refl
 
 abbrev pub rule_code : Coded Rule
-rule_code = code_by ℕ coded_ℕ rule_number (rule_at rules) rule_back
+rule_code = code_by ℕ coded_ℕ rule_number (rule_of_code rules) rule_back
 
 abbrev pub fraction_code : Coded Fraction
 fraction_code = code_by (ℤ × ℤ) (coded× coded_ℤ coded_ℤ) (λ q. (q.num, q.den)) (λ p. record { num = p.0; den = p.1 }) (λ _. refl)
@@ -277,5 +277,5 @@ event_code =
 abbrev pub scope_code : Coded (Scope ℕ ℕ)
 scope_code = code_by (List Event) (coded_list event_code) events_of written scope_back
 
-abbrev pub proof_code : Coded (Items ℕ ℕ)
+abbrev pub proof_code : Coded (ProofItems ℕ ℕ)
 proof_code = code_by (List Event) (coded_list event_code) events_in (λ es. (written es).items) (λ p. ap (λ s. s.items) (items_back outermost p))

@@ -6,12 +6,12 @@ use Rattle.rule_model.specs.declared.rules.Rule.{Rule}
 use Rattle.rule_model.specs.RuleNames.{is_assume}
 use Rattle.rule_model.specs.Proofs.{Fraction, Step}
 use Rattle.rule_model.specs.Scopes.{Anchor, Nesting, outermost, inside, Scope, scope_number}
-use Rattle.rule_model.specs.Commands.{Line, Command, assume, step, closing, lines_to, scopes_to}
+use Rattle.rule_model.specs.Commands.{Line, IndexedCommand, assume, step, closing, lines_to, scopes_to}
 use Rattle.rule_model.specs.WellFormed.{AreWellFormed, IsWellPlaced}
 use Rattle.proof_store.specs.declared.answers.Ratio.{Ratio}
 use Rattle.proof_store.specs.declared.commands.NewCommand.{NewCommand}
 use Rattle.proof_store.specs.declared.drafts.Draft.{Draft}
-use Rattle.proof_store.specs.Ratios.{fraction_of}
+use Rattle.proof_store.specs.Ratios.{fraction_of_ratio}
 use Rattle.proof_store.specs.Steps.{step_with}
 use Rattle.proof_store.specs.Stored.{Stored}
 use Rattle.proof_store.specs.StoredScopes.{StoredScope, with_last}
@@ -27,7 +27,7 @@ step_of c = record {
   premises = c.premises;
   discharged = c.discharged;
   pivots = c.pivots;
-  ratios = option_map (map fraction_of) c.ratios;
+  ratios = option_map (map fraction_of_ratio) c.ratios;
 }
 
 abbrev pub event_of : Stored → Event
@@ -79,12 +79,12 @@ assume_step id t = record {
   ratios = None;
 }
 
-abbrev pub kept_step : Command ℕ → Step ℕ
+abbrev pub kept_step : IndexedCommand ℕ → Step ℕ
 kept_step (assume id t) = assume_step id t
 kept_step (step s) = s
 kept_step (closing s) = record s { id = [] }
 
-abbrev pub closes_own : Command ℕ → Bool
+abbrev pub closes_own : IndexedCommand ℕ → Bool
 closes_own (assume id t) = false
 closes_own (step s) = false
 closes_own (closing s) = true

@@ -1,6 +1,6 @@
 -- Private. A proof as its text has it: its commands and anchors in file order.
 use Rattle.std.proofs.Common.{◌≡◌, ◌∙◌, ap, ℕ, List, [], ◌∷◌, ◌++◌, fold, refl}
-use Rattle.rule_model.specs.Proofs.{Step, Items, no_items, with_assume, with_step, with_subproof}
+use Rattle.rule_model.specs.Proofs.{Step, ProofItems, no_items, with_assume, with_step, with_subproof}
 use Rattle.rule_model.specs.Scopes.{Anchor, Nesting, outermost, inside, Scope, at}
 use Rattle.rule_model.specs.Writing.{unwritten, add_assume, add_step, open_anchor, close_scope}
 
@@ -26,7 +26,7 @@ abbrev pub written : List Event → Scope ℕ ℕ
 written events = fold apply unwritten events
 
 -- the events that write items
-abbrev pub events_in : Items ℕ ℕ → List Event
+abbrev pub events_in : ProofItems ℕ ℕ → List Event
 events_in no_items = []
 events_in (with_assume items id t) = events_in items ++ assumed id t ∷ []
 events_in (with_step items s) = events_in items ++ stepped s ∷ []
@@ -45,7 +45,7 @@ pub fold_append : (scope : Scope ℕ ℕ) (es fs : List Event) → fold apply sc
 fold_append scope [] fs = refl
 fold_append scope (e ∷ es) fs = fold_append (apply scope e) es fs
 
-pub items_back : (nesting : Nesting ℕ ℕ) (items : Items ℕ ℕ) → fold apply (at nesting no_items) (events_in items) ≡ at nesting items
+pub items_back : (nesting : Nesting ℕ ℕ) (items : ProofItems ℕ ℕ) → fold apply (at nesting no_items) (events_in items) ≡ at nesting items
 items_back nesting no_items = refl
 items_back nesting (with_assume items id t) =
     fold_append (at nesting no_items) (events_in items) (assumed id t ∷ []) ∙ ap (λ s. apply s (assumed id t)) (items_back nesting items)

@@ -13,6 +13,6 @@ start_of start [] (suc i) = start
 start_of start (e ∷ es) (suc i) = start_of e es i
 
 -- the places go up from `start` to `end`
-abbrev pub AreEnds : ℕ → List ℕ → ℕ → Type 0
-AreEnds start [] end = start ≡ end
-AreEnds start (e ∷ es) end = (start ≤ e) × AreEnds e es end
+abbrev pub AreListEnds : ℕ → List ℕ → ℕ → Type 0
+AreListEnds start [] end = start ≡ end
+AreListEnds start (e ∷ es) end = (start ≤ e) × AreListEnds e es end

@@ -6,7 +6,7 @@ use Rattle.sym_table.specs.Table.{Table, IsLeaf}
 use Rattle.term_model.specs.Terms.{Var, Term}
 use Rattle.term_pool.specs.StandsFor.{variable_leaf}
 use Rattle.term_pool.specs.Views.{TermsView, RefersTo, IsTerm}
-use Rattle.rule_model.specs.Proofs.{Step, Items, no_items, with_assume, with_step, with_subproof}
+use Rattle.rule_model.specs.Proofs.{Step, ProofItems, no_items, with_assume, with_step, with_subproof}
 use Rattle.rule_model.specs.Scopes.{Anchor, Nesting, outermost, inside, Scope}
 
 -- a leaf of a variable with a reference stands for the variable with its term
@@ -30,11 +30,11 @@ pub record IsStepOf (s : Table) (v : TermsView) (step : Step ℕ) (of : Step Ter
   pub ratios : step.ratios ≡ of.ratios
 
 -- the items over references stand for those over terms, each in its place
-pub data StandForItems (s : Table) (v : TermsView) : Items ℕ ℕ → Items Var Term → Type 0 where
+pub data StandForItems (s : Table) (v : TermsView) : ProofItems ℕ ℕ → ProofItems Var Term → Type 0 where
   no_items_stand : StandForItems s v no_items no_items
-  assume_stands : (is : Items ℕ ℕ) (ps : Items Var Term) (id : List ℕ) (r : ℕ) (t : Term) → StandForItems s v is ps → RefersTo s v r t → StandForItems s v (with_assume is id r) (with_assume ps id t)
-  step_stands : (is : Items ℕ ℕ) (ps : Items Var Term) (step : Step ℕ) (of : Step Term) → StandForItems s v is ps → IsStepOf s v step of → StandForItems s v (with_step is step) (with_step ps of)
-  subproof_stands : (is : Items ℕ ℕ) (ps : Items Var Term) (bindings : List (ℕ × ℕ)) (bound : List (Var × Term)) (inner : Items ℕ ℕ) (proof : Items Var Term) (step : Step ℕ) (of : Step Term) → StandForItems s v is ps → AllZip (IsBindingOf s v) bindings bound → StandForItems s v inner proof → IsStepOf s v step of → StandForItems s v (with_subproof is bindings inner step) (with_subproof ps bound proof of)
+  assume_stands : (is : ProofItems ℕ ℕ) (ps : ProofItems Var Term) (id : List ℕ) (r : ℕ) (t : Term) → StandForItems s v is ps → RefersTo s v r t → StandForItems s v (with_assume is id r) (with_assume ps id t)
+  step_stands : (is : ProofItems ℕ ℕ) (ps : ProofItems Var Term) (step : Step ℕ) (of : Step Term) → StandForItems s v is ps → IsStepOf s v step of → StandForItems s v (with_step is step) (with_step ps of)
+  subproof_stands : (is : ProofItems ℕ ℕ) (ps : ProofItems Var Term) (bindings : List (ℕ × ℕ)) (bound : List (Var × Term)) (inner : ProofItems ℕ ℕ) (proof : ProofItems Var Term) (step : Step ℕ) (of : Step Term) → StandForItems s v is ps → AllZip (IsBindingOf s v) bindings bound → StandForItems s v inner proof → IsStepOf s v step of → StandForItems s v (with_subproof is bindings inner step) (with_subproof ps bound proof of)
 
 -- the leaf of a variable with a reference that stands for a term
 pub record BindsTerm (s : Table) (v : TermsView) (b : ℕ × ℕ) : Type 0 where
@@ -48,7 +48,7 @@ pub record IsOfTerms (s : Table) (v : TermsView) (step : Step ℕ) : Type 0 wher
   pub pivots : AllByRecursion (λ p. IsTerm s v p.0) step.pivots
 
 -- each reference of the items stands for a term, and each anchor binds leaves of variables
-abbrev pub AreOfTerms : Table → TermsView → Items ℕ ℕ → Type 0
+abbrev pub AreOfTerms : Table → TermsView → ProofItems ℕ ℕ → Type 0
 AreOfTerms s v no_items = ⊤
 AreOfTerms s v (with_assume items id r) = AreOfTerms s v items × IsTerm s v r
 AreOfTerms s v (with_step items step) = AreOfTerms s v items × IsOfTerms s v step
@@ -56,6 +56,6 @@ AreOfTerms s v (with_subproof items bindings proof step) =
     AreOfTerms s v items × AllByRecursion (BindsTerm s v) bindings × AreOfTerms s v proof × IsOfTerms s v step
 
 -- the items over references stand for some over terms
-pub record IsMeant (s : Table) (v : TermsView) (items : Items ℕ ℕ) : Type 0 where
-  pub means : Items Var Term
+pub record IsMeant (s : Table) (v : TermsView) (items : ProofItems ℕ ℕ) : Type 0 where
+  pub means : ProofItems Var Term
   pub stand : StandForItems s v items means

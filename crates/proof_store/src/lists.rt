@@ -1,7 +1,7 @@
 //! Lists of lists, kept end to end.
 
 ghost use Rattle.std.specs.Prelude.{◌≡◌, ◌<◌, ◌≤◌, ◌++◌, [], ◌∷◌, length, take, slice_get, Some, OnOk, OnErr};
-ghost use Rattle.proof_store.specs.Lists.{parts, start_of, AreEnds};
+ghost use Rattle.proof_store.specs.Lists.{parts, start_of, AreListEnds};
 
 use pair_pool::Memory;
 use std::alloc::Global;
@@ -17,13 +17,13 @@ pub(crate) struct Lists<T: Copy + Drop> {
 
 impl<T: Copy + Drop> Model for Lists<T> {
     ghost use Rattle.std.specs.Prelude.{List, length};
-    ghost use Rattle.proof_store.specs.Lists.{parts, AreEnds};
+    ghost use Rattle.proof_store.specs.Lists.{parts, AreListEnds};
 
     ghost Value = { List (List T) };
 
     ghost view = { λ a. parts 0 a.ends.items a.items.items };
 
-    ghost invariant = { λ a. AreEnds 0 a.ends.items (length a.items.items) };
+    ghost invariant = { λ a. AreListEnds 0 a.ends.items (length a.items.items) };
 }
 
 /// Where the list at place `i` starts.
@@ -39,7 +39,7 @@ fn start(ends: &[usize], i: usize) -> usize
 #[tactic(auto, using(crate::proofs::Parts::starts_before_end, crate::proofs::Parts::ends_within, crate::proofs::Parts::parts_get))]
 fn part<'a, T: Copy + Drop>(items: &'a [T], ends: &[usize], i: usize) -> &'a [T]
     requires there { i < length ends.now }
-    requires ends { AreEnds 0 ends.now (length items.now) }
+    requires ends { AreListEnds 0 ends.now (length items.now) }
     ensures { slice_get (parts 0 ends.now items.now) i ≡ Some result.now }
 {
     let start = start(ends, i);
@@ -50,9 +50,9 @@ fn part<'a, T: Copy + Drop>(items: &'a [T], ends: &[usize], i: usize) -> &'a [T]
 /// Takes away the lists from place `i` on.
 #[tactic(auto, using(crate::proofs::Parts::parts_take, crate::proofs::Parts::ends_cut))]
 fn cut<T: Copy + Drop>(items: &mut Vec<T>, ends: &mut Vec<usize>, i: usize)
-    requires ends { AreEnds 0 ends.old.items (length items.old.items) }
+    requires ends { AreListEnds 0 ends.old.items (length items.old.items) }
     requires there { i ≤ length ends.old.items }
-    ensures ends { AreEnds 0 ends.new.items (length items.new.items) }
+    ensures ends { AreListEnds 0 ends.new.items (length items.new.items) }
     ensures parts { parts 0 ends.new.items items.new.items ≡ take i (parts 0 ends.old.items items.old.items) }
 {
     let end = start(ends, i);
@@ -63,8 +63,8 @@ fn cut<T: Copy + Drop>(items: &mut Vec<T>, ends: &mut Vec<usize>, i: usize)
 /// Adds a list at the end.
 #[tactic(auto, using(crate::proofs::Parts::parts_add, crate::proofs::Parts::ends_add))]
 fn add<T: Copy + Drop>(items: &mut Vec<T>, ends: &mut Vec<usize>, list: &[T]) -> Result<(), Memory>
-    requires { AreEnds 0 ends.old.items (length items.old.items) }
-    ensures ends { AreEnds 0 ends.new.items (length items.new.items) }
+    requires { AreListEnds 0 ends.old.items (length items.old.items) }
+    ensures ends { AreListEnds 0 ends.new.items (length items.new.items) }
     ensures parts { OnOk result (parts 0 ends.new.items items.new.items ≡ parts 0 ends.old.items items.old.items ++ list.now ∷ []) }
     ensures refused { OnErr result (parts 0 ends.new.items items.new.items ≡ parts 0 ends.old.items items.old.items) }
 {

@@ -23,10 +23,10 @@ pub struct Proof {
 
 impl Model for Proof {
     ghost use Rattle.std.specs.Prelude.{ℕ};
-    ghost use Rattle.rule_model.specs.Proofs.{Items};
+    ghost use Rattle.rule_model.specs.Proofs.{ProofItems};
     ghost use Rattle.proof_store.specs.Codes.{proof_code};
 
-    ghost Value = { Items ℕ ℕ };
+    ghost Value = { ProofItems ℕ ℕ };
 
     ghost coded = { proof_code };
 

@@ -10,7 +10,7 @@ use Rattle.term_model.specs.Unsatisfiable.{MakesTrue}
 use Rattle.term_model.proofs.Basics.{any_here, any_later}
 use Rattle.term_model.proofs.Meanings.{is_true, true_is, negation_is, conjunction_is, disjunction_is}
 use Rattle.rule_model.specs.Clauses.{MakesClauseTrue}
-use Rattle.rule_model.specs.Clausal.{itself, GivesOne, GivesAll}
+use Rattle.rule_model.specs.Clausal.{as_it_stands, GivesOne, GivesAll}
 
 -- arguments from a list are that list
 pub list_of-terms_of : (ts : List Term) → list_of (terms_of ts) ≡ ts
@@ -55,7 +55,7 @@ module _ (I : Interpretation) (r : Valuation) where
   later_literal : (t : Term) (ts : List Term) → MakesClauseTrue I r ts → MakesClauseTrue I r (t ∷ ts)
   later_literal t ts h = any_later (MakesTrue I r) t ts h
 
-  pub and_pos_keeps : (whole : Term) (rest : List Term) → GivesOne Op.And not_of itself whole rest → MakesClauseTrue I r (whole ∷ rest)
+  pub and_pos_keeps : (whole : Term) (rest : List Term) → GivesOne Op.And not_of as_it_stands whole rest → MakesClauseTrue I r (whole ∷ rest)
   and_pos_keeps whole rest g =
       rw (g.whole_is, g.rest_is)
       (let all = operation Op.And (terms_of g.arguments) in
@@ -64,7 +64,7 @@ module _ (I : Interpretation) (r : Valuation) where
         | inr n ↦ first_literal (not_of all) (g.argument ∷ []) ((negation_is I r all).1 n)
       ])
 
-  pub and_neg_keeps : (whole : Term) (rest : List Term) → GivesAll Op.And itself not_of whole rest → MakesClauseTrue I r (whole ∷ rest)
+  pub and_neg_keeps : (whole : Term) (rest : List Term) → GivesAll Op.And as_it_stands not_of whole rest → MakesClauseTrue I r (whole ∷ rest)
   and_neg_keeps whole rest g =
       rw (g.whole_is, g.rest_is)
       (let ts = g.first ∷ g.others in
@@ -73,11 +73,11 @@ module _ (I : Interpretation) (r : Valuation) where
         | inr n ↦ later_literal (operation Op.And (terms_of ts)) (map not_of ts) (some_negation ts (λ all. n (and_of_all ts all)))
       ])
 
-  map-itself : (ts : List Term) → map itself ts ≡ ts
+  map-itself : (ts : List Term) → map as_it_stands ts ≡ ts
   map-itself [] = refl
   map-itself (t ∷ ts) = ap (λ us. t ∷ us) (map-itself ts)
 
-  pub or_pos_keeps : (whole : Term) (rest : List Term) → GivesAll Op.Or not_of itself whole rest → MakesClauseTrue I r (whole ∷ rest)
+  pub or_pos_keeps : (whole : Term) (rest : List Term) → GivesAll Op.Or not_of as_it_stands whole rest → MakesClauseTrue I r (whole ∷ rest)
   or_pos_keeps whole rest g =
       rw (g.whole_is, g.rest_is ∙ map-itself (g.first ∷ g.others))
       (let ts = g.first ∷ g.others in
@@ -86,7 +86,7 @@ module _ (I : Interpretation) (r : Valuation) where
         | inr n ↦ first_literal (not_of (operation Op.Or (terms_of ts))) ts ((negation_is I r (operation Op.Or (terms_of ts))).1 n)
       ])
 
-  pub or_neg_keeps : (whole : Term) (rest : List Term) → GivesOne Op.Or itself not_of whole rest → MakesClauseTrue I r (whole ∷ rest)
+  pub or_neg_keeps : (whole : Term) (rest : List Term) → GivesOne Op.Or as_it_stands not_of whole rest → MakesClauseTrue I r (whole ∷ rest)
   or_neg_keeps whole rest g =
       rw (g.whole_is, g.rest_is)
       (let some = operation Op.Or (terms_of g.arguments) in
@@ -95,12 +95,12 @@ module _ (I : Interpretation) (r : Valuation) where
         | inr n ↦ later_literal some (not_of g.argument ∷ []) (first_literal (not_of g.argument) [] ((negation_is I r g.argument).1 n))
       ])
 
-  pub and_keeps : (whole : Term) (rest : List Term) → GivesOne Op.And itself itself whole rest → MakesTrue I r whole → MakesClauseTrue I r rest
+  pub and_keeps : (whole : Term) (rest : List Term) → GivesOne Op.And as_it_stands as_it_stands whole rest → MakesTrue I r whole → MakesClauseTrue I r rest
   and_keeps whole rest g h =
       rw g.rest_is
       (first_literal g.argument [] (All-contains (MakesTrue I r) g.arguments g.argument (all_of_and g.arguments (subst (MakesTrue I r) g.whole_is h)) g.among))
 
-  pub or_keeps : (whole : Term) (rest : List Term) → GivesAll Op.Or itself itself whole rest → MakesTrue I r whole → MakesClauseTrue I r rest
+  pub or_keeps : (whole : Term) (rest : List Term) → GivesAll Op.Or as_it_stands as_it_stands whole rest → MakesTrue I r whole → MakesClauseTrue I r rest
   or_keeps whole rest g h =
       rw (g.rest_is ∙ map-itself (g.first ∷ g.others)) (some_of_or (g.first ∷ g.others) (subst (MakesTrue I r) g.whole_is h))
 

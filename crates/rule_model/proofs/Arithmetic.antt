@@ -17,7 +17,7 @@ use Rattle.term_model.proofs.Basics.{any_here, any_later}
 use Rattle.term_model.proofs.Chains.{less_eq_is, less_is}
 use Rattle.term_model.proofs.Meanings.{negation_is, equality_is}
 use Rattle.term_model.proofs.Sorting.{value_has_sort, int_value, when-same}
-use Rattle.rule_model.specs.Arithmetic.{MeetsFormSimplification, Relation, exceeds, reaches, equals, Comparison, if_true, if_false, denial, coefficient_in, bound_by, bound_in, Line, IsEquation, AreLines, signed_by, factor, scaled, IsWhole, IsRoundedUp, IsScaledBound, added_coefficient, IsAddedBound, MeetsLaGeneric, MeetsLaDisequality, MeetsLaTotality, MeetsLaRwEq}
+use Rattle.rule_model.specs.Arithmetic.{MeetsFormSimplification, Relation, exceeds, reaches, equals, Comparison, if_true, if_false, denial, coefficient_in, bound_by, bound_in, CoefficientLine, IsEquation, AreLines, signed_by, factor, scaled, IsWhole, IsRoundedUp, IsScaledBound, added_coefficient, IsAddedBound, MeetsLaGeneric, MeetsLaDisequality, MeetsLaTotality, MeetsLaRwEq}
 use Rattle.rule_model.specs.declared.letter.Letter.{Letter}
 use Rattle.rule_model.specs.Clauses.{MakesClauseTrue}
 use Rattle.rule_model.specs.Conditions.{IsClauseOfTruths}
@@ -170,12 +170,12 @@ module _ (I : Interpretation) (r : Valuation) where
         dot_less (coefficient c.first) (coefficient c.second) (coefficient_in c) number us (λ u. refl),
       )
 
-  line_is_sum : (m : ℕ) (us : List Term) → AreDistinct us → (l : Line) → Covers us l.comparison.first → Covers us l.comparison.second → factor m l *ℤ part_in l.comparison ≡ dot (scaled m l) number us
+  line_is_sum : (m : ℕ) (us : List Term) → AreDistinct us → (l : CoefficientLine) → Covers us l.comparison.first → Covers us l.comparison.second → factor m l *ℤ part_in l.comparison ≡ dot (scaled m l) number us
   line_is_sum m us distinct l first second =
       ap (λ x. factor m l *ℤ x) (part_is_sum us distinct l.comparison first second)
       ∙ sym (dot_scaled (factor m l) (coefficient_in l.comparison) (scaled m l) number us (λ u. refl))
 
-  line_whole : (m : ℕ) (l : Line) → ((u : Term) → IsWhole m (scaled m l u)) → IsWhole m (factor m l *ℤ part_in l.comparison)
+  line_whole : (m : ℕ) (l : CoefficientLine) → ((u : Term) → IsWhole m (scaled m l u)) → IsWhole m (factor m l *ℤ part_in l.comparison)
   line_whole m l each =
       let ts = opaque_terms l.comparison.first ++ opaque_terms l.comparison.second in
       let us = distinct_of ts in
@@ -183,14 +183,14 @@ module _ (I : Interpretation) (r : Valuation) where
       subst (IsWhole m) (sym (line_is_sum m us (distinct_are ts) l covers.0 covers.1)) (whole_dot m (scaled m l) number us each)
 
   -- the scaled bound of a line whose comparison holds
-  abbrev line_value : ℕ → Line → ℤ
+  abbrev line_value : ℕ → CoefficientLine → ℤ
   line_value m l = factor m l *ℤ part_in l.comparison
 
-  scaled_holds : (m : ℕ) (l : Line) → Holds l.comparison → Bounds l.comparison.relation (factor m l *ℤ bound_in l.comparison) (line_value m l)
+  scaled_holds : (m : ℕ) (l : CoefficientLine) → Holds l.comparison → Bounds l.comparison.relation (factor m l *ℤ bound_in l.comparison) (line_value m l)
   scaled_holds m l h =
       scaled_bounds l.comparison.relation l.ratio.num (m / unsigned_abs l.ratio.den) (bound_in l.comparison) (part_in l.comparison) (bounded l.comparison h)
 
-  line_below : (m : ℕ) (l : Line) (z : ℤ) → Holds l.comparison → IsScaledBound m l z → z ≤ℤ line_value m l
+  line_below : (m : ℕ) (l : CoefficientLine) (z : ℤ) → Holds l.comparison → IsScaledBound m l z → z ≤ℤ line_value m l
   line_below m l z h (inl (round, up)) =
       rounded_most m _ z (line_value m l) up (line_whole m l round.whole) (at_most_of l.comparison.relation _ _ (scaled_holds m l h))
   line_below m l z h (inr (plain, e)) =
@@ -201,33 +201,33 @@ module _ (I : Interpretation) (r : Valuation) where
   equal_of reaches k x e h = absurd cc
   equal_of equals k x e h = h
 
-  line_equal : (m : ℕ) (l : Line) (z : ℤ) → IsEquation l → Holds l.comparison → IsScaledBound m l z → z ≡ line_value m l
+  line_equal : (m : ℕ) (l : CoefficientLine) (z : ℤ) → IsEquation l → Holds l.comparison → IsScaledBound m l z → z ≡ line_value m l
   line_equal m l z equation h (inl (round, up)) = absurd (round.inequality equation)
   line_equal m l z equation h (inr (plain, e)) = e ∙ equal_of l.comparison.relation _ _ equation (scaled_holds m l h)
 
   -- all lines together
-  abbrev lines_value : ℕ → List Line → ℤ
+  abbrev lines_value : ℕ → List CoefficientLine → ℤ
   lines_value m [] = pos 0
   lines_value m (l ∷ ls) = line_value m l +ℤ lines_value m ls
 
-  abbrev AllHold : List Line → Type 0
+  abbrev AllHold : List CoefficientLine → Type 0
   AllHold ls = AllByRecursion (λ l. Holds l.comparison) ls
 
-  lines_below : (m : ℕ) (ls : List Line) (z : ℤ) → AllHold ls → IsAddedBound m ls z → z ≤ℤ lines_value m ls
+  lines_below : (m : ℕ) (ls : List CoefficientLine) (z : ℤ) → AllHold ls → IsAddedBound m ls z → z ≤ℤ lines_value m ls
   lines_below m [] z h e = omega (arith, ints, e)
   lines_below m (l ∷ ls) z h (x, y, first, rest, e) =
       omega (arith, ints, e, line_below m l x h.0 first, lines_below m ls y h.1 rest)
 
-  lines_equal : (m : ℕ) (ls : List Line) (z : ℤ) → All IsEquation ls → AllHold ls → IsAddedBound m ls z → z ≡ lines_value m ls
+  lines_equal : (m : ℕ) (ls : List CoefficientLine) (z : ℤ) → All IsEquation ls → AllHold ls → IsAddedBound m ls z → z ≡ lines_value m ls
   lines_equal m [] z equations h e = e
   lines_equal m (l ∷ ls) z equations h (x, y, first, rest, e) =
       omega (arith, ints, e, line_equal m l x (All-head IsEquation l ls equations) h.0 first, lines_equal m ls y (All-tail IsEquation l ls equations) h.1 rest)
 
-  abbrev opaque_of : List Line → List Term
+  abbrev opaque_of : List CoefficientLine → List Term
   opaque_of [] = []
   opaque_of (l ∷ ls) = (opaque_terms l.comparison.first ++ opaque_terms l.comparison.second) ++ opaque_of ls
 
-  lines_are_sum : (m : ℕ) (us : List Term) → AreDistinct us → (ls : List Line) → AllByRecursion (λ x. is_listed us x ≡ true) (opaque_of ls) → lines_value m ls ≡ dot (added_coefficient m ls) number us
+  lines_are_sum : (m : ℕ) (us : List Term) → AreDistinct us → (ls : List CoefficientLine) → AllByRecursion (λ x. is_listed us x ≡ true) (opaque_of ls) → lines_value m ls ≡ dot (added_coefficient m ls) number us
   lines_are_sum m us distinct [] covers = sym (dot_nothing (λ u. pos 0) number us (λ u. refl))
   lines_are_sum m us distinct (l ∷ ls) covers =
       let split = all_split (λ x. is_listed us x ≡ true) (opaque_terms l.comparison.first ++ opaque_terms l.comparison.second) (opaque_of ls) covers in
@@ -240,13 +240,13 @@ module _ (I : Interpretation) (r : Valuation) where
         dot_added (scaled m l) (added_coefficient m ls) (added_coefficient m (l ∷ ls)) number us (λ u. refl),
       )
 
-  cancelled_value : (m : ℕ) (ls : List Line) → ((u : Term) → added_coefficient m ls u ≡ pos 0) → lines_value m ls ≡ pos 0
+  cancelled_value : (m : ℕ) (ls : List CoefficientLine) → ((u : Term) → added_coefficient m ls u ≡ pos 0) → lines_value m ls ≡ pos 0
   cancelled_value m ls zero_each =
       let us = distinct_of (opaque_of ls) in
       lines_are_sum m us (distinct_are (opaque_of ls)) ls (all_listed (opaque_of ls)) ∙ dot_nothing (added_coefficient m ls) number us zero_each
 
   -- the negated literals cannot all hold
-  lines_absurd : (m : ℕ) (ls : List Line) (z : ℤ) → ((u : Term) → added_coefficient m ls u ≡ pos 0) → IsAddedBound m ls z → (pos 0 <ℤ z) ⊎ (All IsEquation ls × (z ≢ pos 0)) → ¬ AllHold ls
+  lines_absurd : (m : ℕ) (ls : List CoefficientLine) (z : ℤ) → ((u : Term) → added_coefficient m ls u ≡ pos 0) → IsAddedBound m ls z → (pos 0 <ℤ z) ⊎ (All IsEquation ls × (z ≢ pos 0)) → ¬ AllHold ls
   lines_absurd m ls z cancel bound (inl above) = λ h. absurd (omega (arith, ints, above, lines_below m ls z h bound, cancelled_value m ls cancel))
   lines_absurd m ls z cancel bound (inr (equations, apart)) = λ h. apart (lines_equal m ls z equations h bound ∙ cancelled_value m ls cancel)
 
@@ -258,7 +258,7 @@ module _ (I : Interpretation) (r : Valuation) where
         | inr fails ↦ elim (some_or_none ts) [ inl later ↦ inl (any_later (MakesTrue I r) t ts later) | inr none ↦ inr (fails, none) ]
       ]
 
-  lines_hold : (ts : List Term) (qs : List Fraction) (ls : List Line) → AreLines ts qs ls → AllByRecursion (λ t. ¬ MakesTrue I r t) ts → AllHold ls
+  lines_hold : (ts : List Term) (qs : List Fraction) (ls : List CoefficientLine) → AreLines ts qs ls → AllByRecursion (λ t. ¬ MakesTrue I r t) ts → AllHold ls
   lines_hold [] [] [] read none = tt
   lines_hold (t ∷ ts) (q ∷ qs) (l ∷ ls) read none =
       (subst HoldsOf read.0 (denial_holds t none.0), lines_hold ts qs ls read.4 none.1)

@@ -9,14 +9,14 @@ use Rattle.term_model.specs.Unsatisfiable.{MakesTrue}
 use Rattle.term_model.proofs.Basics.{any_here, any_cases}
 use Rattle.rule_model.specs.declared.rules.Mode.{Mode}
 use Rattle.rule_model.specs.declared.rules.Rule.{Rule}
-use Rattle.rule_model.specs.Clausal.{schema_of, Begins, IsGiven, Changes, HasEachOnce, HasEach, IsTautology, MeetsClausal}
+use Rattle.rule_model.specs.Clausal.{schema_of, Begins, IsOnlyPremise, Changes, HasEachOnce, HasEach, IsTautology, MeetsClausal}
 use Rattle.rule_model.specs.Clauses.{MakesClauseTrue}
 use Rattle.rule_model.specs.Conditions.{MeetsRule, Met, LooksAtContext, IsClauseOfTruths, IsWellSortedStep, KeepsTruth}
 use Rattle.rule_model.specs.Contexts.{IsInContext}
 use Rattle.rule_model.specs.Definitions.{choice_schema_of, MeetsChoice}
 use Rattle.rule_model.specs.Judged.{Judged}
 use Rattle.rule_model.specs.Resolution.{Resolves}
-use Rattle.rule_model.specs.Rewriting.{Row}
+use Rattle.rule_model.specs.Rewriting.{RewriteRow}
 use Rattle.rule_model.specs.Schemas.{Schema, IsInstanceOf}
 use Rattle.rule_model.specs.Simplification.{not_simplify, implies_simplify, equiv_simplify, bool_simplify, ite_simplify, eq_simplify, comp_simplify, MeetsSimplification}
 use Rattle.rule_model.proofs.ArgumentLists.{and_pos_keeps, and_neg_keeps, or_pos_keeps, or_neg_keeps, and_keeps, or_keeps, not_or_keeps, not_and_keeps}
@@ -42,7 +42,7 @@ module _ (I : Interpretation) (r : Valuation) where
   begins_keeps : (gives : Term → List Term → Type 0) → ((whole : Term) (rest : List Term) → gives whole rest → MakesClauseTrue I r (whole ∷ rest)) → (premises : List (List Term)) (clause : List Term) → Begins gives premises clause → MakesClauseTrue I r clause
   begins_keeps gives keeps premises clause b = rw b.literals (keeps b.whole b.rest b.given)
 
-  given_keeps : (gives : Term → List Term → Type 0) → ((whole : Term) (rest : List Term) → gives whole rest → MakesTrue I r whole → MakesClauseTrue I r rest) → (premises : List (List Term)) (clause : List Term) → IsGiven gives premises clause → All (MakesClauseTrue I r) premises → MakesClauseTrue I r clause
+  given_keeps : (gives : Term → List Term → Type 0) → ((whole : Term) (rest : List Term) → gives whole rest → MakesTrue I r whole → MakesClauseTrue I r rest) → (premises : List (List Term)) (clause : List Term) → IsOnlyPremise gives premises clause → All (MakesClauseTrue I r) premises → MakesClauseTrue I r clause
   given_keeps gives keeps premises clause g all =
       let unit = All-head (MakesClauseTrue I r) (g.whole ∷ []) [] (subst (All (MakesClauseTrue I r)) g.unit all) in
       keeps g.whole clause g.given
@@ -96,7 +96,7 @@ module _ (I : Interpretation) (r : Valuation) where
   choice_keeps rule j met sorted all =
       instance_keeps I r sorted.values (choice_schema_of rule) (choice_tables rule) j.premises j.clause met sorted.premises sorted.clause all
 
-  simplify_keeps : (rows : List Row) → AreKept rows → (j : Judged) → MeetsSimplification rows j.premises j.clause → IsWellSortedStep r j → All (MakesClauseTrue I r) j.premises → MakesClauseTrue I r j.clause
+  simplify_keeps : (rows : List RewriteRow) → AreKept rows → (j : Judged) → MeetsSimplification rows j.premises j.clause → IsWellSortedStep r j → All (MakesClauseTrue I r) j.premises → MakesClauseTrue I r j.clause
   simplify_keeps rows kept j met sorted all =
       simplification_keeps I r sorted.values rows kept j.premises j.clause met sorted.clause
 

@@ -5,7 +5,7 @@ use Rattle.rule_model.specs.declared.literal.Literal.{Literal}
 use Rattle.rule_model.specs.declared.literal.Literal.TheVariants.{Plain, Never}
 use Rattle.rule_model.specs.Literals.{ClauseTrue, Entails}
 use Rattle.rule_model.specs.Consequence.{IsFalse, premise_at, IsOnly, IsUnit, Leads, Follows}
-use Rattle.rule_model.specs.ConsequenceExamples.{yes, negated, four_clauses, all_signs}
+use Rattle.rule_model.specs.ConsequenceExamples.{yes_atom, no_atom, four_clauses, all_signs}
 use Rattle.rule_model.proofs.Consequence.{consequence_sound}
 use Rattle.rule_model.proofs.Lists.{contains_none, contains_cases, contains_head, contains_later}
 
@@ -36,40 +36,40 @@ both_false : (falses : List (Literal ℕ)) (l m : Literal ℕ) → IsFalse false
 both_false falses l m first then =
     All-cons (IsFalse falses) l (m ∷ []) first (All-cons (IsFalse falses) m [] then (All-nil (IsFalse falses)))
 
-c_stays : IsFalse (yes 0 ∷ []) (negated 2) → ⊥
+c_stays : IsFalse (yes_atom 0 ∷ []) (no_atom 2) → ⊥
 c_stays (inl never) = cc
-c_stays (inr c) = elim (contains_cases (yes 0) (negated 2) [] c) [ inl same ↦ cc | inr later ↦ contains_none (negated 2) later ]
+c_stays (inr c) = elim (contains_cases (yes_atom 0) (no_atom 2) [] c) [ inl same ↦ cc | inr later ↦ contains_none (no_atom 2) later ]
 
-b_stays : IsFalse (yes 0 ∷ yes 2 ∷ []) (yes 1) → ⊥
+b_stays : IsFalse (yes_atom 0 ∷ yes_atom 2 ∷ []) (yes_atom 1) → ⊥
 b_stays (inl never) = cc
 b_stays (inr c) =
-    elim (contains_cases (yes 0) (yes 1) (yes 2 ∷ []) c) [
+    elim (contains_cases (yes_atom 0) (yes_atom 1) (yes_atom 2 ∷ []) c) [
       | inl same ↦ cc
-      | inr later ↦ elim (contains_cases (yes 2) (yes 1) [] later) [ inl same ↦ cc | inr none ↦ contains_none (yes 1) none ]
+      | inr later ↦ elim (contains_cases (yes_atom 2) (yes_atom 1) [] later) [ inl same ↦ cc | inr none ↦ contains_none (yes_atom 1) none ]
     ]
 
 pub four_follow : Follows four_clauses []
 four_follow =
-    let not_a : IsUnit four_clauses [] 0 0 = record { place = omega arith; only = alone [] (negated 0) (none_false 0 true) } in
-    let not_c : IsUnit four_clauses (yes 0 ∷ []) 1 0 = record { place = omega arith; only = alone (yes 0 ∷ []) (negated 2) c_stays } in
-    let b : IsUnit four_clauses (yes 0 ∷ yes 2 ∷ []) 2 1 = record { place = omega arith; only = second (yes 0 ∷ yes 2 ∷ []) (yes 0) (yes 1) (inr (contains_head (yes 0) (yes 2 ∷ []))) b_stays } in
+    let not_a : IsUnit four_clauses [] 0 0 = record { place = omega arith; only = alone [] (no_atom 0) (none_false 0 true) } in
+    let not_c : IsUnit four_clauses (yes_atom 0 ∷ []) 1 0 = record { place = omega arith; only = alone (yes_atom 0 ∷ []) (no_atom 2) c_stays } in
+    let b : IsUnit four_clauses (yes_atom 0 ∷ yes_atom 2 ∷ []) 2 1 = record { place = omega arith; only = second (yes_atom 0 ∷ yes_atom 2 ∷ []) (yes_atom 0) (yes_atom 1) (inr (contains_head (yes_atom 0) (yes_atom 2 ∷ []))) b_stays } in
     inr ((0, 0) ∷ (1, 0) ∷ (2, 1) ∷ [], 3, (not_a, (not_c, (b, record { place = omega arith; all_false = last_false }))))
   where
-    last_false : All (IsFalse (yes 0 ∷ yes 2 ∷ negated 1 ∷ [])) (negated 1 ∷ yes 2 ∷ [])
+    last_false : All (IsFalse (yes_atom 0 ∷ yes_atom 2 ∷ no_atom 1 ∷ [])) (no_atom 1 ∷ yes_atom 2 ∷ [])
     last_false =
-        both_false (yes 0 ∷ yes 2 ∷ negated 1 ∷ []) (negated 1) (yes 2)
-        (inr (contains_later (yes 0) (negated 1) (yes 2 ∷ negated 1 ∷ []) (contains_later (yes 2) (negated 1) (negated 1 ∷ []) (contains_head (negated 1) []))))
-        (inr (contains_later (yes 0) (yes 2) (yes 2 ∷ negated 1 ∷ []) (contains_head (yes 2) (negated 1 ∷ []))))
+        both_false (yes_atom 0 ∷ yes_atom 2 ∷ no_atom 1 ∷ []) (no_atom 1) (yes_atom 2)
+        (inr (contains_later (yes_atom 0) (no_atom 1) (yes_atom 2 ∷ no_atom 1 ∷ []) (contains_later (yes_atom 2) (no_atom 1) (no_atom 1 ∷ []) (contains_head (no_atom 1) []))))
+        (inr (contains_later (yes_atom 0) (yes_atom 2) (yes_atom 2 ∷ no_atom 1 ∷ []) (contains_head (yes_atom 2) (no_atom 1 ∷ []))))
 
 -- only the second atom is true
 abbrev pub second_alone : ℕ → Bool
 second_alone zero = false
 second_alone (suc n) = true
 
-pub no_part : Follows ((yes 0 ∷ yes 1 ∷ []) ∷ []) (yes 0 ∷ []) → ⊥
+pub no_part : Follows ((yes_atom 0 ∷ yes_atom 1 ∷ []) ∷ []) (yes_atom 0 ∷ []) → ⊥
 no_part follows =
-    elim (consequence_sound ((yes 0 ∷ yes 1 ∷ []) ∷ []) (yes 0 ∷ []) follows second_alone
-    (All-cons (ClauseTrue second_alone) (yes 0 ∷ yes 1 ∷ []) [] (inr (inl refl)) (All-nil (ClauseTrue second_alone)))) [
+    elim (consequence_sound ((yes_atom 0 ∷ yes_atom 1 ∷ []) ∷ []) (yes_atom 0 ∷ []) follows second_alone
+    (All-cons (ClauseTrue second_alone) (yes_atom 0 ∷ yes_atom 1 ∷ []) [] (inr (inl refl)) (All-nil (ClauseTrue second_alone)))) [
       | inl here ↦ cc
       | inr later ↦ later
     ]

@@ -11,7 +11,7 @@ use Rattle.term_model.proofs.Coincidence.{value_coincides}
 use Rattle.rule_model.specs.Clauses.{MakesClauseTrue}
 use Rattle.rule_model.specs.Replacement.{Replacement, values_put}
 use Rattle.rule_model.specs.Substitution.{put_in, Replaces, AreClosed, HaveTheirSorts}
-use Rattle.rule_model.specs.Contexts.{put_in_each, images, IsBoundBy, IsClosedUnder, AreNested, context_values, IsTrueInScope}
+use Rattle.rule_model.specs.Contexts.{put_in_each, images, IsBoundBy, IsClosedUnder, AreAnchorsNested, context_values, IsTrueInScope}
 use Rattle.rule_model.proofs.ReplacementLists.{all_joined}
 use Rattle.rule_model.proofs.Replacing.{values_put-joined}
 use Rattle.rule_model.proofs.Substituting.{put_in_sort, result_closed}
@@ -64,7 +64,7 @@ each_closed outer [] closed h = tt
 each_closed outer (b ∷ anchor) closed h =
     (result_closed (images outer) b.1 closed (λ x free. bound-images outer x (h.0 x free)), each_closed outer anchor closed h.1)
 
-pub images_closed : (anchors : List Replacement) → AreNested anchors → AreClosed (images anchors)
+pub images_closed : (anchors : List Replacement) → AreAnchorsNested anchors → AreClosed (images anchors)
 images_closed [] h = tt
 images_closed (anchor ∷ outer) h =
     let closed = images_closed outer h.1 in
@@ -85,17 +85,17 @@ nothing_behind : (r : Valuation) → r ++ [] ≡ r
 nothing_behind [] = refl
 nothing_behind (b ∷ r) = ap (λ u. b ∷ u) (nothing_behind r)
 
-pub means_what_it_becomes : (I : Interpretation) (anchors : List Replacement) (t : Term) → AreNested anchors → value I (context_values I anchors) t ≡ value I [] (put_in (images anchors) t)
+pub means_what_it_becomes : (I : Interpretation) (anchors : List Replacement) (t : Term) → AreAnchorsNested anchors → value I (context_values I anchors) t ≡ value I [] (put_in (images anchors) t)
 means_what_it_becomes I anchors t h =
     ap (λ r. value I r t) (sym (nothing_behind (context_values I anchors))) ∙ sym (value_put_in I [] (images anchors) t (images_closed anchors h))
 
-values_of_each : (I : Interpretation) (outer : List Replacement) (anchor : Replacement) → AreNested outer → values_put I [] (put_in_each (images outer) anchor) ≡ values_put I (context_values I outer) anchor
+values_of_each : (I : Interpretation) (outer : List Replacement) (anchor : Replacement) → AreAnchorsNested outer → values_put I [] (put_in_each (images outer) anchor) ≡ values_put I (context_values I outer) anchor
 values_of_each I outer [] h = refl
 values_of_each I outer (b ∷ anchor) h =
     ap (λ u. (b.0, u) ∷ values_put I [] (put_in_each (images outer) anchor)) (sym (means_what_it_becomes I outer b.1 h))
     ∙ ap (λ u. (b.0, value I (context_values I outer) b.1) ∷ u) (values_of_each I outer anchor h)
 
-pub anchor_binds : (I : Interpretation) (anchor : Replacement) (outer : List Replacement) → AreNested (anchor ∷ outer) → context_values I (anchor ∷ outer) ≡ values_put I (context_values I outer) anchor ++ context_values I outer
+pub anchor_binds : (I : Interpretation) (anchor : Replacement) (outer : List Replacement) → AreAnchorsNested (anchor ∷ outer) → context_values I (anchor ∷ outer) ≡ values_put I (context_values I outer) anchor ++ context_values I outer
 anchor_binds I anchor outer h =
     values_put-joined I [] (put_in_each (images outer) anchor) (images outer)
     ∙ ap (λ u. u ++ context_values I outer) (values_of_each I outer anchor h.1)

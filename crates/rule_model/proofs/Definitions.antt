@@ -20,7 +20,7 @@ use Rattle.rule_model.specs.declared.rules.Rule.{Rule}
 use Rattle.rule_model.specs.Clauses.{MakesClauseTrue}
 use Rattle.rule_model.specs.Conditions.{IsClauseOfTruths}
 use Rattle.rule_model.specs.Definitions.{choice_schema_of, connective_definitions, MeetsConnectiveDef, choice, IsFactOfChoice, MeetsIteIntro, IsInequality, AreInequalities, IsOfTwo, IsOfTruths, IsOfOthers, MeetsDistinctElim}
-use Rattle.rule_model.specs.Rewriting.{Row, Rewrites}
+use Rattle.rule_model.specs.Rewriting.{RewriteRow, Rewrites}
 use Rattle.rule_model.specs.Schemas.{Schema, fill, IsInstanceOf}
 use Rattle.rule_model.proofs.ArgumentLists.{true_or_not, all_of_and, and_of_all}
 use Rattle.rule_model.proofs.ClausalTables.{IsSound}
@@ -41,11 +41,11 @@ choice_tables Rule.NotIte2 = refl  -- not_ite2
 choice_tables _ = tt
 
 -- what makes a row a definition over terms of Bool
-abbrev is_definition : Row → Bool
+abbrev is_definition : RewriteRow → Bool
 is_definition row =
     is_of_truths row.right && (is_boolean row.right && (all_known_in row && has_one_value row))
 
-abbrev AreDefinitions : List Row → Type 0
+abbrev AreDefinitions : List RewriteRow → Type 0
 AreDefinitions rows = AllByRecursion (λ row. is_definition row ≡ true) rows
 
 definitions_sound : AreDefinitions connective_definitions
@@ -60,7 +60,7 @@ module _ (I : Interpretation) (r : Valuation) (fits : ValuationFits r) where
       instance_keeps_truth schema premises clause I r sound i fits units literals all
   instance_keeps None sound premises clause i units literals all = absurd i
 
-  defined_alike : (row : Row) → is_definition row ≡ true → (left right : Term) → Rewrites row left right → HaveOneSort left right → value I r left ≡ value I r right
+  defined_alike : (row : RewriteRow) → is_definition row ≡ true → (left right : Term) → Rewrites row left right → HaveOneSort left right → value I r left ≡ value I r right
   defined_alike row e left right w sides =
       let more = and-right (is_of_truths row.right) _ e in
       let last = and-right (is_boolean row.right) _ more in
@@ -68,7 +68,7 @@ module _ (I : Interpretation) (r : Valuation) (fits : ValuationFits r) where
       let kept = bool_kept I r fits w.terms row (and-left (is_boolean row.right) _ more) (and-left (all_known_in row) _ last) (and-right (all_known_in row) _ last) (subst (IsOf (fill w.terms row.left)) bool (subst (λ t. IsOf t sides.sort) w.from sides.first)) w.passes in
       ap (value I r) w.from ∙ kept.value_is ∙ sym (ap (value I r) w.to)
 
-  some_defined : (rows : List Row) → AreDefinitions rows → (left right : Term) → Any (λ row. Rewrites row left right) rows → HaveOneSort left right → value I r left ≡ value I r right
+  some_defined : (rows : List RewriteRow) → AreDefinitions rows → (left right : Term) → Any (λ row. Rewrites row left right) rows → HaveOneSort left right → value I r left ≡ value I r right
   some_defined [] sound left right some sides = absurd (omega (arith, some.2))
   some_defined (row ∷ rows) sound left right some sides =
       elim (any_cases (λ row. Rewrites row left right) row rows some) [

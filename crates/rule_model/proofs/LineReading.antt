@@ -4,7 +4,7 @@ use Rattle.std.specs.List.{AllByRecursion}
 use Rattle.std.specs.Option.{option_map, option_map_or}
 use Rattle.std.proofs.lemmas.Option.{slice_get-map}
 use Rattle.rule_model.specs.declared.rules.Rule.{Rule}
-use Rattle.rule_model.specs.Proofs.{Step, Items, no_items, with_assume, with_step, with_subproof}
+use Rattle.rule_model.specs.Proofs.{Step, ProofItems, no_items, with_assume, with_step, with_subproof}
 use Rattle.rule_model.specs.Scopes.{Nesting, outermost, inner, subproofs_in, scope_number, own_bindings, last_index}
 use Rattle.rule_model.specs.Commands.{closing, Line, Entry, entry_of, entries, lines_in, own_scope, closed_scope, ScopeEntry, scope_entry, scopes_in, scopes}
 use Rattle.rule_model.specs.Judged.{open_anchors, anchors_at}
@@ -12,7 +12,7 @@ use Rattle.rule_model.specs.Reading.{rule_of, clause_of, premises_of, discharged
 use Rattle.rule_model.proofs.Numbers.{scopes_in_count}
 use Rattle.rule_model.proofs.ReplacementLists.{all_joined}
 
-module _ {V T : Type 0} (proof : Items V T) (i : ℕ) (l : Line V T) (here : slice_get (lines_in outermost proof) i ≡ Some l) where
+module _ {V T : Type 0} (proof : ProofItems V T) (i : ℕ) (l : Line V T) (here : slice_get (lines_in outermost proof) i ≡ Some l) where
   entry_here : slice_get (entries proof) i ≡ Some (entry_of l)
   entry_here = slice_get-map entry_of (lines_in outermost proof) i ∙ ap (option_map entry_of) here
 
@@ -38,12 +38,12 @@ module _ {V T : Type 0} (proof : Items V T) (i : ℕ) (l : Line V T) (here : sli
   anchors_are = ap (λ e. option_map_or (λ (m : Line V T). open_anchors m.scope.nesting) e []) here
 
 -- past the end nothing is closed
-pub none_closes : {V T : Type 0} (proof : Items V T) (i : ℕ) → slice_get (lines_in outermost proof) i ≡ None → closes_at proof i ≡ None
+pub none_closes : {V T : Type 0} (proof : ProofItems V T) (i : ℕ) → slice_get (lines_in outermost proof) i ≡ None → closes_at proof i ≡ None
 none_closes {V} {T} proof i e =
     ap (λ o. option_map_or (λ (e : Entry T). e.closes) o None) (slice_get-map entry_of (lines_in outermost proof) i ∙ ap (option_map entry_of) e)
 
 -- the scope that a step closes is one of those, with all that was written in it
-record HasScope {V T : Type 0} (entries : List (ScopeEntry V T)) (first : ℕ) (nesting : Nesting V T) (items : Items V T) : Type 0 where
+record HasScope {V T : Type 0} (entries : List (ScopeEntry V T)) (first : ℕ) (nesting : Nesting V T) (items : ProofItems V T) : Type 0 where
   place : ℕ
   there : slice_get entries place ≡ Some (scope_entry nesting items)
   number : scope_number nesting ≡ suc (first + place)
@@ -80,7 +80,7 @@ module _ {V T : Type 0} where
   changed xs ys first later [] f h = tt
   changed xs ys first later (l ∷ lines) f h = (f l h.0, changed xs ys first later lines f h.1)
 
-  closed_scopes : (nesting : Nesting V T) (items : Items V T) → AllByRecursion (ClosesOne (scopes_in nesting items) (scope_number nesting)) (lines_in nesting items)
+  closed_scopes : (nesting : Nesting V T) (items : ProofItems V T) → AllByRecursion (ClosesOne (scopes_in nesting items) (scope_number nesting)) (lines_in nesting items)
   closed_scopes nesting no_items = tt
   closed_scopes nesting (with_assume items id t) =
       all_joined _ (lines_in nesting items) _ (closed_scopes nesting items) (λ s e. absurd cc, tt)
@@ -96,7 +96,7 @@ module _ {V T : Type 0} where
       (changed _ _ _ _ (lines_in deep proof) (λ l h. behind (scopes_in nesting items) (own ∷ scopes_in deep proof) (scope_number nesting) (scope_number nesting + subproofs_in items) l (omega arith) (behind (own ∷ []) (scopes_in deep proof) (scope_number nesting + subproofs_in items) (scope_number deep) l (omega arith) h)) (closed_scopes deep proof)))
       (behind (scopes_in nesting items) (own ∷ scopes_in deep proof) (scope_number nesting) (scope_number nesting + subproofs_in items) _ (omega arith) (λ t e. record { place = 0; there = refl; number = omega arith }), tt)
 
-pub closed_entry : {V T : Type 0} (proof : Items V T) (i : ℕ) (l : Line V T) (s : Step T) → slice_get (lines_in outermost proof) i ≡ Some l → l.command ≡ closing s → slice_get (scopes proof) (scope_number l.scope.nesting) ≡ Some (scope_entry l.scope.nesting l.scope.items)
+pub closed_entry : {V T : Type 0} (proof : ProofItems V T) (i : ℕ) (l : Line V T) (s : Step T) → slice_get (lines_in outermost proof) i ≡ Some l → l.command ≡ closing s → slice_get (scopes proof) (scope_number l.scope.nesting) ≡ Some (scope_entry l.scope.nesting l.scope.items)
 closed_entry {V} {T} proof i l s here e =
     let has = at (lines_in outermost proof) i (closed_scopes outermost proof) here s e in
     let number : scope_number l.scope.nesting ≡ suc has.place = let n = has.number in omega arith in
@@ -110,7 +110,7 @@ closed_entry {V} {T} proof i l s here e =
         some_same e = cc
     at (m ∷ lines) (suc i) h f = at lines i h.1 f
 
-module _ {V T : Type 0} (proof : Items V T) (i : ℕ) (l : Line V T) (s : Step T) (here : slice_get (lines_in outermost proof) i ≡ Some l) (closes : l.command ≡ closing s) where
+module _ {V T : Type 0} (proof : ProofItems V T) (i : ℕ) (l : Line V T) (s : Step T) (here : slice_get (lines_in outermost proof) i ≡ Some l) (closes : l.command ≡ closing s) where
   pub bindings_are : bindings_at proof (scope_number l.scope.nesting) ≡ own_bindings l.scope.nesting
   bindings_are = ap (λ e. option_map_or (λ (e : ScopeEntry V T). e.bindings) e []) (closed_entry proof i l s here closes)
 

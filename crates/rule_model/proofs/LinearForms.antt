@@ -10,7 +10,7 @@ use Rattle.term_model.specs.Operators.{from_left, difference}
 use Rattle.term_model.specs.Terms.{Term, numeral, operation, Terms, no_terms, term}
 use Rattle.term_model.specs.Values.{as_whole}
 use Rattle.term_model.proofs.Arities.{nat_le_decides}
-use Rattle.rule_model.specs.LinearForms.{is_constant, others, is_linear, product, constant, constants, part, parts, product_part, one_at, coefficient, opaque_terms, opaque_among, HaveOneForm, dot, is_listed, AreDistinct, Covers}
+use Rattle.rule_model.specs.LinearForms.{is_constant, others, is_linear, product, constant, constants, part, form_parts, product_part, one_at, coefficient, opaque_terms, opaque_among, HaveOneForm, dot, is_listed, AreDistinct, Covers}
 use Rattle.rule_model.specs.TermTests.{term_eq}
 use Rattle.rule_model.proofs.Ring.{mul-add, add-mul, mul_assoc, one-mul, mul-neg}
 use Rattle.rule_model.proofs.TermTests.{term_eq_decides}
@@ -111,7 +111,7 @@ module _ (I : Interpretation) (r : Valuation) where
   AreForms no_terms = Unit {0}
   AreForms (term t ts) = IsForm t × AreForms ts
 
-  are_sums : (ts : Terms) → AreForms ts → AreSums (numbers ts) (constants ts) (parts number ts)
+  are_sums : (ts : Terms) → AreForms ts → AreSums (numbers ts) (constants ts) (form_parts number ts)
   are_sums no_terms h = tt
   are_sums (term t ts) h = (h.0, are_sums ts h.1)
 
@@ -231,7 +231,7 @@ module _ (w : Term → ℤ) (us : List Term) (distinct : AreDistinct us) where
   CoversAll ts = AllByRecursion (λ u. is_listed us u ≡ true) (opaque_among ts)
 
   abbrev sum_of : (Term → ℤ) → Terms → ℤ
-  sum_of v ts = from_left ◌+ℤ◌ (pos 0) (parts v ts)
+  sum_of v ts = from_left ◌+ℤ◌ (pos 0) (form_parts v ts)
 
   sums_dot : (ts : Terms) → AreDots ts → sum_of w ts ≡ dot (λ u. sum_of (one_at u) ts) w us
   sums_dot no_terms h = sym (dot_nothing (λ u. pos 0) w us (λ u. refl))
@@ -239,21 +239,21 @@ module _ (w : Term → ℤ) (us : List Term) (distinct : AreDistinct us) where
       omega (
         arith,
         ints,
-        summed (part w t) (parts w ts),
+        summed (part w t) (form_parts w ts),
         h.0,
         sums_dot ts h.1,
-        dot_added (coefficient t) (λ u. sum_of (one_at u) ts) (λ u. sum_of (one_at u) (term t ts)) w us (λ u. summed (coefficient t u) (parts (one_at u) ts)),
+        dot_added (coefficient t) (λ u. sum_of (one_at u) ts) (λ u. sum_of (one_at u) (term t ts)) w us (λ u. summed (coefficient t u) (form_parts (one_at u) ts)),
       )
 
-  differences_dot : (ts : Terms) → AreDots ts → difference (parts w ts) ≡ dot (λ u. difference (parts (one_at u) ts)) w us
+  differences_dot : (ts : Terms) → AreDots ts → difference (form_parts w ts) ≡ dot (λ u. difference (form_parts (one_at u) ts)) w us
   differences_dot no_terms h = sym (dot_nothing (λ u. pos 0) w us (λ u. refl))
   differences_dot (term t no_terms) h =
-      omega (arith, ints, h.0, dot_turned (coefficient t) (λ u. difference (parts (one_at u) (term t no_terms))) w us (λ u. refl))
+      omega (arith, ints, h.0, dot_turned (coefficient t) (λ u. difference (form_parts (one_at u) (term t no_terms))) w us (λ u. refl))
   differences_dot (term t (term s ts)) h =
       let rest = sums_dot (term s ts) h.1 in
       let turned = dot_turned (λ u. sum_of (one_at u) (term s ts)) (λ u. neg_ℤ (sum_of (one_at u) (term s ts))) w us (λ u. refl) in
-      let whole = dot_added (coefficient t) (λ u. neg_ℤ (sum_of (one_at u) (term s ts))) (λ u. difference (parts (one_at u) (term t (term s ts)))) w us (λ u. omega (arith, ints, lessened (coefficient t u -ℤ coefficient s u) (parts (one_at u) ts), summed (coefficient s u) (parts (one_at u) ts))) in
-      omega (arith, ints, lessened (part w t -ℤ part w s) (parts w ts), summed (part w s) (parts w ts), h.0, rest, turned, whole)
+      let whole = dot_added (coefficient t) (λ u. neg_ℤ (sum_of (one_at u) (term s ts))) (λ u. difference (form_parts (one_at u) (term t (term s ts)))) w us (λ u. omega (arith, ints, lessened (coefficient t u -ℤ coefficient s u) (form_parts (one_at u) ts), summed (coefficient s u) (form_parts (one_at u) ts))) in
+      omega (arith, ints, lessened (part w t -ℤ part w s) (form_parts w ts), summed (part w s) (form_parts w ts), h.0, rest, turned, whole)
 
   products_dot : (ts : Terms) → AreDots ts → product_part w ts ≡ dot (λ u. product_part (one_at u) ts) w us
   products_dot no_terms h = sym (dot_nothing (λ u. pos 0) w us (λ u. refl))

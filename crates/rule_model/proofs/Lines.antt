@@ -1,7 +1,7 @@
 -- Where each command is reached.
 use Rattle.std.proofs.Common.{◌≡◌, ◌<◌, ◌≤◌, ◌-◌, ◌⊎◌, inl, inr, ℕ, zero, suc, List, [], ◌∷◌, ◌++◌, length, take, slice_get, Some, refl, sym, ◌∙◌, ap, subst, arith}
 use Rattle.std.proofs.lemmas.List.{append_assoc, append-nil, take-append-le}
-use Rattle.rule_model.specs.Proofs.{Items, no_items, with_assume, with_step, with_subproof}
+use Rattle.rule_model.specs.Proofs.{ProofItems, no_items, with_assume, with_step, with_subproof}
 use Rattle.rule_model.specs.Scopes.{Nesting, inner}
 use Rattle.rule_model.specs.Commands.{Line, lines_in, lines_around, lines_to}
 
@@ -42,7 +42,7 @@ module _ {V T : Type 0} where
           rw (take_seam lines (m ∷ []) k p.0, here.0, append-nil lines) (subst (λ x. lines_to x.scope ≡ lines_around nesting ++ lines) here.1 own)
 
   -- a command is reached where exactly the commands before it are written
-  pub lines_before : (nesting : Nesting V T) (items : Items V T) (k : ℕ) (l : Line V T) → slice_get (lines_in nesting items) k ≡ Some l → lines_to l.scope ≡ lines_around nesting ++ take k (lines_in nesting items)
+  pub lines_before : (nesting : Nesting V T) (items : ProofItems V T) (k : ℕ) (l : Line V T) → slice_get (lines_in nesting items) k ≡ Some l → lines_to l.scope ≡ lines_around nesting ++ take k (lines_in nesting items)
   lines_before nesting no_items k l e = absurd (cc)
   lines_before nesting (with_assume items id t) k l e = last_before nesting (lines_in nesting items) k l _ refl (lines_before nesting items) e
   lines_before nesting (with_step items s) k l e = last_before nesting (lines_in nesting items) k l _ refl (lines_before nesting items) e

@@ -1,11 +1,11 @@
 -- How many commands and scopes there are.
 use Rattle.std.proofs.Common.{◌≡◌, ◌∷◌, ◌++◌, length, refl, arith}
 use Rattle.std.proofs.lemmas.List.{length-append}
-use Rattle.rule_model.specs.Proofs.{Items, no_items, with_assume, with_step, with_subproof}
+use Rattle.rule_model.specs.Proofs.{ProofItems, no_items, with_assume, with_step, with_subproof}
 use Rattle.rule_model.specs.Scopes.{Nesting, outermost, inside, Scope, inner, commands_in, subproofs_in, scope_number, first_index, next_index, next_scope}
 use Rattle.rule_model.specs.Commands.{lines_in, lines_around, lines_to, scope_entry, scopes_in, scopes_before, scopes_to}
 
-pub lines_in_count : {V T : Type 0} (nesting : Nesting V T) (items : Items V T) → length (lines_in nesting items) ≡ commands_in items
+pub lines_in_count : {V T : Type 0} (nesting : Nesting V T) (items : ProofItems V T) → length (lines_in nesting items) ≡ commands_in items
 lines_in_count nesting no_items = refl
 lines_in_count nesting (with_assume items id t) =
     let ih = lines_in_count nesting items in rw (length-append (lines_in nesting items) _) (omega arith)
@@ -30,7 +30,7 @@ lines_count scope =
     let own = lines_in_count scope.nesting scope.items in
     rw (length-append (lines_around scope.nesting) (lines_in scope.nesting scope.items)) (omega arith)
 
-pub scopes_in_count : {V T : Type 0} (nesting : Nesting V T) (items : Items V T) → length (scopes_in nesting items) ≡ subproofs_in items
+pub scopes_in_count : {V T : Type 0} (nesting : Nesting V T) (items : ProofItems V T) → length (scopes_in nesting items) ≡ subproofs_in items
 scopes_in_count nesting no_items = refl
 scopes_in_count nesting (with_assume items id t) = scopes_in_count nesting items
 scopes_in_count nesting (with_step items s) = scopes_in_count nesting items

@@ -8,15 +8,15 @@ use Rattle.term_model.specs.Operators.{meaning}
 use Rattle.term_model.specs.Interpretations.{Interpretation, first_row}
 use Rattle.term_model.specs.Meaning.{Valuation, value_at, value, values, bound}
 use Rattle.term_model.proofs.Tests.{var_eq_decides}
-use Rattle.rule_model.specs.Replacement.{Replacement, term_at, replaced, replaced_all, replaced_bindings, HasNoLet, HaveNoLet, values_put}
+use Rattle.rule_model.specs.Replacement.{Replacement, replaced_by, replaced, replaced_all, replaced_bindings, HasNoLet, HaveNoLet, values_put}
 use Rattle.rule_model.specs.Substitution.{HaveTheirSorts}
 use Rattle.rule_model.proofs.ReplacementLists.{all_joined}
 
-pub term_at-sort : (r : Replacement) (x : Var) → HaveTheirSorts r → IsOf (term_at r x) x.sort
+pub term_at-sort : (r : Replacement) (x : Var) → HaveTheirSorts r → IsOf (replaced_by r x) x.sort
 term_at-sort [] x h = refl
 term_at-sort (b ∷ r) x h = go (var_eq b.0 x) refl (term_at-sort r x h.1)
   where
-    go : (t : Bool) → var_eq b.0 x ≡ t → IsOf (term_at r x) x.sort → IsOf (if t then b.1 else term_at r x) x.sort
+    go : (t : Bool) → var_eq b.0 x ≡ t → IsOf (replaced_by r x) x.sort → IsOf (if t then b.1 else replaced_by r x) x.sort
     go true e rest = subst (λ y. IsOf b.1 y.sort) ((var_eq_decides b.0 x).0 e) h.0
     go false e rest = rest
 
@@ -25,7 +25,7 @@ mutual
 
   pub replaced-sort : (t : Term) (r : Replacement) (s : Sort) → HaveTheirSorts r → IsOf t s → IsOf (replaced r t) s
   replaced-sort (numeral n) r s h e = e
-  replaced-sort (variable x) r s h e = subst (IsOf (term_at r x)) (sym e) (term_at-sort r x h)
+  replaced-sort (variable x) r s h e = subst (IsOf (replaced_by r x)) (sym e) (term_at-sort r x h)
   replaced-sort (operation op ts) r s h e =
       record { sorts = e.sorts; arguments = replaced_all-sorts ts r e.sorts h e.arguments; is = e.is }
   replaced-sort (call f ts) r s h e =
@@ -48,11 +48,11 @@ mutual
 abbrev pub AreLetFree : Replacement → Type 0
 AreLetFree r = AllByRecursion (λ b. HasNoLet b.1) r
 
-pub term_at-let_free : (r : Replacement) (x : Var) → AreLetFree r → HasNoLet (term_at r x)
+pub term_at-let_free : (r : Replacement) (x : Var) → AreLetFree r → HasNoLet (replaced_by r x)
 term_at-let_free [] x h = tt
 term_at-let_free (b ∷ r) x h = go (var_eq b.0 x) (term_at-let_free r x h.1)
   where
-    go : (t : Bool) → HasNoLet (term_at r x) → HasNoLet (if t then b.1 else term_at r x)
+    go : (t : Bool) → HasNoLet (replaced_by r x) → HasNoLet (if t then b.1 else replaced_by r x)
     go true rest = h.0
     go false rest = rest
 
@@ -77,11 +77,11 @@ mutual
   replaced_bindings-let_free (binding x t bs) r h = (replaced-let_free t r h, replaced_bindings-let_free bs r h)
 
 -- values
-pub value_of_put : (I : Interpretation) (v : Valuation) (r : Replacement) (x : Var) → value I v (term_at r x) ≡ value_at (values_put I v r ++ v) x
+pub value_of_put : (I : Interpretation) (v : Valuation) (r : Replacement) (x : Var) → value I v (replaced_by r x) ≡ value_at (values_put I v r ++ v) x
 value_of_put I v [] x = refl
 value_of_put I v (b ∷ r) x = go (var_eq b.0 x) (value_of_put I v r x)
   where
-    go : (t : Bool) → value I v (term_at r x) ≡ value_at (values_put I v r ++ v) x → value I v (if t then b.1 else term_at r x) ≡ (if t then value I v b.1 else value_at (values_put I v r ++ v) x)
+    go : (t : Bool) → value I v (replaced_by r x) ≡ value_at (values_put I v r ++ v) x → value I v (if t then b.1 else replaced_by r x) ≡ (if t then value I v b.1 else value_at (values_put I v r ++ v) x)
     go true rest = refl
     go false rest = rest
 

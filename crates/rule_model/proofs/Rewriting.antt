@@ -11,7 +11,7 @@ use Rattle.term_model.proofs.Basics.{and-left, and-right}
 use Rattle.term_model.proofs.Sorting.{when-same, choice_sort-branches, value_has_sort, bool_value}
 use Rattle.term_model.proofs.Tests.{sort_eq_decides}
 use Rattle.rule_model.specs.declared.letter.Letter.{Letter}
-use Rattle.rule_model.specs.Rewriting.{Guard, always, truths, one_number, two_numbers, below, at_most, Passes, Row}
+use Rattle.rule_model.specs.Rewriting.{Guard, always, truths, one_number, two_numbers, below, at_most, PassesGuard, RewriteRow}
 use Rattle.rule_model.specs.Schemas.{Pattern, letter, constant, unary, binary, ternary, fill}
 use Rattle.rule_model.proofs.TruthTables.{pattern_value, fill_value, is_in, is_truth_in, or_cases, or_left, or_right, same_values, truth_letter, table, both}
 
@@ -171,29 +171,29 @@ is_truth_guarded l (two_numbers p q) = false
 is_truth_guarded l (below p q) = false
 is_truth_guarded l (at_most p q) = false
 
-abbrev is_known_in : Row → Letter → Bool
+abbrev is_known_in : RewriteRow → Letter → Bool
 is_known_in row l =
     not (is_in l row.left || is_in l row.right) || (is_truth_in l row.left || is_truth_guarded l row.guard)
 
-abbrev pub all_known_in : Row → Bool
+abbrev pub all_known_in : RewriteRow → Bool
 all_known_in row =
     is_known_in row Letter.A && (is_known_in row Letter.B && (is_known_in row Letter.C && is_known_in row Letter.D))
 
-abbrev pub has_one_value : Row → Bool
+abbrev pub has_one_value : RewriteRow → Bool
 has_one_value row =
     both (λ a. both (λ b. both (λ c. both (λ d. same_truth (pattern_value (table a b c d) row.left) (pattern_value (table a b c d) row.right)))))
 
-abbrev pub is_kept : Row → Bool
+abbrev pub is_kept : RewriteRow → Bool
 is_kept row = is_of_truths row.left && (is_boolean row.right && (all_known_in row && has_one_value row))
 
 -- a row keeps the value and the sort of what it rewrites
-pub record Keeps (row : Row) (I : Interpretation) (r : Valuation) (terms : Letter → Term) (s : Sort) : Type 0 where
+pub record Keeps (row : RewriteRow) (I : Interpretation) (r : Valuation) (terms : Letter → Term) (s : Sort) : Type 0 where
   pub value_is : value I r (fill terms row.left) ≡ value I r (fill terms row.right)
   pub sort_is : IsOf (fill terms row.right) s
 
-abbrev pub IsKept : Row → Type 0
+abbrev pub IsKept : RewriteRow → Type 0
 IsKept row =
-    (I : Interpretation) (r : Valuation) (terms : Letter → Term) (s : Sort) → ValuationFits r → IsOf (fill terms row.left) s → Passes terms row.guard → Keeps row I r terms s
+    (I : Interpretation) (r : Valuation) (terms : Letter → Term) (s : Sort) → ValuationFits r → IsOf (fill terms row.left) s → PassesGuard terms row.guard → Keeps row I r terms s
 
 both_at : (f : Bool → Bool) (b : Bool) → both f ≡ true → f b ≡ true
 both_at f true e = and-left (f true) (f false) e
@@ -206,7 +206,7 @@ at_values f a b c d e =
     (both_at (λ b. both (λ c. both (λ d. f a b c d))) b
     (both_at (λ a. both (λ b. both (λ c. both (λ d. f a b c d)))) a e)))
 
-each_known : (row : Row) → all_known_in row ≡ true → (l : Letter) → is_known_in row l ≡ true
+each_known : (row : RewriteRow) → all_known_in row ≡ true → (l : Letter) → is_known_in row l ≡ true
 each_known row e Letter.A = and-left _ _ e
 each_known row e Letter.B = and-left _ _ (and-right (is_known_in row Letter.A) _ e)
 each_known row e Letter.C = and-left _ _ (and-right (is_known_in row Letter.B) _ (and-right (is_known_in row Letter.A) _ e))
@@ -216,7 +216,7 @@ not_both : (x : Bool) → not x ≡ true → x ≡ true → ⊥
 not_both true e f = cc
 not_both false e f = cc
 
-guarded_truth : (terms : Letter → Term) (l : Letter) (g : Guard) → is_truth_guarded l g ≡ true → Passes terms g → IsOf (terms l) Sort.Bool
+guarded_truth : (terms : Letter → Term) (l : Letter) (g : Guard) → is_truth_guarded l g ≡ true → PassesGuard terms g → IsOf (terms l) Sort.Bool
 guarded_truth terms l always e h = absurd cc
 guarded_truth terms l (truths p q) e h =
     elim (or_cases (is_truth_in l p) (is_truth_in l q) e) [ inl f ↦ truth_letter terms l p f h.0 | inr f ↦ truth_letter terms l q f h.1 ]
@@ -225,7 +225,7 @@ guarded_truth terms l (two_numbers p q) e h = absurd cc
 guarded_truth terms l (below p q) e h = absurd cc
 guarded_truth terms l (at_most p q) e h = absurd cc
 
-used_truth : (terms : Letter → Term) (row : Row) (l : Letter) → is_known_in row l ≡ true → (is_in l row.left || is_in l row.right) ≡ true → IsOf (fill terms row.left) Sort.Bool → Passes terms row.guard → IsOf (terms l) Sort.Bool
+used_truth : (terms : Letter → Term) (row : RewriteRow) (l : Letter) → is_known_in row l ≡ true → (is_in l row.left || is_in l row.right) ≡ true → IsOf (fill terms row.left) Sort.Bool → PassesGuard terms row.guard → IsOf (terms l) Sort.Bool
 used_truth terms row l e used h passes =
     elim (or_cases (not (is_in l row.left || is_in l row.right)) _ e) [
       | inl f ↦ absurd (not_both _ f used)
@@ -258,7 +258,7 @@ module _ (I : Interpretation) (r : Valuation) (fits : ValuationFits r) (terms : 
   table_value : (p : Pattern) → ((l : Letter) → is_in l p ≡ true → IsOf (terms l) Sort.Bool) → value I r (fill terms p) ≡ pattern_value truths_of p
   table_value p each = fill_value I r terms p ∙ same_values letter_values truths_of p (λ l e. tabled l (each l e))
 
-  pub bool_kept : (row : Row) → is_boolean row.right ≡ true → all_known_in row ≡ true → has_one_value row ≡ true → IsOf (fill terms row.left) Sort.Bool → Passes terms row.guard → Keeps row I r terms Sort.Bool
+  pub bool_kept : (row : RewriteRow) → is_boolean row.right ≡ true → all_known_in row ≡ true → has_one_value row ≡ true → IsOf (fill terms row.left) Sort.Bool → PassesGuard terms row.guard → Keeps row I r terms Sort.Bool
   bool_kept row right known same h passes =
       let each = λ (l : Letter) (used : (is_in l row.left || is_in l row.right) ≡ true). used_truth terms row l (each_known row known l) used h passes in
       let one = same_is_equal _ _ (at_values (λ a b c d. same_truth (pattern_value (table a b c d) row.left) (pattern_value (table a b c d) row.right)) _ _ _ _ same) in
@@ -270,7 +270,7 @@ module _ (I : Interpretation) (r : Valuation) (fits : ValuationFits r) (terms : 
         sort_is = boolean_is terms row.right right (λ l e. each l (or_right (is_in l row.left) (is_in l row.right) e));
       }
 
-pub row_kept : (row : Row) → is_kept row ≡ true → IsKept row
+pub row_kept : (row : RewriteRow) → is_kept row ≡ true → IsKept row
 row_kept row e I r terms s fits h passes =
     let bool = of_truths terms row.left s (and-left (is_of_truths row.left) _ e) h in
     let more = and-right (is_of_truths row.left) _ e in

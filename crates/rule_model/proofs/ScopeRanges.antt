@@ -2,9 +2,9 @@
 use Rattle.std.proofs.Common.{◌≡◌, ◌<◌, ◌≤◌, ◌+◌, ◌-◌, ◌⊎◌, ◌↔◌, inl, inr, ℕ, zero, suc, List, [], ◌∷◌, ◌++◌, length, take, slice_get, Option, Some, None, refl, sym, ◌∙◌, subst, arith}
 use Rattle.std.specs.List.{AllByRecursion}
 use Rattle.std.proofs.lemmas.Option.{slice_get_within}
-use Rattle.rule_model.specs.Proofs.{Items, no_items, with_assume, with_step, with_subproof}
+use Rattle.rule_model.specs.Proofs.{ProofItems, no_items, with_assume, with_step, with_subproof}
 use Rattle.rule_model.specs.Scopes.{Nesting, outermost, inside, inner, subproofs_in, scope_number}
-use Rattle.rule_model.specs.Commands.{Command, assume, step, closing, Line, lines_in, lines_around, own_scope, closed_scope}
+use Rattle.rule_model.specs.Commands.{IndexedCommand, assume, step, closing, Line, lines_in, lines_around, own_scope, closed_scope}
 use Rattle.rule_model.specs.Reading.{scope_at, closes_at}
 use Rattle.rule_model.proofs.LineReading.{scope_is, closes_is, none_closes}
 use Rattle.rule_model.proofs.Lines.{get_append, lines_before}
@@ -17,7 +17,7 @@ module _ {V T : Type 0} where
   number l = own_scope l.scope.nesting l.command
 
   -- the numbers of the commands of a scope are those of it and of the scopes inside it
-  numbers_in : (nesting : Nesting V T) (items : Items V T) → AllByRecursion (λ l. (scope_number nesting ≤ number l) × (number l ≤ scope_number nesting + subproofs_in items)) (lines_in nesting items)
+  numbers_in : (nesting : Nesting V T) (items : ProofItems V T) → AllByRecursion (λ l. (scope_number nesting ≤ number l) × (number l ≤ scope_number nesting + subproofs_in items)) (lines_in nesting items)
   numbers_in nesting no_items = tt
   numbers_in nesting (with_assume items id t) =
       all_joined _ (lines_in nesting items) _ (numbers_in nesting items) ((omega arith, omega arith), tt)
@@ -39,7 +39,7 @@ module _ {V T : Type 0} where
       (all_changed _ _ (λ l h. let v = h in omega arith) (lines_around around) (numbers_around around))
       (all_changed _ _ (λ l h. let w = h.1 in omega arith) (lines_in around before) (numbers_in around before))
 
-  module _ (proof : Items V T) where
+  module _ (proof : ProofItems V T) where
     get_within : {X : Type 0} (xs : List X) (j : ℕ) → j < length xs → (x : X) × (slice_get xs j ≡ Some x)
     get_within [] j h = absurd (omega arith)
     get_within (x ∷ xs) zero h = (x, refl)
@@ -76,7 +76,7 @@ module _ {V T : Type 0} where
     pub together : (i k : ℕ) → closes_at proof i ≡ Some k → (first : ℕ) × ((j : ℕ) → j < i → first ≤ j ↔ k ≤ scope_at proof j)
     together i k closes = go (slice_get (lines_in outermost proof) i) refl
       where
-        number_of : (nesting : Nesting V T) (command : Command T) → closed_scope nesting command ≡ Some k → scope_number nesting ≡ k
+        number_of : (nesting : Nesting V T) (command : IndexedCommand T) → closed_scope nesting command ≡ Some k → scope_number nesting ≡ k
         number_of nesting (assume id t) e = absurd cc
         number_of nesting (step s) e = absurd cc
         number_of nesting (closing s) e = some_same e

@@ -8,9 +8,9 @@ use Rattle.term_model.specs.Terms.{Var, Term}
 use Rattle.term_model.specs.Unsatisfiable.{MakesTrue, MakesAllTrue}
 use Rattle.term_model.proofs.Sorting.{value_has_sort}
 use Rattle.rule_model.specs.Clauses.{MakesClauseTrue}
-use Rattle.rule_model.specs.Contexts.{AreNested, IsBoundBy, IsClosedUnder, context_values, images}
+use Rattle.rule_model.specs.Contexts.{AreAnchorsNested, IsBoundBy, IsClosedUnder, context_values, images}
 use Rattle.rule_model.specs.Judged.{open_anchors}
-use Rattle.rule_model.specs.Proofs.{Items, no_items, with_assume, with_step, with_subproof}
+use Rattle.rule_model.specs.Proofs.{ProofItems, no_items, with_assume, with_step, with_subproof}
 use Rattle.rule_model.specs.Replacement.{Replacement}
 use Rattle.rule_model.specs.Scopes.{Anchor, Nesting, outermost, inside, Scope}
 use Rattle.rule_model.specs.Substitution.{Replaces, HaveTheirSorts, image_values}
@@ -53,7 +53,7 @@ IsGood (inside around before anchor) =
     IsGood around × AreWellSorted around before × AllByRecursion (IsBindingIn around) anchor.bindings × MayOpen around before anchor
 
 -- the anchors that are open are nested, and bind terms of their variables' sorts
-pub good_nested : (nesting : Nesting Var Term) → IsGood nesting → AreNested (open_anchors nesting)
+pub good_nested : (nesting : Nesting Var Term) → IsGood nesting → AreAnchorsNested (open_anchors nesting)
 good_nested outermost good = tt
 good_nested (inside around before anchor) good =
     (all_changed (IsBindingIn around) (λ b. IsClosedUnder (open_anchors around) b.1) (λ b h. h.closed) anchor.bindings good.2, good_nested around good.0)
@@ -104,19 +104,19 @@ replaced_name s x P all h = All-contains P (map (λ (b : Var × Term). b.0) s) x
     named (b ∷ s) x (inl e) = (0, omega arith, e)
     named (b ∷ s) x (inr h) = let k = named s x h in (suc k.0, let w = k.1 in omega arith, k.2)
 
-pub same_inside : (I : Interpretation) (around : Nesting Var Term) (before : Items Var Term) (anchor : Anchor Var Term) (t : Term) → MayOpen around before anchor → IsClosedUnder (open_anchors around) t → value I (values_in I (inside around before anchor)) t ≡ value I (values_in I around) t
+pub same_inside : (I : Interpretation) (around : Nesting Var Term) (before : ProofItems Var Term) (anchor : Anchor Var Term) (t : Term) → MayOpen around before anchor → IsClosedUnder (open_anchors around) t → value I (values_in I (inside around before anchor)) t ≡ value I (values_in I around) t
 same_inside I around before anchor t may closed =
     anchor_keeps_others I anchor.bindings (open_anchors around) t
     (λ x free r. replaced_name anchor.bindings x (λ y. ¬ Contains (map (λ (b : Var × Term). b.0) (open_bindings around)) y) may.unbound r (bound_names around x (closed x free)))
 
 -- what is assumed in open scopes is closed there
-assumed_closed : (nesting : Nesting Var Term) (items : Items Var Term) → AreWellSorted nesting items → AllByRecursion (IsClosedUnder (open_anchors nesting)) (assumed_in items)
+assumed_closed : (nesting : Nesting Var Term) (items : ProofItems Var Term) → AreWellSorted nesting items → AllByRecursion (IsClosedUnder (open_anchors nesting)) (assumed_in items)
 assumed_closed nesting no_items h = tt
 assumed_closed nesting (with_assume items id t) h = all_joined _ (assumed_in items) _ (assumed_closed nesting items h.0) (h.1.closed, tt)
 assumed_closed nesting (with_step items s) h = assumed_closed nesting items h.0
 assumed_closed nesting (with_subproof items bindings proof s) h = assumed_closed nesting items h.0
 
-assumes_closed : (nesting : Nesting Var Term) (items : Items Var Term) → IsGood nesting → AreWellSorted nesting items → AllByRecursion (IsClosedUnder (open_anchors nesting)) (open_assumes nesting items)
+assumes_closed : (nesting : Nesting Var Term) (items : ProofItems Var Term) → IsGood nesting → AreWellSorted nesting items → AllByRecursion (IsClosedUnder (open_anchors nesting)) (open_assumes nesting items)
 assumes_closed outermost items good h = tt
 assumes_closed (inside around before anchor) items good h =
     all_joined _ (open_assumes around before) _
@@ -124,10 +124,10 @@ assumes_closed (inside around before anchor) items good h =
     (assumed_closed (inside around before anchor) items h)
 
 -- the interpretation makes true what is assumed in open scopes
-abbrev pub Holds : Interpretation → Nesting Var Term → Items Var Term → Type 0
+abbrev pub Holds : Interpretation → Nesting Var Term → ProofItems Var Term → Type 0
 Holds I nesting items = AllByRecursion (MakesTrue I (values_in I nesting)) (open_assumes nesting items)
 
-pub holds_inside : (I : Interpretation) (around : Nesting Var Term) (before : Items Var Term) (anchor : Anchor Var Term) (items : Items Var Term) → IsGood (inside around before anchor) → Holds I around before → AllByRecursion (MakesTrue I (values_in I (inside around before anchor))) (assumed_in items) → Holds I (inside around before anchor) items
+pub holds_inside : (I : Interpretation) (around : Nesting Var Term) (before : ProofItems Var Term) (anchor : Anchor Var Term) (items : ProofItems Var Term) → IsGood (inside around before anchor) → Holds I around before → AllByRecursion (MakesTrue I (values_in I (inside around before anchor))) (assumed_in items) → Holds I (inside around before anchor) items
 holds_inside I around before anchor items good h inner =
     all_joined _ (open_assumes around before) _
     (all_both (IsClosedUnder (open_anchors around)) (MakesTrue I (values_in I around)) (MakesTrue I (values_in I (inside around before anchor)))
@@ -135,31 +135,31 @@ holds_inside I around before anchor items good h inner =
     (open_assumes around before) (assumes_closed around before good.0 good.1) h)
     inner
 
-pub holds_outside : (I : Interpretation) (around : Nesting Var Term) (before : Items Var Term) (anchor : Anchor Var Term) (items : Items Var Term) → IsGood (inside around before anchor) → Holds I (inside around before anchor) items → Holds I around before
+pub holds_outside : (I : Interpretation) (around : Nesting Var Term) (before : ProofItems Var Term) (anchor : Anchor Var Term) (items : ProofItems Var Term) → IsGood (inside around before anchor) → Holds I (inside around before anchor) items → Holds I around before
 holds_outside I around before anchor items good h =
     all_both (IsClosedUnder (open_anchors around)) (MakesTrue I (values_in I (inside around before anchor))) (MakesTrue I (values_in I around))
     (λ t closed true_in. sym (same_inside I around before anchor t good.3 closed) ∙ true_in)
     (open_assumes around before) (assumes_closed around before good.0 good.1) (all_front _ (open_assumes around before) _ h)
 
-assumed_front : (P : Term → Type 0) (front more : Items Var Term) → IsFront front more → AllByRecursion P (assumed_in more) → AllByRecursion P (assumed_in front)
+assumed_front : (P : Term → Type 0) (front more : ProofItems Var Term) → IsFront front more → AllByRecursion P (assumed_in more) → AllByRecursion P (assumed_in front)
 assumed_front P _ _ (whole items) h = h
 assumed_front P _ _ (assume_more front items id t f) h = assumed_front P front items f (all_front P (assumed_in items) _ h)
 assumed_front P _ _ (step_more front items s f) h = assumed_front P front items f h
 assumed_front P _ _ (subproof_more front items bindings proof s f) h = assumed_front P front items f h
 
-pub holds_front : (I : Interpretation) (nesting : Nesting Var Term) (front more : Items Var Term) → IsFront front more → Holds I nesting more → Holds I nesting front
+pub holds_front : (I : Interpretation) (nesting : Nesting Var Term) (front more : ProofItems Var Term) → IsFront front more → Holds I nesting more → Holds I nesting front
 holds_front I outermost front more f h = tt
 holds_front I (inside around before anchor) front more f h =
     all_joined _ (open_assumes around before) _ (all_front _ (open_assumes around before) _ h)
     (assumed_front _ front more f (all_back _ (open_assumes around before) _ h))
 
-closed_inside : (scope : Scope Var Term) (nesting : Nesting Var Term) (items : Items Var Term) (t : Term) → IsOpenAt scope nesting items → IsClosedUnder (open_anchors scope.nesting) t → IsClosedUnder (open_anchors nesting) t
+closed_inside : (scope : Scope Var Term) (nesting : Nesting Var Term) (items : ProofItems Var Term) (t : Term) → IsOpenAt scope nesting items → IsClosedUnder (open_anchors scope.nesting) t → IsClosedUnder (open_anchors nesting) t
 closed_inside _ _ _ t (own nesting items more f) closed = closed
 closed_inside _ _ _ t (outside scope around before anchor items o) closed =
     λ x free. inr (closed_inside scope around before t o closed x free)
 
 -- a clause that is true in a scope is true where this is open
-pub true_inside : (assertions : List Term) (I : Interpretation) (scope : Scope Var Term) (nesting : Nesting Var Term) (items : Items Var Term) (clause : List Term) → IsOpenAt scope nesting items → IsGood nesting → MakesAllTrue I assertions → Holds I nesting items → AllByRecursion (IsLiteralIn scope.nesting) clause → IsTrueWhere assertions scope clause → MakesClauseTrue I (values_in I nesting) clause
+pub true_inside : (assertions : List Term) (I : Interpretation) (scope : Scope Var Term) (nesting : Nesting Var Term) (items : ProofItems Var Term) (clause : List Term) → IsOpenAt scope nesting items → IsGood nesting → MakesAllTrue I assertions → Holds I nesting items → AllByRecursion (IsLiteralIn scope.nesting) clause → IsTrueWhere assertions scope clause → MakesClauseTrue I (values_in I nesting) clause
 true_inside assertions I _ _ _ clause (own nesting items more f) good asserted holds literals is =
     is I asserted (holds_front I nesting items more f holds)
 true_inside assertions I _ _ _ clause (outside scope around before anchor items o) good asserted holds literals is =

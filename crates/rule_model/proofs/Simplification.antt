@@ -22,12 +22,12 @@ use Rattle.rule_model.specs.Clauses.{MakesClauseTrue}
 use Rattle.rule_model.specs.Conditions.{IsClauseOfTruths}
 use Rattle.rule_model.specs.Constants.{constant_of}
 use Rattle.rule_model.specs.Patterns.{a, b, c, d, yes, never, no, equal, ite, less, less_eq, greater, greater_eq}
-use Rattle.rule_model.specs.Rewriting.{Row, ◌⇝◌, one_number, two_numbers, below, at_most, where_constants, Rewrites, IsFirstFit, IsReached, once, again, Simplifies}
+use Rattle.rule_model.specs.Rewriting.{RewriteRow, ◌⇝◌, one_number, two_numbers, below, at_most, where_constants, Rewrites, IsFirstFit, IsReached, once, again, Simplifies}
 use Rattle.rule_model.specs.Schemas.{fill}
 use Rattle.rule_model.specs.Simplification.{not_simplify, implies_simplify, equiv_simplify, bool_simplify, ite_simplify, eq_simplify, comp_simplify, MeetsSimplification}
 use Rattle.rule_model.proofs.Rewriting.{IsKept, row_kept, choice_parts, choice_of}
 
-abbrev pub AreKept : List Row → Type 0
+abbrev pub AreKept : List RewriteRow → Type 0
 AreKept rows = AllByRecursion IsKept rows
 
 pub not_kept : AreKept not_simplify
@@ -429,7 +429,7 @@ record IsAlike (I : Interpretation) (r : Valuation) (t u : Term) (s : Sort) : Ty
   sort_is : IsOf u s
 
 module _ (I : Interpretation) (r : Valuation) (fits : ValuationFits r) where
-  rewritten_alike : (row : Row) → IsKept row → (t u : Term) (s : Sort) → Rewrites row t u → IsOf t s → IsAlike I r t u s
+  rewritten_alike : (row : RewriteRow) → IsKept row → (t u : Term) (s : Sort) → Rewrites row t u → IsOf t s → IsAlike I r t u s
   rewritten_alike row kept t u s w h =
       let k = kept I r w.terms s fits (subst (λ x. IsOf x s) w.from h) w.passes in
       record {
@@ -437,19 +437,19 @@ module _ (I : Interpretation) (r : Valuation) (fits : ValuationFits r) where
         sort_is = subst (λ x. IsOf x s) (sym w.to) k.sort_is;
       }
 
-  first_alike : (rows : List Row) → AreKept rows → (t u : Term) (s : Sort) → IsFirstFit rows t u → IsOf t s → IsAlike I r t u s
+  first_alike : (rows : List RewriteRow) → AreKept rows → (t u : Term) (s : Sort) → IsFirstFit rows t u → IsOf t s → IsAlike I r t u s
   first_alike [] kept t u s f h = absurd f
   first_alike (row ∷ rows) kept t u s (inl w) h = rewritten_alike row kept.0 t u s w h
   first_alike (row ∷ rows) kept t u s (inr later) h = first_alike rows kept.1 t u s later.1 h
 
-  reached_alike : (rows : List Row) → AreKept rows → (t u : Term) (s : Sort) → IsReached rows t u → IsOf t s → IsAlike I r t u s
+  reached_alike : (rows : List RewriteRow) → AreKept rows → (t u : Term) (s : Sort) → IsReached rows t u → IsOf t s → IsAlike I r t u s
   reached_alike rows kept _ _ s (once t u f) h = first_alike rows kept t u s f h
   reached_alike rows kept _ _ s (again t u w f more) h =
       let now = first_alike rows kept t u s f h in
       let later = reached_alike rows kept u w s more now.sort_is in
       record { value_is = now.value_is ∙ later.value_is; sort_is = later.sort_is }
 
-  any_alike : (rows : List Row) → AreKept rows → (t u : Term) (s : Sort) → Any (λ row. Rewrites row t u) rows → IsOf t s → IsAlike I r t u s
+  any_alike : (rows : List RewriteRow) → AreKept rows → (t u : Term) (s : Sort) → Any (λ row. Rewrites row t u) rows → IsOf t s → IsAlike I r t u s
   any_alike [] kept t u s some h = absurd (omega (arith, some.2))
   any_alike (row ∷ rows) kept t u s some h =
       elim (any_cases (λ row. Rewrites row t u) row rows some) [
@@ -457,11 +457,11 @@ module _ (I : Interpretation) (r : Valuation) (fits : ValuationFits r) where
         | inr later ↦ any_alike rows kept.1 t u s later h
       ]
 
-  simplified_alike : (rows : List Row) → AreKept rows → (t u : Term) (s : Sort) → Simplifies rows t u → IsOf t s → IsAlike I r t u s
+  simplified_alike : (rows : List RewriteRow) → AreKept rows → (t u : Term) (s : Sort) → Simplifies rows t u → IsOf t s → IsAlike I r t u s
   simplified_alike rows kept t u s (inl some) h = any_alike rows kept t u s some h
   simplified_alike rows kept t u s (inr reached) h = reached_alike rows kept t u s reached h
 
-  pub simplification_keeps : (rows : List Row) → AreKept rows → (premises : List (List Term)) (clause : List Term) → MeetsSimplification rows premises clause → IsClauseOfTruths clause → MakesClauseTrue I r clause
+  pub simplification_keeps : (rows : List RewriteRow) → AreKept rows → (premises : List (List Term)) (clause : List Term) → MeetsSimplification rows premises clause → IsClauseOfTruths clause → MakesClauseTrue I r clause
   simplification_keeps rows kept premises clause met sorted =
       let whole = All-head (λ t. IsOf t Sort.Bool) (equality met.left met.right) [] (subst IsClauseOfTruths met.literal sorted) in
       let left = All-head IsWellSorted met.left (met.right ∷ []) (operation_parts Op.Equal (term met.left (term met.right no_terms)) Sort.Bool whole) in

@@ -18,16 +18,16 @@ use Rattle.rule_model.specs.declared.rules.Rule.{Rule}
 use Rattle.rule_model.specs.declared.statuses.Status.{Status}
 use Rattle.rule_model.specs.Clauses.{MakesClauseTrue}
 use Rattle.rule_model.specs.Closings.{AreLinkedTo, IsAssumeIn, IsSubproof, IsLetClosing, MeetsClosing, EndsIn}
-use Rattle.rule_model.specs.Commands.{Command, assume, step, closing, Line, lines_in, lines_around, lines_to, own_scope}
+use Rattle.rule_model.specs.Commands.{IndexedCommand, assume, step, closing, Line, lines_in, lines_around, lines_to, own_scope}
 use Rattle.rule_model.specs.Conditions.{Met, MeetsWhere, IsMetAt, IsClauseOfTruths}
 use Rattle.rule_model.specs.Contexts.{context_values, IsInContext}
 use Rattle.rule_model.specs.Judged.{judged_at, open_anchors, anchors_at}
-use Rattle.rule_model.specs.Proofs.{Step, Items, no_items, with_assume, with_step, with_subproof}
+use Rattle.rule_model.specs.Proofs.{Step, ProofItems, no_items, with_assume, with_step, with_subproof}
 use Rattle.rule_model.specs.Reading.{rule_of, clause_of, premises_of, rule_at, clause_at, premises_at, discharged_at}
 use Rattle.rule_model.specs.RuleNames.{is_assume}
 use Rattle.rule_model.specs.Scopes.{Anchor, Nesting, outermost, inside, Scope, at, inner, scope_number}
 use Rattle.rule_model.specs.Soundness.{IsJustified, AreJustifiedTo}
-use Rattle.rule_model.specs.Statuses.{Checking, IsAsserted, Kind, assumed, hole, unknown, conditional, kind_of, IsStatusBy, IsStatusAt}
+use Rattle.rule_model.specs.Statuses.{Checking, IsAsserted, Kind, assumed, hole, unknown, conditional, kind_of_rule, IsStatusBy, IsStatusAt}
 use Rattle.rule_model.specs.Truth.{assumed_in, open_assumes, IsTrueWhere, IsTrueCommand, IsTrueAt, FollowsWhere, FollowsAt, IsLiteralIn, AreWellSorted, IsWellSortedProof}
 use Rattle.rule_model.specs.Visibility.{visible}
 use Rattle.rule_model.specs.WellFormed.{HasRule, AreWellFormed, IsWellFormed}
@@ -48,7 +48,7 @@ record GoodLine (l : Line Var Term) : Type 0 where
   around : IsGood l.scope.nesting
   literals : AllByRecursion (IsLiteralIn (add_command l.scope l.command).nesting) (clause_of l.command)
 
-lines_good : (nesting : Nesting Var Term) (items : Items Var Term) → IsGood nesting → AreWellFormed nesting items → AreWellSorted nesting items → AllByRecursion GoodLine (lines_in nesting items)
+lines_good : (nesting : Nesting Var Term) (items : ProofItems Var Term) → IsGood nesting → AreWellFormed nesting items → AreWellSorted nesting items → AllByRecursion GoodLine (lines_in nesting items)
 lines_good nesting no_items good formed sorted = tt
 lines_good nesting (with_assume items id t) good formed sorted =
     all_joined _ (lines_in nesting items) _ (lines_good nesting items good formed.0 sorted.0) (record { around = good; literals = (sorted.1, tt) }, tt)
@@ -61,7 +61,7 @@ lines_good nesting (with_subproof items bindings proof s) good formed sorted =
     (record { around = deep; literals = sorted.3 }, tt)
 
 -- a status Ok of a step is that its condition is met
-not_assumed : (c : Checking) (rule : Rule) → is_assume rule ≡ false → kind_of c rule ≡ assumed → ⊥
+not_assumed : (c : Checking) (rule : Rule) → is_assume rule ≡ false → kind_of_rule c rule ≡ assumed → ⊥
 not_assumed c Rule.Assume n e = absurd cc
 not_assumed c Rule.Hole n e = absurd cc
 not_assumed c Rule.LiaGeneric n e = absurd cc
@@ -74,7 +74,7 @@ not_assumed c rule n e = never (c.is_judged rule) c.unknown_are_holes e
     never false true e = cc
     never false false e = cc
 
-ok_met : (k : Kind) (c : Checking) (proof : Items Var Term) (i : ℕ) → ¬ (k ≡ assumed) → IsStatusBy k c proof i Status.Ok → IsMetAt c.mode proof i
+ok_met : (k : Kind) (c : Checking) (proof : ProofItems Var Term) (i : ℕ) → ¬ (k ≡ assumed) → IsStatusBy k c proof i Status.Ok → IsMetAt c.mode proof i
 ok_met assumed c proof i n h = absurd (n refl)
 ok_met hole c proof i n h = absurd h
 ok_met unknown c proof i n h = absurd h
@@ -97,7 +97,7 @@ all_of_part P f (d ∷ ds) j h (zero, below, e) = subst (λ x. AllByRecursion P 
     front (x ∷ xs) h = (h.0, front xs h.1)
 all_of_part P f (d ∷ ds) j h (suc k, below, e) = all_of_part P f ds j (all_back P (f d) (flat_map f ds) h) (k, omega arith, e)
 
-module _ (c : Checking) (proof : Items Var Term) (formed : IsWellFormed proof) (sorted : IsWellSortedProof proof) where
+module _ (c : Checking) (proof : ProofItems Var Term) (formed : IsWellFormed proof) (sorted : IsWellSortedProof proof) where
   abbrev lines : List (Line Var Term)
   lines = lines_in outermost proof
 
@@ -120,7 +120,7 @@ module _ (c : Checking) (proof : Items Var Term) (formed : IsWellFormed proof) (
         (omega arith, slice_get_taken i lines j m taken)
 
     -- what can be seen is true where a scope is open
-    seen_true : (I : Interpretation) (place : Nesting Var Term) (items : Items Var Term) (j : ℕ) → IsGood place → MakesAllTrue I c.assertions → Holds I place items → IsSeen (Opens place items) (lines_to l.scope) j → MakesClauseTrue I (values_in I place) (clause_at proof j)
+    seen_true : (I : Interpretation) (place : Nesting Var Term) (items : ProofItems Var Term) (j : ℕ) → IsGood place → MakesAllTrue I c.assertions → Holds I place items → IsSeen (Opens place items) (lines_to l.scope) j → MakesClauseTrue I (values_in I place) (clause_at proof j)
     seen_true I place items j good asserted holds (m, there, opens) =
         let before = earlier j m there in
         subst (MakesClauseTrue I (values_in I place)) (sym (clause_is proof j m before.1))
@@ -128,13 +128,13 @@ module _ (c : Checking) (proof : Items Var Term) (formed : IsWellFormed proof) (
         (line_good j m before.1).literals (below j m before.0 before.1))
 
     -- so are premises
-    premises_true : (I : Interpretation) (place : Nesting Var Term) (items : Items Var Term) (premises : List ℕ) → IsGood place → MakesAllTrue I c.assertions → Holds I place items → ((j : ℕ) → Contains premises j → IsSeen (Opens place items) (lines_to l.scope) j) → All (MakesClauseTrue I (values_in I place)) (map (clause_at proof) premises)
+    premises_true : (I : Interpretation) (place : Nesting Var Term) (items : ProofItems Var Term) (premises : List ℕ) → IsGood place → MakesAllTrue I c.assertions → Holds I place items → ((j : ℕ) → Contains premises j → IsSeen (Opens place items) (lines_to l.scope) j) → All (MakesClauseTrue I (values_in I place)) (map (clause_at proof) premises)
     premises_true I place items premises good asserted holds sees =
         All-map (MakesClauseTrue I (values_in I place)) (clause_at proof) premises
         (λ k d within. seen_true I place items _ good asserted holds (sees _ (All-contains_itself premises k d within)))
 
     -- literals of what can be seen are of Bool
-    seen_sorted : (place : Nesting Var Term) (items : Items Var Term) (premises : List ℕ) → ((j : ℕ) → Contains premises j → IsSeen (Opens place items) (lines_to l.scope) j) → All IsClauseOfTruths (map (clause_at proof) premises)
+    seen_sorted : (place : Nesting Var Term) (items : ProofItems Var Term) (premises : List ℕ) → ((j : ℕ) → Contains premises j → IsSeen (Opens place items) (lines_to l.scope) j) → All IsClauseOfTruths (map (clause_at proof) premises)
     seen_sorted place items premises sees =
         All-map IsClauseOfTruths (clause_at proof) premises (λ k d within. one _ (sees _ (All-contains_itself premises k d within)))
       where
@@ -148,17 +148,17 @@ module _ (c : Checking) (proof : Items Var Term) (formed : IsWellFormed proof) (
     met_of : (s : Step Term) → rule_of l.command ≡ s.rule → HasRule s → IsStatusAt c proof i Status.Ok → IsMetAt c.mode proof i
     met_of s is has ok =
         let no_assume : is_assume (rule_at proof i) ≡ false = ap is_assume (rule_is proof i l here ∙ (is ∙ has.named)) ∙ named_no_assume s.rule_name in
-        ok_met (kind_of c (rule_at proof i)) c proof i (not_assumed c (rule_at proof i) no_assume) ok
+        ok_met (kind_of_rule c (rule_at proof i)) c proof i (not_assumed c (rule_at proof i) no_assume) ok
 
     -- a command that follows from its premises wherever they are true
-    follows_true : FollowsAt c.assertions proof i → (items : Items Var Term) → ((I : Interpretation) → Holds I (add_command l.scope l.command).nesting (add_command l.scope l.command).items → Holds I (add_command l.scope l.command).nesting items) → IsGood (add_command l.scope l.command).nesting → ((j : ℕ) → Contains (premises_of l.command) j → IsSeen (Opens (add_command l.scope l.command).nesting items) (lines_to l.scope) j) → IsTrueCommand c.assertions l
+    follows_true : FollowsAt c.assertions proof i → (items : ProofItems Var Term) → ((I : Interpretation) → Holds I (add_command l.scope l.command).nesting (add_command l.scope l.command).items → Holds I (add_command l.scope l.command).nesting items) → IsGood (add_command l.scope l.command).nesting → ((j : ℕ) → Contains (premises_of l.command) j → IsSeen (Opens (add_command l.scope l.command).nesting items) (lines_to l.scope) j) → IsTrueCommand c.assertions l
     follows_true follows items narrower good sees I asserted holds =
         let at_line : FollowsWhere c.assertions (add_command l.scope l.command) (map (clause_at proof) (premises_of l.command)) (clause_of l.command) =
         subst (λ o. IfSome o (λ (m : Line Var Term). FollowsWhere c.assertions (add_command m.scope m.command) (map (clause_at proof) (premises_of m.command)) (clause_of m.command))) here follows in
         at_line I asserted holds (premises_true I _ items (premises_of l.command) good asserted (narrower I holds) sees)
 
     -- a step that closes nothing and meets its rule's condition
-    step_met : Met (judged_at c.mode proof i) → (items : Items Var Term) → ((I : Interpretation) → Holds I (add_command l.scope l.command).nesting (add_command l.scope l.command).items → Holds I (add_command l.scope l.command).nesting items) → (add_command l.scope l.command).nesting ≡ l.scope.nesting → ((j : ℕ) → Contains (premises_of l.command) j → IsSeen (Opens (add_command l.scope l.command).nesting items) (lines_to l.scope) j) → IsTrueCommand c.assertions l
+    step_met : Met (judged_at c.mode proof i) → (items : ProofItems Var Term) → ((I : Interpretation) → Holds I (add_command l.scope l.command).nesting (add_command l.scope l.command).items → Holds I (add_command l.scope l.command).nesting items) → (add_command l.scope l.command).nesting ≡ l.scope.nesting → ((j : ℕ) → Contains (premises_of l.command) j → IsSeen (Opens (add_command l.scope l.command).nesting items) (lines_to l.scope) j) → IsTrueCommand c.assertions l
     step_met met items narrower own sees I asserted holds =
         let good = subst IsGood (sym own) (line_good i l here).around in
         let place = (add_command l.scope l.command).nesting in
@@ -177,7 +177,7 @@ module _ (c : Checking) (proof : Items Var Term) (formed : IsWellFormed proof) (
         (premises_true I place items (premises_at proof i) good asserted (narrower I holds) sees_at))
 
   -- a step that closes a scope
-  module _ (i : ℕ) (around : Nesting Var Term) (before : Items Var Term) (anchor : Anchor Var Term) (items : Items Var Term) (s : Step Term) (here : slice_get lines i ≡ Some (record { scope = at (inside around before anchor) items; command = closing s })) (below : TrueBelow i) where
+  module _ (i : ℕ) (around : Nesting Var Term) (before : ProofItems Var Term) (anchor : Anchor Var Term) (items : ProofItems Var Term) (s : Step Term) (here : slice_get lines i ≡ Some (record { scope = at (inside around before anchor) items; command = closing s })) (below : TrueBelow i) where
     abbrev deep : Nesting Var Term
     deep = inside around before anchor
 
@@ -266,7 +266,7 @@ module _ (c : Checking) (proof : Items Var Term) (formed : IsWellFormed proof) (
     closing_true rule met = absurd met
 
   -- the step that closes a scope is true outside
-  close_true : (i : ℕ) (nesting : Nesting Var Term) (items : Items Var Term) (s : Step Term) → slice_get lines i ≡ Some (record { scope = at nesting items; command = closing s }) → TrueBelow i → MayAddHere (at nesting items) (closing s) → IsJustified c proof i → IsTrueCommand c.assertions (record { scope = at nesting items; command = closing s })
+  close_true : (i : ℕ) (nesting : Nesting Var Term) (items : ProofItems Var Term) (s : Step Term) → slice_get lines i ≡ Some (record { scope = at nesting items; command = closing s }) → TrueBelow i → MayAddHere (at nesting items) (closing s) → IsJustified c proof i → IsTrueCommand c.assertions (record { scope = at nesting items; command = closing s })
   close_true i outermost items s here below may justified = absurd may
   close_true i (inside around before anchor) items s here below may (inr other) =
       absurd (none (sym (closes_is proof i _ here) ∙ other.0))
@@ -280,10 +280,10 @@ module _ (c : Checking) (proof : Items Var Term) (formed : IsWellFormed proof) (
       I asserted (holds_front I around before (with_subproof before anchor.bindings items s) (subproof_more before before anchor.bindings items s (whole before)) holds)
 
   -- an assume is true where it counts, and outside where it is asserted
-  assume_true : (i : ℕ) (nesting : Nesting Var Term) (items : Items Var Term) (id : List ℕ) (t : Term) → slice_get lines i ≡ Some (record { scope = at nesting items; command = assume id t }) → TrueBelow i → IsJustified c proof i → IsTrueWhere c.assertions (at nesting (with_assume items id t)) (t ∷ [])
+  assume_true : (i : ℕ) (nesting : Nesting Var Term) (items : ProofItems Var Term) (id : List ℕ) (t : Term) → slice_get lines i ≡ Some (record { scope = at nesting items; command = assume id t }) → TrueBelow i → IsJustified c proof i → IsTrueWhere c.assertions (at nesting (with_assume items id t)) (t ∷ [])
   assume_true i outermost items id t here below (inl ok) =
       λ I asserted holds.
-      let may = subst (λ rule. IsStatusBy (kind_of c rule) c proof i Status.Ok) (rule_is proof i _ here) ok in
+      let may = subst (λ rule. IsStatusBy (kind_of_rule c rule) c proof i Status.Ok) (rule_is proof i _ here) ok in
       let all = subst (All (IsAsserted c.mode c.assertions)) (clause_is proof i _ here) (may (scope_is proof i _ here)) in
       any_here (MakesTrue I []) t [] (asserted_true I c.mode c.assertions t asserted (all 0 t (omega arith)))
   assume_true i outermost items id t here below (inr other) =
@@ -294,7 +294,7 @@ module _ (c : Checking) (proof : Items Var Term) (formed : IsWellFormed proof) (
       (all_last _ (assumed_in items) t (all_back _ (open_assumes around before) _ holds))
 
   -- the command of a line is true in its scope where it is justified
-  justified_true : (i : ℕ) (scope : Scope Var Term) (command : Command Term) → slice_get lines i ≡ Some (record { scope = scope; command = command }) → TrueBelow i → IsJustified c proof i → IsTrueCommand c.assertions (record { scope = scope; command = command })
+  justified_true : (i : ℕ) (scope : Scope Var Term) (command : IndexedCommand Term) → slice_get lines i ≡ Some (record { scope = scope; command = command }) → TrueBelow i → IsJustified c proof i → IsTrueCommand c.assertions (record { scope = scope; command = command })
   justified_true i scope (assume id t) here below justified = assume_true i scope.nesting scope.items id t here below justified
   justified_true i scope (step s) here below justified =
       let l : Line Var Term = record { scope = scope; command = step s } in

@@ -3,9 +3,9 @@ use Rattle.std.proofs.Common.{◌≡◌, ◌<◌, ◌≤◌, ℕ, zero, suc, Lis
 use Rattle.std.specs.List.{AllByRecursion}
 use Rattle.std.proofs.lemmas.List.{length-append}
 use Rattle.std.proofs.lemmas.Option.{slice_get_within}
-use Rattle.rule_model.specs.Proofs.{Items, no_items, with_assume, with_step, with_subproof}
+use Rattle.rule_model.specs.Proofs.{ProofItems, no_items, with_assume, with_step, with_subproof}
 use Rattle.rule_model.specs.Scopes.{Nesting, outermost, inside, Scope, at, inner, scope_number}
-use Rattle.rule_model.specs.Commands.{Command, assume, step, closing, Line, lines_in, lines_around, lines_to, own_scope}
+use Rattle.rule_model.specs.Commands.{IndexedCommand, assume, step, closing, Line, lines_in, lines_around, lines_to, own_scope}
 use Rattle.rule_model.specs.Reading.{premises_of}
 use Rattle.rule_model.specs.Visibility.{visible, open_scopes}
 use Rattle.rule_model.specs.WellFormed.{AreWellFormed}
@@ -34,7 +34,7 @@ taken_few (suc n) [] = omega arith
 taken_few (suc n) (x ∷ xs) = let ih = taken_few n xs in omega arith
 
 -- each command may stand where it is reached
-lines_may : {V T : Type 0} (nesting : Nesting V T) (items : Items V T) → AreWellFormed nesting items → AllByRecursion (λ l. MayAddHere l.scope l.command) (lines_in nesting items)
+lines_may : {V T : Type 0} (nesting : Nesting V T) (items : ProofItems V T) → AreWellFormed nesting items → AllByRecursion (λ l. MayAddHere l.scope l.command) (lines_in nesting items)
 lines_may nesting no_items h = tt
 lines_may nesting (with_assume items id t) h = all_joined _ (lines_in nesting items) _ (lines_may nesting items h.0) (h.1, tt)
 lines_may nesting (with_step items s) h = all_joined _ (lines_in nesting items) _ (lines_may nesting items h.0) (h.1, tt)
@@ -43,7 +43,7 @@ lines_may nesting (with_subproof items bindings proof s) h =
     (all_joined _ (lines_in nesting items) _ (lines_may nesting items h.0) (lines_may (inner nesting items bindings s) proof h.2))
     (h.3, tt)
 
-pub command_may : {V T : Type 0} (proof : Items V T) (i : ℕ) (l : Line V T) → AreWellFormed outermost proof → slice_get (lines_in outermost proof) i ≡ Some l → MayAddHere l.scope l.command
+pub command_may : {V T : Type 0} (proof : ProofItems V T) (i : ℕ) (l : Line V T) → AreWellFormed outermost proof → slice_get (lines_in outermost proof) i ≡ Some l → MayAddHere l.scope l.command
 command_may proof i l h e = all_at (λ l. MayAddHere l.scope l.command) (lines_in outermost proof) i l (lines_may outermost proof h) e
 
 contains_more : (xs ys : List ℕ) (x : ℕ) → Contains xs x → Contains (xs ++ ys) x
@@ -59,43 +59,43 @@ own_open outermost = (0, omega arith, refl)
 own_open (inside around before anchor) = contains_last (open_scopes around) _
 
 -- the number of an open scope is one of theirs
-number_open : {V T : Type 0} (scope : Scope V T) (nesting : Nesting V T) (items : Items V T) → IsOpenAt scope nesting items → Contains (open_scopes nesting) (scope_number scope.nesting)
+number_open : {V T : Type 0} (scope : Scope V T) (nesting : Nesting V T) (items : ProofItems V T) → IsOpenAt scope nesting items → Contains (open_scopes nesting) (scope_number scope.nesting)
 number_open _ _ _ (own nesting items more f) = own_open nesting
 number_open _ _ _ (outside scope around before anchor items o) =
     contains_more (open_scopes around) _ _ (number_open scope around before o)
 
-pub own_number : {V T : Type 0} (nesting : Nesting V T) (items : Items V T) (c : Command T) → scope_number (add_command (at nesting items) c).nesting ≡ own_scope nesting c
+pub own_number : {V T : Type 0} (nesting : Nesting V T) (items : ProofItems V T) (c : IndexedCommand T) → scope_number (add_command (at nesting items) c).nesting ≡ own_scope nesting c
 own_number nesting items (assume id t) = refl
 own_number nesting items (step s) = refl
 own_number outermost items (closing s) = refl
 own_number (inside around before anchor) items (closing s) = refl
 
 -- a premise of a command is visible where the command belongs
-pub premise_seen : {V T : Type 0} (scope : Scope V T) (c : Command T) (j : ℕ) → MayAddHere scope c → Contains (premises_of c) j → (before : Items V T) × IsSeen (Opens (own_nesting scope.nesting c) before) (lines_to scope) j
+pub premise_seen : {V T : Type 0} (scope : Scope V T) (c : IndexedCommand T) (j : ℕ) → MayAddHere scope c → Contains (premises_of c) j → (before : ProofItems V T) × IsSeen (Opens (own_nesting scope.nesting c) before) (lines_to scope) j
 premise_seen scope (assume id t) j may has = let none = has.1 in absurd (omega arith)
 premise_seen scope (step s) j may has =
     (scope.items, visible_seen scope.nesting scope.items j (subst (Contains (visible scope.nesting scope.items)) has.2 (may.premises has.0 j has.1)))
 premise_seen {V} {T} scope (closing s) j may has = close scope.nesting scope.items may
   where
-    close : (nesting : Nesting V T) (items : Items V T) → MayAddHere (at nesting items) (closing s) → (before : Items V T) × IsSeen (Opens (own_nesting nesting (closing s)) before) (lines_to (at nesting items)) j
+    close : (nesting : Nesting V T) (items : ProofItems V T) → MayAddHere (at nesting items) (closing s) → (before : ProofItems V T) × IsSeen (Opens (own_nesting nesting (closing s)) before) (lines_to (at nesting items)) j
     close outermost items may = absurd may
     close (inside around before anchor) items may =
         let out = visible_seen around before j (subst (Contains (visible around before)) has.2 (may.premises has.0 j has.1)) in
         (before, (out.0, slice_get_more (lines_around around ++ lines_in around before) (lines_in (inside around before anchor) items) j out.0 out.1, out.2))
 
-pub premise_visible : {V T : Type 0} (scope : Scope V T) (c : Command T) (j : ℕ) → MayAddHere scope c → Contains (premises_of c) j → (l : Line V T) × (slice_get (lines_to scope) j ≡ Some l) × Contains (open_scopes (own_nesting scope.nesting c)) (own_scope l.scope.nesting l.command)
+pub premise_visible : {V T : Type 0} (scope : Scope V T) (c : IndexedCommand T) (j : ℕ) → MayAddHere scope c → Contains (premises_of c) j → (l : Line V T) × (slice_get (lines_to scope) j ≡ Some l) × Contains (open_scopes (own_nesting scope.nesting c)) (own_scope l.scope.nesting l.command)
 premise_visible scope c j may has =
     let out = premise_seen scope c j may has in
     (out.1.0, out.1.1, subst (Contains (open_scopes (own_nesting scope.nesting c))) (own_number out.1.0.scope.nesting out.1.0.scope.items out.1.0.command) (number_open _ _ _ out.1.2))
 
-pub premise_earlier : {V T : Type 0} (proof : Items V T) (i j : ℕ) (l : Line V T) → AreWellFormed outermost proof → slice_get (lines_in outermost proof) i ≡ Some l → Contains (premises_of l.command) j → j < i
+pub premise_earlier : {V T : Type 0} (proof : ProofItems V T) (i j : ℕ) (l : Line V T) → AreWellFormed outermost proof → slice_get (lines_in outermost proof) i ≡ Some l → Contains (premises_of l.command) j → j < i
 premise_earlier proof i j l h e has =
     let out = premise_visible l.scope l.command j (command_may proof i l h e) has in
     let before = lines_before outermost proof i l e in
     let within = slice_get_within (take i (lines_in outermost proof)) j out.0 (subst (λ ls. slice_get ls j ≡ Some out.0) before out.1) in
     let few = taken_few i (lines_in outermost proof) in omega arith
 
-pub premise_encloses : {V T : Type 0} (proof : Items V T) (i j : ℕ) (l m : Line V T) → AreWellFormed outermost proof → slice_get (lines_in outermost proof) i ≡ Some l → Contains (premises_of l.command) j → slice_get (lines_in outermost proof) j ≡ Some m → Contains (open_scopes (own_nesting l.scope.nesting l.command)) (own_scope m.scope.nesting m.command)
+pub premise_encloses : {V T : Type 0} (proof : ProofItems V T) (i j : ℕ) (l m : Line V T) → AreWellFormed outermost proof → slice_get (lines_in outermost proof) i ≡ Some l → Contains (premises_of l.command) j → slice_get (lines_in outermost proof) j ≡ Some m → Contains (open_scopes (own_nesting l.scope.nesting l.command)) (own_scope m.scope.nesting m.command)
 premise_encloses {V} {T} proof i j l m h e has there_is =
     let out = premise_visible l.scope l.command j (command_may proof i l h e) has in
     let before = lines_before outermost proof i l e in

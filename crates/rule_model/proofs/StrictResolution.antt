@@ -8,10 +8,10 @@ use Rattle.term_model.specs.Unsatisfiable.{MakesTrue}
 use Rattle.term_model.proofs.Meanings.{negation_is}
 use Rattle.rule_model.proofs.Lists.{contains_none, contains_cases, contains_head, contains_later}
 use Rattle.rule_model.specs.Clauses.{MakesClauseTrue}
-use Rattle.rule_model.specs.Resolution.{IsWithout, IsFirstsOf, with_sign, IsResolvent, Chains, ResolvesStrictly}
+use Rattle.rule_model.specs.Resolution.{LeavesWithout, IsFirstsOf, with_sign, IsResolvent, Chains, ResolvesStrictly}
 
 -- what is not removed is left
-pub kept_without : (p : Term) (ts rest : List Term) (u : Term) → IsWithout p ts rest → Contains ts u → (u ≡ p) ⊎ Contains rest u
+pub kept_without : (p : Term) (ts rest : List Term) (u : Term) → LeavesWithout p ts rest → Contains ts u → (u ≡ p) ⊎ Contains rest u
 kept_without p [] rest u w c = absurd (contains_none u c)
 kept_without p (t ∷ ts) rest u (inl (same, w)) c =
     elim (contains_cases t u ts c) [ inl here ↦ inl (sym here ∙ same) | inr later ↦ kept_without p ts rest u w later ]

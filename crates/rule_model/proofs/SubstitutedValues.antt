@@ -8,17 +8,17 @@ use Rattle.term_model.specs.Meaning.{Valuation, value_at, value, values, bound}
 use Rattle.term_model.proofs.Basics.{else_branch}
 use Rattle.term_model.proofs.Coincidence.{value_coincides, value_closed, value_at_bound, value_at_unbound}
 use Rattle.term_model.proofs.Tests.{var_eq_decides}
-use Rattle.rule_model.specs.Replacement.{Replacement, term_at, binds, values_put}
+use Rattle.rule_model.specs.Replacement.{Replacement, replaced_by, binds, values_put}
 use Rattle.rule_model.specs.Substitution.{unbound, put_in, put_in_all, put_in_bound, Replaces, AreClosed, image_values}
 use Rattle.rule_model.proofs.Freedom.{binds-no}
 use Rattle.rule_model.proofs.Substituting.{binds-cases, unbound-replaces, unbound-closed}
 
 -- a variable has the value of what is put in for it, and of others the values behind
-pub value_of_image : (I : Interpretation) (r : Valuation) (s : Replacement) (x : Var) → AreClosed s → value I r (term_at s x) ≡ value_at (image_values I s ++ r) x
+pub value_of_image : (I : Interpretation) (r : Valuation) (s : Replacement) (x : Var) → AreClosed s → value I r (replaced_by s x) ≡ value_at (image_values I s ++ r) x
 value_of_image I r [] x closed = refl
 value_of_image I r (b ∷ s) x closed = go (var_eq b.0 x) (value_of_image I r s x closed.1)
   where
-    go : (t : Bool) → value I r (term_at s x) ≡ value_at (image_values I s ++ r) x → value I r (if t then b.1 else term_at s x) ≡ (if t then value I [] b.1 else value_at (image_values I s ++ r) x)
+    go : (t : Bool) → value I r (replaced_by s x) ≡ value_at (image_values I s ++ r) x → value I r (if t then b.1 else replaced_by s x) ≡ (if t then value I [] b.1 else value_at (image_values I s ++ r) x)
     go true k = value_closed I r [] b.1 closed.0
     go false k = k
 

@@ -6,7 +6,7 @@ use Rattle.term_model.specs.FreeVariables.{Binds, IsFree, IsFreeAmong, IsFreeBou
 use Rattle.term_model.specs.Sorts.{IsOf, AreOf, AreBound}
 use Rattle.term_model.proofs.Basics.{else_branch}
 use Rattle.term_model.proofs.Tests.{var_eq_decides}
-use Rattle.rule_model.specs.Replacement.{Replacement, term_at, binds}
+use Rattle.rule_model.specs.Replacement.{Replacement, replaced_by, binds}
 use Rattle.rule_model.specs.Substitution.{unbound, put_in, put_in_all, put_in_bound, Replaces, AreClosed, HaveTheirSorts}
 use Rattle.rule_model.proofs.Freedom.{binds-yes, binds-no}
 use Rattle.rule_model.proofs.ReplacementLists.{all_filtered}
@@ -28,10 +28,10 @@ replaces-cases (b ∷ s) x = go (var_eq b.0 x) refl (replaces-cases s x)
     go false e (inl k) = inl (inr k)
     go false e (inr n) = inr (λ h. elim h [ inl same ↦ absurd (let f = (var_eq_decides b.0 x).1 same in cc) | inr k ↦ n k ])
 
-pub term_at-none : (s : Replacement) (x : Var) → ¬ Replaces s x → term_at s x ≡ variable x
+pub term_at-none : (s : Replacement) (x : Var) → ¬ Replaces s x → replaced_by s x ≡ variable x
 term_at-none [] x n = refl
 term_at-none (b ∷ s) x n =
-    else_branch (var_eq b.0 x) b.1 (term_at s x) (λ e. n (inl ((var_eq_decides b.0 x).0 e))) ∙ term_at-none s x (λ h. n (inr h))
+    else_branch (var_eq b.0 x) b.1 (replaced_by s x) (λ e. n (inl ((var_eq_decides b.0 x).0 e))) ∙ term_at-none s x (λ h. n (inr h))
 
 -- under a let
 pub unbound-replaces : (bs : Bindings) (s : Replacement) (x : Var) → Replaces (unbound bs s) x → Replaces s x × (¬ Binds bs x)
@@ -53,22 +53,22 @@ unbound-kept bs (b ∷ s) x n h = go (binds bs b.0) refl h (unbound-kept bs s x 
     go false e (inl same) k = inl same
     go false e (inr h) k = inr (k h)
 
-pub term_at-bound : (bs : Bindings) (s : Replacement) (x : Var) → Binds bs x → term_at (unbound bs s) x ≡ variable x
+pub term_at-bound : (bs : Bindings) (s : Replacement) (x : Var) → Binds bs x → replaced_by (unbound bs s) x ≡ variable x
 term_at-bound bs s x h = term_at-none (unbound bs s) x (λ r. (unbound-replaces bs s x r).1 h)
 
-pub term_at-unbound : (bs : Bindings) (s : Replacement) (x : Var) → ¬ Binds bs x → term_at (unbound bs s) x ≡ term_at s x
+pub term_at-unbound : (bs : Bindings) (s : Replacement) (x : Var) → ¬ Binds bs x → replaced_by (unbound bs s) x ≡ replaced_by s x
 term_at-unbound bs [] x n = refl
 term_at-unbound bs (b ∷ s) x n = go (binds bs b.0) refl (term_at-unbound bs s x n)
   where
-    go : (t : Bool) → binds bs b.0 ≡ t → term_at (unbound bs s) x ≡ term_at s x → term_at (cond (not t) (b ∷ unbound bs s) (unbound bs s)) x ≡ (if var_eq b.0 x then b.1 else term_at s x)
+    go : (t : Bool) → binds bs b.0 ≡ t → replaced_by (unbound bs s) x ≡ replaced_by s x → replaced_by (cond (not t) (b ∷ unbound bs s) (unbound bs s)) x ≡ (if var_eq b.0 x then b.1 else replaced_by s x)
     go true e k =
-        k ∙ sym (else_branch (var_eq b.0 x) b.1 (term_at s x)
+        k ∙ sym (else_branch (var_eq b.0 x) b.1 (replaced_by s x)
         (λ f. n (binds-no bs x (ap (binds bs) (sym ((var_eq_decides b.0 x).0 f)) ∙ e))))
     go false e k = ap (λ u. if var_eq b.0 x then b.1 else u) k
 
 -- two that put in the same for the free variables
 mutual
-  pub put_in_agrees : (t : Term) (s q : Replacement) → ((x : Var) → IsFree x t → term_at s x ≡ term_at q x) → put_in s t ≡ put_in q t
+  pub put_in_agrees : (t : Term) (s q : Replacement) → ((x : Var) → IsFree x t → replaced_by s x ≡ replaced_by q x) → put_in s t ≡ put_in q t
   put_in_agrees (numeral n) s q h = refl
   put_in_agrees (variable x) s q h = h x refl
   put_in_agrees (operation op ts) s q h = ap (operation op) (put_in_all_agrees ts s q h)
@@ -78,18 +78,18 @@ mutual
       let f = put_in_agrees t (unbound bs s) (unbound bs q) (λ x free. under x (binds-cases bs x) (λ n. h x (inr (n, free)))) in
       cc
     where
-      under : (x : Var) → Binds bs x ⊎ (¬ Binds bs x) → (¬ Binds bs x → term_at s x ≡ term_at q x) → term_at (unbound bs s) x ≡ term_at (unbound bs q) x
+      under : (x : Var) → Binds bs x ⊎ (¬ Binds bs x) → (¬ Binds bs x → replaced_by s x ≡ replaced_by q x) → replaced_by (unbound bs s) x ≡ replaced_by (unbound bs q) x
       under x (inl b) k = term_at-bound bs s x b ∙ sym (term_at-bound bs q x b)
       under x (inr n) k = term_at-unbound bs s x n ∙ k n ∙ sym (term_at-unbound bs q x n)
 
-  pub put_in_all_agrees : (ts : Terms) (s q : Replacement) → ((x : Var) → IsFreeAmong x ts → term_at s x ≡ term_at q x) → put_in_all s ts ≡ put_in_all q ts
+  pub put_in_all_agrees : (ts : Terms) (s q : Replacement) → ((x : Var) → IsFreeAmong x ts → replaced_by s x ≡ replaced_by q x) → put_in_all s ts ≡ put_in_all q ts
   put_in_all_agrees no_terms s q h = refl
   put_in_all_agrees (term t ts) s q h =
       let e = put_in_agrees t s q (λ x free. h x (inl free)) in
       let f = put_in_all_agrees ts s q (λ x free. h x (inr free)) in
       cc
 
-  pub put_in_bound_agrees : (bs : Bindings) (s q : Replacement) → ((x : Var) → IsFreeBound x bs → term_at s x ≡ term_at q x) → put_in_bound s bs ≡ put_in_bound q bs
+  pub put_in_bound_agrees : (bs : Bindings) (s q : Replacement) → ((x : Var) → IsFreeBound x bs → replaced_by s x ≡ replaced_by q x) → put_in_bound s bs ≡ put_in_bound q bs
   put_in_bound_agrees no_bindings s q h = refl
   put_in_bound_agrees (binding y t bs) s q h =
       let e = put_in_agrees t s q (λ x free. h x (inl free)) in
@@ -122,7 +122,7 @@ put_in_closed s t closed = put_in_others s t (λ x free. absurd (closed x free))
 mutual
   pub put_in_sort : (s : Replacement) (t : Term) (sort : Sort) → HaveTheirSorts s → IsOf t sort → IsOf (put_in s t) sort
   put_in_sort s (numeral n) sort h e = e
-  put_in_sort s (variable x) sort h e = subst (IsOf (term_at s x)) (sym e) (term_at-sort s x h)
+  put_in_sort s (variable x) sort h e = subst (IsOf (replaced_by s x)) (sym e) (term_at-sort s x h)
   put_in_sort s (operation op ts) sort h e =
       record { sorts = e.sorts; arguments = put_in_all_sorts s ts e.sorts h e.arguments; is = e.is }
   put_in_sort s (call f ts) sort h e =
@@ -157,11 +157,11 @@ binds_put_in s (binding y t bs) x (inr h) = inr (binds_put_in s bs x h)
 pub unbound-closed : (bs : Bindings) (s : Replacement) → AreClosed s → AreClosed (unbound bs s)
 unbound-closed bs s h = all_filtered (λ b. IsClosed b.1) (λ b. not (binds bs b.0)) s h
 
-free_in_image : (s : Replacement) (x y : Var) → AreClosed s → IsFree x (term_at s y) → (y ≡ x) × (¬ Replaces s x)
+free_in_image : (s : Replacement) (x y : Var) → AreClosed s → IsFree x (replaced_by s y) → (y ≡ x) × (¬ Replaces s x)
 free_in_image [] x y closed free = (free, λ h. h)
 free_in_image (b ∷ s) x y closed free = go (var_eq b.0 y) refl free (free_in_image s x y closed.1)
   where
-    go : (t : Bool) → var_eq b.0 y ≡ t → IsFree x (if t then b.1 else term_at s y) → (IsFree x (term_at s y) → (y ≡ x) × (¬ Replaces s x)) → (y ≡ x) × (¬ Replaces (b ∷ s) x)
+    go : (t : Bool) → var_eq b.0 y ≡ t → IsFree x (if t then b.1 else replaced_by s y) → (IsFree x (replaced_by s y) → (y ≡ x) × (¬ Replaces s x)) → (y ≡ x) × (¬ Replaces (b ∷ s) x)
     go true e free k = absurd (closed.0 x free)
     go false e free k =
         let r = k free in

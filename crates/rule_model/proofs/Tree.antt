@@ -2,7 +2,7 @@
 use Rattle.std.proofs.Common.{◌≡◌, ◌<◌, ◌≤◌, ◌+◌, ◌-◌, ◌⊎◌, inl, inr, ℕ, zero, suc, List, [], ◌∷◌, ◌++◌, map, length, slice_get, Some, refl, sym, ◌∙◌, ap, subst, arith}
 use Rattle.std.specs.Option.{option_map}
 use Rattle.std.proofs.lemmas.Option.{slice_get-map, slice_get_within}
-use Rattle.rule_model.specs.Proofs.{Items, no_items, with_assume, with_step, with_subproof}
+use Rattle.rule_model.specs.Proofs.{ProofItems, no_items, with_assume, with_step, with_subproof}
 use Rattle.rule_model.specs.Scopes.{Nesting, outermost, at, inner, commands_in, subproofs_in, scope_number}
 use Rattle.rule_model.specs.Commands.{closing, Line, entry_of, lines_in, own_scope, closed_scope, ScopeEntry, scope_entry, scopes_in}
 use Rattle.rule_model.specs.Reading.{scope_at, closes_at, parent_at}
@@ -37,7 +37,7 @@ module _ {V T : Type 0} where
   closes_cons : (x : Line V T) (number : ℕ) (e : ScopeEntry V T) → closed_scope x.scope.nesting x.command ≡ Some number → e.parent ≡ Some (own_scope x.scope.nesting x.command) → own_scope x.scope.nesting x.command < number → Closes (x ∷ []) number e
   closes_cons x number e c p s = record { index = 0; line = x; here = refl; closes = c; parent = p; smaller = s }
 
-  scopes_close : (nesting : Nesting V T) (items : Items V T) (k : ℕ) (e : ScopeEntry V T) → slice_get (scopes_in nesting items) k ≡ Some e → Closes (lines_in nesting items) (suc (scope_number nesting + k)) e
+  scopes_close : (nesting : Nesting V T) (items : ProofItems V T) (k : ℕ) (e : ScopeEntry V T) → slice_get (scopes_in nesting items) k ≡ Some e → Closes (lines_in nesting items) (suc (scope_number nesting + k)) e
   scopes_close nesting no_items k e f = absurd (cc)
   scopes_close nesting (with_assume items id t) k e f = closes_left (lines_in nesting items) _ _ e (scopes_close nesting items k e f)
   scopes_close nesting (with_step items s) k e f = closes_left (lines_in nesting items) _ _ e (scopes_close nesting items k e f)
@@ -72,7 +72,7 @@ some_scope [] k h = absurd (omega arith)
 some_scope (x ∷ xs) zero h = (x, refl)
 some_scope (x ∷ xs) (suc k) h = some_scope xs k (omega arith)
 
-pub scope_closed : {V T : Type 0} (proof : Items V T) (k : ℕ) → 0 < k → k ≤ subproofs_in proof → (i : ℕ) × (i < commands_in proof) × (closes_at proof i ≡ Some k) × (parent_at proof k ≡ Some (scope_at proof i)) × (scope_at proof i < k)
+pub scope_closed : {V T : Type 0} (proof : ProofItems V T) (k : ℕ) → 0 < k → k ≤ subproofs_in proof → (i : ℕ) × (i < commands_in proof) × (closes_at proof i ≡ Some k) × (parent_at proof k ≡ Some (scope_at proof i)) × (scope_at proof i < k)
 scope_closed proof zero h l = absurd (omega arith)
 scope_closed proof (suc k) h l =
     let count = scopes_in_count outermost proof in

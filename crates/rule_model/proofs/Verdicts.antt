@@ -8,11 +8,11 @@ use Rattle.rule_model.specs.declared.statuses.Status.{Status}
 use Rattle.rule_model.specs.declared.statuses.Verdict.{Verdict}
 use Rattle.rule_model.specs.Commands.{lines_in}
 use Rattle.rule_model.specs.Conditions.{IsMetAt, IsTooWideAt}
-use Rattle.rule_model.specs.Proofs.{Items}
+use Rattle.rule_model.specs.Proofs.{ProofItems}
 use Rattle.rule_model.specs.Reading.{clause_of, clause_at, scope_at}
 use Rattle.rule_model.specs.Scopes.{Nesting, outermost, inside, Scope, at, commands_in, scope_number}
 use Rattle.rule_model.specs.Soundness.{IsJustified, AreJustifiedTo}
-use Rattle.rule_model.specs.Statuses.{Checking, MayAssume, Kind, assumed, hole, unknown, conditional, kind_of, IsStatusBy, IsStatusAt, AreStatuses, Passes, IsFirstAt, IsVerdict}
+use Rattle.rule_model.specs.Statuses.{Checking, MayAssume, Kind, assumed, hole, unknown, conditional, kind_of_rule, IsStatusBy, IsStatusAt, AreStatuses, Passes, IsFirstAt, IsVerdict}
 use Rattle.rule_model.specs.Truth.{IsTrueWhere, IsTrueCommand, IsWellSortedProof}
 use Rattle.rule_model.specs.WellFormed.{IsWellFormed}
 use Rattle.rule_model.specs.Writing.{add_command}
@@ -23,7 +23,7 @@ use Rattle.rule_model.proofs.Soundness.{justified_are_true}
 use Rattle.rule_model.proofs.Standing.{own_number}
 
 -- what is said by a status of each kind of command
-module _ (c : Checking) (proof : Items Var Term) (i : ℕ) where
+module _ (c : Checking) (proof : ProofItems Var Term) (i : ℕ) where
   hole_status : (s : Status) → IsStatusBy hole c proof i s → s ≡ Status.Hole
   hole_status Status.Ok h = absurd h
   hole_status Status.Hole h = refl
@@ -74,7 +74,7 @@ module _ (c : Checking) (proof : Items Var Term) (i : ℕ) where
   status_by conditional s z h k = one_of_three s z (judged_status s h) (judged_status z k)
 
   pub one_status : (s z : Status) → IsStatusAt c proof i s → IsStatusAt c proof i z → s ≡ z
-  one_status s z h k = status_by (kind_of c _) s z h k
+  one_status s z h k = status_by (kind_of_rule c _) s z h k
 
 -- verdicts
 module _ (statuses : List Status) where
@@ -115,7 +115,7 @@ module _ (statuses : List Status) where
   ok_passes : All (λ s. s ≡ Status.Ok) statuses → All Passes statuses
   ok_passes all k d within = subst Passes (sym (all k d within)) tt
 
-  module _ {V T : Type 0} (proof : Items V T) where
+  module _ {V T : Type 0} (proof : ProofItems V T) where
     invalid_same : (i j : ℕ) (a b : StepCause) → IsFirstAt statuses i (Status.Faulty a) → IsFirstAt statuses j (Status.Faulty b) → Verdict.InvalidAt i a ≡ Verdict.InvalidAt j b
     invalid_same i j a b h k =
         let same = first_same i j (Status.Faulty a) (Status.Faulty b) (λ p. p) (λ p. p) h k in
@@ -169,7 +169,7 @@ some_at [] k h = absurd (omega arith)
 some_at (x ∷ xs) zero h = (x, refl, (0, omega arith, refl))
 some_at (x ∷ xs) (suc k) h = let s = some_at xs k (omega arith) in (s.0, s.1, (suc s.2.0, let w = s.2.1 in omega arith, s.2.2))
 
-module _ (c : Checking) (proof : Items Var Term) (formed : IsWellFormed proof) (sorted : IsWellSortedProof proof) where
+module _ (c : Checking) (proof : ProofItems Var Term) (formed : IsWellFormed proof) (sorted : IsWellSortedProof proof) where
   all_ok : (statuses : List Status) → AreStatuses c proof statuses → All (λ s. s ≡ Status.Ok) statuses → (j : ℕ) → j < commands_in proof → IsJustified c proof j
   all_ok statuses are all j within =
       let count = are.count in
@@ -179,7 +179,7 @@ module _ (c : Checking) (proof : Items Var Term) (formed : IsWellFormed proof) (
   empty_here : (scope : Scope Var Term) (clause : List Term) → scope_number scope.nesting ≡ 0 → clause ≡ [] → IsTrueWhere c.assertions scope clause → Unsatisfiable c.assertions
   empty_here scope clause number empty is = go scope.nesting scope.items number (subst (IsTrueWhere c.assertions scope) empty is)
     where
-      go : (nesting : Nesting Var Term) (items : Items Var Term) → scope_number nesting ≡ 0 → IsTrueWhere c.assertions (at nesting items) [] → Unsatisfiable c.assertions
+      go : (nesting : Nesting Var Term) (items : ProofItems Var Term) → scope_number nesting ≡ 0 → IsTrueWhere c.assertions (at nesting items) [] → Unsatisfiable c.assertions
       go outermost items e h = outermost_empty c.assertions h
       go (inside around before anchor) items e h = absurd (omega arith)
 

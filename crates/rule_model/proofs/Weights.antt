@@ -6,7 +6,7 @@ use Rattle.std.proofs.lemmas.Int.{ints, unsigned_abs-mul}
 use Rattle.term_model.specs.declared.symbols.Op.{Op}
 use Rattle.term_model.specs.Operators.{from_left, difference}
 use Rattle.term_model.specs.Terms.{Term, numeral, operation, Terms, no_terms, term}
-use Rattle.rule_model.specs.LinearForms.{is_constant, is_linear, product, constant, constants, parts, product_part, one_at, coefficient, is_listed, AreDistinct}
+use Rattle.rule_model.specs.LinearForms.{is_constant, is_linear, product, constant, constants, form_parts, product_part, one_at, coefficient, is_listed, AreDistinct}
 use Rattle.rule_model.specs.TermTests.{term_eq}
 use Rattle.rule_model.specs.Weights.{weight, weight_sum, weight_product, sizes}
 use Rattle.rule_model.proofs.LinearForms.{summed, lessened, product_is, or_false}
@@ -54,7 +54,7 @@ module _ (us : List Term) (distinct : AreDistinct us) where
   AreLight (term t ts) = IsLight t × AreLight ts
 
   abbrev sum_coefficient : Terms → Term → ℤ
-  sum_coefficient ts u = from_left ◌+ℤ◌ (pos 0) (parts (one_at u) ts)
+  sum_coefficient ts u = from_left ◌+ℤ◌ (pos 0) (form_parts (one_at u) ts)
 
   abbrev sum_constant : Terms → ℤ
   sum_constant ts = from_left ◌+ℤ◌ (pos 0) (constants ts)
@@ -68,17 +68,17 @@ module _ (us : List Term) (distinct : AreDistinct us) where
         h.0,
         sums_light ts h.1,
         summed (constant t) (constants ts),
-        sizes_added (coefficient t) (sum_coefficient ts) (sum_coefficient (term t ts)) us (λ u. summed (coefficient t u) (parts (one_at u) ts)),
+        sizes_added (coefficient t) (sum_coefficient ts) (sum_coefficient (term t ts)) us (λ u. summed (coefficient t u) (form_parts (one_at u) ts)),
       )
 
-  differences_light : (ts : Terms) → AreLight ts → unsigned_abs (difference (constants ts)) + sizes (λ u. difference (parts (one_at u) ts)) us ≤ weight_sum ts
+  differences_light : (ts : Terms) → AreLight ts → unsigned_abs (difference (constants ts)) + sizes (λ u. difference (form_parts (one_at u) ts)) us ≤ weight_sum ts
   differences_light no_terms h = omega (arith, sizes_nothing (λ u. pos 0) us (λ u. refl))
   differences_light (term t no_terms) h =
-      omega (arith, ints, h.0, sizes_turned (coefficient t) (λ u. difference (parts (one_at u) (term t no_terms))) us (λ u. refl))
+      omega (arith, ints, h.0, sizes_turned (coefficient t) (λ u. difference (form_parts (one_at u) (term t no_terms))) us (λ u. refl))
   differences_light (term t (term s ts)) h =
       let rest = sums_light (term s ts) h.1 in
       let turned = sizes_turned (sum_coefficient (term s ts)) (λ u. neg_ℤ (sum_coefficient (term s ts) u)) us (λ u. refl) in
-      let whole = sizes_added (coefficient t) (λ u. neg_ℤ (sum_coefficient (term s ts) u)) (λ u. difference (parts (one_at u) (term t (term s ts)))) us (λ u. omega (arith, ints, lessened (coefficient t u -ℤ coefficient s u) (parts (one_at u) ts), summed (coefficient s u) (parts (one_at u) ts))) in
+      let whole = sizes_added (coefficient t) (λ u. neg_ℤ (sum_coefficient (term s ts) u)) (λ u. difference (form_parts (one_at u) (term t (term s ts)))) us (λ u. omega (arith, ints, lessened (coefficient t u -ℤ coefficient s u) (form_parts (one_at u) ts), summed (coefficient s u) (form_parts (one_at u) ts))) in
       omega (arith, ints, lessened (constant t -ℤ constant s) (constants ts), summed (constant s) (constants ts), h.0, rest, turned, whole)
 
   -- products of constants, and with one factor more

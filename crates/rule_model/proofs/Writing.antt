@@ -1,7 +1,7 @@
 -- What each command adds to the commands and to the scopes.
 use Rattle.std.proofs.Common.{◌≡◌, ◌+◌, ℕ, zero, suc, List, [], ◌∷◌, ◌++◌, length, Some, None, refl, sym, ◌∙◌, ap, subst, arith}
 use Rattle.std.proofs.lemmas.List.{append_assoc, append-nil}
-use Rattle.rule_model.specs.Proofs.{Step, Items}
+use Rattle.rule_model.specs.Proofs.{Step, ProofItems}
 use Rattle.rule_model.specs.Scopes.{Anchor, Nesting, inside, Scope, at, inner, commands_in, scope_number, first_index, next_index}
 use Rattle.rule_model.specs.Commands.{assume, step, closing, lines_in, lines_around, lines_to, ScopeEntry, scope_entry, scopes_in, scopes_before, scopes_to}
 use Rattle.rule_model.specs.Writing.{add_assume, add_step, open_anchor, close_scope}
@@ -18,11 +18,11 @@ module _ {V T : Type 0} (scope : Scope V T) where
   lines_open anchor = append-nil (lines_to scope)
 
 -- what stands around the scope that a step with the anchor's id closes
-pub same_nesting : {V T : Type 0} (around : Nesting V T) (before : Items V T) (anchor : Anchor V T) (s : Step T) → s.id ≡ anchor.id → inner around before anchor.bindings s ≡ inside around before anchor
+pub same_nesting : {V T : Type 0} (around : Nesting V T) (before : ProofItems V T) (anchor : Anchor V T) (s : Step T) → s.id ≡ anchor.id → inner around before anchor.bindings s ≡ inside around before anchor
 same_nesting around before anchor s e = ap (λ id. inside around before (record { id = id; bindings = anchor.bindings })) e
 
 -- a closing step, with the anchor's id
-pub lines_close : {V T : Type 0} (around : Nesting V T) (before : Items V T) (anchor : Anchor V T) (items : Items V T) (s : Step T) → s.id ≡ anchor.id → lines_to (close_scope (inside around before anchor) items s) ≡ lines_to (at (inside around before anchor) items) ++ record { scope = at (inside around before anchor) items; command = closing s } ∷ []
+pub lines_close : {V T : Type 0} (around : Nesting V T) (before : ProofItems V T) (anchor : Anchor V T) (items : ProofItems V T) (s : Step T) → s.id ≡ anchor.id → lines_to (close_scope (inside around before anchor) items s) ≡ lines_to (at (inside around before anchor) items) ++ record { scope = at (inside around before anchor) items; command = closing s } ∷ []
 lines_close around before anchor items s e =
     subst (λ n. lines_around around ++ ((lines_in around before ++ lines_in n items) ++ record { scope = at n items; command = closing s } ∷ []) ≡ lines_to (at (inside around before anchor) items) ++ record { scope = at (inside around before anchor) items; command = closing s } ∷ [])
     (sym (same_nesting around before anchor s e)) (joined (lines_around around) (lines_in around before) (lines_in (inside around before anchor) items) _)
@@ -56,7 +56,7 @@ module _ {V T : Type 0} (scope : Scope V T) where
   scopes_open anchor = refl
 
 -- a closing step is the last command of the scope around
-pub scopes_close : {V T : Type 0} (around : Nesting V T) (before : Items V T) (anchor : Anchor V T) (items : Items V T) (s : Step T) → s.id ≡ anchor.id → scopes_to (close_scope (inside around before anchor) items s) ≡ entry_last (scope_number around) (next_index (at (inside around before anchor) items)) (scopes_to (at (inside around before anchor) items))
+pub scopes_close : {V T : Type 0} (around : Nesting V T) (before : ProofItems V T) (anchor : Anchor V T) (items : ProofItems V T) (s : Step T) → s.id ≡ anchor.id → scopes_to (close_scope (inside around before anchor) items s) ≡ entry_last (scope_number around) (next_index (at (inside around before anchor) items)) (scopes_to (at (inside around before anchor) items))
 scopes_close around before anchor items s e =
     let i = first_index around + (commands_in before + commands_in items) in
     let last : i ≡ next_index (at (inside around before anchor) items) = omega arith in

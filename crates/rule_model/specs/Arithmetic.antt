@@ -95,15 +95,15 @@ abbrev pub bound_in : Comparison → ℤ
 bound_in c = bound_by c.relation (constant c.second -ℤ constant c.first)
 
 -- a comparison with its coefficient
-pub record Line : Type 0 where
+pub record CoefficientLine : Type 0 where
   pub comparison : Comparison
   pub ratio : Fraction
 
-abbrev pub IsEquation : Line → Type 0
+abbrev pub IsEquation : CoefficientLine → Type 0
 IsEquation l = l.comparison.relation ≡ equals
 
 -- the literals and the coefficients come to these lines
-abbrev pub AreLines : List Term → List Fraction → List Line → Type 0
+abbrev pub AreLines : List Term → List Fraction → List CoefficientLine → Type 0
 AreLines [] [] [] = ⊤
 AreLines (t ∷ ts) (q ∷ qs) (l ∷ ls) =
     (denial t ≡ Some l.comparison) × (l.ratio ≡ q) × IsOf l.comparison.first Sort.Int × IsOf l.comparison.second Sort.Int × AreLines ts qs ls
@@ -113,11 +113,11 @@ abbrev pub Divides : ℕ → ℕ → Type 0
 Divides m n = (k : ℕ) × (n ≡ m * k)
 
 -- a whole multiple of the denominators of these lines
-abbrev pub IsMultipleOfAll : List Line → ℕ → Type 0
+abbrev pub IsMultipleOfAll : List CoefficientLine → ℕ → Type 0
 IsMultipleOfAll ls n = (0 < n) × All (λ l. Divides (unsigned_abs l.ratio.den) n) ls
 
 -- the least one
-pub record IsLeastMultiple (ls : List Line) (n : ℕ) : Type 0 where
+pub record IsLeastMultiple (ls : List CoefficientLine) (n : ℕ) : Type 0 where
   pub multiple : IsMultipleOfAll ls n
   pub least : (m : ℕ) → IsMultipleOfAll ls m → n ≤ m
 
@@ -127,11 +127,11 @@ abbrev pub signed_by : Relation → ℤ → ℤ
 signed_by equals n = n
 signed_by other n = pos (unsigned_abs n)
 
-abbrev pub factor : ℕ → Line → ℤ
+abbrev pub factor : ℕ → CoefficientLine → ℤ
 factor multiple l =
     signed_by l.comparison.relation l.ratio.num *ℤ pos (multiple / unsigned_abs l.ratio.den)
 
-abbrev pub scaled : ℕ → Line → Term → ℤ
+abbrev pub scaled : ℕ → CoefficientLine → Term → ℤ
 scaled multiple l u = factor multiple l *ℤ coefficient_in l.comparison u
 
 -- whole numbers, where what stands in the lines is multiplied so
@@ -145,22 +145,22 @@ pub record IsRoundedUp (multiple : ℕ) (z rounded : ℤ) : Type 0 where
   pub near : rounded <ℤ (z +ℤ pos multiple)
 
 -- an inequality all of whose coefficients are whole
-pub record IsRounded (multiple : ℕ) (l : Line) : Type 0 where
+pub record IsRounded (multiple : ℕ) (l : CoefficientLine) : Type 0 where
   pub inequality : ¬ IsEquation l
   pub whole : (u : Term) → IsWhole multiple (scaled multiple l u)
 
 -- The bound of a line, multiplied. Where the line is an inequality with whole coefficients it is rounded up.
-abbrev pub IsScaledBound : ℕ → Line → ℤ → Type 0
+abbrev pub IsScaledBound : ℕ → CoefficientLine → ℤ → Type 0
 IsScaledBound multiple l z =
     (IsRounded multiple l × IsRoundedUp multiple (factor multiple l *ℤ bound_in l.comparison) z)
     ⊎ ((¬ IsRounded multiple l) × (z ≡ factor multiple l *ℤ bound_in l.comparison))
 
 -- the sums over all lines
-abbrev pub added_coefficient : ℕ → List Line → Term → ℤ
+abbrev pub added_coefficient : ℕ → List CoefficientLine → Term → ℤ
 added_coefficient multiple [] u = pos 0
 added_coefficient multiple (l ∷ ls) u = scaled multiple l u +ℤ added_coefficient multiple ls u
 
-abbrev pub IsAddedBound : ℕ → List Line → ℤ → Type 0
+abbrev pub IsAddedBound : ℕ → List CoefficientLine → ℤ → Type 0
 IsAddedBound multiple [] z = z ≡ pos 0
 IsAddedBound multiple (l ∷ ls) z =
     (x : ℤ) × (y : ℤ) × IsScaledBound multiple l x × IsAddedBound multiple ls y × (z ≡ x +ℤ y)
@@ -168,7 +168,7 @@ IsAddedBound multiple (l ∷ ls) z =
 -- a step of la_generic that has the form of one
 pub record IsLinearStep (ratios : Option (List Fraction)) (premises : List (List Term)) (clause : List Term) : Type 0 where
   pub fractions : List Fraction
-  pub lines : List Line
+  pub lines : List CoefficientLine
   pub multiple : ℕ
   pub none : premises ≡ []
   pub given : ratios ≡ Some fractions
@@ -184,11 +184,11 @@ pub record MeetsLaGeneric (ratios : Option (List Fraction)) (premises : List (Li
   pub absurd_bound : (pos 0 <ℤ bound) ⊎ (All IsEquation form.lines × (bound ≢ pos 0))
 
 -- The weight of a step bounds the numbers that are met while it is judged.
-abbrev pub line_weight : ℕ → Line → ℕ
+abbrev pub line_weight : ℕ → CoefficientLine → ℕ
 line_weight multiple l =
     max (unsigned_abs l.ratio.num) 1 * (multiple / unsigned_abs l.ratio.den) * (weight l.comparison.first + weight l.comparison.second + 1) + multiple
 
-abbrev pub lines_weight : ℕ → List Line → ℕ
+abbrev pub lines_weight : ℕ → List CoefficientLine → ℕ
 lines_weight multiple [] = 0
 lines_weight multiple (l ∷ ls) = line_weight multiple l + lines_weight multiple ls
 

@@ -38,8 +38,8 @@ schema_of Rule.NotEquiv2 = from (no (equal a b)) (no a ∷ no b ∷ [])  -- not_
 schema_of _ = None
 
 -- a literal as it stands, or its negation
-abbrev pub itself : Term → Term
-itself t = t
+abbrev pub as_it_stands : Term → Term
+as_it_stands t = t
 
 -- `(op a1 .. an)` with n at least 1, with or without `not`, and one of its arguments, with or without `not`
 pub record GivesOne (op : Op) (whole_sign sign : Term → Term) (whole : Term) (rest : List Term) : Type 0 where
@@ -65,7 +65,7 @@ pub record Begins (gives : Term → List Term → Type 0) (premises : List (List
   pub given : gives whole rest
 
 -- the application is the one premise
-pub record IsGiven (gives : Term → List Term → Type 0) (premises : List (List Term)) (clause : List Term) : Type 0 where
+pub record IsOnlyPremise (gives : Term → List Term → Type 0) (premises : List (List Term)) (clause : List Term) : Type 0 where
   pub whole : Term
   pub unit : premises ≡ (whole ∷ []) ∷ []
   pub given : gives whole clause
@@ -94,14 +94,14 @@ pub record IsTautology (old new : List Term) : Type 0 where
 
 -- The condition of each rule. Those that are not named here have a schema, or are of another family.
 abbrev pub MeetsClausal : Rule → List (List Term) → List Term → Type 0
-MeetsClausal Rule.AndPos = Begins (GivesOne Op.And not_of itself)  -- and_pos: `(not (and a1 .. an))` `ak`
-MeetsClausal Rule.AndNeg = Begins (GivesAll Op.And itself not_of)  -- and_neg: `(and a1 .. an)` `(not a1)` .. `(not an)`
-MeetsClausal Rule.OrPos = Begins (GivesAll Op.Or not_of itself)  -- or_pos: `(not (or a1 .. an))` `a1` .. `an`
-MeetsClausal Rule.OrNeg = Begins (GivesOne Op.Or itself not_of)  -- or_neg: `(or a1 .. an)` `(not ak)`
-MeetsClausal Rule.And = IsGiven (GivesOne Op.And itself itself)  -- and: `(and a1 .. an)` gives `ak`
-MeetsClausal Rule.Or = IsGiven (GivesAll Op.Or itself itself)  -- or: `(or a1 .. an)` gives `a1` .. `an`
-MeetsClausal Rule.NotOr = IsGiven (GivesOne Op.Or not_of not_of)  -- not_or: `(not (or a1 .. an))` gives `(not ak)`
-MeetsClausal Rule.NotAnd = IsGiven (GivesAll Op.And not_of not_of)  -- not_and: `(not (and a1 .. an))` gives `(not a1)` .. `(not an)`
+MeetsClausal Rule.AndPos = Begins (GivesOne Op.And not_of as_it_stands)  -- and_pos: `(not (and a1 .. an))` `ak`
+MeetsClausal Rule.AndNeg = Begins (GivesAll Op.And as_it_stands not_of)  -- and_neg: `(and a1 .. an)` `(not a1)` .. `(not an)`
+MeetsClausal Rule.OrPos = Begins (GivesAll Op.Or not_of as_it_stands)  -- or_pos: `(not (or a1 .. an))` `a1` .. `an`
+MeetsClausal Rule.OrNeg = Begins (GivesOne Op.Or as_it_stands not_of)  -- or_neg: `(or a1 .. an)` `(not ak)`
+MeetsClausal Rule.And = IsOnlyPremise (GivesOne Op.And as_it_stands as_it_stands)  -- and: `(and a1 .. an)` gives `ak`
+MeetsClausal Rule.Or = IsOnlyPremise (GivesAll Op.Or as_it_stands as_it_stands)  -- or: `(or a1 .. an)` gives `a1` .. `an`
+MeetsClausal Rule.NotOr = IsOnlyPremise (GivesOne Op.Or not_of not_of)  -- not_or: `(not (or a1 .. an))` gives `(not ak)`
+MeetsClausal Rule.NotAnd = IsOnlyPremise (GivesAll Op.And not_of not_of)  -- not_and: `(not (and a1 .. an))` gives `(not a1)` .. `(not an)`
 MeetsClausal Rule.Contraction = Changes HasEachOnce  -- contraction
 MeetsClausal Rule.Reordering = Changes (λ old new. IsPermutation old new)  -- reordering
 MeetsClausal Rule.Weakening = Changes HasEach  -- weakening

@@ -9,28 +9,28 @@ use Rattle.term_model.specs.Terms.{Var, Term, operation, let_in, Bindings, no_te
 use Rattle.rule_model.specs.declared.rules.Mode.{Mode}
 use Rattle.rule_model.specs.declared.rules.Rule.{Rule}
 use Rattle.rule_model.specs.Congruence.{AreSides, AreDifferences}
-use Rattle.rule_model.specs.Proofs.{Items}
+use Rattle.rule_model.specs.Proofs.{ProofItems}
 use Rattle.rule_model.specs.Reading.{rule_at, clause_at, premises_at, discharged_at, scope_at, bindings_at, last_inside_at}
 use Rattle.rule_model.specs.RuleNames.{is_assume}
 
 -- the command at index j is an assume that stands directly in scope k, before the step that closes this
-pub record IsAssumeIn {V T : Type 0} (proof : Items V T) (i k j : ℕ) : Type 0 where
+pub record IsAssumeIn {V T : Type 0} (proof : ProofItems V T) (i k j : ℕ) : Type 0 where
   pub before : j < i
   pub scope : scope_at proof j ≡ k
   pub assume : is_assume (rule_at proof j) ≡ true
 
 -- every assume that stands directly in the scope is discharged by the step
-abbrev pub AllDischarged : {V T : Type 0} → Items V T → ℕ → ℕ → Type 0
+abbrev pub AllDischarged : {V T : Type 0} → ProofItems V T → ℕ → ℕ → Type 0
 AllDischarged proof i k = (j : ℕ) → IsAssumeIn proof i k j → Contains (discharged_at proof i) j
 
 -- the clause of the last command that stands directly in the scope
-pub record EndsIn {V T : Type 0} (proof : Items V T) (k : ℕ) (clause : List T) : Type 0 where
+pub record EndsIn {V T : Type 0} (proof : ProofItems V T) (k : ℕ) (clause : List T) : Type 0 where
   pub last : ℕ
   pub is_last : last_inside_at proof k ≡ Some last
   pub clause_is : clause_at proof last ≡ clause
 
 -- the negations of the terms that the step discharges, in the order in which it names them
-abbrev pub negations : Items Var Term → ℕ → List Term
+abbrev pub negations : ProofItems Var Term → ℕ → List Term
 negations proof i = map not_of (flat_map (clause_at proof) (discharged_at proof i))
 
 -- `false` may stand where a clause is empty
@@ -40,7 +40,7 @@ IsEnding (t ∷ ts) end = end ≡ t ∷ ts
 
 -- subproof: the anchor binds nothing, there is no premise, every assume is discharged, and the clause is the negations of
 -- the discharged terms with the clause behind them in which the scope ends.
-pub record IsSubproof (proof : Items Var Term) (i k : ℕ) : Type 0 where
+pub record IsSubproof (proof : ProofItems Var Term) (i k : ℕ) : Type 0 where
   pub no_bindings : bindings_at proof k ≡ []
   pub no_premises : premises_at proof i ≡ []
   pub discharged : AllDischarged proof i k
@@ -58,7 +58,7 @@ AreLinkedTo Mode.Strict premises ts ss = AreDifferences premises ts ss
 
 -- let: the clause is `(= (let ((x1 t1) .. (xn tn)) u) v)`, the anchor binds x1 .. xn in this order to s1 .. sn, the scope
 -- has no assume and ends in `(= u v)`, no xi stands free in v, and the premises link each ti with si.
-pub record IsLetClosing (mode : Mode) (proof : Items Var Term) (i k : ℕ) : Type 0 where
+pub record IsLetClosing (mode : Mode) (proof : ProofItems Var Term) (i k : ℕ) : Type 0 where
   pub bindings : Bindings
   pub body : Term
   pub result : Term
@@ -70,7 +70,7 @@ pub record IsLetClosing (mode : Mode) (proof : Items Var Term) (i k : ℕ) : Typ
   pub linked : AreLinkedTo mode (map (clause_at proof) (premises_at proof i)) (bound_terms bindings) (map (λ (b : Var × Term). b.1) (bindings_at proof k))
 
 -- What a step meets that closes a scope. No other rule closes one.
-abbrev pub MeetsClosing : Mode → Rule → Items Var Term → ℕ → ℕ → Type 0
+abbrev pub MeetsClosing : Mode → Rule → ProofItems Var Term → ℕ → ℕ → Type 0
 MeetsClosing mode Rule.Subproof proof i k = IsSubproof proof i k
 MeetsClosing mode Rule.Let proof i k = IsLetClosing mode proof i k
 MeetsClosing mode rule proof i k = ⊥

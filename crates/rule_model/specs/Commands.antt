@@ -1,21 +1,21 @@
 -- Public. The commands of a proof in file order, and its scopes in the order of their anchors.
 use Rattle.std.specs.Prelude.{ℕ, List, [], ◌∷◌, ◌++◌, map, Option, Some, None}
-use Rattle.rule_model.specs.Proofs.{Step, Items, no_items, with_assume, with_step, with_subproof}
+use Rattle.rule_model.specs.Proofs.{Step, ProofItems, no_items, with_assume, with_step, with_subproof}
 use Rattle.rule_model.specs.Scopes.{Nesting, outermost, inside, Scope, at, inner, scope_number, parent_number, own_bindings, last_index}
 
 -- a command that has an index: an assume with its id, a step that closes nothing, or a step that closes its scope
-pub data Command (T : Type 0) : Type 0 where
-  assume : List ℕ → T → Command T
-  step : Step T → Command T
-  closing : Step T → Command T
+pub data IndexedCommand (T : Type 0) : Type 0 where
+  assume : List ℕ → T → IndexedCommand T
+  step : Step T → IndexedCommand T
+  closing : Step T → IndexedCommand T
 
 -- a command, and the scope in which it is reached, as far as that is written before it
 pub record Line (V T : Type 0) : Type 0 where
   pub scope : Scope V T
-  pub command : Command T
+  pub command : IndexedCommand T
 
 -- the commands of a scope and of all scopes inside it, in file order
-abbrev pub lines_in : {V T : Type 0} → Nesting V T → Items V T → List (Line V T)
+abbrev pub lines_in : {V T : Type 0} → Nesting V T → ProofItems V T → List (Line V T)
 lines_in nesting no_items = []
 lines_in nesting (with_assume items id t) =
     lines_in nesting items ++ record { scope = at nesting items; command = assume id t } ∷ []
@@ -38,20 +38,20 @@ abbrev pub around_number : {V T : Type 0} → Nesting V T → ℕ
 around_number outermost = 0
 around_number (inside around before anchor) = scope_number around
 
-abbrev pub own_scope : {V T : Type 0} → Nesting V T → Command T → ℕ
+abbrev pub own_scope : {V T : Type 0} → Nesting V T → IndexedCommand T → ℕ
 own_scope nesting (assume id t) = scope_number nesting
 own_scope nesting (step s) = scope_number nesting
 own_scope nesting (closing s) = around_number nesting
 
 -- the number of the scope that a command closes
-abbrev pub closed_scope : {V T : Type 0} → Nesting V T → Command T → Option ℕ
+abbrev pub closed_scope : {V T : Type 0} → Nesting V T → IndexedCommand T → Option ℕ
 closed_scope nesting (assume id t) = None
 closed_scope nesting (step s) = None
 closed_scope nesting (closing s) = Some (scope_number nesting)
 
 -- a command with the numbers of the scope to which it belongs and of the scope that it closes
 pub record Entry (T : Type 0) : Type 0 where
-  pub command : Command T
+  pub command : IndexedCommand T
   pub scope : ℕ
   pub closes : Option ℕ
 
@@ -68,7 +68,7 @@ pub record ScopeEntry (V T : Type 0) : Type 0 where
   pub bindings : List (V × T)
   pub last : Option ℕ
 
-abbrev pub scope_entry : {V T : Type 0} → Nesting V T → Items V T → ScopeEntry V T
+abbrev pub scope_entry : {V T : Type 0} → Nesting V T → ProofItems V T → ScopeEntry V T
 scope_entry nesting items = record {
   parent = parent_number nesting;
   bindings = own_bindings nesting;
@@ -76,7 +76,7 @@ scope_entry nesting items = record {
 }
 
 -- the scopes inside a scope, at any depth, in the order of their anchors
-abbrev pub scopes_in : {V T : Type 0} → Nesting V T → Items V T → List (ScopeEntry V T)
+abbrev pub scopes_in : {V T : Type 0} → Nesting V T → ProofItems V T → List (ScopeEntry V T)
 scopes_in nesting no_items = []
 scopes_in nesting (with_assume items id t) = scopes_in nesting items
 scopes_in nesting (with_step items s) = scopes_in nesting items
@@ -96,8 +96,8 @@ scopes_to scope =
     scopes_before scope.nesting ++ scope_entry scope.nesting scope.items ∷ scopes_in scope.nesting scope.items
 
 -- the commands and the scopes of a whole proof
-abbrev pub entries : {V T : Type 0} → Items V T → List (Entry T)
+abbrev pub entries : {V T : Type 0} → ProofItems V T → List (Entry T)
 entries proof = map entry_of (lines_in outermost proof)
 
-abbrev pub scopes : {V T : Type 0} → Items V T → List (ScopeEntry V T)
+abbrev pub scopes : {V T : Type 0} → ProofItems V T → List (ScopeEntry V T)
 scopes proof = scope_entry outermost proof ∷ scopes_in outermost proof

@@ -17,7 +17,7 @@ use Rattle.rule_model.specs.Congruence.{MeetsSymm, MeetsNotSymm, MeetsTrans, Mee
 use Rattle.rule_model.specs.Contexts.{IsInContext}
 use Rattle.rule_model.specs.Definitions.{MeetsChoice, MeetsConnectiveDef, MeetsIteIntro, MeetsDistinctElim}
 use Rattle.rule_model.specs.Judged.{Judged, judged_at}
-use Rattle.rule_model.specs.Proofs.{Items}
+use Rattle.rule_model.specs.Proofs.{ProofItems}
 use Rattle.rule_model.specs.Reading.{rule_at, closes_at}
 use Rattle.rule_model.specs.Reflexivity.{MeetsRefl}
 use Rattle.rule_model.specs.Resolution.{Resolves}
@@ -85,19 +85,19 @@ abbrev pub IsTooWide : Judged → Type 0
 IsTooWide j = IsTooWideBy j.rule j
 
 -- The same of the command at an index: the numbers of a step that closes a scope are not looked at.
-abbrev pub IsTooWideWhere : Mode → Items Var Term → ℕ → Option ℕ → Type 0
+abbrev pub IsTooWideWhere : Mode → ProofItems Var Term → ℕ → Option ℕ → Type 0
 IsTooWideWhere mode proof i None = IsTooWide (judged_at mode proof i)
 IsTooWideWhere mode proof i (Some k) = ⊥
 
-abbrev pub IsTooWideAt : Mode → Items Var Term → ℕ → Type 0
+abbrev pub IsTooWideAt : Mode → ProofItems Var Term → ℕ → Type 0
 IsTooWideAt mode proof i = IsTooWideWhere mode proof i (closes_at proof i)
 
 -- the command at an index meets the condition of its rule: that of a closing where it closes a scope
-abbrev pub MeetsWhere : Mode → Items Var Term → ℕ → Option ℕ → Type 0
+abbrev pub MeetsWhere : Mode → ProofItems Var Term → ℕ → Option ℕ → Type 0
 MeetsWhere mode proof i None = Met (judged_at mode proof i)
 MeetsWhere mode proof i (Some k) = MeetsClosing mode (rule_at proof i) proof i k
 
-abbrev pub IsMetAt : Mode → Items Var Term → ℕ → Type 0
+abbrev pub IsMetAt : Mode → ProofItems Var Term → ℕ → Type 0
 IsMetAt mode proof i = MeetsWhere mode proof i (closes_at proof i)
 
 -- the rules whose condition looks at what open anchors put in

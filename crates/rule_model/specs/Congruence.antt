@@ -10,7 +10,7 @@ use Rattle.term_model.specs.Sorts.{IsOf}
 use Rattle.term_model.specs.Terms.{Fun, Term, operation, call, terms_of, not_of}
 use Rattle.rule_model.specs.declared.rules.Mode.{Mode}
 use Rattle.rule_model.specs.declared.rules.Rule.{Rule}
-use Rattle.rule_model.specs.Clausal.{itself}
+use Rattle.rule_model.specs.Clausal.{as_it_stands}
 
 -- the one premise is an equality, or its negation, and the clause is the same with the sides exchanged
 pub record TurnsRound (sign : Term → Term) (premises : List (List Term)) (clause : List Term) : Type 0 where
@@ -172,7 +172,7 @@ GivesPredicates Mode.Strict premises clause =
 
 -- the condition of each rule, by the mode, the premises' clauses and the clause
 abbrev pub MeetsSymm : Mode → List (List Term) → List Term → Type 0
-MeetsSymm mode premises clause = TurnsRound itself premises clause
+MeetsSymm mode premises clause = TurnsRound as_it_stands premises clause
 
 abbrev pub MeetsNotSymm : Mode → List (List Term) → List Term → Type 0
 MeetsNotSymm mode premises clause = TurnsRound not_of premises clause

@@ -32,9 +32,9 @@ abbrev pub IsClosedUnder : List Replacement → Term → Type 0
 IsClosedUnder anchors t = (x : Var) → IsFree x t → IsBoundBy anchors x
 
 -- the anchors outside one bind each variable that stands free in its terms
-abbrev pub AreNested : List Replacement → Type 0
-AreNested [] = Unit {0}
-AreNested (anchor ∷ outer) = AllByRecursion (λ b. IsClosedUnder outer b.1) anchor × AreNested outer
+abbrev pub AreAnchorsNested : List Replacement → Type 0
+AreAnchorsNested [] = Unit {0}
+AreAnchorsNested (anchor ∷ outer) = AllByRecursion (λ b. IsClosedUnder outer b.1) anchor × AreAnchorsNested outer
 
 -- the values of the variables that the anchors bind: those of their images
 abbrev pub context_values : Interpretation → List Replacement → Valuation
@@ -43,7 +43,7 @@ context_values I anchors = image_values I (images anchors)
 -- The variables that the anchors bind have the values of their images, and the anchors outside one bind what stands free
 -- in its terms.
 pub record IsInContext (I : Interpretation) (r : Valuation) (anchors : List Replacement) : Type 0 where
-  pub nested : AreNested anchors
+  pub nested : AreAnchorsNested anchors
   pub values : (x : Var) → IsBoundBy anchors x → value_at r x ≡ value_at (context_values I anchors) x
 
 -- The clause is true in its scope. The anchors are those that are open there, and the assumes those that stand directly

@@ -9,7 +9,7 @@ use Rattle.term_model.specs.Sorts.{IsOf}
 use Rattle.term_model.specs.Terms.{Term, operation, no_terms, terms_of, not_of}
 use Rattle.rule_model.specs.declared.rules.Rule.{Rule}
 use Rattle.rule_model.specs.Patterns.{a, b, c, no, conj, disj, xor, implies, ite}
-use Rattle.rule_model.specs.Rewriting.{Row, ◌⇝◌, over_truths, Rewrites}
+use Rattle.rule_model.specs.Rewriting.{RewriteRow, ◌⇝◌, over_truths, Rewrites}
 use Rattle.rule_model.specs.Schemas.{Schema, tautology, from, IsInstanceOf}
 
 -- the schemas of the rules over `ite`
@@ -28,7 +28,7 @@ abbrev pub MeetsChoice : Rule → List (List Term) → List Term → Type 0
 MeetsChoice rule premises clause = IsInstanceOf (choice_schema_of rule) premises clause
 
 -- connective_def: what `xor`, the equality of two terms of Bool and `ite` over terms of Bool stand for
-abbrev pub connective_definitions : List Row
+abbrev pub connective_definitions : List RewriteRow
 connective_definitions =
     (xor a b ⇝ disj (conj (no a) b) (conj a (no b)))
     ∷ over_truths a b (conj (implies a b) (implies b a))

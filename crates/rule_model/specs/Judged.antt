@@ -5,7 +5,7 @@ use Rattle.term_model.specs.Terms.{Var, Term}
 use Rattle.rule_model.specs.declared.rules.Mode.{Mode}
 use Rattle.rule_model.specs.declared.rules.Rule.{Rule}
 use Rattle.rule_model.specs.Commands.{lines_in}
-use Rattle.rule_model.specs.Proofs.{Fraction, Items}
+use Rattle.rule_model.specs.Proofs.{Fraction, ProofItems}
 use Rattle.rule_model.specs.Reading.{rule_at, clause_at, premises_at, pivots_at, ratios_at}
 use Rattle.rule_model.specs.Scopes.{Nesting, outermost, inside}
 
@@ -26,11 +26,11 @@ open_anchors outermost = []
 open_anchors (inside around before anchor) = anchor.bindings ∷ open_anchors around
 
 -- the same of the command at an index; of a step that closes a scope, those that are open in that one
-abbrev pub anchors_at : {V T : Type 0} → Items V T → ℕ → List (List (V × T))
+abbrev pub anchors_at : {V T : Type 0} → ProofItems V T → ℕ → List (List (V × T))
 anchors_at proof i = option_map_or (λ line. open_anchors line.scope.nesting) (slice_get (lines_in outermost proof) i) []
 
 -- what the rule of the step at an index looks at
-abbrev pub judged_at : Mode → Items Var Term → ℕ → Judged
+abbrev pub judged_at : Mode → ProofItems Var Term → ℕ → Judged
 judged_at mode proof i = record {
   mode = mode;
   rule = rule_at proof i;

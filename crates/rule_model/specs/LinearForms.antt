@@ -40,14 +40,14 @@ abbrev mutual
 abbrev mutual
   pub part : (Term → ℤ) → Term → ℤ
   part w (numeral n) = pos 0
-  part w (operation Op.Plus ts) = from_left ◌+ℤ◌ (pos 0) (parts w ts)
-  part w (operation Op.Minus ts) = difference (parts w ts)
+  part w (operation Op.Plus ts) = from_left ◌+ℤ◌ (pos 0) (form_parts w ts)
+  part w (operation Op.Minus ts) = difference (form_parts w ts)
   part w (operation Op.Times ts) = if is_linear ts then product_part w ts else w (operation Op.Times ts)
   part w t = w t
 
-  pub parts : (Term → ℤ) → Terms → List ℤ
-  parts w no_terms = []
-  parts w (term t ts) = part w t ∷ parts w ts
+  pub form_parts : (Term → ℤ) → Terms → List ℤ
+  form_parts w no_terms = []
+  form_parts w (term t ts) = part w t ∷ form_parts w ts
 
   -- the form of the factor that is no constant, times the constants
   pub product_part : (Term → ℤ) → Terms → ℤ

@@ -24,8 +24,8 @@ pub record Step (T : Type 0) : Type 0 where
 -- The items of a scope in file order. They are none, or what stands before the last item, and that item: an assume
 -- with its id, a step, or a subproof. A subproof is what its anchor binds, each variable with its term, in order; the
 -- items of the scope that it opens; and the step that closes this scope, whose id is the anchor's.
-pub data Items (V T : Type 0) : Type 0 where
-  no_items : Items V T
-  with_assume : Items V T → List ℕ → T → Items V T
-  with_step : Items V T → Step T → Items V T
-  with_subproof : Items V T → List (V × T) → Items V T → Step T → Items V T
+pub data ProofItems (V T : Type 0) : Type 0 where
+  no_items : ProofItems V T
+  with_assume : ProofItems V T → List ℕ → T → ProofItems V T
+  with_step : ProofItems V T → Step T → ProofItems V T
+  with_subproof : ProofItems V T → List (V × T) → ProofItems V T → Step T → ProofItems V T

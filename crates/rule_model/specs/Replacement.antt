@@ -10,16 +10,16 @@ abbrev pub Replacement : Type 0
 Replacement = List (Var × Term)
 
 -- what is put in for a variable: itself where there is nothing else
-abbrev pub term_at : Replacement → Var → Term
-term_at [] x = variable x
-term_at (b ∷ r) x = if var_eq b.0 x then b.1 else term_at r x
+abbrev pub replaced_by : Replacement → Var → Term
+replaced_by [] x = variable x
+replaced_by (b ∷ r) x = if var_eq b.0 x then b.1 else replaced_by r x
 
 -- The term with all its lets replaced and the terms put in for its variables at once. Since no let is left, no
 -- variable of what is put in gets bound.
 unfoldable mutual
   pub replaced : Replacement → Term → Term
   replaced r (numeral n) = numeral n
-  replaced r (variable x) = term_at r x
+  replaced r (variable x) = replaced_by r x
   replaced r (operation op ts) = operation op (replaced_all r ts)
   replaced r (call f ts) = call f (replaced_all r ts)
   replaced r (let_in bs t) = replaced (replaced_bindings r bs ++ r) t

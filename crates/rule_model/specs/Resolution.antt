@@ -28,10 +28,10 @@ abbrev pub ResolvesInCheck : List (List Term) → List Term → Type 0
 ResolvesInCheck premises clause = Follows (map as_clause premises) (as_clause clause)
 
 -- the list is what is left of another where every occurrence of a term is removed
-abbrev pub IsWithout : Term → List Term → List Term → Type 0
-IsWithout p [] rest = rest ≡ []
-IsWithout p (t ∷ ts) rest =
-    ((t ≡ p) × IsWithout p ts rest) ⊎ ((t ≢ p) × ((us : List Term) × (rest ≡ t ∷ us) × IsWithout p ts us))
+abbrev pub LeavesWithout : Term → List Term → List Term → Type 0
+LeavesWithout p [] rest = rest ≡ []
+LeavesWithout p (t ∷ ts) rest =
+    ((t ≡ p) × LeavesWithout p ts rest) ⊎ ((t ≢ p) × ((us : List Term) × (rest ≡ t ∷ us) × LeavesWithout p ts us))
 
 -- the list is what is left of another where each term is dropped that stands before it, or is one of those seen
 abbrev pub IsFirstsOf : List Term → List Term → List Term → Type 0
@@ -51,9 +51,9 @@ pub record IsResolvent (left right : List Term) (pivot : Term) (sign : Bool) (re
   pub on_left : Contains left (with_sign pivot sign)
   pub on_right : Contains right (with_sign pivot (not sign))
   pub left_rest : List Term
-  pub left_is : IsWithout (with_sign pivot sign) left left_rest
+  pub left_is : LeavesWithout (with_sign pivot sign) left left_rest
   pub right_rest : List Term
-  pub right_is : IsWithout (with_sign pivot (not sign)) right right_rest
+  pub right_is : LeavesWithout (with_sign pivot (not sign)) right right_rest
   pub firsts : IsFirstsOf [] (left_rest ++ right_rest) result
 
 -- a chain from a clause through others, with a pivot for each, to its result

@@ -1,6 +1,6 @@
 -- Public. Scopes and how they stand in one another, and the numbers of commands and scopes.
 use Rattle.std.specs.Prelude.{ℕ, suc, ◌+◌, List, [], Option, Some, None}
-use Rattle.rule_model.specs.Proofs.{Step, Items, no_items, with_assume, with_step, with_subproof}
+use Rattle.rule_model.specs.Proofs.{Step, ProofItems, no_items, with_assume, with_step, with_subproof}
 
 -- an anchor: the id of the step that closes its scope, and what it binds, each variable with its term, in order
 pub record Anchor (V T : Type 0) : Type 0 where
@@ -11,29 +11,29 @@ pub record Anchor (V T : Type 0) : Type 0 where
 -- the other one.
 pub data Nesting (V T : Type 0) : Type 0 where
   outermost : Nesting V T
-  inside : Nesting V T → Items V T → Anchor V T → Nesting V T
+  inside : Nesting V T → ProofItems V T → Anchor V T → Nesting V T
 
 -- a scope as far as it is written: where it stands, and its items so far
 pub record Scope (V T : Type 0) : Type 0 where
   pub nesting : Nesting V T
-  pub items : Items V T
+  pub items : ProofItems V T
 
-abbrev pub at : {V T : Type 0} → Nesting V T → Items V T → Scope V T
+abbrev pub at : {V T : Type 0} → Nesting V T → ProofItems V T → Scope V T
 at nesting items = record { nesting = nesting; items = items }
 
 -- what stands around the scope that a step with this id closes
-abbrev pub inner : {V T : Type 0} → Nesting V T → Items V T → List (V × T) → Step T → Nesting V T
+abbrev pub inner : {V T : Type 0} → Nesting V T → ProofItems V T → List (V × T) → Step T → Nesting V T
 inner nesting items bindings closing = inside nesting items (record { id = closing.id; bindings = bindings })
 
 -- how many commands there are among the items, at any depth
-abbrev pub commands_in : {V T : Type 0} → Items V T → ℕ
+abbrev pub commands_in : {V T : Type 0} → ProofItems V T → ℕ
 commands_in no_items = 0
 commands_in (with_assume items id t) = suc (commands_in items)
 commands_in (with_step items s) = suc (commands_in items)
 commands_in (with_subproof items bindings proof closing) = suc (commands_in items + commands_in proof)
 
 -- how many subproofs
-abbrev pub subproofs_in : {V T : Type 0} → Items V T → ℕ
+abbrev pub subproofs_in : {V T : Type 0} → ProofItems V T → ℕ
 subproofs_in no_items = 0
 subproofs_in (with_assume items id t) = subproofs_in items
 subproofs_in (with_step items s) = subproofs_in items
@@ -67,7 +67,7 @@ own_bindings outermost = []
 own_bindings (inside around before anchor) = anchor.bindings
 
 -- the index of the last command that stands directly in the scope: of a subproof it is the closing step
-abbrev pub last_index : {V T : Type 0} → Nesting V T → Items V T → Option ℕ
+abbrev pub last_index : {V T : Type 0} → Nesting V T → ProofItems V T → Option ℕ
 last_index nesting no_items = None
 last_index nesting (with_assume items id t) = Some (first_index nesting + commands_in items)
 last_index nesting (with_step items s) = Some (first_index nesting + commands_in items)

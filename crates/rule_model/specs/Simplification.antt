@@ -5,16 +5,16 @@ use Rattle.term_model.specs.declared.symbols.Op.{Op}
 use Rattle.term_model.specs.Flips.{equality}
 use Rattle.term_model.specs.Terms.{Term, operation, no_terms, terms_of, not_of}
 use Rattle.rule_model.specs.Patterns.{a, b, c, d, yes, never, no, conj, disj, implies, equal, ite, less, less_eq, greater, greater_eq}
-use Rattle.rule_model.specs.Rewriting.{Row, ◌⇝◌, over_truths, one_number, two_numbers, below, at_most, where_constants, Simplifies}
+use Rattle.rule_model.specs.Rewriting.{RewriteRow, ◌⇝◌, over_truths, one_number, two_numbers, below, at_most, where_constants, Simplifies}
 
-abbrev pub not_simplify : List Row
+abbrev pub not_simplify : List RewriteRow
 not_simplify =
     (no (no a) ⇝ a)
     ∷ (no never ⇝ yes)
     ∷ (no yes ⇝ never)
     ∷ []
 
-abbrev pub implies_simplify : List Row
+abbrev pub implies_simplify : List RewriteRow
 implies_simplify =
     (implies (no a) (no b) ⇝ implies b a)
     ∷ (implies never a ⇝ yes)
@@ -28,7 +28,7 @@ implies_simplify =
     ∷ []
 
 -- both sides are of Bool
-abbrev pub equiv_simplify : List Row
+abbrev pub equiv_simplify : List RewriteRow
 equiv_simplify =
     over_truths (no a) (no b) (equal a b)
     ∷ over_truths a a yes
@@ -40,7 +40,7 @@ equiv_simplify =
     ∷ over_truths a never (no a)
     ∷ []
 
-abbrev pub bool_simplify : List Row
+abbrev pub bool_simplify : List RewriteRow
 bool_simplify =
     (no (implies a b) ⇝ conj a (no b))
     ∷ (no (disj a b) ⇝ conj (no a) (no b))
@@ -51,7 +51,7 @@ bool_simplify =
     ∷ (conj (implies a b) a ⇝ conj a b)
     ∷ []
 
-abbrev pub ite_simplify : List Row
+abbrev pub ite_simplify : List RewriteRow
 ite_simplify =
     (ite yes a b ⇝ a)
     ∷ (ite never a b ⇝ b)
@@ -68,14 +68,14 @@ ite_simplify =
     ∷ []
 
 -- constants are compared by their numbers
-abbrev pub eq_simplify : List Row
+abbrev pub eq_simplify : List RewriteRow
 eq_simplify =
     (equal a a ⇝ yes)
     ∷ where_constants (two_numbers a b) (equal a b) never
     ∷ where_constants (one_number a b) (no (equal a b)) never
     ∷ []
 
-abbrev pub comp_simplify : List Row
+abbrev pub comp_simplify : List RewriteRow
 comp_simplify =
     where_constants (below a b) (less a b) yes
     ∷ where_constants (at_most b a) (less a b) never
@@ -88,7 +88,7 @@ comp_simplify =
     ∷ (greater a b ⇝ no (less_eq a b))
     ∷ []
 
-pub record MeetsSimplification (rows : List Row) (premises : List (List Term)) (clause : List Term) : Type 0 where
+pub record MeetsSimplification (rows : List RewriteRow) (premises : List (List Term)) (clause : List Term) : Type 0 where
   pub left : Term
   pub right : Term
   pub none : premises ≡ []

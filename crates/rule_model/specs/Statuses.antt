@@ -9,7 +9,7 @@ use Rattle.rule_model.specs.declared.rules.StepCause.{StepCause}
 use Rattle.rule_model.specs.declared.statuses.Status.{Status}
 use Rattle.rule_model.specs.declared.statuses.Verdict.{Verdict}
 use Rattle.rule_model.specs.Conditions.{IsMetAt, IsTooWideAt}
-use Rattle.rule_model.specs.Proofs.{Items}
+use Rattle.rule_model.specs.Proofs.{ProofItems}
 use Rattle.rule_model.specs.Reading.{rule_at, clause_at, scope_at}
 use Rattle.rule_model.specs.Scopes.{commands_in}
 
@@ -27,7 +27,7 @@ IsAsserted Mode.Check assertions t = Any (λ a. EqualUpToFlips a t) assertions
 IsAsserted Mode.Strict assertions t = Contains assertions t
 
 -- the command at an index may assume its term: what the outermost scope assumes is asserted
-abbrev pub MayAssume : Checking → Items Var Term → ℕ → Type 0
+abbrev pub MayAssume : Checking → ProofItems Var Term → ℕ → Type 0
 MayAssume c proof i = scope_at proof i ≡ 0 → All (IsAsserted c.mode c.assertions) (clause_at proof i)
 
 -- how the command of a rule is judged: as an assume, as a hole, not at all, or by the rule's condition
@@ -37,16 +37,16 @@ pub data Kind : Type 0 where
   unknown : Kind
   conditional : Kind
 
-abbrev pub kind_of : Checking → Rule → Kind
-kind_of c Rule.Assume = assumed
-kind_of c Rule.Hole = hole
-kind_of c Rule.LiaGeneric = hole
-kind_of c Rule.RareRewrite = hole
-kind_of c Rule.AllSimplify = hole
-kind_of c rule = if c.is_judged rule then conditional else (if c.unknown_are_holes then hole else unknown)
+abbrev pub kind_of_rule : Checking → Rule → Kind
+kind_of_rule c Rule.Assume = assumed
+kind_of_rule c Rule.Hole = hole
+kind_of_rule c Rule.LiaGeneric = hole
+kind_of_rule c Rule.RareRewrite = hole
+kind_of_rule c Rule.AllSimplify = hole
+kind_of_rule c rule = if c.is_judged rule then conditional else (if c.unknown_are_holes then hole else unknown)
 
 -- the statuses that a command of each kind may have
-abbrev pub IsStatusBy : Kind → Checking → Items Var Term → ℕ → Status → Type 0
+abbrev pub IsStatusBy : Kind → Checking → ProofItems Var Term → ℕ → Status → Type 0
 IsStatusBy assumed c proof i Status.Ok = MayAssume c proof i
 IsStatusBy assumed c proof i (Status.Faulty StepCause.NotAsserted) = ¬ MayAssume c proof i
 IsStatusBy hole c proof i Status.Hole = ⊤
@@ -57,11 +57,11 @@ IsStatusBy conditional c proof i Status.Wide = IsTooWideAt c.mode proof i
 IsStatusBy kind c proof i status = ⊥
 
 -- the status of the command at an index
-abbrev pub IsStatusAt : Checking → Items Var Term → ℕ → Status → Type 0
-IsStatusAt c proof i status = IsStatusBy (kind_of c (rule_at proof i)) c proof i status
+abbrev pub IsStatusAt : Checking → ProofItems Var Term → ℕ → Status → Type 0
+IsStatusAt c proof i status = IsStatusBy (kind_of_rule c (rule_at proof i)) c proof i status
 
 -- these are the statuses of the commands, in file order
-pub record AreStatuses (c : Checking) (proof : Items Var Term) (statuses : List Status) : Type 0 where
+pub record AreStatuses (c : Checking) (proof : ProofItems Var Term) (statuses : List Status) : Type 0 where
   pub count : length statuses ≡ commands_in proof
   pub each : (i : ℕ) (status : Status) → slice_get statuses i ≡ Some status → IsStatusAt c proof i status
 
@@ -77,14 +77,14 @@ pub record IsFirstAt (statuses : List Status) (i : ℕ) (status : Status) : Type
   pub here : slice_get statuses i ≡ Some status
 
 -- some step of the outermost scope has the empty clause
-pub record ReachesEmpty {V T : Type 0} (proof : Items V T) : Type 0 where
+pub record ReachesEmpty {V T : Type 0} (proof : ProofItems V T) : Type 0 where
   pub index : ℕ
   pub within : index < commands_in proof
   pub scope : scope_at proof index ≡ 0
   pub empty : clause_at proof index ≡ []
 
 -- what the statuses come to
-abbrev pub IsVerdict : {V T : Type 0} → List Status → Items V T → Verdict → Type 0
+abbrev pub IsVerdict : {V T : Type 0} → List Status → ProofItems V T → Verdict → Type 0
 IsVerdict statuses proof (Verdict.InvalidAt i cause) = IsFirstAt statuses i (Status.Faulty cause)
 IsVerdict statuses proof (Verdict.Unknown i) = IsFirstAt statuses i Status.Wide
 IsVerdict statuses proof Verdict.NoEmpty = All Passes statuses × (¬ ReachesEmpty proof)

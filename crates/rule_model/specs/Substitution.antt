@@ -7,7 +7,7 @@ use Rattle.term_model.specs.Interpretations.{Interpretation}
 use Rattle.term_model.specs.Meaning.{Valuation}
 use Rattle.term_model.specs.Sorts.{IsOf}
 use Rattle.term_model.specs.Terms.{Var, Term, numeral, variable, operation, call, let_in, Terms, no_terms, term, Bindings, no_bindings, binding}
-use Rattle.rule_model.specs.Replacement.{Replacement, term_at, binds, values_put}
+use Rattle.rule_model.specs.Replacement.{Replacement, replaced_by, binds, values_put}
 
 -- what is put in under a let: nothing for the variables that it binds
 abbrev pub unbound : Bindings → Replacement → Replacement
@@ -17,7 +17,7 @@ unbound bs s = filter (λ b. not (binds bs b.0)) s
 abbrev mutual
   pub put_in : Replacement → Term → Term
   put_in s (numeral n) = numeral n
-  put_in s (variable x) = term_at s x
+  put_in s (variable x) = replaced_by s x
   put_in s (operation op ts) = operation op (put_in_all s ts)
   put_in s (call f ts) = call f (put_in_all s ts)
   put_in s (let_in bs t) = let_in (put_in_bound s bs) (put_in (unbound bs s) t)

@@ -10,13 +10,13 @@ use Rattle.rule_model.specs.Clauses.{MakesClauseTrue}
 use Rattle.rule_model.specs.Commands.{Line, lines_in}
 use Rattle.rule_model.specs.Contexts.{context_values, IsClosedUnder, IsTrueInScope}
 use Rattle.rule_model.specs.Judged.{open_anchors}
-use Rattle.rule_model.specs.Proofs.{Items, no_items, with_assume, with_step, with_subproof}
+use Rattle.rule_model.specs.Proofs.{ProofItems, no_items, with_assume, with_step, with_subproof}
 use Rattle.rule_model.specs.Reading.{clause_of, clause_at, premises_of}
 use Rattle.rule_model.specs.Scopes.{Nesting, outermost, inside, Scope, inner}
 use Rattle.rule_model.specs.Writing.{add_command}
 
 -- the terms that are assumed directly in a scope
-abbrev pub assumed_in : {V T : Type 0} → Items V T → List T
+abbrev pub assumed_in : {V T : Type 0} → ProofItems V T → List T
 assumed_in no_items = []
 assumed_in (with_assume items id t) = assumed_in items ++ t ∷ []
 assumed_in (with_step items s) = assumed_in items
@@ -24,7 +24,7 @@ assumed_in (with_subproof items bindings proof s) = assumed_in items
 
 -- those that are assumed directly in the scopes that are open, up to where a scope is written. What the outermost scope
 -- assumes does not count: it has to be asserted.
-abbrev pub open_assumes : {V T : Type 0} → Nesting V T → Items V T → List T
+abbrev pub open_assumes : {V T : Type 0} → Nesting V T → ProofItems V T → List T
 open_assumes outermost items = []
 open_assumes (inside around before anchor) items = open_assumes around before ++ assumed_in items
 
@@ -38,7 +38,7 @@ abbrev pub IsTrueCommand : List Term → Line Var Term → Type 0
 IsTrueCommand assertions line =
     IsTrueWhere assertions (add_command line.scope line.command) (clause_of line.command)
 
-abbrev pub IsTrueAt : List Term → Items Var Term → ℕ → Type 0
+abbrev pub IsTrueAt : List Term → ProofItems Var Term → ℕ → Type 0
 IsTrueAt assertions proof i = IfSome (slice_get (lines_in outermost proof) i) (IsTrueCommand assertions)
 
 -- The clause is true in its scope wherever the premises' clauses are: under each interpretation that makes the assertions
@@ -50,7 +50,7 @@ FollowsWhere assertions scope premises clause =
     All (MakesClauseTrue I (context_values I (open_anchors scope.nesting))) premises →
     MakesClauseTrue I (context_values I (open_anchors scope.nesting)) clause
 
-abbrev pub FollowsAt : List Term → Items Var Term → ℕ → Type 0
+abbrev pub FollowsAt : List Term → ProofItems Var Term → ℕ → Type 0
 FollowsAt assertions proof i =
     IfSome (slice_get (lines_in outermost proof) i)
     (λ line. FollowsWhere assertions (add_command line.scope line.command) (map (clause_at proof) (premises_of line.command)) (clause_of line.command))
@@ -66,7 +66,7 @@ pub record IsBindingIn (nesting : Nesting Var Term) (b : Var × Term) : Type 0 w
   pub closed : IsClosedUnder (open_anchors nesting) b.1
 
 -- all literals of a proof, and all that its anchors bind, are so
-abbrev pub AreWellSorted : Nesting Var Term → Items Var Term → Type 0
+abbrev pub AreWellSorted : Nesting Var Term → ProofItems Var Term → Type 0
 AreWellSorted nesting no_items = ⊤
 AreWellSorted nesting (with_assume items id t) = AreWellSorted nesting items × IsLiteralIn nesting t
 AreWellSorted nesting (with_step items s) = AreWellSorted nesting items × AllByRecursion (IsLiteralIn nesting) s.clause
@@ -76,5 +76,5 @@ AreWellSorted nesting (with_subproof items bindings proof s) =
     × AreWellSorted (inner nesting items bindings s) proof
     × AllByRecursion (IsLiteralIn nesting) s.clause
 
-abbrev pub IsWellSortedProof : Items Var Term → Type 0
+abbrev pub IsWellSortedProof : ProofItems Var Term → Type 0
 IsWellSortedProof proof = AreWellSorted outermost proof

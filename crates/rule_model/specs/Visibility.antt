@@ -1,7 +1,7 @@
 -- Public. What can be seen where a scope is written (Alethe, "Subproofs"): the commands that stand directly in it or in
 -- a scope around it, before that place.
 use Rattle.std.specs.Prelude.{ℕ, ◌+◌, List, [], ◌∷◌, ◌++◌, map}
-use Rattle.rule_model.specs.Proofs.{Items, no_items, with_assume, with_step, with_subproof}
+use Rattle.rule_model.specs.Proofs.{ProofItems, no_items, with_assume, with_step, with_subproof}
 use Rattle.rule_model.specs.Scopes.{Nesting, outermost, inside, first_index, scope_number, commands_in}
 
 -- a command that can be seen: its index and its id
@@ -13,7 +13,7 @@ abbrev pub sight : ℕ → List ℕ → Sight
 sight index id = record { index = index; id = id }
 
 -- the commands that stand directly in a scope; of a subproof it is the closing step
-abbrev pub direct : {V T : Type 0} → Nesting V T → Items V T → List Sight
+abbrev pub direct : {V T : Type 0} → Nesting V T → ProofItems V T → List Sight
 direct nesting no_items = []
 direct nesting (with_assume items id t) =
     direct nesting items ++ sight (first_index nesting + commands_in items) id ∷ []
@@ -22,7 +22,7 @@ direct nesting (with_subproof items bindings proof s) =
     direct nesting items ++ sight (first_index nesting + (commands_in items + commands_in proof)) s.id ∷ []
 
 -- the indices of the assumes that stand directly in a scope
-abbrev pub assumes_in : {V T : Type 0} → Nesting V T → Items V T → List ℕ
+abbrev pub assumes_in : {V T : Type 0} → Nesting V T → ProofItems V T → List ℕ
 assumes_in nesting no_items = []
 assumes_in nesting (with_assume items id t) =
     assumes_in nesting items ++ (first_index nesting + commands_in items) ∷ []
@@ -34,14 +34,14 @@ abbrev pub seen_around : {V T : Type 0} → Nesting V T → List Sight
 seen_around outermost = []
 seen_around (inside around before anchor) = seen_around around ++ direct around before
 
-abbrev pub seen : {V T : Type 0} → Nesting V T → Items V T → List Sight
+abbrev pub seen : {V T : Type 0} → Nesting V T → ProofItems V T → List Sight
 seen nesting items = seen_around nesting ++ direct nesting items
 
 -- the indices, and the ids, that are visible
-abbrev pub visible : {V T : Type 0} → Nesting V T → Items V T → List ℕ
+abbrev pub visible : {V T : Type 0} → Nesting V T → ProofItems V T → List ℕ
 visible nesting items = map (λ s. s.index) (seen nesting items)
 
-abbrev pub visible_ids : {V T : Type 0} → Nesting V T → Items V T → List (List ℕ)
+abbrev pub visible_ids : {V T : Type 0} → Nesting V T → ProofItems V T → List (List ℕ)
 visible_ids nesting items = map (λ s. s.id) (seen nesting items)
 
 -- the ids of the anchors that are open, the outermost first

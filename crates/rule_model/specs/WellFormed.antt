@@ -2,13 +2,13 @@
 -- (Alethe, "The Proof Format" and "Subproofs").
 use Rattle.std.specs.Prelude.{◌≡◌, ◌≢◌, ◌<ℤ◌, ◌≤ℤ◌, ◌⊎◌, ◌*ℤ◌, ◌^◌, ◌-◌, neg_ℤ, ℕ, ℤ, pos, List, [], map, All, AllPairs, Contains, None, IfSome, ⊤}
 use Rattle.rule_model.specs.declared.rules.Rule.{Rule}
-use Rattle.rule_model.specs.Proofs.{Fraction, Step, Items, no_items, with_assume, with_step, with_subproof}
+use Rattle.rule_model.specs.Proofs.{Fraction, Step, ProofItems, no_items, with_assume, with_step, with_subproof}
 use Rattle.rule_model.specs.RuleNames.{rule_named, left_out_rules, IsSymbolName}
 use Rattle.rule_model.specs.Scopes.{Anchor, Nesting, outermost, inside, inner}
 use Rattle.rule_model.specs.Visibility.{visible, visible_ids, open_ids, open_bindings, assumes_in}
 
 -- The id is a symbol, and neither the id of a visible command nor that of an open anchor.
-pub record IsNewId {V T : Type 0} (nesting : Nesting V T) (items : Items V T) (id : List ℕ) : Type 0 where
+pub record IsNewId {V T : Type 0} (nesting : Nesting V T) (items : ProofItems V T) (id : List ℕ) : Type 0 where
   pub symbol : IsSymbolName id
   pub unseen : ¬ Contains (visible_ids nesting items) id
   pub not_open : ¬ Contains (open_ids nesting) id
@@ -35,13 +35,13 @@ pub record HasRule {T : Type 0} (s : Step T) : Type 0 where
   pub lowest : IfSome s.ratios (λ qs. All IsLowest qs)
 
 -- the anchor may stand here: its id is new, and its variables differ from each other and from those that are bound
-pub record MayOpen {V T : Type 0} (nesting : Nesting V T) (items : Items V T) (anchor : Anchor V T) : Type 0 where
+pub record MayOpen {V T : Type 0} (nesting : Nesting V T) (items : ProofItems V T) (anchor : Anchor V T) : Type 0 where
   pub id : IsNewId nesting items anchor.id
   pub distinct : AllPairs (λ x y. x ≢ y) (map (λ b. b.0) anchor.bindings)
   pub unbound : All (λ x. ¬ Contains (map (λ b. b.0) (open_bindings nesting)) x) (map (λ b. b.0) anchor.bindings)
 
 -- the step may stand here, where it closes nothing
-pub record MayStand {V T : Type 0} (nesting : Nesting V T) (items : Items V T) (s : Step T) : Type 0 where
+pub record MayStand {V T : Type 0} (nesting : Nesting V T) (items : ProofItems V T) (s : Step T) : Type 0 where
   pub id : IsNewId nesting items s.id
   pub rule : HasRule s
   pub premises : All (Contains (visible nesting items)) s.premises
@@ -49,13 +49,13 @@ pub record MayStand {V T : Type 0} (nesting : Nesting V T) (items : Items V T) (
 
 -- The step may close a scope that has these items, which was opened behind others: it sees what is visible there, and
 -- discharges assumes that stand directly in the scope that it closes.
-pub record MayClose {V T : Type 0} (nesting : Nesting V T) (items : Items V T) (closed : Nesting V T) (proof : Items V T) (s : Step T) : Type 0 where
+pub record MayClose {V T : Type 0} (nesting : Nesting V T) (items : ProofItems V T) (closed : Nesting V T) (proof : ProofItems V T) (s : Step T) : Type 0 where
   pub rule : HasRule s
   pub premises : All (Contains (visible nesting items)) s.premises
   pub discharged : All (Contains (assumes_in closed proof)) s.discharged
 
 -- each item of a scope may stand where it does
-abbrev pub AreWellFormed : {V T : Type 0} → Nesting V T → Items V T → Type 0
+abbrev pub AreWellFormed : {V T : Type 0} → Nesting V T → ProofItems V T → Type 0
 AreWellFormed nesting no_items = ⊤
 AreWellFormed nesting (with_assume items id t) = AreWellFormed nesting items × IsNewId nesting items id
 AreWellFormed nesting (with_step items s) = AreWellFormed nesting items × MayStand nesting items s
@@ -71,5 +71,5 @@ IsWellPlaced outermost = ⊤
 IsWellPlaced (inside around before anchor) =
     IsWellPlaced around × AreWellFormed around before × MayOpen around before anchor
 
-abbrev pub IsWellFormed : {V T : Type 0} → Items V T → Type 0
+abbrev pub IsWellFormed : {V T : Type 0} → ProofItems V T → Type 0
 IsWellFormed proof = AreWellFormed outermost proof

@@ -6,7 +6,7 @@
 --   (step t2 (cl) :rule hole :premises (t1))
 use Rattle.std.specs.Prelude.{ℕ, List, [], ◌∷◌, None, codes}
 use Rattle.rule_model.specs.declared.rules.Rule.{Rule}
-use Rattle.rule_model.specs.Proofs.{Step, Items, no_items, with_assume, with_step, with_subproof}
+use Rattle.rule_model.specs.Proofs.{Step, ProofItems, no_items, with_assume, with_step, with_subproof}
 
 abbrev pub plain : List ℕ → Rule → List ℕ → List ℕ → List ℕ → List ℕ → Step ℕ
 plain id rule word clause premises discharged = record {
@@ -20,7 +20,7 @@ plain id rule word clause premises discharged = record {
   ratios = None;
 }
 
-abbrev pub worked : Items ℕ ℕ
+abbrev pub worked : ProofItems ℕ ℕ
 worked =
     with_step
     (with_subproof no_items []

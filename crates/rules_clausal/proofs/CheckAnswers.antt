@@ -11,7 +11,7 @@ use Rattle.rule_model.specs.Clausal.{IsClausal, MeetsClausal}
 use Rattle.rule_model.specs.Closings.{MeetsClosing}
 use Rattle.rule_model.specs.Conditions.{MeetsRule, MeetsWhere, IsMetAt, Met}
 use Rattle.rule_model.specs.Judged.{Judged, judged_at}
-use Rattle.rule_model.specs.Proofs.{Items}
+use Rattle.rule_model.specs.Proofs.{ProofItems}
 use Rattle.rule_model.specs.Reading.{rule_at, clause_at, premises_at, closes_at}
 use Rattle.rules_clausal.specs.Steps.{MeetsAt, ReferToClauses}
 use Rattle.rules_clausal.proofs.CheckLemmas.{many_premises}
@@ -60,7 +60,7 @@ rule_meets Rule.LaRwEq j is = absurd cc
 rule_meets Rule.LaGeneric j is = absurd cc
 rule_meets rule j is = (λ h. h, λ h. h)
 
-module _ (of : Items Var Term) (i : ℕ) where
+module _ (of : ProofItems Var Term) (i : ℕ) where
   -- the premises are these
   pub meets_given : (s : Table) (v : TermsView) (premises : List (Bor (List ℕ))) (clause js : List ℕ) (rule : Rule) (b : Bool) → rule ≡ rule_at of i → js ≡ premises_at of i → ReferToClauses s v premises (map (clause_at of) js) → ReferToAll s v clause (clause_at of i) → ((ps : List (List Term)) (ts : List Term) → ReferToClauses s v premises ps → ReferToAll s v clause ts → IsTrue b ↔ MeetsClausal rule ps ts) → IsTrue b ↔ MeetsAt of i
   meets_given s v premises clause js rule b rule_is premises_are refer clause_refers test =

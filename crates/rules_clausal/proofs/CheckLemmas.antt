@@ -8,9 +8,9 @@ use Rattle.sym_table.specs.Table.{Table}
 use Rattle.term_model.specs.Terms.{Term}
 use Rattle.term_pool.specs.Views.{TermsView, RefersTo, IsTerm, ReferToAll}
 use Rattle.rule_model.specs.declared.rules.Rule.{Rule}
-use Rattle.rule_model.specs.Clausal.{schema_of, Begins, IsGiven, Changes, MeetsClausal}
+use Rattle.rule_model.specs.Clausal.{schema_of, Begins, IsOnlyPremise, Changes, MeetsClausal}
 use Rattle.rule_model.specs.Commands.{Line, entry_of, lines_in}
-use Rattle.rule_model.specs.Proofs.{Items}
+use Rattle.rule_model.specs.Proofs.{ProofItems}
 use Rattle.rule_model.specs.Reading.{premises_of, premises_at}
 use Rattle.rule_model.specs.Schemas.{Pattern, fill, Schema, IsInstanceOf}
 use Rattle.rule_model.specs.Scopes.{outermost, commands_in}
@@ -19,7 +19,7 @@ use Rattle.rule_model.proofs.Lists.{contains_none}
 use Rattle.rule_model.proofs.Standing.{premise_earlier}
 
 -- the premises of a command stand before it
-module _ {V T : Type 0} (proof : Items V T) where
+module _ {V T : Type 0} (proof : ProofItems V T) where
   line_there : (xs : List (Line V T)) (i j : ℕ) → Contains (option_map_or (λ e. premises_of e.command) (slice_get (map entry_of xs) i) []) j → (l : Line V T) × (slice_get xs i ≡ Some l) × Contains (premises_of l.command) j
   line_there [] i j c = absurd (contains_none j c)
   line_there (x ∷ xs) zero j c = (x, refl, c)
@@ -32,7 +32,7 @@ module _ {V T : Type 0} (proof : Items V T) where
       go (l, there, has) = premise_earlier proof i j l formed there has
 
 -- the first premise is a command
-pub first_premise : (proof : Items ℕ ℕ) (i : ℕ) (js : List ℕ) → js ≡ premises_at proof i → 1 ≤ length js → IsWellFormed proof → i < commands_in proof → get_or js 0 0 < commands_in proof
+pub first_premise : (proof : ProofItems ℕ ℕ) (i : ℕ) (js : List ℕ) → js ≡ premises_at proof i → 1 ≤ length js → IsWellFormed proof → i < commands_in proof → get_or js 0 0 < commands_in proof
 first_premise proof i js is some formed below =
     let there : Contains (premises_at proof i) (get_or js 0 0) = subst (λ ks. Contains ks (get_or js 0 0)) is (0, some, get_or_default js 0 (get_or js 0 0) 0 some) in
     let before = premise_before proof i (get_or js 0 0) formed there in
@@ -88,7 +88,7 @@ module _ (p q : List Term) (ps : List (List Term)) (ts : List Term) where
   no_begins : (G : Term → List Term → Type 0) → Begins G (p ∷ q ∷ ps) ts → ⊥
   no_begins G h = absurd (let e = h.none in cc)
 
-  no_given : (G : Term → List Term → Type 0) → IsGiven G (p ∷ q ∷ ps) ts → ⊥
+  no_given : (G : Term → List Term → Type 0) → IsOnlyPremise G (p ∷ q ∷ ps) ts → ⊥
   no_given G h = absurd (let e = h.unit in cc)
 
   no_changes : (G : List Term → List Term → Type 0) → Changes G (p ∷ q ∷ ps) ts → ⊥

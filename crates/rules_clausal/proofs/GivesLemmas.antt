@@ -6,13 +6,13 @@ use Rattle.sym_table.specs.Table.{Table}
 use Rattle.term_model.specs.declared.symbols.Op.{Op}
 use Rattle.term_model.specs.Terms.{Term, Terms, operation, list_of, terms_of}
 use Rattle.term_pool.specs.Views.{TermsView, RefersTo, ReferToAll, IsTerm}
-use Rattle.rule_model.specs.Clausal.{Begins, IsGiven}
+use Rattle.rule_model.specs.Clausal.{Begins, IsOnlyPremise}
 use Rattle.rule_model.proofs.ArgumentLists.{list_of-terms_of}
 use Rattle.rule_model.proofs.Lists.{contains_none}
 use Rattle.rules_clausal.specs.declared.argument_rules.Which.{Which}
 use Rattle.rules_clausal.specs.declared.signs.Sign.{Sign}
 use Rattle.rules_clausal.specs.ArgumentRules.{Gives, HasArguments, HasNoArguments, IsOneOf}
-use Rattle.rules_clausal.specs.Premises.{IsUnit, IsNoUnit}
+use Rattle.rules_clausal.specs.Premises.{IsOneUnit, IsNoUnit}
 use Rattle.rules_clausal.specs.Signs.{sign_of}
 use Rattle.rules_clausal.specs.Steps.{ReferToClauses}
 use Rattle.rules_clausal.proofs.ArgumentLemmas.{one_term}
@@ -73,7 +73,7 @@ module _ (s : Table) (v : TermsView) where
   inner q r (t ∷ []) e h = (t, refl, (subst (λ rs. ReferToAll s v rs (t ∷ [])) e h).0)
   inner q r (t ∷ u ∷ p) e h = absurd (subst (λ rs. ReferToAll s v rs (t ∷ u ∷ p)) e h).1
 
-  pub unit_term : (premises : List (Bor (List ℕ))) (r : ℕ) (ps : List (List Term)) → IsUnit premises r → ReferToClauses s v premises ps → (t : Term) × (ps ≡ (t ∷ []) ∷ []) × RefersTo s v r t
+  pub unit_term : (premises : List (Bor (List ℕ))) (r : ℕ) (ps : List (List Term)) → IsOneUnit premises r → ReferToClauses s v premises ps → (t : Term) × (ps ≡ (t ∷ []) ∷ []) × RefersTo s v r t
   unit_term [] r ps e h = absurd cc
   unit_term (q ∷ []) r [] e h = absurd h
   unit_term (q ∷ []) r (p ∷ []) e h = go (inner q.now r p (first_is e) h.0)
@@ -86,7 +86,7 @@ module _ (s : Table) (v : TermsView) where
   unit_term (q ∷ []) r (p ∷ x ∷ ps) e h = absurd h.1
   unit_term (q ∷ x ∷ premises) r ps e h = absurd cc
 
-  pub unit_is_term : (premises : List (Bor (List ℕ))) (r : ℕ) → IsUnit premises r → All (λ p. All (IsTerm s v) p.now) premises → IsTerm s v r
+  pub unit_is_term : (premises : List (Bor (List ℕ))) (r : ℕ) → IsOneUnit premises r → All (λ p. All (IsTerm s v) p.now) premises → IsTerm s v r
   unit_is_term [] r e h = absurd cc
   unit_is_term (q ∷ []) r e h = All-head (IsTerm s v) r [] (subst (All (IsTerm s v)) (first_is e) (All-head (λ p. All (IsTerm s v) p.now) q [] h))
     where
@@ -129,13 +129,13 @@ module _ (s : Table) (v : TermsView) where
               (test t us h.0 h.1).1 (rw (first, others) begins.given)),
         )
 
-    pub not_given : IsNoUnit premises → IsTrue false ↔ IsGiven G ps ts
+    pub not_given : IsNoUnit premises → IsTrue false ↔ IsOnlyPremise G ps ts
     not_given none = (λ f. absurd cc, λ g. absurd (no_unit premises ps g.whole none premises_are g.unit))
 
-    pub given_is : (r : ℕ) (b : Bool) → IsUnit premises r → ((t : Term) (us : List Term) → RefersTo s v r t → ReferToAll s v clause us → IsTrue b ↔ G t us) → IsTrue b ↔ IsGiven G ps ts
+    pub given_is : (r : ℕ) (b : Bool) → IsOneUnit premises r → ((t : Term) (us : List Term) → RefersTo s v r t → ReferToAll s v clause us → IsTrue b ↔ G t us) → IsTrue b ↔ IsOnlyPremise G ps ts
     given_is r b is test = go (unit_term premises r ps is premises_are)
       where
-        go : ((t : Term) × (ps ≡ (t ∷ []) ∷ []) × RefersTo s v r t) → IsTrue b ↔ IsGiven G ps ts
+        go : ((t : Term) × (ps ≡ (t ∷ []) ∷ []) × RefersTo s v r t) → IsTrue b ↔ IsOnlyPremise G ps ts
         go (t, same, refers) = (
           λ e. record { whole = t; unit = same; given = (test t ts refers clause_is).0 e },
           λ g.

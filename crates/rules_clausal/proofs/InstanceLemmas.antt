@@ -11,7 +11,7 @@ use Rattle.rule_model.specs.Schemas.{Pattern, fill, Schema, IsInstance}
 use Rattle.rules_clausal.specs.declared.part.Part.{Part}
 use Rattle.rules_clausal.specs.declared.schemas.SchemaParts.TheVariants.{Tautology, From}
 use Rattle.rules_clausal.specs.Matching.{parts_of, Fits}
-use Rattle.rules_clausal.specs.Premises.{IsUnit, IsNoUnit}
+use Rattle.rules_clausal.specs.Premises.{IsOneUnit, IsNoUnit}
 use Rattle.rules_clausal.specs.Schemas.{HasParts}
 use Rattle.rules_clausal.specs.Stack.{StackOf, IsStack}
 use Rattle.rules_clausal.specs.Steps.{ReferToClauses}
@@ -66,7 +66,7 @@ module _ (s : Table) (v : TermsView) where
     no_unit_instance (p ∷ []) C parts has none = (λ e. absurd cc, λ i. absurd (no_unit s v premises ps (fill i.terms p) none premises_are i.units))
     no_unit_instance (p ∷ q ∷ P) C parts has none = absurd has
 
-    pub from_is : (P C : List Pattern) (parts : Bor (List Part)) (r : ℕ) (b : Bool) → HasParts P C (From parts) → IsUnit premises r → ((ps : List Pattern) (t : Term) → RefersTo s v r t → parts.now ≡ parts_of ps → IsTrue b ↔ Fits ps (t ∷ ts)) → IsTrue b ↔ IsInstance (schema_with P C) ps ts
+    pub from_is : (P C : List Pattern) (parts : Bor (List Part)) (r : ℕ) (b : Bool) → HasParts P C (From parts) → IsOneUnit premises r → ((ps : List Pattern) (t : Term) → RefersTo s v r t → parts.now ≡ parts_of ps → IsTrue b ↔ Fits ps (t ∷ ts)) → IsTrue b ↔ IsInstance (schema_with P C) ps ts
     from_is [] C parts r b has is test = absurd has
     from_is (p ∷ []) C parts r b has is test = go (unit_term s v premises r ps is premises_are)
       where

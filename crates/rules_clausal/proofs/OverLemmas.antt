@@ -7,7 +7,7 @@ use Rattle.sym_table.specs.Leaf.{operator}
 use Rattle.sym_table.specs.Table.{Table, IsTable, IsLeaf}
 use Rattle.term_model.specs.declared.symbols.Op.{Op}
 use Rattle.term_model.specs.Terms.{Term, Terms, numeral, variable, operation, call, let_in, list_of, not_of}
-use Rattle.term_pool.specs.Building.{IsApplication}
+use Rattle.term_pool.specs.Building.{IsAppliedLeaf}
 use Rattle.term_pool.specs.Reading.{arguments_of, IsLet, HasArgument}
 use Rattle.term_pool.specs.Views.{TermsView, RefersTo, IsTerm}
 use Rattle.rules_clausal.specs.declared.signs.Sign.TheVariants.{Negation}
@@ -17,7 +17,7 @@ use Rattle.rules_clausal.specs.Signs.{IsSigned}
 use Rattle.rules_clausal.proofs.Counts.{one}
 
 -- a head that is the operator's leaf
-pub over_is : (s : Table) (k n : ℕ) (op : Op) (t : Term) → IsLeaf s k (operator op) → IsApplication s k (arguments_of t) t → ((IsLet t → ⊥) → n ≡ length (arguments_of t)) → IsOver op n t
+pub over_is : (s : Table) (k n : ℕ) (op : Op) (t : Term) → IsLeaf s k (operator op) → IsAppliedLeaf s k (arguments_of t) t → ((IsLet t → ⊥) → n ≡ length (arguments_of t)) → IsOver op n t
 over_is s k n op (numeral z) leaf app count = absurd (let e = app.0 in cc)
 over_is s k n op (variable x) leaf app count = absurd (let e = app.0 in cc)
 over_is s k n op (operation o ts) leaf app count = (let e = app.0 in cc, sym (count (λ h. h)))
@@ -25,7 +25,7 @@ over_is s k n op (call f ts) leaf app count = absurd (let e = app.0 in cc)
 over_is s k n op (let_in bs u) leaf app count = absurd app
 
 -- a head that is another leaf
-pub other_head : (s : Table) (j k n : ℕ) (op : Op) (t : Term) → IsTable s → IsLeaf s j (operator op) → k ≢ j → IsApplication s k (arguments_of t) t → ¬ IsOver op n t
+pub other_head : (s : Table) (j k n : ℕ) (op : Op) (t : Term) → IsTable s → IsLeaf s j (operator op) → k ≢ j → IsAppliedLeaf s k (arguments_of t) t → ¬ IsOver op n t
 other_head s j k n op (numeral z) table leaf other app h = h
 other_head s j k n op (variable x) table leaf other app h = h
 other_head s j k n op (operation o ts) table leaf other app h =

@@ -5,7 +5,7 @@ use Rattle.term_model.specs.declared.symbols.Op.{Op}
 use Rattle.term_model.specs.Terms.{Term, operation, terms_of}
 use Rattle.term_pool.specs.Views.{TermsView, ReferToAll}
 use Rattle.rule_model.specs.declared.rules.Rule.{Rule}
-use Rattle.rule_model.specs.Clausal.{GivesOne, GivesAll, Begins, IsGiven, MeetsClausal}
+use Rattle.rule_model.specs.Clausal.{GivesOne, GivesAll, Begins, IsOnlyPremise, MeetsClausal}
 use Rattle.rules_clausal.specs.declared.argument_rules.ArgumentRule.{ArgumentRule}
 use Rattle.rules_clausal.specs.declared.argument_rules.Place.{Place}
 use Rattle.rules_clausal.specs.declared.argument_rules.Which.{Which}
@@ -19,7 +19,7 @@ Gives Which.All op whole each = GivesAll op (sign_of whole) (sign_of each)
 
 abbrev pub Stands : Place → (Term → List Term → Type 0) → List (List Term) → List Term → Type 0
 Stands Place.Begins gives = Begins gives
-Stands Place.Given gives = IsGiven gives
+Stands Place.Given gives = IsOnlyPremise gives
 
 -- what the rule asks
 abbrev pub Asks : ArgumentRule → List (List Term) → List Term → Type 0

@@ -3,12 +3,12 @@ use Rattle.std.specs.Prelude.{◌≡◌, ℕ}
 use Rattle.sym_table.specs.Table.{Table}
 use Rattle.term_model.specs.Terms.{Term, not_of}
 use Rattle.term_pool.specs.Views.{TermsView, RefersTo}
-use Rattle.rule_model.specs.Clausal.{itself}
+use Rattle.rule_model.specs.Clausal.{as_it_stands}
 use Rattle.rules_clausal.specs.declared.signs.Sign.{Sign}
 use Rattle.rules_clausal.specs.declared.signs.Sign.TheVariants.{Itself, Negation}
 
 abbrev pub sign_of : Sign → Term → Term
-sign_of Itself t = itself t
+sign_of Itself t = as_it_stands t
 sign_of Negation t = not_of t
 
 -- the literal stands with this sign for the term of a reference

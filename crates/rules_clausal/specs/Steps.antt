@@ -6,7 +6,7 @@ use Rattle.sym_table.specs.Table.{Table}
 use Rattle.term_model.specs.Terms.{Var, Term}
 use Rattle.term_pool.specs.Views.{TermsView, ReferToAll}
 use Rattle.rule_model.specs.Clausal.{MeetsClausal}
-use Rattle.rule_model.specs.Proofs.{Items}
+use Rattle.rule_model.specs.Proofs.{ProofItems}
 use Rattle.rule_model.specs.Reading.{rule_at, clause_at, premises_at}
 
 -- the references of each premise's literals stand for a clause, in order
@@ -14,5 +14,5 @@ abbrev pub ReferToClauses : Table → TermsView → List (Bor (List ℕ)) → Li
 ReferToClauses s v premises clauses = AllZip (λ references clause. ReferToAll s v references.now clause) premises clauses
 
 -- the clauses of the step at an index meet its rule
-abbrev pub MeetsAt : Items Var Term → ℕ → Type 0
+abbrev pub MeetsAt : ProofItems Var Term → ℕ → Type 0
 MeetsAt proof i = MeetsClausal (rule_at proof i) (map (clause_at proof) (premises_at proof i)) (clause_at proof i)

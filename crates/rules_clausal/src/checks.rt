@@ -2,7 +2,7 @@
 
 ghost use Rattle.std.specs.Prelude.{◌≡◌, ◌≢◌, ◌↔◌, ◌<◌, List, All, IsTrue, IfErr, IfOk};
 ghost use Rattle.rule_model.specs.Clausal.{IsClausal, MeetsClausal};
-ghost use Rattle.rule_model.specs.Proofs.{Items};
+ghost use Rattle.rule_model.specs.Proofs.{ProofItems};
 ghost use Rattle.rule_model.specs.Reading.{rule_at};
 ghost use Rattle.rule_model.specs.Scopes.{commands_in};
 ghost use Rattle.term_model.specs.Terms.{Var, Term};
@@ -67,7 +67,7 @@ fn meets_at(
 ) -> Result<bool, Memory>
     requires index { i < commands_in proof.now }
     requires stand { StandForSome symbols.now terms.old proof.now }
-    ensures meets { IfOk result (λ yes. (of : Items Var Term) → StandForItems symbols.now terms.old proof.now of → IsTrue yes ↔ MeetsAt of i) }
+    ensures meets { IfOk result (λ yes. (of : ProofItems Var Term) → StandForItems symbols.now terms.old proof.now of → IsTrue yes ↔ MeetsAt of i) }
     ensures same { terms.new ≡ terms.old }
 {
     commands_correspond();
@@ -106,10 +106,10 @@ pub fn check(
     requires index { i < commands_in proof.now }
     requires clausal { IsClausal (rule_at proof.now i) }
     requires stand { StandForSome symbols.now terms.old proof.now }
-    ensures met { IfOk result (λ answer. (of : Items Var Term) → StandForItems symbols.now terms.old proof.now of → (answer ≡ Answer.Met) ↔ IsMetAt mode of i) }
+    ensures met { IfOk result (λ answer. (of : ProofItems Var Term) → StandForItems symbols.now terms.old proof.now of → (answer ≡ Answer.Met) ↔ IsMetAt mode of i) }
     ensures narrow { IfOk result (λ answer. answer ≢ Answer.TooWide) }
     // under every interpretation and values of variables that make the premises true, the clause of a step that is met is
-    ensures sound { IfOk result (λ answer. answer ≡ Answer.Met → (of : Items Var Term) → StandForItems symbols.now terms.old proof.now of → KeepsTruthAt mode of i) }
+    ensures sound { IfOk result (λ answer. answer ≡ Answer.Met → (of : ProofItems Var Term) → StandForItems symbols.now terms.old proof.now of → KeepsTruthAt mode of i) }
     ensures stop { IfErr result (λ stop. stop ≡ RuleStop.Memory) }
     ensures same { terms.new ≡ terms.old }
 {

@@ -1,13 +1,13 @@
 //! Premises that are unit clauses.
 
 ghost use Rattle.std.specs.Prelude.{◌≡◌, IfNone, IfSome};
-ghost use Rattle.rules_clausal.specs.Premises.{IsUnit, IsNoUnit};
+ghost use Rattle.rules_clausal.specs.Premises.{IsOneUnit, IsNoUnit};
 
 use pair_pool::Ref;
 
 /// The literal of the one premise, where there is one and it is a unit clause.
 pub(crate) fn unit(premises: &[&[Ref]]) -> Option<Ref>
-    ensures unit { IfSome result (IsUnit premises.now) }
+    ensures unit { IfSome result (IsOneUnit premises.now) }
     ensures other { IfNone result (IsNoUnit premises.now) }
 {
     let [premise] = premises else {

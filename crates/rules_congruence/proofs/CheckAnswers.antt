@@ -7,11 +7,11 @@ use Rattle.rule_model.specs.Closings.{MeetsClosing}
 use Rattle.rule_model.specs.Conditions.{MeetsWhere, IsMetAt, Met}
 use Rattle.rule_model.specs.Congruence.{IsOfEquality}
 use Rattle.rule_model.specs.Judged.{judged_at}
-use Rattle.rule_model.specs.Proofs.{Items}
+use Rattle.rule_model.specs.Proofs.{ProofItems}
 use Rattle.rule_model.specs.Reading.{rule_at, closes_at}
 use Rattle.term_model.specs.Terms.{Var, Term}
 
-module _ (mode : Mode) (of : Items Var Term) (i : ℕ) where
+module _ (mode : Mode) (of : ProofItems Var Term) (i : ℕ) where
   closing_meets_none : (rule : Rule) (k : ℕ) → IsOfEquality rule → MeetsClosing mode rule of i k → ⊥
   closing_meets_none Rule.Subproof k is h = absurd cc
   closing_meets_none Rule.Let k is h = absurd cc

@@ -5,15 +5,15 @@ use Rattle.sym_table.specs.Table.{Table}
 use Rattle.term_model.specs.Flips.{equality}
 use Rattle.term_model.specs.Terms.{Term, numeral, not_of}
 use Rattle.term_pool.specs.Views.{TermsView, RefersTo}
-use Rattle.rule_model.specs.Clausal.{itself}
+use Rattle.rule_model.specs.Clausal.{as_it_stands}
 use Rattle.rule_model.specs.Congruence.{denials}
 use Rattle.term_parts.specs.Parts.{AreSidesOf}
-use Rattle.rules_congruence.specs.Sides.{ReferToPair, IsNoUnit, AreEqualitiesOf, nothing, one, other, IsGiven, IsUnitOf, AreDenied}
+use Rattle.rules_congruence.specs.Sides.{ReferToPair, IsNoEquation, AreEqualitiesOf, nothing, one, other, IsGiven, IsUnitOf, AreDenied}
 use Rattle.rules_congruence.specs.Steps.{ReferTo, ReferToClauses}
 use Rattle.rules_congruence.proofs.Referring.{zip_push, one_zip, zip_one, zip_at, zip_next}
 
 -- a clause of one literal, by that literal
-pub unit_of : (s : Table) (v : TermsView) (rs : List ℕ) (r : ℕ) (p : ℕ × ℕ) (clause : List Term) → rs ≡ r ∷ [] → ((t : Term) → RefersTo s v r t → AreSidesOf s v itself p t) → ReferTo s v rs clause → IsUnitOf s v p clause
+pub unit_of : (s : Table) (v : TermsView) (rs : List ℕ) (r : ℕ) (p : ℕ × ℕ) (clause : List Term) → rs ≡ r ∷ [] → ((t : Term) → RefersTo s v r t → AreSidesOf s v as_it_stands p t) → ReferTo s v rs clause → IsUnitOf s v p clause
 unit_of s v rs r p clause is sides refers =
     let here = one_zip (RefersTo s v) r clause (rw is at refers) in
     let both = sides here.item here.zip in
@@ -25,12 +25,12 @@ unit_of s v rs r p clause is sides refers =
       is = here.is ∙ ap (λ t. t ∷ []) both.is;
     }
 
-pub no_unit_of : (s : Table) (v : TermsView) (rs : List ℕ) (r : ℕ) (clause : List Term) → rs ≡ r ∷ [] → ((t u w : Term) → RefersTo s v r t → t ≢ equality u w) → ReferTo s v rs clause → IsNoUnit clause
+pub no_unit_of : (s : Table) (v : TermsView) (rs : List ℕ) (r : ℕ) (clause : List Term) → rs ≡ r ∷ [] → ((t u w : Term) → RefersTo s v r t → t ≢ equality u w) → ReferTo s v rs clause → IsNoEquation clause
 no_unit_of s v rs r clause is not_equality refers u w e =
     let here = one_zip (RefersTo s v) r clause (rw is at refers) in
     not_equality here.item u w here.zip (let f : here.item ∷ [] ≡ equality u w ∷ [] = sym here.is ∙ e in cc)
 
-pub not_one_literal : (s : Table) (v : TermsView) (rs : List ℕ) (clause : List Term) → ((r : ℕ) → rs ≢ r ∷ []) → ReferTo s v rs clause → IsNoUnit clause
+pub not_one_literal : (s : Table) (v : TermsView) (rs : List ℕ) (clause : List Term) → ((r : ℕ) → rs ≢ r ∷ []) → ReferTo s v rs clause → IsNoEquation clause
 not_one_literal s v rs clause many refers u w e =
     let here = zip_one (RefersTo s v) rs (equality u w) (rw e at refers) in many here.0 here.1
 
@@ -40,7 +40,7 @@ more_one _ _ _ t u nothing = one t u [] [] true nothing
 more_one _ _ _ t u (one a b ps es only h) = one a b _ _ only (more_one ps es only t u h)
 more_one _ _ _ t u (other c ps es only fails h) = other c _ _ only fails (more_one ps es only t u h)
 
-more_other : (premises : List (List Term)) (equalities : List (Term × Term)) (only : Bool) (clause : List Term) → IsNoUnit clause → AreEqualitiesOf premises equalities only → AreEqualitiesOf (premises ++ clause ∷ []) equalities false
+more_other : (premises : List (List Term)) (equalities : List (Term × Term)) (only : Bool) (clause : List Term) → IsNoEquation clause → AreEqualitiesOf premises equalities only → AreEqualitiesOf (premises ++ clause ∷ []) equalities false
 more_other _ _ _ clause not_one nothing = other clause [] [] true not_one nothing
 more_other _ _ _ clause not_one (one a b ps es only h) = one a b _ _ false (more_other ps es only clause not_one h)
 more_other _ _ _ clause not_one (other c ps es only fails h) = other c _ _ false fails (more_other ps es only clause not_one h)
@@ -55,7 +55,7 @@ given_one s v pairs p only premises clause unit given =
     } in
     more)
 
-pub given_other : (s : Table) (v : TermsView) (pairs : List (ℕ × ℕ)) (only : Bool) (premises : List (List Term)) (clause : List Term) → IsNoUnit clause → IsGiven s v pairs only premises → IsGiven s v pairs false (premises ++ clause ∷ [])
+pub given_other : (s : Table) (v : TermsView) (pairs : List (ℕ × ℕ)) (only : Bool) (premises : List (List Term)) (clause : List Term) → IsNoEquation clause → IsGiven s v pairs only premises → IsGiven s v pairs false (premises ++ clause ∷ [])
 given_other s v pairs only premises clause not_one given = record {
   equalities = given.equalities;
   refer = given.refer;

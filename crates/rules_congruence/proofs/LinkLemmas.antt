@@ -7,7 +7,7 @@ use Rattle.std.proofs.lemmas.List.Elements.{All-push}
 use Rattle.std.proofs.lemmas.List.Sorted.{Contains-permutation, All-permutation, IsPermutation-sym}
 use Rattle.rule_model.proofs.Lists.{contains_none, contains_cases, contains_head, contains_later}
 use Rattle.rules_congruence.specs.declared.links.Link.{Link}
-use Rattle.rules_congruence.specs.Links.{link, rank_of, links_of, AreSmall, IsTableOf, IsFirstFrom}
+use Rattle.rules_congruence.specs.Links.{link, link_rank, links_of, AreSmall, IsTableOf, IsFirstFrom}
 use Rattle.rules_congruence.specs.Pairs.{AreEnds}
 
 one_rank : (a b c d : ℕ) → b < 4294967296 → d < 4294967296 → a * 4294967296 + b ≡ c * 4294967296 + d → (a ≡ c) × (b ≡ d)
@@ -16,11 +16,11 @@ one_rank a b c d l m e = (omega arith, omega arith)
 same_link : (a b c d : ℕ) → a ≡ b → c ≡ d → link a c ≡ link b d
 same_link a b c d e f = cc
 
-one_link : (x y : Link) → x.to < 4294967296 → y.to < 4294967296 → rank_of x ≡ rank_of y → x ≡ y
+one_link : (x y : Link) → x.to < 4294967296 → y.to < 4294967296 → link_rank x ≡ link_rank y → x ≡ y
 one_link x y l m e = let parts = one_rank x.from x.to y.from y.to l m e in same_link x.from y.from x.to y.to parts.0 parts.1
 
 -- what the first place says of a link
-pub found_by : (links : List Link) (w : Link) (place : ℕ) → IsNonDecreasingBy rank_of links → AreSmall links → w.to < 4294967296 → IsFirstFrom links (rank_of w) place → place < length links → (get_or links place w ≡ w) ↔ Contains links w
+pub found_by : (links : List Link) (w : Link) (place : ℕ) → IsNonDecreasingBy link_rank links → AreSmall links → w.to < 4294967296 → IsFirstFrom links (link_rank w) place → place < length links → (get_or links place w ≡ w) ↔ Contains links w
 found_by links w place rising small wanted first below = (
   λ e. (place, below, e),
   λ h. at h.0 h.1 h.2,
@@ -28,7 +28,7 @@ found_by links w place rising small wanted first below = (
   where
     at : (k : ℕ) → k < length links → get_or links k w ≡ w → get_or links place w ≡ w
     at k inside e =
-        let same = ap rank_of e in
+        let same = ap link_rank e in
         let not_before : place ≤ k = elim (cases_lt k place) [
           | inl before ↦ absurd (let less = first.before k w before in omega (arith, less, same))
           | inr after ↦ after
@@ -39,10 +39,10 @@ found_by links w place rising small wanted first below = (
         let bound = here.1 in
         one_link (get_or links place w) w (omega (arith, bound)) wanted (omega (arith, up, down, same))
 
-pub not_found : (links : List Link) (w : Link) (place : ℕ) → IsFirstFrom links (rank_of w) place → length links ≤ place → ¬ Contains links w
+pub not_found : (links : List Link) (w : Link) (place : ℕ) → IsFirstFrom links (link_rank w) place → length links ≤ place → ¬ Contains links w
 not_found links w place first past h =
     let less = first.before h.0 w (let inside = h.1 in omega (arith, inside)) in
-    let same = ap rank_of h.2 in
+    let same = ap link_rank h.2 in
     omega (arith, less, same)
 
 -- the links of pairs
@@ -94,7 +94,7 @@ pub link_of_ends : (pairs : List (ℕ × ℕ)) (a b : ℕ) → AreEnds pairs a b
 link_of_ends pairs a b (inl h) = link_there pairs a b h
 link_of_ends pairs a b (inr h) = link_turned pairs a b h
 
-pub is_table : (pairs : List (ℕ × ℕ)) (old new : List Link) → old ≡ links_of pairs → AreSmall old → IsPermutation old new → IsNonDecreasingBy rank_of new → IsTableOf pairs new
+pub is_table : (pairs : List (ℕ × ℕ)) (old new : List Link) → old ≡ links_of pairs → AreSmall old → IsPermutation old new → IsNonDecreasingBy link_rank new → IsTableOf pairs new
 is_table pairs old new is small moved rising = record {
   rising = rising;
   small = All-permutation (λ l. (l.from < 2 ^ 31) × (l.to < 2 ^ 31)) old new moved small;

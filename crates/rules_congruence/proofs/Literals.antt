@@ -2,7 +2,7 @@
 use Rattle.std.proofs.Common.{◌≡◌, ◌≢◌, ◌↔◌, ℕ, true, List, [], ◌∷◌, ◌++◌, refl, sym, ap, ◌∙◌, subst}
 use Rattle.std.specs.Borrow.{Bor}
 use Rattle.std.proofs.lemmas.List.Elements.{All-nil, All-cons, All-head, All-tail}
-use Rattle.rule_model.specs.Clausal.{itself}
+use Rattle.rule_model.specs.Clausal.{as_it_stands}
 use Rattle.rule_model.specs.Congruence.{Equates, units, denials, Denies}
 use Rattle.sym_table.specs.Table.{Table}
 use Rattle.term_model.specs.Flips.{equality}
@@ -16,7 +16,7 @@ use Rattle.rules_congruence.proofs.Referring.{IsOneMore, zip_split}
 use Rattle.rules_congruence.proofs.TurningLemmas.{premised_none}
 
 -- a literal that equates two terms
-pub equates_both : {P : Type 0} (s : Table) (v : TermsView) (related : List (List Term) → Term → Term → Type 0) (ps : List (List Term)) (p : ℕ × ℕ) (t : Term) (sides : AreSidesOf s v itself p t) → P ↔ related ps sides.left sides.right → P ↔ Equates related ps (t ∷ [])
+pub equates_both : {P : Type 0} (s : Table) (v : TermsView) (related : List (List Term) → Term → Term → Type 0) (ps : List (List Term)) (p : ℕ × ℕ) (t : Term) (sides : AreSidesOf s v as_it_stands p t) → P ↔ related ps sides.left sides.right → P ↔ Equates related ps (t ∷ [])
 equates_both s v related ps p t sides both = (
   λ h. record { left = sides.left; right = sides.right; literal = ap (λ x. x ∷ []) sides.is; given = both.0 h },
   λ h.

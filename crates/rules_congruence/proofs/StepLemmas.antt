@@ -10,7 +10,7 @@ use Rattle.rule_model.specs.Commands.{Line, entry_of, lines_in}
 use Rattle.rule_model.specs.Conditions.{MeetsRule, Met}
 use Rattle.rule_model.specs.Congruence.{IsOfEquality, Equates, Denies, AreCongruent, MeetsCong, MeetsEqCongruent}
 use Rattle.rule_model.specs.Judged.{Judged, judged_at}
-use Rattle.rule_model.specs.Proofs.{Items}
+use Rattle.rule_model.specs.Proofs.{ProofItems}
 use Rattle.rule_model.specs.Reading.{clause_at, premises_at, premises_of, rule_at}
 use Rattle.rule_model.specs.Scopes.{outermost, commands_in}
 use Rattle.rule_model.specs.WellFormed.{IsWellFormed}
@@ -29,7 +29,7 @@ premise_line (l ∷ ls) zero k h = (l, refl, refl)
 premise_line (l ∷ ls) (suc i) k h = premise_line ls i k h
 
 -- a premise is the index of a command
-pub premise_within : (proof : Items ℕ ℕ) (i k : ℕ) → IsWellFormed proof → i < commands_in proof → k < length (premises_at proof i) → get_or (premises_at proof i) k 0 < commands_in proof
+pub premise_within : (proof : ProofItems ℕ ℕ) (i k : ℕ) → IsWellFormed proof → i < commands_in proof → k < length (premises_at proof i) → get_or (premises_at proof i) k 0 < commands_in proof
 premise_within proof i k formed h within =
     let line = premise_line (lines_in outermost proof) i k within in
     let size : length (premises_of line.0.command) ≡ length (premises_at proof i) = ap length line.2 in
@@ -71,7 +71,7 @@ module _ (s : Table) (v : TermsView) where
       (subst (λ rs. ReferTo s v rs (g j)) (sym here) (stand j), clauses_stand f g premises js stand (cc))
 
 -- the references that are read of a step, and the clauses of the proof over terms
-pub step_refers : (s : Table) (v : TermsView) (refs : Items ℕ ℕ) (of : Items Var Term) (i : ℕ) (premises : List (Bor (List ℕ))) (clause : List ℕ) → ((j : ℕ) → ReferTo s v (clause_at refs j) (clause_at of j)) → premises_at refs i ≡ premises_at of i → clauses_of premises ≡ map (clause_at refs) (premises_at refs i) → clause ≡ clause_at refs i → ReferToClauses s v premises (map (clause_at of) (premises_at of i)) × ReferTo s v clause (clause_at of i)
+pub step_refers : (s : Table) (v : TermsView) (refs : ProofItems ℕ ℕ) (of : ProofItems Var Term) (i : ℕ) (premises : List (Bor (List ℕ))) (clause : List ℕ) → ((j : ℕ) → ReferTo s v (clause_at refs j) (clause_at of j)) → premises_at refs i ≡ premises_at of i → clauses_of premises ≡ map (clause_at refs) (premises_at refs i) → clause ≡ clause_at refs i → ReferToClauses s v premises (map (clause_at of) (premises_at of i)) × ReferTo s v clause (clause_at of i)
 step_refers s v refs of i premises clause stand same are is = (
   clauses_stand s v (clause_at refs) (clause_at of) premises (premises_at of i) stand (are ∙ ap (map (clause_at refs)) same),
   subst (λ rs. ReferTo s v rs (clause_at of i)) (sym is) (stand i),
@@ -90,7 +90,7 @@ rule_meets Rule.EqCongruent j is = (λ h. h, λ h. h)
 rule_meets Rule.EqCongruentPred j is = (λ h. h, λ h. h)
 rule_meets _ j is = absurd cc
 
-pub met_by : (mode : Mode) (of : Items Var Term) (i : ℕ) (rule : Rule) (b : Bool) → rule ≡ rule_at of i → IsOfEquality rule → IsTrue b ↔ MeetsEquality mode rule (map (clause_at of) (premises_at of i)) (clause_at of i) → IsTrue b ↔ Met (judged_at mode of i)
+pub met_by : (mode : Mode) (of : ProofItems Var Term) (i : ℕ) (rule : Rule) (b : Bool) → rule ≡ rule_at of i → IsOfEquality rule → IsTrue b ↔ MeetsEquality mode rule (map (clause_at of) (premises_at of i)) (clause_at of i) → IsTrue b ↔ Met (judged_at mode of i)
 met_by mode of i rule b is equality test =
     let meets = rule_meets rule (judged_at mode of i) equality in
     let both : IsTrue b ↔ MeetsRule rule (judged_at mode of i) = (λ h. meets.1 (test.0 h), λ h. test.1 (meets.0 h)) in

@@ -7,9 +7,9 @@ use Rattle.sym_table.specs.Table.{Table}
 use Rattle.term_model.specs.Flips.{equality}
 use Rattle.term_model.specs.Terms.{Term}
 use Rattle.term_pool.specs.Views.{TermsView, RefersTo, IsTerm}
-use Rattle.rule_model.specs.Clausal.{itself}
+use Rattle.rule_model.specs.Clausal.{as_it_stands}
 use Rattle.rule_model.specs.Congruence.{TurnsRound, IsReflexive, IsSymmetric}
-use Rattle.rules_congruence.specs.Clauses.{IsUnit, IsNoUnit, IsLone, clauses_of}
+use Rattle.rules_congruence.specs.Clauses.{IsOneUnit, IsNoUnit, IsLone, clauses_of}
 use Rattle.rules_congruence.specs.Signs.{sign_of}
 use Rattle.term_parts.specs.Parts.{AreSidesOf}
 use Rattle.rules_congruence.specs.Steps.{ReferTo, ReferToClauses, AreTerms, AreClauses}
@@ -43,7 +43,7 @@ are_turned_by s v same denied p q t u old new = (
       ((same _ _ _ _ old.left_refers new.right_refers).1 (e.0 ∙ sym f.1), (same _ _ _ _ old.right_refers new.left_refers).1 (e.1 ∙ sym f.0)),
 )
 
-pub equal_sides_by : (s : Table) (v : TermsView) → AreOne s v → (p : ℕ × ℕ) (t : Term) → AreSidesOf s v itself p t → (p.0 ≡ p.1) ↔ HasEqualSides t
+pub equal_sides_by : (s : Table) (v : TermsView) → AreOne s v → (p : ℕ × ℕ) (t : Term) → AreSidesOf s v as_it_stands p t → (p.0 ≡ p.1) ↔ HasEqualSides t
 equal_sides_by s v same p t sides = (
   λ h.
       let e : sides.left ≡ sides.right = (same _ _ _ _ sides.left_refers sides.right_refers).0 h in
@@ -53,7 +53,7 @@ equal_sides_by s v same p t sides = (
       (same _ _ _ _ sides.left_refers sides.right_refers).1 (e.0 ∙ sym e.1),
 )
 
-pub turned_sides_by : (s : Table) (v : TermsView) (p : ℕ × ℕ) (b : Bool) (t : Term) → AreSidesOf s v itself p t → ((x y : Term) → RefersTo s v p.0 x → RefersTo s v p.1 y → IsTrue b ↔ AreTurned itself x y) → IsTrue b ↔ HasTurnedSides t
+pub turned_sides_by : (s : Table) (v : TermsView) (p : ℕ × ℕ) (b : Bool) (t : Term) → AreSidesOf s v as_it_stands p t → ((x y : Term) → RefersTo s v p.0 x → RefersTo s v p.1 y → IsTrue b ↔ AreTurned as_it_stands x y) → IsTrue b ↔ HasTurnedSides t
 turned_sides_by s v p b t sides turned = (
   λ h. record {
     one = sides.left;
@@ -79,7 +79,7 @@ pub record IsUnitTerm (s : Table) (v : TermsView) (r : ℕ) (ps : List (List Ter
   pub is : ps ≡ (literal ∷ []) ∷ []
   pub refers : RefersTo s v r literal
 
-pub unit_term : (s : Table) (v : TermsView) (premises : List (Bor (List ℕ))) (r : ℕ) (ps : List (List Term)) → IsUnit premises r → ReferToClauses s v premises ps → IsUnitTerm s v r ps
+pub unit_term : (s : Table) (v : TermsView) (premises : List (Bor (List ℕ))) (r : ℕ) (ps : List (List Term)) → IsOneUnit premises r → ReferToClauses s v premises ps → IsUnitTerm s v r ps
 unit_term s v premises r ps unit refer =
     let first = one_zip (ReferTo s v) (r ∷ []) ps (rw unit at (clauses_refer s v premises ps refer)) in
     let here = one_zip (RefersTo s v) r first.item first.zip in
@@ -106,7 +106,7 @@ pub premised_none : (s : Table) (v : TermsView) (premises : List (Bor (List ℕ)
 premised_none s v premises ps e refer = zip_none (ReferTo s v) (clauses_of premises) (rw e at (clauses_refer s v premises ps refer))
 
 -- symm and not_symm
-pub turns_by : (s : Table) (v : TermsView) (denied b : Bool) (premises : List (Bor (List ℕ))) (clause : List ℕ) (old new : ℕ) (ps : List (List Term)) (ts : List Term) → IsUnit premises old → clause ≡ new ∷ [] → ReferToClauses s v premises ps → ReferTo s v clause ts → ((t u : Term) → RefersTo s v old t → RefersTo s v new u → IsTrue b ↔ AreTurned (sign_of denied) t u) → IsTrue b ↔ TurnsRound (sign_of denied) ps ts
+pub turns_by : (s : Table) (v : TermsView) (denied b : Bool) (premises : List (Bor (List ℕ))) (clause : List ℕ) (old new : ℕ) (ps : List (List Term)) (ts : List Term) → IsOneUnit premises old → clause ≡ new ∷ [] → ReferToClauses s v premises ps → ReferTo s v clause ts → ((t u : Term) → RefersTo s v old t → RefersTo s v new u → IsTrue b ↔ AreTurned (sign_of denied) t u) → IsTrue b ↔ TurnsRound (sign_of denied) ps ts
 turns_by s v denied b premises clause old new ps ts unit is refer_ps refer_ts turned =
     let one = unit_term s v premises old ps unit refer_ps in
     let here = literal_term s v clause new ts is refer_ts in
@@ -170,7 +170,7 @@ iff_trans f g = (λ p. g.0 (f.0 p), λ r. f.1 (g.1 r))
 pub literal_is_term : (s : Table) (v : TermsView) (rs : List ℕ) (r : ℕ) → rs ≡ r ∷ [] → AreTerms s v rs → IsTerm s v r
 literal_is_term s v rs r is all = All-head (IsTerm s v) r [] (subst (AreTerms s v) is all)
 
-pub unit_is_term : (s : Table) (v : TermsView) (premises : List (Bor (List ℕ))) (r : ℕ) → IsUnit premises r → AreClauses s v premises → IsTerm s v r
+pub unit_is_term : (s : Table) (v : TermsView) (premises : List (Bor (List ℕ))) (r : ℕ) → IsOneUnit premises r → AreClauses s v premises → IsTerm s v r
 unit_is_term s v [] r unit all = absurd (cc)
 unit_is_term s v (p ∷ []) r unit all =
     literal_is_term s v p.now r (let e = unit in cc) (All-head (λ (references : Bor (List ℕ)). AreTerms s v references.now) p [] all)

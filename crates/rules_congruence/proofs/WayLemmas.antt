@@ -7,9 +7,9 @@ use Rattle.rule_model.specs.Congruence.{IsConnected, here, further}
 use Rattle.rule_model.proofs.Lists.{contains_none, contains_cases, contains_head, contains_later}
 use Rattle.indexmap.specs.IndexSet.{insert_key}
 use Rattle.rules_congruence.specs.declared.links.Link.{Link}
-use Rattle.rules_congruence.specs.Links.{link, rank_of, AreSmall, IsFirstFrom}
+use Rattle.rules_congruence.specs.Links.{link, link_rank, AreSmall, IsFirstFrom}
 use Rattle.rules_congruence.specs.Pairs.{IsPath}
-use Rattle.rules_congruence.specs.Ways.{IsNear, Inserts, AddsEnds, IsReached, HasEndsTo}
+use Rattle.rules_congruence.specs.Ways.{IsNear, Inserts, AddsEnds, IsWayReached, HasEndsTo}
 
 -- a list from a place on
 pub drop_next : {X : Type 0} (xs : List X) (i : ℕ) (d : X) → i < length xs → drop i xs ≡ get_or xs i d ∷ drop (i + 1) xs
@@ -153,7 +153,7 @@ ends_more links from first end place l old keys new small start stop low high is
 
 pub ends_all : (links : List Link) (from first end : ℕ) (old new : List ℕ) → AreSmall links → IsFirstFrom links (from * 4294967296) first → IsFirstFrom links ((from + 1) * 4294967296) end → ((k : ℕ) → first ≤ k → k < end → (d : Link) → Contains new (get_or links k d).to) → (b : ℕ) → IsNear links from b → Contains new b
 ends_all links from first end old new small start stop all b (k, inside, is) =
-    let rank = ap rank_of is in
+    let rank = ap link_rank is in
     let bounds = small k (link from b) inside in
     let to = bounds.1 in
     let to_is = ap (λ (x : Link). x.to) is in
@@ -192,7 +192,7 @@ get_of_take (x ∷ xs) (y ∷ ys) (suc n) zero below e = let f : x ∷ take n xs
 get_of_take (x ∷ xs) (y ∷ ys) (suc n) (suc k) below e =
     get_of_take xs ys n k (omega arith) (let f : x ∷ take n xs ≡ y ∷ take n ys = e in cc)
 
-reached_only : (links : List Link) (from : ℕ) (keys : List ℕ) → from < 2 ^ 31 → Inserts [] from keys → IsReached links from 0 keys
+reached_only : (links : List Link) (from : ℕ) (keys : List ℕ) → from < 2 ^ 31 → Inserts [] from keys → IsWayReached links from 0 keys
 reached_only links from keys small i = record {
   first = i.key;
   within = omega arith;
@@ -205,13 +205,13 @@ none_of_length : (ks : List ℕ) → length ks ≡ 0 → ks ≡ []
 none_of_length [] e = refl
 none_of_length (k ∷ ks) e = absurd (omega (arith, e))
 
-pub reached_first : (links : List Link) (from : ℕ) (old keys : List ℕ) → from < 2 ^ 31 → length old ≡ 0 → Inserts old from keys → IsReached links from 0 keys
+pub reached_first : (links : List Link) (from : ℕ) (old keys : List ℕ) → from < 2 ^ 31 → length old ≡ 0 → Inserts old from keys → IsWayReached links from 0 keys
 reached_first links from old keys small empty i = reached_only links from keys small (subst (λ ks. Inserts ks from keys) (none_of_length old empty) i)
 
 pub key_there : (keys : List ℕ) (at next : ℕ) → at < length keys → ((d : ℕ) → get_or keys at d ≡ next) → Contains keys next
 key_there keys at next below is = (at, below, is next)
 
-pub reached_next : (links : List Link) (from at next : ℕ) (keys new : List ℕ) → AreSmall links → at < length keys → get_or keys at 0 ≡ next → Contains keys next → IsReached links from at keys → AddsEnds links next keys new → IsReached links from (at + 1) new
+pub reached_next : (links : List Link) (from at next : ℕ) (keys new : List ℕ) → AreSmall links → at < length keys → get_or keys at 0 ≡ next → Contains keys next → IsWayReached links from at keys → AddsEnds links next keys new → IsWayReached links from (at + 1) new
 reached_next links from at next keys new small below is there h adds = record {
   first = adds.stays from h.first;
   within = let long = adds.long in omega (arith, long, below);
@@ -236,7 +236,7 @@ reached_next links from at next keys new small below is there h adds = record {
     end_small : (b : ℕ) → IsNear links next b → b < 2 ^ 31
     end_small b (k, inside, e) = subst (λ (x : Link). x.to < 2 ^ 31) e (small k (link next b) inside).1
 
-pub reached_all : (links : List Link) (from at to : ℕ) (keys : List ℕ) → length keys ≤ at → IsReached links from at keys → IsTrue (list_any (nat_eq to) keys) ↔ IsConnected (IsNear links) from to
+pub reached_all : (links : List Link) (from at to : ℕ) (keys : List ℕ) → length keys ≤ at → IsWayReached links from at keys → IsTrue (list_any (nat_eq to) keys) ↔ IsConnected (IsNear links) from to
 reached_all links from at to keys past h = (
   λ e. h.sound to ((has_key to keys).0 e),
   λ way. (has_key to keys).1 (carried from to way h.first),

@@ -4,7 +4,7 @@ use Rattle.rule_model.specs.Congruence.{Head, operator, function, applied}
 use Rattle.sym_table.specs.Leaf.{Leaf}
 use Rattle.sym_table.specs.Table.{Table, IsLeaf}
 use Rattle.term_model.specs.Terms.{Term}
-use Rattle.term_pool.specs.Building.{IsApplication}
+use Rattle.term_pool.specs.Building.{IsAppliedLeaf}
 use Rattle.term_pool.specs.Reading.{arguments_of}
 use Rattle.term_pool.specs.StandsFor.{function_leaf}
 use Rattle.term_pool.specs.Views.{TermsView}
@@ -17,7 +17,7 @@ leaf_of (function f) = function_leaf f
 
 -- the term is the leaf's symbol, applied to its arguments
 abbrev pub HasHead : Table → ℕ → Term → Type 0
-HasHead s k t = IsApplication s k (arguments_of t) t
+HasHead s k t = IsAppliedLeaf s k (arguments_of t) t
 
 -- the terms are applications of the head of this leaf, the first to one argument or more, and the references stand for
 -- their arguments

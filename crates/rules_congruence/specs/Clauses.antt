@@ -7,8 +7,8 @@ abbrev pub clauses_of : List (Bor (List ℕ)) → List (List ℕ)
 clauses_of premises = map (λ (p : Bor (List ℕ)). p.now) premises
 
 -- there is one premise, which has one literal
-abbrev pub IsUnit : List (Bor (List ℕ)) → ℕ → Type 0
-IsUnit premises r = clauses_of premises ≡ (r ∷ []) ∷ []
+abbrev pub IsOneUnit : List (Bor (List ℕ)) → ℕ → Type 0
+IsOneUnit premises r = clauses_of premises ≡ (r ∷ []) ∷ []
 
 abbrev pub IsNoUnit : List (Bor (List ℕ)) → Type 0
 IsNoUnit premises = (r : ℕ) → clauses_of premises ≢ (r ∷ []) ∷ []

@@ -12,8 +12,8 @@ abbrev pub link : ℕ → ℕ → Link
 link a b = record { from = a; to = b }
 
 -- the order of links: by where they come from, then by where they go
-abbrev pub rank_of : Link → ℕ
-rank_of l = l.from * 2 ^ 32 + l.to
+abbrev pub link_rank : Link → ℕ
+link_rank l = l.from * 2 ^ 32 + l.to
 
 -- the pairs both ways round
 abbrev pub links_of : List (ℕ × ℕ) → List Link
@@ -26,15 +26,15 @@ AreSmall links = All (λ (l : Link). (l.from < 2 ^ 31) × (l.to < 2 ^ 31)) links
 
 -- the table of these pairs
 pub record IsTableOf (pairs : List (ℕ × ℕ)) (links : List Link) : Type 0 where
-  pub rising : IsNonDecreasingBy rank_of links
+  pub rising : IsNonDecreasingBy link_rank links
   pub small : AreSmall links
   pub has : (a b : ℕ) → Contains links (link a b) ↔ AreEnds pairs a b
 
 -- the place before which all links come before the rank, and from which on none does
 pub record IsFirstFrom (links : List Link) (rank place : ℕ) : Type 0 where
   pub within : place ≤ length links
-  pub before : (k : ℕ) (d : Link) → k < place → rank_of (get_or links k d) < rank
-  pub after : (k : ℕ) (d : Link) → place ≤ k → k < length links → rank ≤ rank_of (get_or links k d)
+  pub before : (k : ℕ) (d : Link) → k < place → link_rank (get_or links k d) < rank
+  pub after : (k : ℕ) (d : Link) → place ≤ k → k < length links → rank ≤ link_rank (get_or links k d)
 
 -- by the table, two references are linked exactly where their terms are the sides of a premise
 abbrev pub TellsSides : Table → TermsView → List Link → List (List Term) → Type 0

@@ -2,7 +2,7 @@
 use Rattle.std.specs.Prelude.{◌≡◌}
 use Rattle.term_model.specs.Flips.{equality}
 use Rattle.term_model.specs.Terms.{Term}
-use Rattle.rule_model.specs.Clausal.{itself}
+use Rattle.rule_model.specs.Clausal.{as_it_stands}
 
 -- the two terms are one equality, as it stands or denied, with its sides exchanged
 pub record AreTurned (sign : Term → Term) (t u : Term) : Type 0 where
@@ -21,4 +21,4 @@ pub record HasTurnedSides (t : Term) : Type 0 where
   pub one : Term
   pub other : Term
   pub is : t ≡ equality one other
-  pub turned : AreTurned itself one other
+  pub turned : AreTurned as_it_stands one other

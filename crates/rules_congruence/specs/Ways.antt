@@ -39,7 +39,7 @@ pub record AddsEnds (links : List Link) (from : ℕ) (old new : List ℕ) : Type
   pub only : (b : ℕ) → Contains new b → Contains old b ⊎ IsNear links from b
 
 -- so many of those reached were followed; each is connected to the first
-pub record IsReached (links : List Link) (from at : ℕ) (keys : List ℕ) : Type 0 where
+pub record IsWayReached (links : List Link) (from at : ℕ) (keys : List ℕ) : Type 0 where
   pub first : Contains keys from
   pub within : at ≤ length keys
   pub small : AreReferences keys

@@ -9,7 +9,7 @@ ghost use Rattle.rule_model.specs.declared.rules.Rule.TheVariants as Rule;
 ghost use Rattle.rule_model.specs.Conditions.{IsMetAt, Met};
 ghost use Rattle.rule_model.specs.Congruence.{IsOfEquality};
 ghost use Rattle.rule_model.specs.Judged.{judged_at};
-ghost use Rattle.rule_model.specs.Proofs.{Items};
+ghost use Rattle.rule_model.specs.Proofs.{ProofItems};
 ghost use Rattle.rule_model.specs.Reading.{clause_at, premises_at, rule_at};
 ghost use Rattle.rule_model.specs.Scopes.{commands_in};
 ghost use Rattle.term_model.specs.Terms.{Var, Term};
@@ -123,7 +123,7 @@ fn meets_at(
     requires equality { IsOfEquality (rule_at proof.now i) }
     requires decided { rule_at proof.now i ≢ Rule.EqCongruentPred }
     requires stand { StandForSome symbols.now terms.old proof.now }
-    ensures meets { IfOk result (λ yes. (of : Items Var Term) → StandForItems symbols.now terms.old proof.now of → IsTrue yes ↔ Met (judged_at mode of i)) }
+    ensures meets { IfOk result (λ yes. (of : ProofItems Var Term) → StandForItems symbols.now terms.old proof.now of → IsTrue yes ↔ Met (judged_at mode of i)) }
     ensures same { terms.new ≡ terms.old }
 {
     commands_correspond();
@@ -160,10 +160,10 @@ pub fn check(
     requires equality { IsOfEquality (rule_at proof.now i) }
     requires decided { rule_at proof.now i ≢ Rule.EqCongruentPred }
     requires stand { StandForSome symbols.now terms.old proof.now }
-    ensures met { IfOk result (λ answer. (of : Items Var Term) → StandForItems symbols.now terms.old proof.now of → (answer ≡ Answer.Met) ↔ IsMetAt mode of i) }
+    ensures met { IfOk result (λ answer. (of : ProofItems Var Term) → StandForItems symbols.now terms.old proof.now of → (answer ≡ Answer.Met) ↔ IsMetAt mode of i) }
     ensures narrow { IfOk result (λ answer. answer ≢ Answer.TooWide) }
     // under every interpretation and values of variables that make the premises true, the clause of a step that is met is
-    ensures sound { IfOk result (λ answer. answer ≡ Answer.Met → (of : Items Var Term) → StandForItems symbols.now terms.old proof.now of → KeepsTruthAt mode of i) }
+    ensures sound { IfOk result (λ answer. answer ≡ Answer.Met → (of : ProofItems Var Term) → StandForItems symbols.now terms.old proof.now of → KeepsTruthAt mode of i) }
     ensures stop { IfErr result (λ stop. stop ≡ RuleStop.Memory) }
     ensures same { terms.new ≡ terms.old }
 {

@@ -1,7 +1,7 @@
 //! Clauses of one literal, and steps of one premise or none.
 
 ghost use Rattle.std.specs.Prelude.{◌≡◌, ◌≢◌, ◌++◌, ◌<◌, ℕ, List, [], ◌∷◌, length, slice_index_or, IfSome, IfNone};
-ghost use Rattle.rules_congruence.specs.Clauses.{IsUnit, IsNoUnit, IsLone, clauses_of};
+ghost use Rattle.rules_congruence.specs.Clauses.{IsOneUnit, IsNoUnit, IsLone, clauses_of};
 
 use pair_pool::Ref;
 
@@ -18,7 +18,7 @@ pub(crate) fn literal(clause: &[Ref]) -> Option<Ref>
 
 /// The literal of the one premise, where there is one and it is a unit clause.
 pub(crate) fn unit(premises: &[&[Ref]]) -> Option<Ref>
-    ensures unit { IfSome result (IsUnit premises.now) }
+    ensures unit { IfSome result (IsOneUnit premises.now) }
     ensures other { IfNone result (IsNoUnit premises.now) }
 {
     let [premise] = premises else {

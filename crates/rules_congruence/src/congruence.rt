@@ -7,7 +7,7 @@ ghost use Rattle.rule_model.specs.Congruence.{IsLinked, AreLinked};
 ghost use Rattle.term_model.specs.Terms.{Term};
 ghost use Rattle.term_pool.specs.Views.{IsTerm, RefersTo};
 ghost use Rattle.rules_congruence.specs.Applications.{AreApplied};
-ghost use Rattle.rules_congruence.specs.Links.{rank_of, AreSmall, TellsSides};
+ghost use Rattle.rules_congruence.specs.Links.{link_rank, AreSmall, TellsSides};
 ghost use Rattle.rules_congruence.specs.Steps.{ReferTo, AreTerms};
 ghost use Rattle.rules_congruence.specs.Uses.{ArePairs};
 
@@ -29,7 +29,7 @@ fn is_linked(
     left: Ref,
     right: Ref,
 ) -> Result<bool, Memory>
-    requires rising { IsNonDecreasingBy rank_of links.now }
+    requires rising { IsNonDecreasingBy link_rank links.now }
     requires small { AreSmall links.now }
     requires left { IsTerm symbols.now terms.old left }
     requires right { IsTerm symbols.now terms.old right }
@@ -52,7 +52,7 @@ fn are_linked(
     lefts: &[Ref],
     rights: &[Ref],
 ) -> Result<bool, Memory>
-    requires rising { IsNonDecreasingBy rank_of links.now }
+    requires rising { IsNonDecreasingBy link_rank links.now }
     requires small { AreSmall links.now }
     requires lefts { AreTerms symbols.now terms.old lefts.now }
     requires rights { AreTerms symbols.now terms.old rights.now }
@@ -116,7 +116,7 @@ fn are_crosswise(
     left: (Ref, Ref),
     right: (Ref, Ref),
 ) -> Result<bool, Memory>
-    requires rising { IsNonDecreasingBy rank_of links.now }
+    requires rising { IsNonDecreasingBy link_rank links.now }
     requires small { AreSmall links.now }
     requires left { IsTerm symbols.now terms.old left.0 × IsTerm symbols.now terms.old left.1 }
     requires right { IsTerm symbols.now terms.old right.0 × IsTerm symbols.now terms.old right.1 }
@@ -139,7 +139,7 @@ pub(crate) fn hang(
     links: &[Link],
     both: &Applications,
 ) -> Result<bool, Memory>
-    requires rising { IsNonDecreasingBy rank_of links.now }
+    requires rising { IsNonDecreasingBy link_rank links.now }
     requires small { AreSmall links.now }
     requires lefts { AreTerms symbols.now terms.old both.now.left.items }
     requires rights { AreTerms symbols.now terms.old both.now.right.items }

@@ -2,7 +2,7 @@
 
 ghost use Rattle.std.specs.Prelude.{◌≡◌, ◌↔◌, ◌++◌, ◌<◌, ◌^◌, [], ◌∷◌, length, slice_index_or, Contains, IsTrue, IfOk, OnOk};
 ghost use Rattle.std.specs.List.Sorted.{IsNonDecreasingBy};
-ghost use Rattle.rules_congruence.specs.Links.{link, rank_of, AreSmall, IsTableOf, IsFirstFrom, links_of};
+ghost use Rattle.rules_congruence.specs.Links.{link, link_rank, AreSmall, IsTableOf, IsFirstFrom, links_of};
 ghost use Rattle.rules_congruence.specs.declared.links.Link.{Link};
 
 use pair_pool::{Memory, Ref};
@@ -18,7 +18,7 @@ pub(crate) struct Link {
 impl Link {
     /// The order of links: by where they come from, then by where they go.
     pub(crate) fn rank(self) -> u64
-        ensures { result ≡ rank_of self }
+        ensures { result ≡ link_rank self }
     {
         self.from as u64 * 4294967296 + self.to as u64
     }
@@ -59,7 +59,7 @@ pub(crate) fn table_of(alloc: Global, pairs: &[(Ref, Ref)]) -> Result<Vec<Link>,
 
 /// The place of the first link that does not come before the rank.
 pub(crate) fn first_from(links: &[Link], rank: u64) -> usize
-    requires { IsNonDecreasingBy rank_of links.now }
+    requires { IsNonDecreasingBy link_rank links.now }
     ensures { IsFirstFrom links.now rank result }
 {
     links.partition_point(|l| l.rank() < rank)
@@ -87,7 +87,7 @@ fn is_at(links: &[Link], place: usize, wanted: Link) -> bool
 
 /// Whether the table has a link.
 pub(crate) fn has(links: &[Link], from: Ref, to: Ref) -> bool
-    requires rising { IsNonDecreasingBy rank_of links.now }
+    requires rising { IsNonDecreasingBy link_rank links.now }
     requires small { AreSmall links.now }
     ensures { IsTrue result ↔ Contains links.now (link from to) }
 {

@@ -3,7 +3,7 @@
 ghost use Rattle.std.specs.Prelude.{◌≡◌, ◌≢◌, ◌++◌, [], ◌∷◌, List, true, IfOk, OnOk, IfSome, IfNone};
 ghost use Rattle.rule_model.specs.Congruence.{denials};
 ghost use Rattle.term_model.specs.Terms.{Term};
-ghost use Rattle.rules_congruence.specs.Sides.{IsNoUnit, IsGiven, IsUnitOf, AreDenied};
+ghost use Rattle.rules_congruence.specs.Sides.{IsNoEquation, IsGiven, IsUnitOf, AreDenied};
 ghost use Rattle.rules_congruence.specs.Steps.{ReferTo, ReferToClauses, AreTerms, AreClauses};
 
 use crate::clauses::literal;
@@ -26,7 +26,7 @@ pub(crate) struct Given {
 fn unit_sides(symbols: &Symbols, terms: &mut Terms<'_>, clause: &[Ref]) -> Option<(Ref, Ref)>
     requires { AreTerms symbols.now terms.old clause.now }
     ensures unit { IfSome result (λ p. (c : List Term) → ReferTo symbols.now terms.old clause.now c → IsUnitOf symbols.now terms.old p c) }
-    ensures other { IfNone result ((c : List Term) → ReferTo symbols.now terms.old clause.now c → IsNoUnit c) }
+    ensures other { IfNone result ((c : List Term) → ReferTo symbols.now terms.old clause.now c → IsNoEquation c) }
     ensures same { terms.new ≡ terms.old }
 {
     let Some(literal) = literal(clause) else {

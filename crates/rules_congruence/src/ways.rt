@@ -3,7 +3,7 @@
 ghost use Rattle.std.specs.Prelude.{◌≡◌, ◌↔◌, ◌<◌, ◌^◌, ℕ, length, slice_index_or, IsTrue, IfOk, OnOk};
 ghost use Rattle.std.specs.List.Sorted.{IsNonDecreasingBy};
 ghost use Rattle.rule_model.specs.Congruence.{IsConnected};
-ghost use Rattle.rules_congruence.specs.Links.{rank_of, AreSmall};
+ghost use Rattle.rules_congruence.specs.Links.{link_rank, AreSmall};
 ghost use Rattle.rules_congruence.specs.Pairs.{AreEnds, IsPath};
 ghost use Rattle.rules_congruence.specs.Ways.{IsNear, Inserts, AddsEnds};
 
@@ -44,7 +44,7 @@ fn key_at(reached: &IndexSet<u32>, place: usize) -> u32
 
 /// Adds the ends of the links from a reference to what is reached.
 fn add_ends(links: &[Link], from: u32, reached: &mut IndexSet<u32>) -> Result<(), Memory>
-    requires rising { IsNonDecreasingBy rank_of links.now }
+    requires rising { IsNonDecreasingBy link_rank links.now }
     requires small { AreSmall links.now }
     requires from { from < 2 ^ 31 }
     ensures { OnOk result (AddsEnds links.now from reached.old.keys reached.new.keys) }
@@ -59,7 +59,7 @@ fn add_ends(links: &[Link], from: u32, reached: &mut IndexSet<u32>) -> Result<()
 
 /// Whether links lead from one reference to another: what is reached is followed in the order in which it was reached.
 fn reaches(alloc: Global, links: &[Link], from: Ref, to: Ref) -> Result<bool, Memory>
-    requires rising { IsNonDecreasingBy rank_of links.now }
+    requires rising { IsNonDecreasingBy link_rank links.now }
     requires small { AreSmall links.now }
     ensures { IfOk result (λ yes. IsTrue yes ↔ IsConnected (IsNear links.now) from to) }
 {

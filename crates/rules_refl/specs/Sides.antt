@@ -4,7 +4,7 @@ use Rattle.pair_pool.specs.Trees.{Tree}
 use Rattle.pair_pool.specs.Views.{PassView, IsPlaced}
 use Rattle.rule_model.specs.Contexts.{images}
 use Rattle.rule_model.specs.Judged.{anchors_at}
-use Rattle.rule_model.specs.Proofs.{Items}
+use Rattle.rule_model.specs.Proofs.{ProofItems}
 use Rattle.rule_model.specs.Reading.{clause_at, premises_at}
 use Rattle.rule_model.specs.Substitution.{put_in}
 use Rattle.sym_table.specs.Table.{Table}
@@ -16,12 +16,12 @@ use Rattle.term_pool.specs.Views.{TermsView, RefersTo}
 use Rattle.contexts.specs.PutIn.{LacksRoomFor}
 
 -- the step has no premises, and its clause is the equality of the two terms
-pub record States (proof : Items Var Term) (i : ℕ) (t u : Term) : Type 0 where
+pub record States (proof : ProofItems Var Term) (i : ℕ) (t u : Term) : Type 0 where
   pub none : premises_at proof i ≡ []
   pub clause : clause_at proof i ≡ equality t u ∷ []
 
 -- the references stand for its sides
-pub record HasSides (s : Table) (v : TermsView) (proof : Items Var Term) (i : ℕ) (p : ℕ × ℕ) : Type 0 where
+pub record HasSides (s : Table) (v : TermsView) (proof : ProofItems Var Term) (i : ℕ) (p : ℕ × ℕ) : Type 0 where
   pub left : Term
   pub right : Term
   pub states : States proof i left right
@@ -29,7 +29,7 @@ pub record HasSides (s : Table) (v : TermsView) (proof : Items Var Term) (i : �
   pub right_refers : RefersTo s v p.1 right
 
 -- the term after substitution, by the anchors that are open at the step
-abbrev pub substituted : Items Var Term → ℕ → Term → Term
+abbrev pub substituted : ProofItems Var Term → ℕ → Term → Term
 substituted proof i t = put_in (images (anchors_at proof i)) t
 
 -- the cell of a and b is one of the term
@@ -39,18 +39,18 @@ pub record IsCellOf (s : Table) (v : PassView) (a b : ℕ) (t : Term) : Type 0 w
   pub cell : IsCellIn v a b tree
 
 -- it is one of a side of the step after substitution
-pub record IsCellOfSide (s : Table) (v : PassView) (proof : Items Var Term) (i a b : ℕ) : Type 0 where
+pub record IsCellOfSide (s : Table) (v : PassView) (proof : ProofItems Var Term) (i a b : ℕ) : Type 0 where
   pub left : Term
   pub right : Term
   pub states : States proof i left right
   pub of : IsCellOf s v a b (substituted proof i left) ⊎ IsCellOf s v a b (substituted proof i right)
 
 -- what the new pass placed and the old one had not, are cells of the sides after substitution
-abbrev pub PlacesSides : Table → PassView → PassView → Items Var Term → ℕ → Type 0
+abbrev pub PlacesSides : Table → PassView → PassView → ProofItems Var Term → ℕ → Type 0
 PlacesSides s old new proof i = (r a b : ℕ) → IsPlaced new r a b → IsPlaced old r a b ⊎ IsCellOfSide s new proof i a b
 
 -- there was no room for a cell of a side after substitution
-pub record LacksRoomForSide (s : Table) (new : PassView) (proof : Items Var Term) (i : ℕ) : Type 0 where
+pub record LacksRoomForSide (s : Table) (new : PassView) (proof : ProofItems Var Term) (i : ℕ) : Type 0 where
   pub left : Term
   pub right : Term
   pub states : States proof i left right

@@ -9,7 +9,7 @@ ghost use Rattle.proof_store.specs.declared.answers.RuleStop.TheVariants as Rule
 ghost use Rattle.rule_model.specs.declared.rules.Rule.TheVariants as Rule;
 ghost use Rattle.rule_model.specs.Conditions.{IsMetAt};
 ghost use Rattle.rule_model.specs.Contexts.{images};
-ghost use Rattle.rule_model.specs.Proofs.{Items};
+ghost use Rattle.rule_model.specs.Proofs.{ProofItems};
 ghost use Rattle.rule_model.specs.Reading.{closes_at, rule_at, scope_at};
 ghost use Rattle.rule_model.specs.Replacement.{Replacement};
 ghost use Rattle.rule_model.specs.Scopes.{commands_in};
@@ -39,13 +39,13 @@ fn substituted(
     requires left { IsTerm symbols.now terms.old sides.0 }
     requires right { IsTerm symbols.now terms.old sides.1 }
     requires kept { AreKept symbols.now terms.old proof.now open.old }
-    ensures left { IfOk result (λ p. (of : Items Var Term) (anchors : List Replacement) (t : Term) → StandForItems symbols.now terms.old proof.now of → AreOpenIn of (scope_of open.old) anchors →
+    ensures left { IfOk result (λ p. (of : ProofItems Var Term) (anchors : List Replacement) (t : Term) → StandForItems symbols.now terms.old proof.now of → AreOpenIn of (scope_of open.old) anchors →
         RefersTo symbols.now terms.old sides.0 t → RefersTo symbols.now terms.new p.0 (put_in (images anchors) t)) }
-    ensures right { IfOk result (λ p. (of : Items Var Term) (anchors : List Replacement) (u : Term) → StandForItems symbols.now terms.old proof.now of → AreOpenIn of (scope_of open.old) anchors →
+    ensures right { IfOk result (λ p. (of : ProofItems Var Term) (anchors : List Replacement) (u : Term) → StandForItems symbols.now terms.old proof.now of → AreOpenIn of (scope_of open.old) anchors →
         RefersTo symbols.now terms.old sides.1 u → RefersTo symbols.now terms.new p.1 (put_in (images anchors) u)) }
-    ensures placed { (of : Items Var Term) (anchors : List Replacement) (t u : Term) → StandForItems symbols.now terms.old proof.now of → AreOpenIn of (scope_of open.old) anchors →
+    ensures placed { (of : ProofItems Var Term) (anchors : List Replacement) (t u : Term) → StandForItems symbols.now terms.old proof.now of → AreOpenIn of (scope_of open.old) anchors →
         RefersTo symbols.now terms.old sides.0 t → RefersTo symbols.now terms.old sides.1 u → PlacesBoth symbols.now terms.old.pass terms.new.pass (put_in (images anchors) t) (put_in (images anchors) u) }
-    ensures full { IfErr result (λ e. e ≡ RuleStop.PoolFull → (of : Items Var Term) (anchors : List Replacement) (t u : Term) → StandForItems symbols.now terms.old proof.now of → AreOpenIn of (scope_of open.old) anchors →
+    ensures full { IfErr result (λ e. e ≡ RuleStop.PoolFull → (of : ProofItems Var Term) (anchors : List Replacement) (t u : Term) → StandForItems symbols.now terms.old proof.now of → AreOpenIn of (scope_of open.old) anchors →
         RefersTo symbols.now terms.old sides.0 t → RefersTo symbols.now terms.old sides.1 u → LacksRoomForOne symbols.now terms.new.pass (put_in (images anchors) t) (put_in (images anchors) u)) }
     ensures keeps { KeepsTerms terms.old terms.new }
     ensures kept { AreKept symbols.now terms.new proof.now open.new }
@@ -83,12 +83,12 @@ pub fn check(
     requires refl { rule_at proof.now i ≡ Rule.Refl }
     requires kept { AreKept symbols.now terms.old proof.now open.old }
     requires here { closes_at proof.now i ≡ None → scope_of open.old ≡ scope_at proof.now i }
-    ensures met { IfOk result (λ answer. (of : Items Var Term) → StandForItems symbols.now terms.old proof.now of → (answer ≡ Answer.Met) ↔ IsMetAt mode of i) }
+    ensures met { IfOk result (λ answer. (of : ProofItems Var Term) → StandForItems symbols.now terms.old proof.now of → (answer ≡ Answer.Met) ↔ IsMetAt mode of i) }
     ensures narrow { IfOk result (λ answer. answer ≢ Answer.TooWide) }
     // where the anchors' variables have the values of their images, the clause of a step that is met is true
-    ensures sound { IfOk result (λ answer. answer ≡ Answer.Met → (of : Items Var Term) → StandForItems symbols.now terms.old proof.now of → KeepsTruthAt mode of i) }
-    ensures placed { (of : Items Var Term) → StandForItems symbols.now terms.old proof.now of → PlacesSides symbols.now terms.old.pass terms.new.pass of i }
-    ensures full { IfErr result (λ stop. stop ≡ RuleStop.PoolFull → (of : Items Var Term) → StandForItems symbols.now terms.old proof.now of → LacksRoomForSide symbols.now terms.new.pass of i) }
+    ensures sound { IfOk result (λ answer. answer ≡ Answer.Met → (of : ProofItems Var Term) → StandForItems symbols.now terms.old proof.now of → KeepsTruthAt mode of i) }
+    ensures placed { (of : ProofItems Var Term) → StandForItems symbols.now terms.old proof.now of → PlacesSides symbols.now terms.old.pass terms.new.pass of i }
+    ensures full { IfErr result (λ stop. stop ≡ RuleStop.PoolFull → (of : ProofItems Var Term) → StandForItems symbols.now terms.old proof.now of → LacksRoomForSide symbols.now terms.new.pass of i) }
     ensures keeps { KeepsTerms terms.old terms.new }
     ensures kept { AreKept symbols.now terms.new proof.now open.new }
     ensures scope { scope_of open.new ≡ scope_of open.old }

@@ -3,7 +3,7 @@
 ghost use Rattle.std.specs.Prelude.{◌≡◌, ◌∷◌, ◌<◌, [], IfSome, IfNone};
 ghost use Rattle.proof_store.specs.Checks.{StandForSome};
 ghost use Rattle.proof_store.specs.Meaning.{StandForItems};
-ghost use Rattle.rule_model.specs.Proofs.{Items};
+ghost use Rattle.rule_model.specs.Proofs.{ProofItems};
 ghost use Rattle.rule_model.specs.Scopes.{commands_in};
 ghost use Rattle.term_model.specs.Terms.{Var, Term};
 ghost use Rattle.rules_refl.specs.Sides.{States, HasSides};
@@ -23,8 +23,8 @@ pub(crate) fn sides_at(
 ) -> Option<(Ref, Ref)>
     requires index { i < commands_in proof.now }
     requires stand { StandForSome symbols.now terms.old proof.now }
-    ensures sides { IfSome result (λ p. (of : Items Var Term) → StandForItems symbols.now terms.old proof.now of → HasSides symbols.now terms.old of i p) }
-    ensures none { IfNone result ((of : Items Var Term) (t u : Term) → StandForItems symbols.now terms.old proof.now of → ¬ States of i t u) }
+    ensures sides { IfSome result (λ p. (of : ProofItems Var Term) → StandForItems symbols.now terms.old proof.now of → HasSides symbols.now terms.old of i p) }
+    ensures none { IfNone result ((of : ProofItems Var Term) (t u : Term) → StandForItems symbols.now terms.old proof.now of → ¬ States of i t u) }
     ensures same { terms.new ≡ terms.old }
 {
     commands_correspond();

@@ -9,14 +9,14 @@ use Rattle.rules_resolution.specs.declared.occurrence.Occurrence.{Occurrence}
 use Rattle.rules_resolution.specs.declared.standing.Standing.{Standing}
 use Rattle.rules_resolution.specs.Occurrence.{is_of}
 use Rattle.rules_resolution.specs.Table.{IsLeader}
-use Rattle.rules_resolution.specs.Standing.{open_at, places_at, one, place_in, hits, taken, HasRoom, Closes, Advances, lessened, ready_with}
+use Rattle.rules_resolution.specs.Standing.{open_at, places_at, one, occurrence_place, hits, taken, HasRoom, Closes, Advances, lessened, ready_with}
 use Rattle.rules_resolution.proofs.Standings.{same_or_not, open_at-set_same, open_at-set_other, places_at-set_same, places_at-set_other, hits-here, hits-elsewhere, hits-other, sum_by-none}
 
 pub closes_start : (a : ℕ) (s : Bool) (table : List Occurrence) (first : ℕ) (standings : List Standing) → IsLeader a s table first → Closes a s (take first table) standings standings
 closes_start a s table first standings lead =
     record {
       opens = λ p h. (let e = none one p in omega arith);
-      places = λ p h. (let e = none place_in p in omega arith);
+      places = λ p h. (let e = none occurrence_place p in omega arith);
     }
   where
     none : (f : Occurrence → ℕ) (p : ℕ) → taken a s p f (take first table) ≡ 0
@@ -30,7 +30,7 @@ pub closes_end : (a : ℕ) (s : Bool) (table : List Occurrence) (i : ℕ) (old n
 closes_end a s table i old new others closes =
     record {
       opens = λ p h. (let e = none one p in let w = sum_by-take-drop (hits a s p one) table i in let c = closes.opens p h in omega arith);
-      places = λ p h. (let e = none place_in p in let w = sum_by-take-drop (hits a s p place_in) table i in let c = closes.places p h in omega arith);
+      places = λ p h. (let e = none occurrence_place p in let w = sum_by-take-drop (hits a s p occurrence_place) table i in let c = closes.places p h in omega arith);
     }
   where
     none : (f : Occurrence → ℕ) (p : ℕ) → taken a s p f (drop i table) ≡ 0
@@ -47,8 +47,8 @@ room_left a s table i d old new room closes h is g =
     let here = hits-here a s one (get_or table i d).premise (get_or table i d) is q in
     let enough = room.opens (get_or table i d).premise g in
     let so_far = closes.opens (get_or table i d).premise g in
-    let le2 = sum_by_more_le (hits a s (get_or table i d).premise place_in) table i d h in
-    let here2 = hits-here a s place_in (get_or table i d).premise (get_or table i d) is q in
+    let le2 = sum_by_more_le (hits a s (get_or table i d).premise occurrence_place) table i d h in
+    let here2 = hits-here a s occurrence_place (get_or table i d).premise (get_or table i d) is q in
     let enough2 = room.places (get_or table i d).premise g in
     let so_far2 = closes.places (get_or table i d).premise g in
     (omega arith, omega arith)
@@ -78,10 +78,10 @@ closes_more a s table i d old new closes size h is g enough enough2 =
         let now = open_at-set_other new (get_or table i d).premise p (lessened new (get_or table i d)) (λ q. ne (sym q)) in
         omega arith
 
-    places : (p : ℕ) → p < length old → ((nat_eq (get_or table i d).premise p ≡ true) × ((get_or table i d).premise ≡ p)) ⊎ ((nat_eq (get_or table i d).premise p ≡ false) × ((get_or table i d).premise ≡ p → ⊥)) → places_at (set new (get_or table i d).premise (lessened new (get_or table i d))) p + taken a s p place_in (take (i + 1) table) ≡ places_at old p
+    places : (p : ℕ) → p < length old → ((nat_eq (get_or table i d).premise p ≡ true) × ((get_or table i d).premise ≡ p)) ⊎ ((nat_eq (get_or table i d).premise p ≡ false) × ((get_or table i d).premise ≡ p → ⊥)) → places_at (set new (get_or table i d).premise (lessened new (get_or table i d))) p + taken a s p occurrence_place (take (i + 1) table) ≡ places_at old p
     places p l (inl (e, same)) =
-        let more = sum_by_more (hits a s p place_in) table i d h in
-        let here = hits-here a s place_in p (get_or table i d) is e in
+        let more = sum_by_more (hits a s p occurrence_place) table i d h in
+        let here = hits-here a s occurrence_place p (get_or table i d) is e in
         let was = closes.places p l in
         let within : (get_or table i d).premise < length new = omega arith in
         let now = places_at-set_same new (get_or table i d).premise (lessened new (get_or table i d)) within in
@@ -89,8 +89,8 @@ closes_more a s table i d old new closes size h is g enough enough2 =
         let there = ap (places_at (set new (get_or table i d).premise (lessened new (get_or table i d)))) same in
         omega arith
     places p l (inr (e, ne)) =
-        let more = sum_by_more (hits a s p place_in) table i d h in
-        let here = hits-elsewhere a s place_in p (get_or table i d) e in
+        let more = sum_by_more (hits a s p occurrence_place) table i d h in
+        let here = hits-elsewhere a s occurrence_place p (get_or table i d) e in
         let was = closes.places p l in
         let now = places_at-set_other new (get_or table i d).premise p (lessened new (get_or table i d)) (λ q. ne (sym q)) in
         omega arith

@@ -13,8 +13,8 @@ use Rattle.rules_resolution.specs.declared.occurrence.Occurrence.{Occurrence}
 use Rattle.rules_resolution.specs.declared.standing.Standing.{Standing}
 use Rattle.rules_resolution.specs.Idle.{IsIdle, IsSettled}
 use Rattle.rules_resolution.specs.Occurrence.{literal_in, rank_of, literal_rank}
-use Rattle.rules_resolution.specs.Table.{IsTable}
-use Rattle.rules_resolution.specs.Standing.{is_always, blank_standings, open_at, places_at, one, place_in, stands, tally, IsTallied}
+use Rattle.rules_resolution.specs.Table.{IsOccurrenceTable}
+use Rattle.rules_resolution.specs.Standing.{is_always, blank_standings, open_at, places_at, one, occurrence_place, stands, tally, IsTallied}
 use Rattle.rules_resolution.proofs.Literals.{true_or_false, false_from_test, only_from_tests, only-others, only-stays}
 use Rattle.rules_resolution.proofs.Standings.{same_or_not}
 
@@ -43,7 +43,7 @@ entry_cases falses p o = here (same_or_not o.premise p) (true_or_false (is_false
 
 -- none counts
 abbrev pub NoneStands : List Lit → ℕ → List Occurrence → Type 0
-NoneStands falses p table = ((k : ℕ) → k < length table → (entry table k).premise ≡ p → is_false_in falses (literal_in (entry table k)) ≡ true) × (tally falses p place_in table ≡ 0)
+NoneStands falses p table = ((k : ℕ) → k < length table → (entry table k).premise ≡ p → is_false_in falses (literal_in (entry table k)) ≡ true) × (tally falses p occurrence_place table ≡ 0)
 
 pub none_stands : (falses : List Lit) (p : ℕ) (table : List Occurrence) → tally falses p one table ≡ 0 → NoneStands falses p table
 none_stands falses p [] e = ((λ k h s. absurd (omega (arith, h))), refl)
@@ -56,9 +56,9 @@ none_stands falses p (x ∷ xs) e = go (λ z. none_stands falses p xs z) (entry_
         absurd (omega (arith, e, c, n))
     go later_by (inr (nothing, gone)) =
         let c = sum_by-cons (stands falses p one) x xs in
-        let d = sum_by-cons (stands falses p place_in) x xs in
+        let d = sum_by-cons (stands falses p occurrence_place) x xs in
         let n = nothing one in
-        let m = nothing place_in in
+        let m = nothing occurrence_place in
         let later = later_by (omega (arith, e, c, n)) in
         let rest = later.1 in
         (each later.0, omega (arith, d, m, rest))
@@ -73,7 +73,7 @@ pub record Lone (falses : List Lit) (p : ℕ) (table : List Occurrence) : Type 0
   pub within : at < length table
   pub premise : (entry table at).premise ≡ p
   pub stays : is_false_in falses (literal_in (entry table at)) ≡ false
-  pub spot : tally falses p place_in table ≡ (entry table at).place
+  pub spot : tally falses p occurrence_place table ≡ (entry table at).place
   pub others : (k : ℕ) → k < length table → (entry table k).premise ≡ p → (is_false_in falses (literal_in (entry table k)) ≡ true) ⊎ (literal_in (entry table k) ≡ literal_in (entry table at))
 
 pub one_stands : (falses : List Lit) (p : ℕ) (table : List Occurrence) → tally falses p one table ≡ 1 → Lone falses p table
@@ -83,9 +83,9 @@ one_stands falses p (x ∷ xs) e = go (λ z. one_stands falses p xs z) (entry_ca
     go : (tally falses p one xs ≡ 1 → Lone falses p xs) → EntryCases falses p x → Lone falses p (x ∷ xs)
     go later_by (inl (same, stays, counts)) =
         let c = sum_by-cons (stands falses p one) x xs in
-        let d = sum_by-cons (stands falses p place_in) x xs in
+        let d = sum_by-cons (stands falses p occurrence_place) x xs in
         let n = counts one in
-        let m = counts place_in in
+        let m = counts occurrence_place in
         let later = none_stands falses p xs (omega (arith, e, c, n)) in
         let rest = later.1 in
         record { at = 0; within = omega arith; premise = same; stays = stays; spot = omega (arith, d, m, rest); others = each later.0 }
@@ -95,9 +95,9 @@ one_stands falses p (x ∷ xs) e = go (λ z. one_stands falses p xs z) (entry_ca
         each later (suc k) h s = inl (later k (omega (arith, h)) s)
     go later_by (inr (nothing, gone)) =
         let c = sum_by-cons (stands falses p one) x xs in
-        let d = sum_by-cons (stands falses p place_in) x xs in
+        let d = sum_by-cons (stands falses p occurrence_place) x xs in
         let n = nothing one in
-        let m = nothing place_in in
+        let m = nothing occurrence_place in
         let later = later_by (omega (arith, e, c, n)) in
         let rest = later.spot in
         record { at = suc later.at; within = omega (arith, later.within); premise = later.premise; stays = later.stays; spot = omega (arith, d, m, rest); others = each later }
@@ -202,7 +202,7 @@ no_always_at (l ∷ ls) e (suc k) h same = no_always_at ls (rest (is_always l) e
     rest true f = cc
     rest false f = f
 
-module _ (premises : List (List Lit)) (goal falses : List Lit) (table : List Occurrence) (standings : List Standing) (is_table : IsTable premises goal table) (tallied : IsTallied premises falses table standings) where
+module _ (premises : List (List Lit)) (goal falses : List Lit) (table : List Occurrence) (standings : List Standing) (is_table : IsOccurrenceTable premises goal table) (tallied : IsTallied premises falses table standings) where
   -- a literal of a premise is a constant, or it has an entry
   entry_of : (p k : ℕ) → p < length premises → k < length (premise_at premises p) → (literal_at (premise_at premises p) k ≡ Always) ⊎ ((is_false_in falses (literal_at (premise_at premises p) k) ≡ true) ⊎ ((i : ℕ) × (i < length table) × ((entry table i).premise ≡ p) × (literal_in (entry table i) ≡ literal_at (premise_at premises p) k)))
   entry_of p k h g = go (literal_cases (literal_at (premise_at premises p) k))

@@ -15,8 +15,8 @@ use Rattle.rules_resolution.specs.Clause.{clauses_of}
 use Rattle.rules_resolution.specs.Literal.{Lit}
 use Rattle.rules_resolution.specs.declared.naming.Key.{Key}
 use Rattle.pair_pool.specs.declared.stops.Memory.{Memory}
-use Rattle.rules_resolution.specs.Renaming.{all_literals, atom_of, name_at, AreNames, joined}
-use Rattle.rules_resolution.specs.Naming.{key_rank, key_at, keys_from, IsKeyOf, AreKeys, IsRun, name_in, HasNames}
+use Rattle.rules_resolution.specs.Renaming.{all_literals, atom_of, atom_name_at, AreNames, joined_clauses}
+use Rattle.rules_resolution.specs.Naming.{key_rank, key_at, keys_from, IsKeyOf, AreKeys, IsRun, key_number_in, HasNames}
 use Rattle.rules_resolution.proofs.Literals.{true_or_false}
 use Rattle.rules_resolution.proofs.Renamings.{StandFrom}
 use Rattle.rules_resolution.proofs.Tables.{clauses_of-take_more}
@@ -34,37 +34,37 @@ keys_from-more from i n clause d h e =
     ∙ ap (λ ks. keys_from from (take i clause) ++ ks) (append-nil (key_at n (get_or clause i d))))
 
 -- the literals of the first premises, and of one more
-pub joined-more : (vs : List (Vec Lit)) (i : ℕ) (d : Vec Lit) → i < length vs → joined (clauses_of (take (i + 1) vs)) ≡ joined (clauses_of (take i vs)) ++ (get_or vs i d).items
+pub joined-more : (vs : List (Vec Lit)) (i : ℕ) (d : Vec Lit) → i < length vs → joined_clauses (clauses_of (take (i + 1) vs)) ≡ joined_clauses (clauses_of (take i vs)) ++ (get_or vs i d).items
 joined-more vs i d h =
-    ap (joined) (clauses_of-take_more vs i d h)
+    ap (joined_clauses) (clauses_of-take_more vs i d h)
     ∙ (flat_map-append (λ (c : List Lit). c) (clauses_of (take i vs)) ((get_or vs i d).items ∷ [])
-    ∙ ap (λ ls. joined (clauses_of (take i vs)) ++ ls) (append-nil (get_or vs i d).items))
+    ∙ ap (λ ls. joined_clauses (clauses_of (take i vs)) ++ ls) (append-nil (get_or vs i d).items))
 
-pub joined-le : (vs : List (Vec Lit)) (i : ℕ) (d : Vec Lit) → i < length vs → length (joined (clauses_of (take i vs))) + length (get_or vs i d).items ≤ length (joined (clauses_of vs))
+pub joined-le : (vs : List (Vec Lit)) (i : ℕ) (d : Vec Lit) → i < length vs → length (joined_clauses (clauses_of (take i vs))) + length (get_or vs i d).items ≤ length (joined_clauses (clauses_of vs))
 joined-le vs i d h =
     rw (flat_map-map (λ (c : List Lit). c) (λ (v : Vec Lit). v.items) (take i vs), flat_map-map (λ (c : List Lit). c) (λ (v : Vec Lit). v.items) vs)
     (length-flat_map-take (λ (v : Vec Lit). v.items) vs i d h)
 
 -- the keys of one more premise, and of the conclusion
-pub keys_joined : (vs : List (Vec Lit)) (i from : ℕ) (v : Vec Lit) (slice : List Lit) → i < length vs → v ≡ get_or vs i v → slice ≡ v.items → from ≡ length (joined (clauses_of (take i vs)))
-    → keys_from 0 (joined (clauses_of (take i vs))) ++ keys_from from slice ≡ keys_from 0 (joined (clauses_of (take (i + 1) vs)))
+pub keys_joined : (vs : List (Vec Lit)) (i from : ℕ) (v : Vec Lit) (slice : List Lit) → i < length vs → v ≡ get_or vs i v → slice ≡ v.items → from ≡ length (joined_clauses (clauses_of (take i vs)))
+    → keys_from 0 (joined_clauses (clauses_of (take i vs))) ++ keys_from from slice ≡ keys_from 0 (joined_clauses (clauses_of (take (i + 1) vs)))
 keys_joined vs i from v slice h is value size =
-    ap (λ ls. keys_from 0 (joined (clauses_of (take i vs))) ++ keys_from from ls) (value ∙ ap (λ (w : Vec Lit). w.items) is)
+    ap (λ ls. keys_from 0 (joined_clauses (clauses_of (take i vs))) ++ keys_from from ls) (value ∙ ap (λ (w : Vec Lit). w.items) is)
     ∙ sym (ap (keys_from 0) (joined-more vs i v h)
-    ∙ keys_from-append 0 from (joined (clauses_of (take i vs))) (get_or vs i v).items (omega (arith, size)))
+    ∙ keys_from-append 0 from (joined_clauses (clauses_of (take i vs))) (get_or vs i v).items (omega (arith, size)))
 
-pub joined_length : (vs : List (Vec Lit)) (i from n : ℕ) (v : Vec Lit) → i < length vs → v ≡ get_or vs i v → n ≡ length v.items → from ≡ length (joined (clauses_of (take i vs))) → from + n ≡ length (joined (clauses_of (take (i + 1) vs)))
+pub joined_length : (vs : List (Vec Lit)) (i from n : ℕ) (v : Vec Lit) → i < length vs → v ≡ get_or vs i v → n ≡ length v.items → from ≡ length (joined_clauses (clauses_of (take i vs))) → from + n ≡ length (joined_clauses (clauses_of (take (i + 1) vs)))
 joined_length vs i from n v h is long size =
     let more = ap length (joined-more vs i v h) in
-    let parts = length-append (joined (clauses_of (take i vs))) (get_or vs i v).items in
+    let parts = length-append (joined_clauses (clauses_of (take i vs))) (get_or vs i v).items in
     let same = ap (λ (w : Vec Lit). length w.items) is in
     omega arith
 
-pub keys_all : (vs : List (Vec Lit)) (goal : List Lit) (i from : ℕ) → length vs ≤ i → from ≡ length (joined (clauses_of (take i vs)))
-    → keys_from 0 (joined (clauses_of (take i vs))) ++ keys_from from goal ≡ keys_from 0 (all_literals (clauses_of vs) goal)
+pub keys_all : (vs : List (Vec Lit)) (goal : List Lit) (i from : ℕ) → length vs ≤ i → from ≡ length (joined_clauses (clauses_of (take i vs)))
+    → keys_from 0 (joined_clauses (clauses_of (take i vs))) ++ keys_from from goal ≡ keys_from 0 (all_literals (clauses_of vs) goal)
 keys_all vs goal i from h size =
-    sym (keys_from-append 0 from (joined (clauses_of (take i vs))) goal (omega (arith, size)))
-    ∙ ap (λ (ws : List (Vec Lit)). keys_from 0 (joined (clauses_of ws) ++ goal)) (take_all i vs h)
+    sym (keys_from-append 0 from (joined_clauses (clauses_of (take i vs))) goal (omega (arith, size)))
+    ∙ ap (λ (ws : List (Vec Lit)). keys_from 0 (joined_clauses (clauses_of ws) ++ goal)) (take_all i vs h)
 
 -- what a key says is so
 key_at-sound : (literals : List Lit) (i : ℕ) (l : Lit) → i < length literals → literal_at literals i ≡ l → All (IsKeyOf literals) (key_at i l)
@@ -104,7 +104,7 @@ keys_from-contains i n (l ∷ ls) (suc j) a e h =
     (keys_from-contains (i + 1) n ls j a (omega (arith, e)) h)
 
 -- the name of an atom is the number of its first key
-name_in-first : (keys : List Key) (r : ℕ) (d : Key) → r < length keys → ((q : ℕ) → q < r → (get_or keys q d).atom ≢ (get_or keys r d).atom) → name_in keys (get_or keys r d).atom ≡ (get_or keys r d).number
+name_in-first : (keys : List Key) (r : ℕ) (d : Key) → r < length keys → ((q : ℕ) → q < r → (get_or keys q d).atom ≢ (get_or keys r d).atom) → key_number_in keys (get_or keys r d).atom ≡ (get_or keys r d).number
 name_in-first [] r d h new = absurd (omega (arith, h))
 name_in-first (k ∷ ks) zero d h new = rw (eq-eqb k.atom k.atom refl) refl
 name_in-first (k ∷ ks) (suc r) d h new =
@@ -116,7 +116,7 @@ name_in-first (k ∷ ks) (suc r) d h new =
     other (inr e) = e
 
 -- and of a literal that has the atom
-name_in-sound : (literals : List Lit) (keys : List Key) → All (IsKeyOf literals) keys → (a r : ℕ) (d : Key) → r < length keys → (get_or keys r d).atom ≡ a → atom_of (literal_at literals (name_in keys a)) ≡ Some a
+name_in-sound : (literals : List Lit) (keys : List Key) → All (IsKeyOf literals) keys → (a r : ℕ) (d : Key) → r < length keys → (get_or keys r d).atom ≡ a → atom_of (literal_at literals (key_number_in keys a)) ≡ Some a
 name_in-sound literals [] all a r d h e = absurd (omega (arith, h))
 name_in-sound literals (k ∷ ks) all a r d h e =
     elim (true_or_false (nat_eq k.atom a)) [
@@ -124,7 +124,7 @@ name_in-sound literals (k ∷ ks) all a r d h e =
       | inr other ↦ rw other (later r other (λ s g f. name_in-sound literals ks (λ i x b. all (suc i) x (omega (arith, b))) a s d g f) h e)
     ]
   where
-    later : (r : ℕ) → nat_eq k.atom a ≡ false → ((s : ℕ) → s < length ks → (get_or ks s d).atom ≡ a → atom_of (literal_at literals (name_in ks a)) ≡ Some a) → r < length (k ∷ ks) → (get_or (k ∷ ks) r d).atom ≡ a → atom_of (literal_at literals (name_in ks a)) ≡ Some a
+    later : (r : ℕ) → nat_eq k.atom a ≡ false → ((s : ℕ) → s < length ks → (get_or ks s d).atom ≡ a → atom_of (literal_at literals (key_number_in ks a)) ≡ Some a) → r < length (k ∷ ks) → (get_or (k ∷ ks) r d).atom ≡ a → atom_of (literal_at literals (key_number_in ks a)) ≡ Some a
     later zero other among h e = (let t = eq-eqb k.atom a e in cc (t, other))
     later (suc r) other among h e = among r (omega (arith, h)) e
 
@@ -160,15 +160,15 @@ run_new keys first at e rising run within h other =
     }
 
 -- the first key of a run gives its atom's name
-pub run_names : (keys : List Key) (first at : ℕ) (d : Key) → IsRun keys first (at + 1) → first ≤ at → at < length keys → (get_or keys first d).number ≡ name_in keys (get_or keys at d).atom
+pub run_names : (keys : List Key) (first at : ℕ) (d : Key) → IsRun keys first (at + 1) → first ≤ at → at < length keys → (get_or keys first d).number ≡ key_number_in keys (get_or keys at d).atom
 run_names keys first at d run within h =
-    sym (ap (name_in keys) (run.alike at d within (omega arith))
+    sym (ap (key_number_in keys) (run.alike at d within (omega arith))
     ∙ name_in-first keys first d (omega arith) (λ q below same. (let l = run.before q d below in omega arith)))
 
 -- one more literal has its name
-pub named_more : (keys : List Key) (names : List ℕ) (at x : ℕ) (e : Key) → AreKeys (length names) keys → at < length keys → x ≡ name_in keys (get_or keys at e).atom
-    → ((q : ℕ) (d : Key) → q < at → name_at names (get_or keys q d).number ≡ name_in keys (get_or keys q d).atom)
-    → (q : ℕ) (d : Key) → q < at + 1 → name_at (set names (get_or keys at e).number x) (get_or keys q d).number ≡ name_in keys (get_or keys q d).atom
+pub named_more : (keys : List Key) (names : List ℕ) (at x : ℕ) (e : Key) → AreKeys (length names) keys → at < length keys → x ≡ key_number_in keys (get_or keys at e).atom
+    → ((q : ℕ) (d : Key) → q < at → atom_name_at names (get_or keys q d).number ≡ key_number_in keys (get_or keys q d).atom)
+    → (q : ℕ) (d : Key) → q < at + 1 → atom_name_at (set names (get_or keys at e).number x) (get_or keys q d).number ≡ key_number_in keys (get_or keys q d).atom
 named_more keys names at x e (literals, size, all) h is named q d below =
     elim (true_or_false (nat_eq (get_or keys q d).number (get_or keys at e).number)) [
       | inl same ↦ written (eqb-true (get_or keys q d).number (get_or keys at e).number same)
@@ -181,15 +181,15 @@ named_more keys names at x e (literals, size, all) h is named q d below =
     there : IsKeyOf literals (get_or keys q d)
     there = all q d (omega (arith, h, below))
 
-    written : (get_or keys q d).number ≡ (get_or keys at e).number → name_at (set names (get_or keys at e).number x) (get_or keys q d).number ≡ name_in keys (get_or keys q d).atom
+    written : (get_or keys q d).number ≡ (get_or keys at e).number → atom_name_at (set names (get_or keys at e).number x) (get_or keys q d).number ≡ key_number_in keys (get_or keys q d).atom
     written same =
         let atoms = sym there.atom ∙ (ap (λ (n : ℕ). atom_of (literal_at literals n)) same ∙ here.atom) in
         let atom : (get_or keys q d).atom ≡ (get_or keys at e).atom = cc in
-        ap (name_at (set names (get_or keys at e).number x)) same
+        ap (atom_name_at (set names (get_or keys at e).number x)) same
         ∙ (get_or-set_same names (get_or keys at e).number x 0 (let w = here.within in omega arith)
-        ∙ (is ∙ ap (name_in keys) (sym atom)))
+        ∙ (is ∙ ap (key_number_in keys) (sym atom)))
 
-    kept : ((get_or keys q d).number ≢ (get_or keys at e).number) → name_at (set names (get_or keys at e).number x) (get_or keys q d).number ≡ name_in keys (get_or keys q d).atom
+    kept : ((get_or keys q d).number ≢ (get_or keys at e).number) → atom_name_at (set names (get_or keys at e).number x) (get_or keys q d).number ≡ key_number_in keys (get_or keys q d).atom
     kept other =
         get_or-set_other names (get_or keys at e).number (get_or keys q d).number x 0 other
         ∙ named q d earlier
@@ -214,12 +214,12 @@ module _ (literals : List Lit) (sorted : List Key) (names : List ℕ) (moved : I
   there_is : (i a : ℕ) → atom_of (literal_at literals i) ≡ Some a → Contains sorted (key_of a i)
   there_is i a e = Contains-permutation (keys_from 0 literals) sorted (key_of a i) moved (keys_from-contains 0 i literals i a (omega arith) e)
 
-  name_is : (i a : ℕ) → atom_of (literal_at literals i) ≡ Some a → name_at names i ≡ name_in sorted a
+  name_is : (i a : ℕ) → atom_of (literal_at literals i) ≡ Some a → atom_name_at names i ≡ key_number_in sorted a
   name_is i a e =
       let there = there_is i a e in
-      subst (λ (k : Key). name_at names k.number ≡ name_in sorted k.atom) there.2 (has there.0 (key_of a i) there.1)
+      subst (λ (k : Key). atom_name_at names k.number ≡ key_number_in sorted k.atom) there.2 (has there.0 (key_of a i) there.1)
 
-  name_has : (i a : ℕ) → atom_of (literal_at literals i) ≡ Some a → atom_of (literal_at literals (name_in sorted a)) ≡ Some a
+  name_has : (i a : ℕ) → atom_of (literal_at literals i) ≡ Some a → atom_of (literal_at literals (key_number_in sorted a)) ≡ Some a
   name_has i a e =
       let there = there_is i a e in
       name_in-sound literals sorted all_sound a there.0 (key_of a i) there.1 (ap (λ (k : Key). k.atom) there.2)
@@ -232,7 +232,7 @@ module _ (literals : List Lit) (sorted : List Key) (names : List ℕ) (moved : I
         one_atom = λ i j a b e f same.
             (let one = name_has i a e in
             let other = name_has j b f in
-            let names_same : name_in sorted a ≡ name_in sorted b = sym (name_is i a e) ∙ (same ∙ name_is j b f) in
+            let names_same : key_number_in sorted a ≡ key_number_in sorted b = sym (name_is i a e) ∙ (same ∙ name_is j b f) in
             let atoms = sym one ∙ (ap (λ (n : ℕ). atom_of (literal_at literals n)) names_same ∙ other) in
             cc);
       }

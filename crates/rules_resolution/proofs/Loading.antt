@@ -6,7 +6,7 @@ use Rattle.std.proofs.lemmas.List.{get_or_default, map-append, take_more}
 use Rattle.sym_table.specs.Table.{Table}
 use Rattle.term_pool.specs.Views.{TermsView}
 use Rattle.rule_model.specs.Commands.{Line, entry_of, lines_in}
-use Rattle.rule_model.specs.Proofs.{Items}
+use Rattle.rule_model.specs.Proofs.{ProofItems}
 use Rattle.rule_model.specs.Reading.{premises_at, premises_of}
 use Rattle.rule_model.specs.Scopes.{outermost, commands_in}
 use Rattle.rule_model.specs.WellFormed.{IsWellFormed}
@@ -22,7 +22,7 @@ premise_line (l ∷ ls) zero k h = (l, refl, refl)
 premise_line (l ∷ ls) (suc i) k h = premise_line ls i k h
 
 -- a premise is the index of a command
-pub premise_within : (proof : Items ℕ ℕ) (i k d : ℕ) → IsWellFormed proof → i < commands_in proof → k < length (premises_at proof i) → get_or (premises_at proof i) k d < commands_in proof
+pub premise_within : (proof : ProofItems ℕ ℕ) (i k d : ℕ) → IsWellFormed proof → i < commands_in proof → k < length (premises_at proof i) → get_or (premises_at proof i) k d < commands_in proof
 premise_within proof i k d formed h within =
     let line = premise_line (lines_in outermost proof) i k within in
     let size : length (premises_of line.0.command) ≡ length (premises_at proof i) = ap length line.2 in

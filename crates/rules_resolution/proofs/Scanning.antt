@@ -11,7 +11,7 @@ use Rattle.rules_resolution.specs.Clause.{clauses_of}
 use Rattle.rules_resolution.specs.Falsity.{same_literal, is_false_in}
 use Rattle.rules_resolution.specs.Idle.{IsIdle, AllIdleBelow}
 use Rattle.rules_resolution.specs.Literal.{Lit}
-use Rattle.rules_resolution.specs.Scans.{AreFalseBelow, IsOpen, is_other, HasNoOtherBelow, HasOther, IsReached, Reaches}
+use Rattle.rules_resolution.specs.Scans.{AreFalseBelow, IsOpen, is_other, HasNoOtherBelow, HasOther, IsScanReached, Reaches}
 use Rattle.rules_resolution.proofs.Literals.{same_literal-true, same_literal-refl, push_kept, false_from_test, only_from_tests, only-others}
 use Rattle.rules_resolution.proofs.Premises.{length-clauses_of, premise_here}
 use Rattle.rules_resolution.proofs.Stuck.{nothing_leads}
@@ -96,14 +96,14 @@ reaches_unit premises units falses p j unit goal reached =
       more = λ l f. push_kept falses (negation_of (literal_of premises (p, j))) l (reached.more l f);
     }
 
-pub reached_at_start : (premises : List (List Lit)) (goal : List Lit) → IsReached premises goal [] goal
+pub reached_at_start : (premises : List (List Lit)) (goal : List Lit) → IsScanReached premises goal [] goal
 reached_at_start premises goal = record { leads_on = λ us last leads. leads; more = λ l f. f }
 
-pub leads_to_conflict : (premises : List (List Lit)) (goal : List Lit) (units : List (ℕ × ℕ)) (falses : List Lit) (last : ℕ) → IsReached premises goal units falses → IsConflict premises falses last → Leads premises goal units last
+pub leads_to_conflict : (premises : List (List Lit)) (goal : List Lit) (units : List (ℕ × ℕ)) (falses : List Lit) (last : ℕ) → IsScanReached premises goal units falses → IsConflict premises falses last → Leads premises goal units last
 leads_to_conflict premises goal units falses last reached conflict =
     subst (λ (xs : List (ℕ × ℕ)). Leads premises goal xs last) (append-nil units) (reached.leads_on [] last conflict)
 
-pub stuck_from_idle : (premises : List (List Lit)) (goal : List Lit) (units : List (ℕ × ℕ)) (falses : List Lit) → IsReached premises goal units falses → AllIdleBelow premises falses (length premises) → (Contradicts goal → ⊥) → Follows premises goal → ⊥
+pub stuck_from_idle : (premises : List (List Lit)) (goal : List Lit) (units : List (ℕ × ℕ)) (falses : List Lit) → IsScanReached premises goal units falses → AllIdleBelow premises falses (length premises) → (Contradicts goal → ⊥) → Follows premises goal → ⊥
 stuck_from_idle premises goal units falses reached idle none follows =
     ⊎_elim none (λ leads. nothing_leads premises falses idle goal leads.0 leads.1 reached.more leads.2) follows
 

@@ -14,7 +14,7 @@ use Rattle.std.proofs.lemmas.List.Sorted.{Contains-permutation, All-permutation}
 use Rattle.rules_resolution.specs.Literal.{Lit}
 use Rattle.rules_resolution.specs.declared.occurrence.Occurrence.{Occurrence}
 use Rattle.rules_resolution.specs.Occurrence.{literal_in, rank_of}
-use Rattle.rules_resolution.specs.Table.{all_occurrences, StandsIn, IsRising, IsTable}
+use Rattle.rules_resolution.specs.Table.{all_occurrences, StandsIn, IsRising, IsOccurrenceTable}
 use Rattle.rules_resolution.proofs.Ranks.{rank_of-injective}
 use Rattle.rules_resolution.proofs.Tables.{all_occurrences-sound, all_occurrences-premise, all_occurrences-goal}
 
@@ -62,7 +62,7 @@ module _ (premises : List (List Lit)) (goal : List Lit) (found sorted : List Occ
           let both = rank_of-injective x y small (let l = stands.premise in omega arith) (eqb-true (rank_of x) (rank_of y) r) in
           (sym both.1, sym both.0)
 
-  pub table_from_sorted : IsNonDecreasingBy rank_of sorted → IsTable premises goal (dedup same_rank sorted)
+  pub table_from_sorted : IsNonDecreasingBy rank_of sorted → IsOccurrenceTable premises goal (dedup same_rank sorted)
   table_from_sorted up =
       record {
         rising = rising_from_strict (dedup same_rank sorted) (IsStrictlySortedBy-dedup (on_total rank_of nat_cmp_total) ties sorted (sorted_by_rank sorted up));

@@ -8,7 +8,7 @@ use Rattle.rules_resolution.specs.Literal.{Lit}
 use Rattle.rules_resolution.specs.declared.occurrence.Occurrence.{Occurrence}
 use Rattle.rules_resolution.specs.declared.standing.Standing.{Standing}
 use Rattle.rules_resolution.specs.Occurrence.{is_of}
-use Rattle.rules_resolution.specs.Standing.{is_always, blank_of, blank_standings, open_at, places_at, one, place_in, stands, tally, IsTallied, hits}
+use Rattle.rules_resolution.specs.Standing.{is_always, blank_of, blank_standings, open_at, places_at, one, occurrence_place, stands, tally, IsTallied, hits}
 
 pub same_or_not : (m n : ℕ) → ((nat_eq m n ≡ true) × (m ≡ n)) ⊎ ((nat_eq m n ≡ false) × (m ≡ n → ⊥))
 same_or_not m n = go (nat_eq m n) refl
@@ -105,17 +105,17 @@ counted_more premises table standings i d t h g =
         let now = open_at-set_other standings (get_or table i d).premise p (record { left = open_at standings (get_or table i d).premise + 1; places = places_at standings (get_or table i d).premise + (get_or table i d).place }) (λ q. ne (sym q)) in
         rw (more, here) (now ∙ omega (arith, was))
 
-    places : (p : ℕ) → p < length standings → ((nat_eq (get_or table i d).premise p ≡ true) × ((get_or table i d).premise ≡ p)) ⊎ ((nat_eq (get_or table i d).premise p ≡ false) × ((get_or table i d).premise ≡ p → ⊥)) → places_at (set standings (get_or table i d).premise (record { left = open_at standings (get_or table i d).premise + 1; places = places_at standings (get_or table i d).premise + (get_or table i d).place })) p ≡ tally [] p place_in (take (i + 1) table)
+    places : (p : ℕ) → p < length standings → ((nat_eq (get_or table i d).premise p ≡ true) × ((get_or table i d).premise ≡ p)) ⊎ ((nat_eq (get_or table i d).premise p ≡ false) × ((get_or table i d).premise ≡ p → ⊥)) → places_at (set standings (get_or table i d).premise (record { left = open_at standings (get_or table i d).premise + 1; places = places_at standings (get_or table i d).premise + (get_or table i d).place })) p ≡ tally [] p occurrence_place (take (i + 1) table)
     places p l (inl (e, same)) =
-        let more = sum_by_more (stands [] p place_in) table i d h in
-        let here = stands-here place_in p (get_or table i d) e in
+        let more = sum_by_more (stands [] p occurrence_place) table i d h in
+        let here = stands-here occurrence_place p (get_or table i d) e in
         let was = t.places p l in
         let now = places_at-set_same standings (get_or table i d).premise (record { left = open_at standings (get_or table i d).premise + 1; places = places_at standings (get_or table i d).premise + (get_or table i d).place }) g in
         let moved = ap (places_at standings) same in
         rw (more, here, ← same) (now ∙ omega (arith, was, moved, same))
     places p l (inr (e, ne)) =
-        let more = sum_by_more (stands [] p place_in) table i d h in
-        let here = stands-elsewhere place_in p (get_or table i d) e in
+        let more = sum_by_more (stands [] p occurrence_place) table i d h in
+        let here = stands-elsewhere occurrence_place p (get_or table i d) e in
         let was = t.places p l in
         let now = places_at-set_other standings (get_or table i d).premise p (record { left = open_at standings (get_or table i d).premise + 1; places = places_at standings (get_or table i d).premise + (get_or table i d).place }) (λ q. ne (sym q)) in
         rw (more, here) (now ∙ omega (arith, was))

@@ -9,8 +9,8 @@ use Rattle.rules_resolution.specs.Literal.{Lit}
 use Rattle.rules_resolution.specs.declared.occurrence.Occurrence.{Occurrence}
 use Rattle.rules_resolution.specs.declared.standing.Standing.{Standing}
 use Rattle.rules_resolution.specs.Occurrence.{literal_in, literal_rank, is_of}
-use Rattle.rules_resolution.specs.Table.{IsRising, IsFirstFrom, IsLeader}
-use Rattle.rules_resolution.specs.Standing.{blank_standings, open_at, one, place_in, stands, tally, IsTallied, hits, taken, HasRoom, Closes}
+use Rattle.rules_resolution.specs.Table.{IsRising, IsFirstOfRank, IsLeader}
+use Rattle.rules_resolution.specs.Standing.{blank_standings, open_at, one, occurrence_place, stands, tally, IsTallied, hits, taken, HasRoom, Closes}
 use Rattle.rules_resolution.specs.Work.{IsMarked, IsState}
 use Rattle.rules_resolution.proofs.Literals.{push_new, push_kept, push_cases, true_or_false}
 use Rattle.rules_resolution.proofs.Ranks.{is_of-true, is_of-same, not_of-before, not_of-after}
@@ -59,7 +59,7 @@ state_same premises goal falses new table marks standings same state =
       tallied = record {
         size = state.tallied.size;
         opens = λ p h. state.tallied.opens p h ∙ ap (λ (n : ℕ). open_at (blank_standings premises) p + n) (tally_same one p);
-        places = λ p h. state.tallied.places p h ∙ tally_same place_in p;
+        places = λ p h. state.tallied.places p h ∙ tally_same occurrence_place p;
       };
     }
   where
@@ -86,7 +86,7 @@ tally-push falses a s p f table stays =
         let same = is_false_in-push_other falses (Plain a s) (literal_in o) other in
         rw (in_p, isnt, same) (omega arith)
 
-pub leader_from_search : (a : ℕ) (s : Bool) (table : List Occurrence) (i : ℕ) (e : Occurrence) → IsFirstFrom table (literal_rank a s) i → i < length table → is_of a s (get_or table i e) ≡ true → IsLeader a s table i
+pub leader_from_search : (a : ℕ) (s : Bool) (table : List Occurrence) (i : ℕ) (e : Occurrence) → IsFirstOfRank table (literal_rank a s) i → i < length table → is_of a s (get_or table i e) ≡ true → IsLeader a s table i
 leader_from_search a s table i e from h is =
     record {
       within = h;
@@ -104,7 +104,7 @@ mark_says falses a s table marks i marked lead =
     ∙ ap (is_false_in falses) lit
 
 -- a literal that the search doesn't find doesn't occur
-pub none_of : (a : ℕ) (s : Bool) (table : List Occurrence) (i : ℕ) (e : Occurrence) → IsRising table → ((k : ℕ) (d : Occurrence) → k < length table → (get_or table k d).premise < 4294967296) → IsFirstFrom table (literal_rank a s) i → (length table ≤ i) ⊎ (is_of a s (get_or table i e) ≡ false) → (k : ℕ) (d : Occurrence) → k < length table → is_of a s (get_or table k d) ≡ false
+pub none_of : (a : ℕ) (s : Bool) (table : List Occurrence) (i : ℕ) (e : Occurrence) → IsRising table → ((k : ℕ) (d : Occurrence) → k < length table → (get_or table k d).premise < 4294967296) → IsFirstOfRank table (literal_rank a s) i → (length table ≤ i) ⊎ (is_of a s (get_or table i e) ≡ false) → (k : ℕ) (d : Occurrence) → k < length table → is_of a s (get_or table k d) ≡ false
 none_of a s table i e rising small from absent k d h =
     ⊎_elim (λ (below : k < i). not_of-before a s (get_or table k d) (from.before k d below))
     (λ (above : i ≤ k). ⊎_elim (λ (past : length table ≤ i). absurd (omega arith))
@@ -121,7 +121,7 @@ pub room_for : (premises : List (List Lit)) (falses : List Lit) (a : ℕ) (s : B
 room_for premises falses a s table standings tallied stays =
     record {
       opens = λ p h. (let sum = tallied.opens p h in let split = tally-push falses a s p one table stays in omega arith);
-      places = λ p h. (let sum = tallied.places p h in let split = tally-push falses a s p place_in table stays in omega arith);
+      places = λ p h. (let sum = tallied.places p h in let split = tally-push falses a s p occurrence_place table stays in omega arith);
     }
 
 pub state_closed : (premises : List (List Lit)) (goal falses : List Lit) (a : ℕ) (s : Bool) (table : List Occurrence) (marks : List Bool) (old new : List Standing) (i : ℕ) → IsState premises goal falses table marks old → IsLeader a s table i → is_false_in falses (Plain a s) ≡ false → length new ≡ length old → Closes a s table old new → IsState premises goal (falses ++ Plain a s ∷ []) table (set marks i true) new
@@ -132,7 +132,7 @@ state_closed premises goal falses a s table marks old new i state lead stays siz
       tallied = record {
         size = size ∙ state.tallied.size;
         opens = λ p h. (let sum = state.tallied.opens p (omega (arith, h, size)) in let split = tally-push falses a s p one table stays in let c = closes.opens p (omega (arith, h, size)) in omega arith);
-        places = λ p h. (let sum = state.tallied.places p (omega (arith, h, size)) in let split = tally-push falses a s p place_in table stays in let c = closes.places p (omega (arith, h, size)) in omega arith);
+        places = λ p h. (let sum = state.tallied.places p (omega (arith, h, size)) in let split = tally-push falses a s p occurrence_place table stays in let c = closes.places p (omega (arith, h, size)) in omega arith);
       };
     }
   where

@@ -14,9 +14,9 @@ use Rattle.rule_model.specs.declared.rules.Mode.{Mode}
 use Rattle.rule_model.specs.declared.rules.Rule.{Rule}
 use Rattle.rule_model.specs.Conditions.{Met, MeetsRule, KeepsTruth}
 use Rattle.rule_model.specs.Judged.{judged_at}
-use Rattle.rule_model.specs.Proofs.{Items}
+use Rattle.rule_model.specs.Proofs.{ProofItems}
 use Rattle.rule_model.specs.Reading.{rule_at, clause_at, premises_at, closes_at}
-use Rattle.rule_model.specs.Renaming.{IsOneToOne, AreImages, AreAllImages}
+use Rattle.rule_model.specs.Renaming.{KeepsAtomsApart, AreLiteralImages, AreAllImages}
 use Rattle.rule_model.specs.Resolution.{as_clause, ResolvesInCheck}
 use Rattle.rule_model.proofs.Renamings.{leads_renamed, contradicts_renamed, follows_renamed}
 use Rattle.rule_model.proofs.Resolution.{check_sound}
@@ -25,14 +25,14 @@ use Rattle.rules_resolution.specs.Clause.{clauses_of}
 use Rattle.rules_resolution.specs.Ends.{IsEnd, trail_from}
 use Rattle.rules_resolution.specs.Literal.{Lit}
 use Rattle.rules_resolution.specs.Shows.{Shows}
-use Rattle.rules_resolution.specs.Steps.{IsResolutionRule, MeetsAt, premise_clauses}
+use Rattle.rules_resolution.specs.Steps.{IsResolutionRule, MeetsResolutionAt, premise_clauses}
 use Rattle.rules_resolution.specs.TermLiterals.{AreLiteralsOf, AreClausesOf}
 use Rattle.rules_resolution.proofs.Ends.{follows_by_end}
 use Rattle.rules_resolution.proofs.TermLiterals.{are_images, are_all_images}
 
 -- an end says the same of clauses with other names for their atoms
-end_renamed : {A B : Type 0} (R : A → B → Type 0) → IsOneToOne R → (ps : List (List (Literal A))) (qs : List (List (Literal B))) (g : List (Literal A)) (h : List (Literal B)) (units : List (ℕ × ℕ))
-    → AreAllImages R ps qs → AreImages R g h → (end : End) → IsEnd end ps g units → IsEnd end qs h units
+end_renamed : {A B : Type 0} (R : A → B → Type 0) → KeepsAtomsApart R → (ps : List (List (Literal A))) (qs : List (List (Literal B))) (g : List (Literal A)) (h : List (Literal B)) (units : List (ℕ × ℕ))
+    → AreAllImages R ps qs → AreLiteralImages R g h → (end : End) → IsEnd end ps g units → IsEnd end qs h units
 end_renamed R one ps qs g h units zs z End.Contradiction is = (is.0, (contradicts_renamed R one g h z).0 is.1)
 end_renamed R one ps qs g h units zs z (End.Conflict last) is = (
   λ wrong. is.0 ((contradicts_renamed R one g h z).1 wrong),
@@ -45,7 +45,7 @@ premises_zip : (s : Table) (v : TermsView) (f : ℕ → List ℕ) (g : ℕ → L
 premises_zip s v f g [] each = tt
 premises_zip s v f g (j ∷ js) each = (each j, premises_zip s v f g js each)
 
-pub end_of_terms : (s : Table) (v : TermsView) → IsOneToOne (RefersTo s v) → (refs : Items ℕ ℕ) (p : Items Var Term) (i : ℕ)
+pub end_of_terms : (s : Table) (v : TermsView) → KeepsAtomsApart (RefersTo s v) → (refs : ProofItems ℕ ℕ) (p : ProofItems Var Term) (i : ℕ)
     → ((j : ℕ) → AllZip (RefersTo s v) (clause_at refs j) (clause_at p j)) → premises_at refs i ≡ premises_at p i
     → (clauses : List (Vec Lit)) (goal : List Lit) (units : List (ℕ × ℕ)) → AreClausesOf s v (premise_clauses refs i) clauses → AreLiteralsOf s v (clause_at refs i) goal
     → (end : End) → IsEnd end (clauses_of clauses) goal units → IsEnd end (map as_clause (premise_clauses p i)) (as_clause (clause_at p i)) units
@@ -56,17 +56,17 @@ end_of_terms s v one refs p i each same clauses goal units clauses_are goal_is e
     (premises_zip s v (clause_at refs) (clause_at p) (premises_at refs i) each)))
     (are_images s v (clause_at refs i) goal (clause_at p i) goal_is (each i)) end is
 
-pub ends_of_terms : (s : Table) (v : TermsView) → IsOneToOne (RefersTo s v) → (refs : Items ℕ ℕ) (i : ℕ)
-    → ((p : Items Var Term) (j : ℕ) → StandForItems s v refs p → AllZip (RefersTo s v) (clause_at refs j) (clause_at p j)) → ((p : Items Var Term) → StandForItems s v refs p → premises_at refs i ≡ premises_at p i)
+pub ends_of_terms : (s : Table) (v : TermsView) → KeepsAtomsApart (RefersTo s v) → (refs : ProofItems ℕ ℕ) (i : ℕ)
+    → ((p : ProofItems Var Term) (j : ℕ) → StandForItems s v refs p → AllZip (RefersTo s v) (clause_at refs j) (clause_at p j)) → ((p : ProofItems Var Term) → StandForItems s v refs p → premises_at refs i ≡ premises_at p i)
     → (clauses : List (Vec Lit)) (goal : List Lit) (units : List (ℕ × ℕ)) → AreClausesOf s v (premise_clauses refs i) clauses → AreLiteralsOf s v (clause_at refs i) goal
     → (r : Result End Memory) → IfOk r (λ end. IsEnd end (clauses_of clauses) goal units)
-    → IfOk r (λ end. (p : Items Var Term) → StandForItems s v refs p → IsEnd end (map as_clause (premise_clauses p i)) (as_clause (clause_at p i)) units)
+    → IfOk r (λ end. (p : ProofItems Var Term) → StandForItems s v refs p → IsEnd end (map as_clause (premise_clauses p i)) (as_clause (clause_at p i)) units)
 ends_of_terms s v one refs i each same clauses goal units clauses_are goal_is (Err e) is = is
 ends_of_terms s v one refs i each same clauses goal units clauses_are goal_is (Ok end) is =
     λ p stands. end_of_terms s v one refs p i (λ j. each p j stands) (same p stands) clauses goal units clauses_are goal_is end is
 
 -- what either rule of resolution asks in check mode
-pub met_is : (p : Items Var Term) (i : ℕ) → IsResolutionRule (rule_at p i) → Met (judged_at Mode.Check p i) ↔ ResolvesInCheck (premise_clauses p i) (clause_at p i)
+pub met_is : (p : ProofItems Var Term) (i : ℕ) → IsResolutionRule (rule_at p i) → Met (judged_at Mode.Check p i) ↔ ResolvesInCheck (premise_clauses p i) (clause_at p i)
 met_is p i (inl e) = (
   λ met. subst (λ (rule : Rule). MeetsRule rule (judged_at Mode.Check p i)) e met,
   λ resolves. subst (λ (rule : Rule). MeetsRule rule (judged_at Mode.Check p i)) (sym e) resolves,
@@ -77,27 +77,27 @@ met_is p i (inr e) = (
 )
 
 -- a step that closes nothing, for whose clause propagation has found something
-module _ (mode : Mode) (p : Items Var Term) (i : ℕ) (end : End) (units : List (ℕ × ℕ)) (check : mode ≡ Mode.Check) (is : IsEnd end (map as_clause (premise_clauses p i)) (as_clause (clause_at p i)) units) (found : end ≡ End.Stuck → ⊥) where
+module _ (mode : Mode) (p : ProofItems Var Term) (i : ℕ) (end : End) (units : List (ℕ × ℕ)) (check : mode ≡ Mode.Check) (is : IsEnd end (map as_clause (premise_clauses p i)) (as_clause (clause_at p i)) units) (found : end ≡ End.Stuck → ⊥) where
   resolves : ResolvesInCheck (premise_clauses p i) (clause_at p i)
   resolves = follows_by_end (map as_clause (premise_clauses p i)) (as_clause (clause_at p i)) units end is found
 
-  pub meets_by_end : IsResolutionRule (rule_at p i) → closes_at p i ≡ None → MeetsAt mode p i
+  pub meets_by_end : IsResolutionRule (rule_at p i) → closes_at p i ≡ None → MeetsResolutionAt mode p i
   meets_by_end rule none =
-      subst (λ (m : Mode). MeetsAt m p i) (sym check) (record { closes_none = none; met = (met_is p i rule).1 resolves })
+      subst (λ (m : Mode). MeetsResolutionAt m p i) (sym check) (record { closes_none = none; met = (met_is p i rule).1 resolves })
 
   pub keeps_by_end : (I : Interpretation) (r : Valuation) → KeepsTruth I r (judged_at mode p i)
   keeps_by_end I r context all = check_sound I r (premise_clauses p i) (clause_at p i) resolves all
 
 -- what the trail of an end shows of the terms
-module _ (s : Table) (v : TermsView) (refs : Items ℕ ℕ) (i : ℕ) (units : List (ℕ × ℕ)) where
-  pub shown_of_terms : (end : End) → ((p : Items Var Term) → StandForItems s v refs p → IsEnd end (map as_clause (premise_clauses p i)) (as_clause (clause_at p i)) units)
-      → IfSome (trail_from end units) (λ trail. (p : Items Var Term) → StandForItems s v refs p → Shows (map as_clause (premise_clauses p i)) (as_clause (clause_at p i)) trail)
+module _ (s : Table) (v : TermsView) (refs : ProofItems ℕ ℕ) (i : ℕ) (units : List (ℕ × ℕ)) where
+  pub shown_of_terms : (end : End) → ((p : ProofItems Var Term) → StandForItems s v refs p → IsEnd end (map as_clause (premise_clauses p i)) (as_clause (clause_at p i)) units)
+      → IfSome (trail_from end units) (λ trail. (p : ProofItems Var Term) → StandForItems s v refs p → Shows (map as_clause (premise_clauses p i)) (as_clause (clause_at p i)) trail)
   shown_of_terms End.Contradiction is = λ p stands. is p stands
   shown_of_terms (End.Conflict last) is = λ p stands. is p stands
   shown_of_terms End.Stuck is = tt
 
-  pub none_of_terms : (end : End) → ((p : Items Var Term) → StandForItems s v refs p → IsEnd end (map as_clause (premise_clauses p i)) (as_clause (clause_at p i)) units)
-      → IfNone (trail_from end units) ((p : Items Var Term) → StandForItems s v refs p → ResolvesInCheck (premise_clauses p i) (clause_at p i) → ⊥)
+  pub none_of_terms : (end : End) → ((p : ProofItems Var Term) → StandForItems s v refs p → IsEnd end (map as_clause (premise_clauses p i)) (as_clause (clause_at p i)) units)
+      → IfNone (trail_from end units) ((p : ProofItems Var Term) → StandForItems s v refs p → ResolvesInCheck (premise_clauses p i) (clause_at p i) → ⊥)
   none_of_terms End.Contradiction is = tt
   none_of_terms (End.Conflict last) is = tt
   none_of_terms End.Stuck is = λ p stands resolves. is p stands resolves

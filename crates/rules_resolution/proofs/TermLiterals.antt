@@ -17,7 +17,7 @@ use Rattle.term_pool.specs.Views.{TermsView, RefersTo, IsTerm, KeepsTerms}
 use Rattle.rule_model.specs.declared.literal.Literal.{Literal}
 use Rattle.rule_model.specs.declared.literal.Literal.TheVariants.{Plain, Always, Never}
 use Rattle.rule_model.specs.Literals.{negation_of}
-use Rattle.rule_model.specs.Renaming.{IsOneToOne, IsImage, AreImages, AreAllImages}
+use Rattle.rule_model.specs.Renaming.{KeepsAtomsApart, IsLiteralImage, AreLiteralImages, AreAllImages}
 use Rattle.rule_model.specs.Resolution.{as_literal, as_clause}
 use Rattle.rule_model.proofs.Consequence.{negation_of-negation_of}
 use Rattle.rule_model.proofs.Renamings.{zip_push, zip_length}
@@ -70,7 +70,7 @@ stripped_literal t u odd strips =
 -- by what is stripped of a term, its literal
 pub literal_from_bare : (s : Table) (v w : TermsView) (r bare : ℕ) (odd : Bool) (l : Lit) → KeepsTerms v w → IsUnchanged v.pass w.pass
     → ((t : Term) → RefersTo s v r t → IsStripped s w t bare odd)
-    → ((t : Term) → RefersTo s w bare t → ((u : Term) → t ≢ not_of u) → IsImage (RefersTo s w) l (turned odd (as_literal t)))
+    → ((t : Term) → RefersTo s w bare t → ((u : Term) → t ≢ not_of u) → IsLiteralImage (RefersTo s w) l (turned odd (as_literal t)))
     → IsLiteralOf s v r l
 literal_from_bare s v w r bare odd l keeps same strips image t refers =
     let stripped = strips t refers in
@@ -78,26 +78,26 @@ literal_from_bare s v w r bare odd l keeps same strips image t refers =
     rw (← same_view v w keeps same, stripped_literal t stripped.inner odd stripped.strips) here
 
 -- a term that is no negation and no constant
-pub plain_image : (R : ℕ → Term → Type 0) (k : ℕ) (odd : Bool) (t : Term) → R k t → ((u : Term) → t ≢ not_of u) → t ≢ operation Op.True no_terms → t ≢ operation Op.False no_terms → IsImage R (Plain k odd) (turned odd (as_literal t))
+pub plain_image : (R : ℕ → Term → Type 0) (k : ℕ) (odd : Bool) (t : Term) → R k t → ((u : Term) → t ≢ not_of u) → t ≢ operation Op.True no_terms → t ≢ operation Op.False no_terms → IsLiteralImage R (Plain k odd) (turned odd (as_literal t))
 plain_image R k odd t refers bare no_true no_false =
     rw (bare_is_bare t bare ∙ atom_is_plain t no_true no_false) (go odd)
   where
-    go : (b : Bool) → IsImage R (Plain k b) (turned b (Plain t false))
+    go : (b : Bool) → IsLiteralImage R (Plain k b) (turned b (Plain t false))
     go true = (refers, refl)
     go false = (refers, refl)
 
 -- the constants
-pub true_image : (R : ℕ → Term → Type 0) (odd : Bool) (t : Term) → t ≡ operation Op.True no_terms → IsImage R (turned odd Always) (turned odd (as_literal t))
+pub true_image : (R : ℕ → Term → Type 0) (odd : Bool) (t : Term) → t ≡ operation Op.True no_terms → IsLiteralImage R (turned odd Always) (turned odd (as_literal t))
 true_image R odd t e = rw e (go odd)
   where
-    go : (b : Bool) → IsImage R (turned b Always) (turned b Always)
+    go : (b : Bool) → IsLiteralImage R (turned b Always) (turned b Always)
     go true = tt
     go false = tt
 
-pub false_image : (R : ℕ → Term → Type 0) (odd : Bool) (t : Term) → t ≡ operation Op.False no_terms → IsImage R (turned (not odd) Always) (turned odd (as_literal t))
+pub false_image : (R : ℕ → Term → Type 0) (odd : Bool) (t : Term) → t ≡ operation Op.False no_terms → IsLiteralImage R (turned (not odd) Always) (turned odd (as_literal t))
 false_image R odd t e = rw e (go odd)
   where
-    go : (b : Bool) → IsImage R (turned (not b) Always) (turned b Never)
+    go : (b : Bool) → IsLiteralImage R (turned (not b) Always) (turned b Never)
     go true = tt
     go false = tt
 
@@ -110,7 +110,7 @@ pub zip_more : {X Y : Type 0} (R : X → Y → Type 0) (xs : List X) (ys : List 
 zip_more R xs ys i d y h z r = rw (take_more xs i d h) (zip_push R (take i xs) ys (get_or xs i d) y z r)
 
 -- literals are the images of the terms that the references stand for
-pub are_images : (s : Table) (v : TermsView) (references : List ℕ) (literals : List Lit) (ts : List Term) → AreLiteralsOf s v references literals → AllZip (RefersTo s v) references ts → AreImages (RefersTo s v) literals (as_clause ts)
+pub are_images : (s : Table) (v : TermsView) (references : List ℕ) (literals : List Lit) (ts : List Term) → AreLiteralsOf s v references literals → AllZip (RefersTo s v) references ts → AreLiteralImages (RefersTo s v) literals (as_clause ts)
 are_images s v [] [] [] z refer = tt
 are_images s v [] [] (t ∷ ts) z refer = absurd refer
 are_images s v [] (l ∷ ls) ts z refer = absurd z

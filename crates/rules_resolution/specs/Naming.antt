@@ -4,7 +4,7 @@ use Rattle.rule_model.specs.Consequence.{literal_at}
 use Rattle.rule_model.specs.declared.literal.Literal.TheVariants.{Plain, Always, Never}
 use Rattle.rules_resolution.specs.Literal.{Lit}
 use Rattle.rules_resolution.specs.declared.naming.Key.{Key}
-use Rattle.rules_resolution.specs.Renaming.{atom_of, name_at}
+use Rattle.rules_resolution.specs.Renaming.{atom_of, atom_name_at}
 
 -- by atom, then number
 abbrev pub key_rank : Key → ℕ
@@ -36,10 +36,10 @@ pub record IsRun (keys : List Key) (first at : ℕ) : Type 0 where
   pub before : (q : ℕ) (d : Key) → q < first → (slice_index_or keys q d).atom < (slice_index_or keys first d).atom
 
 -- the number of an atom's first key
-abbrev pub name_in : List Key → ℕ → ℕ
-name_in [] a = 0
-name_in (k ∷ ks) a = if nat_eq k.atom a then k.number else name_in ks a
+abbrev pub key_number_in : List Key → ℕ → ℕ
+key_number_in [] a = 0
+key_number_in (k ∷ ks) a = if nat_eq k.atom a then k.number else key_number_in ks a
 
 -- each literal with a key has the name of its atom
 abbrev pub HasNames : List Key → List ℕ → Type 0
-HasNames keys names = All (λ k. name_at names k.number ≡ name_in keys k.atom) keys
+HasNames keys names = All (λ k. atom_name_at names k.number ≡ key_number_in keys k.atom) keys

@@ -6,12 +6,12 @@ use Rattle.rule_model.specs.declared.literal.Literal.TheVariants.{Plain, Always,
 use Rattle.rules_resolution.specs.Literal.{Lit}
 
 -- the literals of all clauses, one clause after the other
-abbrev pub joined : List (List Lit) → List Lit
-joined clauses = flat_map (λ (c : List Lit). c) clauses
+abbrev pub joined_clauses : List (List Lit) → List Lit
+joined_clauses clauses = flat_map (λ (c : List Lit). c) clauses
 
 -- the literals of the premises, and then those of the conclusion
 abbrev pub all_literals : List (List Lit) → List Lit → List Lit
-all_literals premises goal = joined premises ++ goal
+all_literals premises goal = joined_clauses premises ++ goal
 
 -- the atom of a literal that is no constant
 abbrev pub atom_of : Lit → Option ℕ
@@ -19,25 +19,25 @@ atom_of (Plain a s) = Some a
 atom_of Always = None
 atom_of Never = None
 
-abbrev pub name_at : List ℕ → ℕ → ℕ
-name_at names i = slice_index_or names i 0
+abbrev pub atom_name_at : List ℕ → ℕ → ℕ
+atom_name_at names i = slice_index_or names i 0
 
 -- a name for each literal's atom: two have the same name exactly where they are the same
 pub record AreNames (literals : List Lit) (names : List ℕ) : Type 0 where
   pub size : length names ≡ length literals
-  pub same : (i j a : ℕ) → atom_of (literal_at literals i) ≡ Some a → atom_of (literal_at literals j) ≡ Some a → name_at names i ≡ name_at names j
-  pub one_atom : (i j a b : ℕ) → atom_of (literal_at literals i) ≡ Some a → atom_of (literal_at literals j) ≡ Some b → name_at names i ≡ name_at names j → a ≡ b
+  pub same : (i j a : ℕ) → atom_of (literal_at literals i) ≡ Some a → atom_of (literal_at literals j) ≡ Some a → atom_name_at names i ≡ atom_name_at names j
+  pub one_atom : (i j a b : ℕ) → atom_of (literal_at literals i) ≡ Some a → atom_of (literal_at literals j) ≡ Some b → atom_name_at names i ≡ atom_name_at names j → a ≡ b
 
 -- the literal with this name for its atom
-abbrev pub named : Lit → ℕ → Lit
-named (Plain a s) n = Plain n s
-named Always n = Always
-named Never n = Never
+abbrev pub renamed_atom : Lit → ℕ → Lit
+renamed_atom (Plain a s) n = Plain n s
+renamed_atom Always n = Always
+renamed_atom Never n = Never
 
 -- the literals with the names from number i on
 abbrev pub renamed_from : List ℕ → ℕ → List Lit → List Lit
 renamed_from names i [] = []
-renamed_from names i (l ∷ ls) = named l (name_at names i) ∷ renamed_from names (i + 1) ls
+renamed_from names i (l ∷ ls) = renamed_atom l (atom_name_at names i) ∷ renamed_from names (i + 1) ls
 
 -- the clauses with the names from number i on
 abbrev pub renamed_in : List ℕ → ℕ → List (List Lit) → List (List Lit)

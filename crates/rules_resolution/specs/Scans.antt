@@ -29,14 +29,14 @@ abbrev pub HasOther : List Lit → List Lit → Lit → Type 0
 HasOther falses clause other = (k : ℕ) × (k < length clause) × (is_other falses other (literal_at clause k) ≡ true)
 
 -- What follows from these false literals follows from the conclusion's negation by these units first.
-pub record IsReached (premises : List (List Lit)) (goal : List Lit) (units : List (ℕ × ℕ)) (falses : List Lit) : Type 0 where
+pub record IsScanReached (premises : List (List Lit)) (goal : List Lit) (units : List (ℕ × ℕ)) (falses : List Lit) : Type 0 where
   pub leads_on : (us : List (ℕ × ℕ)) (last : ℕ) → Leads premises falses us last → Leads premises goal (units ++ us) last
   pub more : (l : Lit) → is_false_in goal l ≡ true → is_false_in falses l ≡ true
 
 -- from what is reached from any conclusion to what is reached from it
 abbrev pub Reaches : List (List Lit) → List (ℕ × ℕ) → List Lit → List (ℕ × ℕ) → List Lit → Type 0
 Reaches premises units falses new_units new_falses =
-    (goal : List Lit) → IsReached premises goal units falses → IsReached premises goal new_units new_falses
+    (goal : List Lit) → IsScanReached premises goal units falses → IsScanReached premises goal new_units new_falses
 
 -- what a look at a premise has found
 abbrev pub IsLook : Look → List (List Lit) → ℕ → List (ℕ × ℕ) → List Lit → List (ℕ × ℕ) → List Lit → Type 0

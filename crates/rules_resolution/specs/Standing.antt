@@ -29,8 +29,8 @@ places_at standings p = (slice_index_or standings p (record { left = 0; places =
 abbrev pub one : Occurrence → ℕ
 one o = 1
 
-abbrev pub place_in : Occurrence → ℕ
-place_in o = o.place
+abbrev pub occurrence_place : Occurrence → ℕ
+occurrence_place o = o.place
 
 -- what an occurrence counts for premise p: nothing where it is of another one, or false
 abbrev pub stands : List Lit → ℕ → (Occurrence → ℕ) → Occurrence → ℕ
@@ -46,7 +46,7 @@ AreInRange n table = All (λ o. o.premise < n) table
 pub record IsTallied (premises : List (List Lit)) (falses : List Lit) (table : List Occurrence) (standings : List Standing) : Type 0 where
   pub size : length standings ≡ length premises + 1
   pub opens : (p : ℕ) → p < length standings → open_at standings p ≡ open_at (blank_standings premises) p + tally falses p one table
-  pub places : (p : ℕ) → p < length standings → places_at standings p ≡ tally falses p place_in table
+  pub places : (p : ℕ) → p < length standings → places_at standings p ≡ tally falses p occurrence_place table
 
 -- each premise has two literals that are not false, or is ready
 pub record AreReady (standings : List Standing) (ready : List ℕ) : Type 0 where
@@ -63,7 +63,7 @@ taken a s p f table = sum_by (hits a s p f) table
 -- the literal may be taken from each standing
 pub record HasRoom (a : ℕ) (s : Bool) (table : List Occurrence) (standings : List Standing) : Type 0 where
   pub opens : (p : ℕ) → p < length standings → taken a s p one table ≤ open_at standings p
-  pub places : (p : ℕ) → p < length standings → taken a s p place_in table ≤ places_at standings p
+  pub places : (p : ℕ) → p < length standings → taken a s p occurrence_place table ≤ places_at standings p
 
 abbrev pub total_of : List Standing → ℕ
 total_of standings = sum_by (λ s. s.left) standings
@@ -79,7 +79,7 @@ pub record Advances (old new : List Standing) (old_ready new_ready : List ℕ) :
 -- the occurrences of the literal are taken from the standings
 pub record Closes (a : ℕ) (s : Bool) (table : List Occurrence) (old new : List Standing) : Type 0 where
   pub opens : (p : ℕ) → p < length old → open_at new p + taken a s p one table ≡ open_at old p
-  pub places : (p : ℕ) → p < length old → places_at new p + taken a s p place_in table ≡ places_at old p
+  pub places : (p : ℕ) → p < length old → places_at new p + taken a s p occurrence_place table ≡ places_at old p
 
 -- the standing once the occurrence is taken from it
 abbrev pub lessened : List Standing → Occurrence → Standing

@@ -45,14 +45,14 @@ pub record StandsIn (premises : List (List Lit)) (o : Occurrence) : Type 0 where
 abbrev pub HasGoal : List Lit → List Occurrence → Type 0
 HasGoal goal table = (k a : ℕ) (s : Bool) → k < length goal → literal_at goal k ≡ Plain a s → Any (λ o. literal_in o ≡ Plain a s) table
 
-pub record IsTable (premises : List (List Lit)) (goal : List Lit) (table : List Occurrence) : Type 0 where
+pub record IsOccurrenceTable (premises : List (List Lit)) (goal : List Lit) (table : List Occurrence) : Type 0 where
   pub rising : IsRising table
   pub sound : All (StandsIn premises) table
   pub premises_in : (p k a : ℕ) (s : Bool) → p < length premises → k < length (premise_at premises p) → literal_at (premise_at premises p) k ≡ Plain a s → Any (λ o. (o.premise ≡ p) × (literal_in o ≡ Plain a s)) table
   pub goal_in : HasGoal goal table
 
 -- from place i on the ranks are not below this one, and before it they are
-pub record IsFirstFrom (table : List Occurrence) (rank i : ℕ) : Type 0 where
+pub record IsFirstOfRank (table : List Occurrence) (rank i : ℕ) : Type 0 where
   pub within : i ≤ length table
   pub before : (k : ℕ) (d : Occurrence) → k < i → rank_of (slice_index_or table k d) < rank
   pub from : (k : ℕ) (d : Occurrence) → i ≤ k → k < length table → rank ≤ rank_of (slice_index_or table k d)

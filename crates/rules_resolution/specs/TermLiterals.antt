@@ -7,13 +7,13 @@ use Rattle.term_model.specs.Terms.{Term}
 use Rattle.term_pool.specs.Views.{TermsView, RefersTo}
 use Rattle.rule_model.specs.declared.literal.Literal.{Literal}
 use Rattle.rule_model.specs.Literals.{negation_of}
-use Rattle.rule_model.specs.Renaming.{IsImage}
+use Rattle.rule_model.specs.Renaming.{IsLiteralImage}
 use Rattle.rule_model.specs.Resolution.{as_literal}
 use Rattle.rules_resolution.specs.Literal.{Lit}
 
 -- the literal is that of the term that the reference stands for, its atom's reference for the atom
 abbrev pub IsLiteralOf : Table → TermsView → ℕ → Lit → Type 0
-IsLiteralOf s v r l = (t : Term) → RefersTo s v r t → IsImage (RefersTo s v) l (as_literal t)
+IsLiteralOf s v r l = (t : Term) → RefersTo s v r t → IsLiteralImage (RefersTo s v) l (as_literal t)
 
 -- the literals are those of the references, in order
 abbrev pub AreLiteralsOf : Table → TermsView → List ℕ → List Lit → Type 0

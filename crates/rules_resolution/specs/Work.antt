@@ -7,7 +7,7 @@ use Rattle.rules_resolution.specs.Literal.{Lit}
 use Rattle.rules_resolution.specs.declared.occurrence.Occurrence.{Occurrence}
 use Rattle.rules_resolution.specs.declared.standing.Standing.{Standing}
 use Rattle.rules_resolution.specs.Occurrence.{literal_in}
-use Rattle.rules_resolution.specs.Table.{IsTable}
+use Rattle.rules_resolution.specs.Table.{IsOccurrenceTable}
 use Rattle.rules_resolution.specs.Standing.{IsTallied}
 
 -- the first occurrence of each literal is marked where the literal is false
@@ -17,7 +17,7 @@ pub record IsMarked (falses : List Lit) (table : List Occurrence) (marks : List 
 
 -- marks and standings are those of these false literals
 pub record IsState (premises : List (List Lit)) (goal falses : List Lit) (table : List Occurrence) (marks : List Bool) (standings : List Standing) : Type 0 where
-  pub is_table : IsTable premises goal table
+  pub is_table : IsOccurrenceTable premises goal table
   pub marked : IsMarked falses table marks
   pub tallied : IsTallied premises falses table standings
 

@@ -5,7 +5,7 @@ ghost use Rattle.rules_resolution.specs.Clause.{clauses_of};
 ghost use Rattle.rules_resolution.specs.Renaming.{all_literals};
 ghost use Rattle.rules_resolution.specs.Shows.{Shows};
 ghost use Rattle.rules_resolution.specs.Standing.{Advances, AreInRange, AreReady, IsTallied, open_at, total_of};
-ghost use Rattle.rules_resolution.specs.Table.{HasGoal, IsRising, IsTable};
+ghost use Rattle.rules_resolution.specs.Table.{HasGoal, IsRising, IsOccurrenceTable};
 ghost use Rattle.rules_resolution.specs.Work.{IsMarked, IsSomeState, FalsifiesAll, falses_of};
 ghost use Rattle.rules_resolution.specs.Progress.{IsSomeProgress, GoesOn, Looks};
 
@@ -115,7 +115,7 @@ fn propagate(
 ) -> Result<Option<Trail>, Memory>
     requires premises { length premises.now < 2 ^ 32 }
     requires literals { All (λ clause. vec_len clause < 2 ^ 32) premises.now }
-    requires table { IsTable (clauses_of premises.now) goal.now table.now }
+    requires table { IsOccurrenceTable (clauses_of premises.now) goal.now table.now }
     requires marks { IsMarked [] table.now work.marks.items }
     requires tallied { IsTallied (clauses_of premises.now) [] table.now work.standings.items }
     requires ready { AreReady work.standings.items work.ready.items }

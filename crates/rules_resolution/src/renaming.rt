@@ -1,7 +1,7 @@
 //! The same clauses with new names for their atoms.
 ghost use Rattle.std.specs.Prelude.{◌≡◌, ◌+◌, ◌<◌, ◌≤◌, ◌^◌, length, vec_len, All, IfOk};
 ghost use Rattle.rules_resolution.specs.Clause.{clauses_of};
-ghost use Rattle.rules_resolution.specs.Renaming.{all_literals, joined, named, renamed_from, renamed_in};
+ghost use Rattle.rules_resolution.specs.Renaming.{all_literals, joined_clauses, renamed_atom, renamed_from, renamed_in};
 
 use crate::literal::Lit;
 use pair_pool::Memory;
@@ -22,7 +22,7 @@ pub(crate) fn literal_count(premises: &[Vec<Lit>], goal: &[Lit]) -> u128
 
 /// The literal with this name for its atom.
 fn rename(literal: Lit, name: u32) -> Lit
-    ensures { result ≡ named literal name }
+    ensures { result ≡ renamed_atom literal name }
 {
     match literal {
         Lit::Plain { negative, .. } => Lit::Plain {
@@ -58,7 +58,7 @@ pub(crate) fn rename_all(
     names: &[u32],
 ) -> Result<Vec<Vec<Lit>>, Memory>
     requires literals { All (λ clause. vec_len clause < 2 ^ 32) premises.now }
-    requires names { length (joined (clauses_of premises.now)) ≤ length names.now }
+    requires names { length (joined_clauses (clauses_of premises.now)) ≤ length names.now }
     ensures literals { IfOk result (λ renamed. All (λ clause. vec_len clause < 2 ^ 32) renamed.items) }
     ensures renamed { IfOk result (λ renamed. clauses_of renamed.items ≡ renamed_in names.now 0 (clauses_of premises.now)) }
 {

@@ -3,7 +3,7 @@ ghost use Rattle.std.specs.Prelude.{◌≡◌, ◌≤◌, ◌<◌, ℕ, map, tak
 ghost use Rattle.std.specs.Global.{Vec};
 ghost use Rattle.proof_store.specs.Meaning.{StandForItems};
 ghost use Rattle.rule_model.specs.declared.literal.Literal.{Literal};
-ghost use Rattle.rule_model.specs.Proofs.{Items};
+ghost use Rattle.rule_model.specs.Proofs.{ProofItems};
 ghost use Rattle.rule_model.specs.Reading.{clause_at, premises_at};
 ghost use Rattle.rule_model.specs.Resolution.{as_clause};
 ghost use Rattle.rule_model.specs.Scopes.{commands_in};
@@ -114,7 +114,7 @@ pub(crate) fn end_at(
     requires index { i < commands_in proof.now }
     requires short { IsShort proof.now }
     requires terms { StandsForSome symbols.now terms.old proof.now }
-    ensures end { IfOk result (λ end. (p : Items Var Term) → StandForItems symbols.now terms.old proof.now p →
+    ensures end { IfOk result (λ end. (p : ProofItems Var Term) → StandForItems symbols.now terms.old proof.now p →
         IsEnd end (map as_clause (premise_clauses p i)) (as_clause (clause_at p i)) scratch.new.units.items) }
     ensures same { terms.new ≡ terms.old }
 {

@@ -1,7 +1,7 @@
 //! Where the occurrences of a literal begin in a table.
 ghost use Rattle.std.specs.Prelude.{◌≡◌, ◌+◌, ◌<◌, ◌≤◌, length, IfSome, IfNone};
 ghost use Rattle.rules_resolution.specs.Occurrence.{literal_rank};
-ghost use Rattle.rules_resolution.specs.Table.{IsRising, IsFirstFrom, IsLeader, HasNone};
+ghost use Rattle.rules_resolution.specs.Table.{IsRising, IsFirstOfRank, IsLeader, HasNone};
 ghost use Rattle.rules_resolution.specs.Standing.{AreInRange};
 
 use crate::occurrence::{Occurrence, first_rank};
@@ -9,7 +9,7 @@ use crate::occurrence::{Occurrence, first_rank};
 /// The place from which on no occurrence comes before those of the literal.
 fn first_of(table: &[Occurrence], atom: u32, negative: bool) -> usize
     requires { IsRising table.now }
-    ensures { IsFirstFrom table.now (literal_rank atom negative) result }
+    ensures { IsFirstOfRank table.now (literal_rank atom negative) result }
 {
     let rank = first_rank(atom, negative);
     let mut low = 0;

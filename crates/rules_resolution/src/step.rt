@@ -6,7 +6,7 @@ ghost use Rattle.proof_store.specs.Meaning.{StandForItems};
 ghost use Rattle.rule_model.specs.declared.rules.Mode.TheVariants as Mode;
 ghost use Rattle.rule_model.specs.Conditions.{KeepsTruth};
 ghost use Rattle.rule_model.specs.Judged.{judged_at};
-ghost use Rattle.rule_model.specs.Proofs.{Items};
+ghost use Rattle.rule_model.specs.Proofs.{ProofItems};
 ghost use Rattle.rule_model.specs.Reading.{clause_at, rule_at};
 ghost use Rattle.rule_model.specs.Resolution.{as_clause, ResolvesInCheck};
 ghost use Rattle.rule_model.specs.Scopes.{commands_in};
@@ -14,7 +14,7 @@ ghost use Rattle.term_model.specs.Interpretations.{Interpretation};
 ghost use Rattle.term_model.specs.Meaning.{Valuation};
 ghost use Rattle.term_model.specs.Terms.{Var, Term};
 ghost use Rattle.rules_resolution.specs.Shows.{Shows};
-ghost use Rattle.rules_resolution.specs.Steps.{IsResolutionRule, IsShort, MeetsAt, StandsForSome, premise_clauses};
+ghost use Rattle.rules_resolution.specs.Steps.{IsResolutionRule, IsShort, MeetsResolutionAt, StandsForSome, premise_clauses};
 
 use crate::end::{End, trail_of};
 use crate::scratch::{Scratch, end_at};
@@ -42,10 +42,10 @@ impl Scratch {
         requires mode { mode ≡ Mode.Check }
         requires short { IsShort proof.now }
         requires terms { StandsForSome symbols.now terms.old proof.now }
-        ensures met { IfOk result (λ answer. (p : Items Var Term) → StandForItems symbols.now terms.old proof.now p →
-            (answer ≡ Answer.Met) ↔ MeetsAt mode p i) }
+        ensures met { IfOk result (λ answer. (p : ProofItems Var Term) → StandForItems symbols.now terms.old proof.now p →
+            (answer ≡ Answer.Met) ↔ MeetsResolutionAt mode p i) }
         ensures narrow { IfOk result (λ answer. answer ≢ Answer.TooWide) }
-        ensures sound { IfOk result (λ answer. answer ≡ Answer.Met → (p : Items Var Term) → StandForItems symbols.now terms.old proof.now p →
+        ensures sound { IfOk result (λ answer. answer ≡ Answer.Met → (p : ProofItems Var Term) → StandForItems symbols.now terms.old proof.now p →
             (I : Interpretation) (r : Valuation) → KeepsTruth I r (judged_at mode p i)) }
         ensures memory { IfErr result (λ stop. stop ≡ RuleStop.Memory) }
         ensures same { terms.new ≡ terms.old }
@@ -81,11 +81,11 @@ pub fn check(
     requires mode { mode ≡ Mode.Check }
     requires short { IsShort proof.now }
     requires terms { StandsForSome symbols.now terms.old proof.now }
-    ensures met { IfOk result (λ answer. (p : Items Var Term) → StandForItems symbols.now terms.old proof.now p →
-        (answer ≡ Answer.Met) ↔ MeetsAt mode p i) }
+    ensures met { IfOk result (λ answer. (p : ProofItems Var Term) → StandForItems symbols.now terms.old proof.now p →
+        (answer ≡ Answer.Met) ↔ MeetsResolutionAt mode p i) }
     ensures narrow { IfOk result (λ answer. answer ≢ Answer.TooWide) }
     // under every interpretation and values of variables that make the premises' clauses true, the clause is
-    ensures sound { IfOk result (λ answer. answer ≡ Answer.Met → (p : Items Var Term) → StandForItems symbols.now terms.old proof.now p →
+    ensures sound { IfOk result (λ answer. answer ≡ Answer.Met → (p : ProofItems Var Term) → StandForItems symbols.now terms.old proof.now p →
         (I : Interpretation) (r : Valuation) → KeepsTruth I r (judged_at mode p i)) }
     ensures memory { IfErr result (λ stop. stop ≡ RuleStop.Memory) }
     ensures same { terms.new ≡ terms.old }
@@ -108,9 +108,9 @@ pub fn propagate(
     requires index { i < commands_in proof.now }
     requires short { IsShort proof.now }
     requires terms { StandsForSome symbols.now terms.old proof.now }
-    ensures shown { IfOk result (λ found. IfSome found (λ trail. (p : Items Var Term) → StandForItems symbols.now terms.old proof.now p →
+    ensures shown { IfOk result (λ found. IfSome found (λ trail. (p : ProofItems Var Term) → StandForItems symbols.now terms.old proof.now p →
         Shows (map as_clause (premise_clauses p i)) (as_clause (clause_at p i)) trail)) }
-    ensures none { IfOk result (λ found. IfNone found ((p : Items Var Term) → StandForItems symbols.now terms.old proof.now p →
+    ensures none { IfOk result (λ found. IfNone found ((p : ProofItems Var Term) → StandForItems symbols.now terms.old proof.now p →
         ResolvesInCheck (premise_clauses p i) (clause_at p i) → ⊥)) }
     ensures same { terms.new ≡ terms.old }
 {

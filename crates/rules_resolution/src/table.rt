@@ -1,7 +1,7 @@
 //! The table of all occurrences, in order, in which no premise has a literal twice.
 ghost use Rattle.std.specs.Prelude.{◌≡◌, ◌+◌, ◌<◌, ◌^◌, ◌++◌, length, vec_len, All, IfOk, OnOk};
 ghost use Rattle.rules_resolution.specs.Clause.{clauses_of};
-ghost use Rattle.rules_resolution.specs.Table.{IsTable, all_occurrences, goal_occurrences, occurrence_at, occurrences_of};
+ghost use Rattle.rules_resolution.specs.Table.{IsOccurrenceTable, all_occurrences, goal_occurrences, occurrence_at, occurrences_of};
 
 use crate::literal::Lit;
 use crate::occurrence::Occurrence;
@@ -71,7 +71,7 @@ pub(crate) fn table_of(
 ) -> Result<Vec<Occurrence>, Memory>
     requires premises { length premises.now < 2 ^ 32 }
     requires literals { All (λ clause. vec_len clause < 2 ^ 32) premises.now }
-    ensures { IfOk result (λ table. IsTable (clauses_of premises.now) goal.now table.items) }
+    ensures { IfOk result (λ table. IsOccurrenceTable (clauses_of premises.now) goal.now table.items) }
 {
     let mut table = collect(alloc, premises, goal)?;
     table.sort_unstable_by_key(|o| o.rank());

@@ -6,7 +6,7 @@ ghost use Rattle.rules_resolution.specs.Clause.{clauses_of};
 ghost use Rattle.rules_resolution.specs.Falsity.{is_false_in};
 ghost use Rattle.rules_resolution.specs.Occurrence.{literal_in};
 ghost use Rattle.rules_resolution.specs.Standing.{Advances, AreInRange, AreReady, IsTallied};
-ghost use Rattle.rules_resolution.specs.Table.{IsRising, IsTable};
+ghost use Rattle.rules_resolution.specs.Table.{IsRising, IsOccurrenceTable};
 ghost use Rattle.rules_resolution.specs.Work.{IsMarked, IsSomeState, IsState, Falsifies};
 
 use crate::close::close_all;

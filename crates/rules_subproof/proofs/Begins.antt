@@ -6,7 +6,7 @@ use Rattle.sym_table.specs.Table.{Table}
 use Rattle.term_model.specs.Terms.{Var, Term, numeral, not_of}
 use Rattle.term_pool.specs.Views.{TermsView, RefersTo, IsTerm}
 use Rattle.rule_model.specs.Closings.{negations}
-use Rattle.rule_model.specs.Proofs.{Items}
+use Rattle.rule_model.specs.Proofs.{ProofItems}
 use Rattle.rule_model.specs.Reading.{clause_at, discharged_at}
 use Rattle.rule_model.specs.Scopes.{outermost}
 use Rattle.rule_model.specs.WellFormed.{AreWellFormed}
@@ -15,7 +15,7 @@ use Rattle.rules_subproof.proofs.Discharged.{discharged_assumed}
 use Rattle.rules_subproof.proofs.Fronts.{AreUnits, Matches, negated_count, of_front, front_fits, front_of}
 use Rattle.rules_subproof.proofs.Zips.{zip_length, zip_at, zip_one}
 
-module _ (s : Table) (v : TermsView) (refs : Items ℕ ℕ) (of : Items Var Term) (i : ℕ) (formed : AreWellFormed outermost refs) (same : discharged_at refs i ≡ discharged_at of i) (zip : (j : ℕ) → AllZip (RefersTo s v) (clause_at refs j) (clause_at of j)) where
+module _ (s : Table) (v : TermsView) (refs : ProofItems ℕ ℕ) (of : ProofItems Var Term) (i : ℕ) (formed : AreWellFormed outermost refs) (same : discharged_at refs i ≡ discharged_at of i) (zip : (j : ℕ) → AllZip (RefersTo s v) (clause_at refs j) (clause_at of j)) where
   pub units : AreUnits (clause_at of) (discharged_at of i)
   units = recursion_from_All _ (discharged_at of i) (λ k d within. one _ (All-contains_itself (discharged_at of i) k d within))
     where

@@ -6,7 +6,7 @@ use Rattle.rule_model.specs.declared.rules.Rule.{Rule}
 use Rattle.rule_model.specs.Closings.{IsSubproof, IsLetClosing, MeetsClosing}
 use Rattle.rule_model.specs.Conditions.{MeetsRule, MeetsWhere, IsMetAt}
 use Rattle.rule_model.specs.Judged.{Judged, judged_at}
-use Rattle.rule_model.specs.Proofs.{Items}
+use Rattle.rule_model.specs.Proofs.{ProofItems}
 use Rattle.rule_model.specs.Reading.{rule_at, closes_at}
 
 abbrev pub IsClosingRule : Rule → Type 0
@@ -17,7 +17,7 @@ no_rule : (rule : Rule) (j : Judged) → IsClosingRule rule → ¬ MeetsRule rul
 no_rule rule j (inl e) h = subst (λ r. MeetsRule r j) e h
 no_rule rule j (inr e) h = subst (λ r. MeetsRule r j) e h
 
-module _ (mode : Mode) (of : Items Var Term) (i : ℕ) where
+module _ (mode : Mode) (of : ProofItems Var Term) (i : ℕ) where
   pub none_closed : IsClosingRule (rule_at of i) → closes_at of i ≡ None → ¬ IsMetAt mode of i
   none_closed closing none met =
       no_rule (rule_at of i) (judged_at mode of i) closing (subst (MeetsWhere mode of i) none met)

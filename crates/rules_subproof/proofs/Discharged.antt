@@ -5,9 +5,9 @@ use Rattle.std.proofs.lemmas.List.{append_assoc}
 use Rattle.std.proofs.lemmas.List.Elements.{All-contains, All-from_recursion}
 use Rattle.std.proofs.lemmas.Option.{slice_get_within, slice_get-map}
 use Rattle.std.specs.Option.{option_map, option_map_or}
-use Rattle.rule_model.specs.Proofs.{Step, Items, no_items, with_assume, with_step, with_subproof}
+use Rattle.rule_model.specs.Proofs.{Step, ProofItems, no_items, with_assume, with_step, with_subproof}
 use Rattle.rule_model.specs.Scopes.{Nesting, outermost, inside, Scope, at, inner, commands_in, first_index}
-use Rattle.rule_model.specs.Commands.{Command, assume, step, closing, Line, Entry, entry_of, entries, lines_in, lines_around, lines_to}
+use Rattle.rule_model.specs.Commands.{IndexedCommand, assume, step, closing, Line, Entry, entry_of, entries, lines_in, lines_around, lines_to}
 use Rattle.rule_model.specs.Reading.{clause_of, discharged_of, clause_at, discharged_at}
 use Rattle.rule_model.specs.Visibility.{assumes_in}
 use Rattle.rule_model.specs.WellFormed.{AreWellFormed}
@@ -38,7 +38,7 @@ module _ {V T : Type 0} where
       let first = h.0 in
       (record { line = first.line; there = rw e (slice_get_more lines others j first.line first.there); id = first.id; term = first.term; is = first.is }, more lines others next js e h.1)
 
-  assume_lines : (nesting : Nesting V T) (items : Items V T) → AllByRecursion (IsAssumeLine (lines_around nesting ++ lines_in nesting items)) (assumes_in nesting items)
+  assume_lines : (nesting : Nesting V T) (items : ProofItems V T) → AllByRecursion (IsAssumeLine (lines_around nesting ++ lines_in nesting items)) (assumes_in nesting items)
   assume_lines nesting no_items = tt
   assume_lines nesting (with_assume items id t) =
       let l : Line V T = record { scope = at nesting items; command = assume id t } in
@@ -57,7 +57,7 @@ module _ {V T : Type 0} where
       (ap (λ ls. lines_around nesting ++ ls) (append_assoc (lines_in nesting items) (lines_in deep proof) (l ∷ [])) ∙ sym (append_assoc (lines_around nesting) (lines_in nesting items) (lines_in deep proof ++ l ∷ [])))
       (assume_lines nesting items)
 
-  module _ (proof : Items V T) (formed : AreWellFormed outermost proof) where
+  module _ (proof : ProofItems V T) (formed : AreWellFormed outermost proof) where
     -- an assume before, with its term
     pub record IsAssumed (i j : ℕ) : Type 0 where
       pub before : j < i
@@ -67,7 +67,7 @@ module _ {V T : Type 0} where
     nothing_in : {P : Type 0} (j : ℕ) → Contains [] j → P
     nothing_in j has = let below = has.1 in absurd (omega arith)
 
-    assumed_at : (i : ℕ) (nesting : Nesting V T) (items : Items V T) (c : Command T) → slice_get (lines_in outermost proof) i ≡ Some (record { scope = at nesting items; command = c }) → MayAddHere (at nesting items) c → (j : ℕ) → Contains (discharged_of c) j → IsAssumed i j
+    assumed_at : (i : ℕ) (nesting : Nesting V T) (items : ProofItems V T) (c : IndexedCommand T) → slice_get (lines_in outermost proof) i ≡ Some (record { scope = at nesting items; command = c }) → MayAddHere (at nesting items) c → (j : ℕ) → Contains (discharged_of c) j → IsAssumed i j
     assumed_at i nesting items (assume id t) here may j has = nothing_in j has
     assumed_at i nesting items (step s) here may j has = nothing_in j (subst (λ ds. Contains ds j) may.discharged has)
     assumed_at i outermost items (closing s) here may j has = absurd may

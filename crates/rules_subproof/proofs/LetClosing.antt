@@ -5,12 +5,12 @@ use Rattle.term_model.specs.FreeVariables.{bound_terms}
 use Rattle.term_model.specs.Terms.{Var, Term, let_in, Bindings}
 use Rattle.rule_model.specs.declared.rules.Mode.{Mode}
 use Rattle.rule_model.specs.Closings.{IsAssumeIn, AreLinkedTo, IsLetClosing}
-use Rattle.rule_model.specs.Proofs.{Items}
+use Rattle.rule_model.specs.Proofs.{ProofItems}
 use Rattle.rule_model.specs.Reading.{rule_at, clause_at, premises_at, scope_at, bindings_at}
 use Rattle.rule_model.specs.RuleNames.{is_assume}
 use Rattle.rules_subproof.specs.Lets.{EquatesLet, BindsAs, clauses_at}
 
-module _ (refs : Items ℕ ℕ) (of : Items Var Term) (i k : ℕ) (scope : (j : ℕ) → scope_at refs j ≡ scope_at of j) (rule : (j : ℕ) → rule_at refs j ≡ rule_at of j) where
+module _ (refs : ProofItems ℕ ℕ) (of : ProofItems Var Term) (i k : ℕ) (scope : (j : ℕ) → scope_at refs j ≡ scope_at of j) (rule : (j : ℕ) → rule_at refs j ≡ rule_at of j) where
   pub no_assumes_too : ((j : ℕ) → IsAssumeIn refs i k j → Contains [] j) ↔ ((j : ℕ) → ¬ IsAssumeIn of i k j)
   no_assumes_too = (
     λ all j a. none j (all j (record { before = a.before; scope = scope j ∙ a.scope; assume = ap is_assume (rule j) ∙ a.assume })),
@@ -20,7 +20,7 @@ module _ (refs : Items ℕ ℕ) (of : Items Var Term) (i k : ℕ) (scope : (j : 
       none : (j : ℕ) → Contains [] j → ⊥
       none j h = let below = h.1 in omega (arith, below)
 
-module _ (mode : Mode) (of : Items Var Term) (i k : ℕ) where
+module _ (mode : Mode) (of : ProofItems Var Term) (i k : ℕ) where
   pub closing_equates : (h : IsLetClosing mode of i k) → EquatesLet of i k h.bindings h.body h.result
   closing_equates h = record { clause = h.clause; ends = h.ends }
 

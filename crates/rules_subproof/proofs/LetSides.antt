@@ -4,10 +4,10 @@ use Rattle.std.specs.Option.{is_some}
 use Rattle.sym_table.specs.Table.{Table, IsTable}
 use Rattle.term_model.specs.Flips.{equality}
 use Rattle.term_model.specs.Terms.{Var, Term, numeral, variable, operation, call, let_in, Bindings}
-use Rattle.term_pool.specs.Building.{IsApplication}
+use Rattle.term_pool.specs.Building.{IsAppliedLeaf}
 use Rattle.term_pool.specs.Reading.{arguments_of, IsLet, IsLetTerm}
 use Rattle.term_pool.specs.Views.{TermsView, RefersTo}
-use Rattle.rule_model.specs.Proofs.{Items}
+use Rattle.rule_model.specs.Proofs.{ProofItems}
 use Rattle.rule_model.specs.Reading.{clause_at, last_inside_at}
 use Rattle.rules_subproof.specs.Lets.{IsUnitOf, EquatesLet, IsLetEquated}
 use Rattle.rules_subproof.proofs.UnitClauses.{unit_parts}
@@ -33,11 +33,11 @@ module _ (s : Table) (v : TermsView) (p : ℕ × ℕ) where
       record { symbols = s; bindings = is.0; body = is.1; refers = subst (RefersTo s v p.0) is.2 unit.left_refers }
 
   -- an application is no let
-  pub no_application : (o : Option ℕ) → is_some o ≡ true → IfSome o (λ k. (s : Table) (t : Term) → IsTable s → RefersTo s v p.0 t → IsApplication s k (arguments_of t) t) → IsTable s → (bs : Bindings) (u : Term) → ¬ RefersTo s v p.0 (let_in bs u)
+  pub no_application : (o : Option ℕ) → is_some o ≡ true → IfSome o (λ k. (s : Table) (t : Term) → IsTable s → RefersTo s v p.0 t → IsAppliedLeaf s k (arguments_of t) t) → IsTable s → (bs : Bindings) (u : Term) → ¬ RefersTo s v p.0 (let_in bs u)
   no_application None some is table bs u refers = absurd cc
   no_application (Some k) some is table bs u refers = is s (let_in bs u) table refers
 
-module _ (of : Items Var Term) (i k : ℕ) where
+module _ (of : ProofItems Var Term) (i k : ℕ) where
   pub no_last : last_inside_at of k ≡ None → (bs : Bindings) (t u : Term) → ¬ EquatesLet of i k bs t u
   no_last none bs t u h = let e = sym none ∙ h.ends.is_last in absurd cc
 

@@ -1,7 +1,7 @@
 -- Going back over the commands before a step.
 use Rattle.std.proofs.Common.{◌≡◌, ◌<◌, ◌≤◌, ◌⊎◌, inl, inr, ℕ, zero, suc, List, Contains, Some, refl, sym, ap, subst, arith, true}
 use Rattle.rule_model.specs.Closings.{IsAssumeIn}
-use Rattle.rule_model.specs.Proofs.{Items}
+use Rattle.rule_model.specs.Proofs.{ProofItems}
 use Rattle.rule_model.specs.Reading.{closes_at, scope_at, rule_at}
 use Rattle.rule_model.specs.RuleNames.{is_assume}
 use Rattle.rule_model.proofs.ScopeRanges.{together}
@@ -17,7 +17,7 @@ below_or j zero = inl (omega arith)
 below_or zero (suc n) = inr (omega arith)
 below_or (suc j) (suc n) = elim (below_or j n) [ inl h ↦ inl (omega (arith, h)) | inr h ↦ inr (omega (arith, h)) ]
 
-module _ (proof : Items ℕ ℕ) (i k : ℕ) (list : List ℕ) where
+module _ (proof : ProofItems ℕ ℕ) (i k : ℕ) (list : List ℕ) where
   -- the assumes from a command on are in the list
   abbrev pub AreKnown : ℕ → Type 0
   AreKnown n = (j : ℕ) → n ≤ j → IsAssumeIn proof i k j → Contains list j

@@ -1,8 +1,8 @@
 -- A scope that a step closes has a number below the count, and its last command stands before the step.
 use Rattle.std.proofs.Common.{◌≡◌, ◌<◌, ◌≤◌, ℕ, suc, List, [], ◌∷◌, length, take, slice_get, Option, Some, None, refl, sym, ◌∙◌, ap, subst, arith}
 use Rattle.std.proofs.lemmas.Option.{slice_get_within}
-use Rattle.rule_model.specs.Commands.{Command, assume, step, closing, Line, lines_in, lines_to, closed_scope, scopes}
-use Rattle.rule_model.specs.Proofs.{Step, Items}
+use Rattle.rule_model.specs.Commands.{IndexedCommand, assume, step, closing, Line, lines_in, lines_to, closed_scope, scopes}
+use Rattle.rule_model.specs.Proofs.{Step, ProofItems}
 use Rattle.rule_model.specs.Reading.{closes_at, last_inside_at}
 use Rattle.rule_model.specs.Scopes.{Nesting, outermost, at, subproofs_in, scope_number}
 use Rattle.rule_model.proofs.LineReading.{closes_is, none_closes, closed_entry, last_is}
@@ -11,7 +11,7 @@ use Rattle.rule_model.proofs.Numbers.{scopes_in_count}
 use Rattle.rule_model.proofs.Sights.{last_seen}
 use Rattle.rule_model.proofs.Standing.{taken_few}
 
-module _ {V T : Type 0} (proof : Items V T) (i k : ℕ) (closes : closes_at proof i ≡ Some k) where
+module _ {V T : Type 0} (proof : ProofItems V T) (i k : ℕ) (closes : closes_at proof i ≡ Some k) where
   -- the step and the scope that it closes
   record IsClosed : Type 0 where
     line : Line V T
@@ -26,7 +26,7 @@ module _ {V T : Type 0} (proof : Items V T) (i k : ℕ) (closes : closes_at proo
       some_same : {a b : ℕ} → Some a ≡ Some b → a ≡ b
       some_same e = cc
 
-      by_command : (nesting : Nesting V T) (items : Items V T) (c : Command T) → slice_get (lines_in outermost proof) i ≡ Some (record { scope = at nesting items; command = c }) → closed_scope nesting c ≡ Some k → IsClosed
+      by_command : (nesting : Nesting V T) (items : ProofItems V T) (c : IndexedCommand T) → slice_get (lines_in outermost proof) i ≡ Some (record { scope = at nesting items; command = c }) → closed_scope nesting c ≡ Some k → IsClosed
       by_command nesting items (assume id t) here e = absurd cc
       by_command nesting items (step s) here e = absurd cc
       by_command nesting items (closing s) here e =

@@ -3,7 +3,7 @@ use Rattle.std.proofs.Common.{◌≡◌, ◌<◌, ◌++◌, ◌↔◌, ℕ, List
 use Rattle.std.specs.List.{AllZip}
 use Rattle.term_model.specs.Terms.{Var, Term}
 use Rattle.rule_model.specs.Closings.{IsAssumeIn, AllDischarged, negations, IsEnding, IsSubproof}
-use Rattle.rule_model.specs.Proofs.{Items}
+use Rattle.rule_model.specs.Proofs.{ProofItems}
 use Rattle.rule_model.specs.Reading.{rule_at, clause_at, premises_at, discharged_at, scope_at, bindings_at, last_inside_at}
 use Rattle.rule_model.specs.RuleNames.{is_assume}
 use Rattle.rules_subproof.specs.Fronts.{HasFront}
@@ -16,7 +16,7 @@ empty_too R [] (y ∷ ys) h = absurd h
 empty_too R (x ∷ xs) [] h = absurd h
 empty_too R (x ∷ xs) (y ∷ ys) h = (λ e. absurd cc, λ e. absurd cc)
 
-module _ (refs : Items ℕ ℕ) (of : Items Var Term) (i k : ℕ) (scope : (j : ℕ) → scope_at refs j ≡ scope_at of j) (rule : (j : ℕ) → rule_at refs j ≡ rule_at of j) (discharged : discharged_at refs i ≡ discharged_at of i) where
+module _ (refs : ProofItems ℕ ℕ) (of : ProofItems Var Term) (i k : ℕ) (scope : (j : ℕ) → scope_at refs j ≡ scope_at of j) (rule : (j : ℕ) → rule_at refs j ≡ rule_at of j) (discharged : discharged_at refs i ≡ discharged_at of i) where
   pub all_discharged_too : ((j : ℕ) → IsAssumeIn refs i k j → Contains (discharged_at refs i) j) ↔ AllDischarged of i k
   all_discharged_too = (
     λ all j a. subst (λ ds. Contains ds j) discharged (all j (record { before = a.before; scope = scope j ∙ a.scope; assume = ap is_assume (rule j) ∙ a.assume })),
@@ -24,7 +24,7 @@ module _ (refs : Items ℕ ℕ) (of : Items Var Term) (i k : ℕ) (scope : (j : 
   )
 
 -- the clause is the negations, and an ending behind them
-module _ (of : Items Var Term) (i k last place : ℕ) (is_last : last_inside_at of k ≡ Some last) (count : length (negations of i) ≡ place) where
+module _ (of : ProofItems Var Term) (i k last place : ℕ) (is_last : last_inside_at of k ≡ Some last) (count : length (negations of i) ≡ place) where
   pub makes_subproof : bindings_at of k ≡ [] → premises_at of i ≡ [] → AllDischarged of i k → HasFront (negations of i) (clause_at of i) → IsEnding (clause_at of last) (drop place (clause_at of i)) → IsSubproof of i k
   makes_subproof none no_premises all front ending =
       let rest : drop place (clause_at of i) ≡ front.rest = subst (λ n. drop n (clause_at of i) ≡ front.rest) count (ap (drop (length (negations of i))) front.is ∙ behind (negations of i) front.rest) in

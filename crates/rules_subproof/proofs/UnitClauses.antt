@@ -5,7 +5,7 @@ use Rattle.sym_table.specs.Table.{Table}
 use Rattle.term_model.specs.Flips.{equality}
 use Rattle.term_model.specs.Terms.{Var, Term}
 use Rattle.term_pool.specs.Views.{TermsView, RefersTo, IsTerm}
-use Rattle.rule_model.specs.Clausal.{itself}
+use Rattle.rule_model.specs.Clausal.{as_it_stands}
 use Rattle.rule_model.specs.Congruence.{AreSides}
 use Rattle.rule_model.proofs.Lists.{contains_none, contains_cases, contains_head, contains_later}
 use Rattle.term_parts.specs.Parts.{AreSidesOf}
@@ -29,7 +29,7 @@ module _ (s : Table) (v : TermsView) where
   many_are_no_unit rs ts t u many zip e =
       many (let n = zip_length s v rs ts zip in let m : length ts ≡ 1 = ap length e in omega arith)
 
-  pub unit_of : (rs : List ℕ) (l : ℕ) (p : ℕ × ℕ) → length rs ≡ 1 → l ≡ slice_index_or rs 0 l → ((t : Term) → RefersTo s v l t → AreSidesOf s v itself p t) → (ts : List Term) → AllZip (RefersTo s v) rs ts → IsUnitOf s v p ts
+  pub unit_of : (rs : List ℕ) (l : ℕ) (p : ℕ × ℕ) → length rs ≡ 1 → l ≡ slice_index_or rs 0 l → ((t : Term) → RefersTo s v l t → AreSidesOf s v as_it_stands p t) → (ts : List Term) → AllZip (RefersTo s v) rs ts → IsUnitOf s v p ts
   unit_of rs l p one is sides ts zip =
       let only = zip_one s v l rs ts (only_one rs l one is) zip in
       let are = sides only.0 only.2 in

@@ -9,7 +9,7 @@ use Rattle.term_pool.specs.StandsFor.{variable_leaf}
 use Rattle.term_pool.specs.Views.{TermsView, RefersTo}
 use Rattle.rule_model.specs.Closings.{EndsIn}
 use Rattle.rule_model.specs.Congruence.{AreSides}
-use Rattle.rule_model.specs.Proofs.{Items}
+use Rattle.rule_model.specs.Proofs.{ProofItems}
 use Rattle.rule_model.specs.Reading.{clause_at}
 
 -- the clause is one equality, and the references stand for its sides
@@ -21,7 +21,7 @@ pub record IsUnitOf (s : Table) (v : TermsView) (p : ℕ × ℕ) (clause : List 
   pub is : clause ≡ equality left right ∷ []
 
 -- the clauses of these commands
-abbrev pub clauses_at : Items Var Term → List ℕ → List (List Term)
+abbrev pub clauses_at : ProofItems Var Term → List ℕ → List (List Term)
 clauses_at proof js = map (clause_at proof) js
 
 -- check mode: the terms are equal, or the sides of a premise
@@ -29,12 +29,12 @@ abbrev pub IsEqualBy : List (List Term) → Term → Term → Type 0
 IsEqualBy premises t u = (t ≡ u) ⊎ AreSides premises t u
 
 -- the clause at index i equates a let with a term, and scope k ends in the equality of its body with that
-pub record EquatesLet (proof : Items Var Term) (i k : ℕ) (bindings : Bindings) (body result : Term) : Type 0 where
+pub record EquatesLet (proof : ProofItems Var Term) (i k : ℕ) (bindings : Bindings) (body result : Term) : Type 0 where
   pub clause : clause_at proof i ≡ equality (let_in bindings body) result ∷ []
   pub ends : EndsIn proof k (equality body result ∷ [])
 
 -- the references stand for such a let and term
-pub record IsLetEquated (s : Table) (v : TermsView) (proof : Items Var Term) (i k : ℕ) (p : ℕ × ℕ) : Type 0 where
+pub record IsLetEquated (s : Table) (v : TermsView) (proof : ProofItems Var Term) (i k : ℕ) (p : ℕ × ℕ) : Type 0 where
   pub bindings : Bindings
   pub body : Term
   pub result : Term

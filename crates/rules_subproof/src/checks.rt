@@ -3,7 +3,7 @@
 ghost use Rattle.std.specs.Prelude.{◌≡◌, ◌≢◌, ◌↔◌, ◌<◌, ◌⊎◌, IfErr, IfOk, IsTrue};
 ghost use Rattle.rule_model.specs.declared.rules.Rule.TheVariants as Rule;
 ghost use Rattle.rule_model.specs.Conditions.{IsMetAt};
-ghost use Rattle.rule_model.specs.Proofs.{Items};
+ghost use Rattle.rule_model.specs.Proofs.{ProofItems};
 ghost use Rattle.rule_model.specs.Reading.{rule_at};
 ghost use Rattle.rule_model.specs.Scopes.{commands_in};
 ghost use Rattle.term_model.specs.Terms.{Var, Term};
@@ -46,7 +46,7 @@ pub fn check(
     requires index { i < commands_in proof.now }
     requires rule { (rule_at proof.now i ≡ Rule.Subproof) ⊎ (rule_at proof.now i ≡ Rule.Let) }
     requires stand { StandForSome symbols.now terms.old proof.now }
-    ensures met { IfOk result (λ answer. (of : Items Var Term) → StandForItems symbols.now terms.old proof.now of → (answer ≡ Answer.Met) ↔ IsMetAt mode of i) }
+    ensures met { IfOk result (λ answer. (of : ProofItems Var Term) → StandForItems symbols.now terms.old proof.now of → (answer ≡ Answer.Met) ↔ IsMetAt mode of i) }
     ensures narrow { IfOk result (λ answer. answer ≢ Answer.TooWide) }
     ensures stop { IfErr result (λ stop. stop ≡ RuleStop.Memory) }
     ensures same { terms.new ≡ terms.old }

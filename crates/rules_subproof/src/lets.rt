@@ -3,7 +3,7 @@
 ghost use Rattle.std.specs.Prelude.{◌≡◌, ◌≢◌, ◌↔◌, ◌<◌, ℕ, List, All, IsTrue, IfOk, IfSome, IfNone, Some, map};
 ghost use Rattle.std.specs.List.{AllZip};
 ghost use Rattle.rule_model.specs.Closings.{IsLetClosing};
-ghost use Rattle.rule_model.specs.Proofs.{Items};
+ghost use Rattle.rule_model.specs.Proofs.{ProofItems};
 ghost use Rattle.rule_model.specs.Reading.{closes_at};
 ghost use Rattle.rule_model.specs.Scopes.{commands_in};
 ghost use Rattle.term_model.specs.FreeVariables.{IsFree, bound_terms};
@@ -37,8 +37,8 @@ fn let_sides(
     requires index { i < commands_in proof.now }
     requires closes { closes_at proof.now i ≡ Some scope }
     requires stand { StandForSome symbols.now terms.old proof.now }
-    ensures found { IfSome result (λ p. (of : Items Var Term) → StandForItems symbols.now terms.old proof.now of → IsLetEquated symbols.now terms.old of i scope p) }
-    ensures none { IfNone result ((of : Items Var Term) (bs : Bindings) (t u : Term) → StandForItems symbols.now terms.old proof.now of → ¬ EquatesLet of i scope bs t u) }
+    ensures found { IfSome result (λ p. (of : ProofItems Var Term) → StandForItems symbols.now terms.old proof.now of → IsLetEquated symbols.now terms.old of i scope p) }
+    ensures none { IfNone result ((of : ProofItems Var Term) (bs : Bindings) (t u : Term) → StandForItems symbols.now terms.old proof.now of → ¬ EquatesLet of i scope bs t u) }
     ensures same { terms.new ≡ terms.old }
 {
     terms_correspond();
@@ -146,7 +146,7 @@ pub(crate) fn is_let(
 ) -> Result<bool, Memory>
     requires index { i < commands_in proof.now }
     requires stand { StandForSome symbols.now terms.old proof.now }
-    ensures met { IfOk result (λ yes. (of : Items Var Term) (scope : ℕ) → closes_at proof.now i ≡ Some scope → StandForItems symbols.now terms.old proof.now of →
+    ensures met { IfOk result (λ yes. (of : ProofItems Var Term) (scope : ℕ) → closes_at proof.now i ≡ Some scope → StandForItems symbols.now terms.old proof.now of →
         IsTrue yes ↔ IsLetClosing mode of i scope) }
     ensures same { terms.new ≡ terms.old }
 {

@@ -3,7 +3,7 @@
 ghost use Rattle.std.specs.Prelude.{◌≡◌, ◌↔◌, ◌<◌, List, All, IsTrue, length, map};
 ghost use Rattle.std.specs.List.{AllZip};
 ghost use Rattle.rule_model.specs.Closings.{AreLinkedTo};
-ghost use Rattle.rule_model.specs.Proofs.{Items};
+ghost use Rattle.rule_model.specs.Proofs.{ProofItems};
 ghost use Rattle.rule_model.specs.Scopes.{commands_in};
 ghost use Rattle.rule_model.specs.declared.rules.Mode.TheVariants as Mode;
 ghost use Rattle.term_model.specs.Terms.{Var, Term};
@@ -30,7 +30,7 @@ pub(crate) fn are_linked(
     requires premises { All (λ j. j < commands_in proof.now) premises.now }
     requires stand { StandForSome symbols.now terms.old proof.now }
     requires one_each { length values.now ≡ length anchor.now }
-    ensures linked { (of : Items Var Term) (ts : List Term) (bound : List (Var × Term)) → StandForItems symbols.now terms.old proof.now of →
+    ensures linked { (of : ProofItems Var Term) (ts : List Term) (bound : List (Var × Term)) → StandForItems symbols.now terms.old proof.now of →
         AllZip (RefersTo symbols.now terms.old) values.now ts → AllZip (IsBindingOf symbols.now terms.old) anchor.now bound →
         IsTrue result ↔ AreLinkedTo Mode.Check (clauses_at of premises.now) ts (map (λ (b : Var × Term). b.1) bound) }
     ensures same { terms.new ≡ terms.old }
@@ -57,7 +57,7 @@ pub(crate) fn are_differences(
     requires premises { All (λ j. j < commands_in proof.now) premises.now }
     requires stand { StandForSome symbols.now terms.old proof.now }
     requires one_each { length values.now ≡ length anchor.now }
-    ensures linked { (of : Items Var Term) (ts : List Term) (bound : List (Var × Term)) → StandForItems symbols.now terms.old proof.now of →
+    ensures linked { (of : ProofItems Var Term) (ts : List Term) (bound : List (Var × Term)) → StandForItems symbols.now terms.old proof.now of →
         AllZip (RefersTo symbols.now terms.old) values.now ts → AllZip (IsBindingOf symbols.now terms.old) anchor.now bound →
         IsTrue result ↔ AreLinkedTo Mode.Strict (clauses_at of premises.now) ts (map (λ (b : Var × Term). b.1) bound) }
     ensures same { terms.new ≡ terms.old }

@@ -2,7 +2,7 @@
 
 ghost use Rattle.std.specs.Prelude.{◌≡◌, ◌↔◌, ◌<◌, IsTrue, Some};
 ghost use Rattle.rule_model.specs.Closings.{IsSubproof};
-ghost use Rattle.rule_model.specs.Proofs.{Items};
+ghost use Rattle.rule_model.specs.Proofs.{ProofItems};
 ghost use Rattle.rule_model.specs.Reading.{closes_at};
 ghost use Rattle.rule_model.specs.Scopes.{commands_in};
 ghost use Rattle.term_model.specs.Terms.{Var, Term};
@@ -27,7 +27,7 @@ pub(crate) fn is_subproof(
     requires index { i < commands_in proof.now }
     requires closes { closes_at proof.now i ≡ Some scope }
     requires stand { StandForSome symbols.now terms.old proof.now }
-    ensures met { (of : Items Var Term) → StandForItems symbols.now terms.old proof.now of → IsTrue result ↔ IsSubproof of i scope }
+    ensures met { (of : ProofItems Var Term) → StandForItems symbols.now terms.old proof.now of → IsTrue result ↔ IsSubproof of i scope }
     ensures same { terms.new ≡ terms.old }
 {
     commands_correspond();

@@ -3,7 +3,7 @@
 ghost use Rattle.std.specs.Prelude.{◌≡◌, ◌≢◌, ◌↔◌, ◌<◌, ◌∷◌, [], List, All, IsTrue, IfSome, IfNone};
 ghost use Rattle.std.specs.List.{AllZip};
 ghost use Rattle.rule_model.specs.Congruence.{AreSides};
-ghost use Rattle.rule_model.specs.Proofs.{Items};
+ghost use Rattle.rule_model.specs.Proofs.{ProofItems};
 ghost use Rattle.rule_model.specs.Reading.{clause_at};
 ghost use Rattle.rule_model.specs.Scopes.{commands_in};
 ghost use Rattle.term_model.specs.Flips.{equality};
@@ -54,7 +54,7 @@ pub(crate) fn equates(
 ) -> bool
     requires index { j < commands_in proof.now }
     requires stand { StandForSome symbols.now terms.old proof.now }
-    ensures equates { (of : Items Var Term) (t u : Term) → StandForItems symbols.now terms.old proof.now of →
+    ensures equates { (of : ProofItems Var Term) (t u : Term) → StandForItems symbols.now terms.old proof.now of →
         RefersTo symbols.now terms.old left t → RefersTo symbols.now terms.old right u → IsTrue result ↔ (clause_at of j ≡ equality t u ∷ []) }
     ensures same { terms.new ≡ terms.old }
 {
@@ -81,7 +81,7 @@ pub(crate) fn are_sides(
 ) -> bool
     requires premises { All (λ j. j < commands_in proof.now) premises.now }
     requires stand { StandForSome symbols.now terms.old proof.now }
-    ensures sides { (of : Items Var Term) (t u : Term) → StandForItems symbols.now terms.old proof.now of →
+    ensures sides { (of : ProofItems Var Term) (t u : Term) → StandForItems symbols.now terms.old proof.now of →
         RefersTo symbols.now terms.old left t → RefersTo symbols.now terms.old right u → IsTrue result ↔ AreSides (clauses_at of premises.now) t u }
     ensures same { terms.new ≡ terms.old }
 {
@@ -107,7 +107,7 @@ pub(crate) fn are_equal_by(
 ) -> bool
     requires premises { All (λ j. j < commands_in proof.now) premises.now }
     requires stand { StandForSome symbols.now terms.old proof.now }
-    ensures equal { (of : Items Var Term) (t u : Term) → StandForItems symbols.now terms.old proof.now of →
+    ensures equal { (of : ProofItems Var Term) (t u : Term) → StandForItems symbols.now terms.old proof.now of →
         RefersTo symbols.now terms.old left t → RefersTo symbols.now terms.old right u → IsTrue result ↔ IsEqualBy (clauses_at of premises.now) t u }
     ensures same { terms.new ≡ terms.old }
 {

@@ -6,9 +6,9 @@ use Rattle.term_pool.specs.StandsFor.{function_leaf}
 use Rattle.term_pool.specs.Views.{TermsView, ReferToAll, KeepsTerms}
 use Rattle.term_names.specs.Known.{KnownView, known_entry}
 use Rattle.problem_text.specs.Names.{Place}
-use Rattle.term_reader.specs.Reading.{IsIdle}
+use Rattle.term_reader.specs.Reading.{IsReaderIdle}
 use Rattle.problem_text.specs.Scripts.{Script}
-use Rattle.term_names.specs.Standing.{named_in, macro_in, function_in, HasNoEntry, IsNoFunction, IsMeant, IsScript}
+use Rattle.term_names.specs.Standing.{named_in_script, macro_in, function_in, HasNoEntry, IsNoFunction, IsNameMeant, IsScript}
 use Rattle.problem_text.specs.Words.{is_among}
 use Rattle.term_names.specs.declared.known.KnownEntry.{KnownEntry}
 use Rattle.term_reader.specs.declared.reader.Reader.{Reader}
@@ -18,7 +18,7 @@ use Rattle.term_reader.proofs.Staying.{table_keeps_none, keeps_none, refers_stay
 pub record AgreesOn (a b : Script) (name : List ℕ) : Type 0 where
   pub functions : function_in b name ≡ function_in a name
   pub macros : macro_in b name ≡ macro_in a name
-  pub named : named_in b name ≡ named_in a name
+  pub named : named_in_script b name ≡ named_in_script a name
   pub taken : is_among b.taken name ≡ is_among a.taken name
 
 module _ (s z : Table) (v w : TermsView) (keeps : Keeps s z) (terms : KeepsTerms v w) (a b : Script) (name : List ℕ) (agree : AgreesOn a b name) (back : IsFunctionName z name → IsFunctionName s name) where
@@ -28,7 +28,7 @@ module _ (s z : Table) (v w : TermsView) (keeps : Keeps s z) (terms : KeepsTerms
   no_function_moves : IsNoFunction s a name → IsNoFunction z b name
   no_function_moves h = record { table = λ f. h.table (back f); script = agree.functions ∙ h.script }
 
-  pub meant_moves : (k : KnownView) (o : Option KnownEntry) → IsMeant s v k a name o → IsMeant z w k b name o
+  pub meant_moves : (k : KnownView) (o : Option KnownEntry) → IsNameMeant s v k a name o → IsNameMeant z w k b name o
   meant_moves k None (none, inl h) = (
     no_entry_moves none,
     inl (record {
@@ -68,7 +68,7 @@ module _ (s z : Table) (v w : TermsView) (keeps : Keeps s z) (terms : KeepsTerms
   }
 
 -- the reader holds nothing of a term still
-pub idle_moves : (s z : Table) (v : TermsView) (r : Reader) (a b : Script) (p : Place) → Keeps s z → IsIdle s v r a p → IsScript z v r.known b → IsIdle z v r b p
+pub idle_moves : (s z : Table) (v : TermsView) (r : Reader) (a b : Script) (p : Place) → Keeps s z → IsReaderIdle s v r a p → IsScript z v r.known b → IsReaderIdle z v r b p
 idle_moves s z v r a b p keeps h script = record {
   script = script;
   scope = scope_stays s z v v keeps (keeps_none v) r.scope p.scope h.scope;
@@ -85,7 +85,7 @@ script_agrees s v k a b sorts agree h = record {
   names = λ name. meant_moves s s v v (table_keeps_none s) (keeps_none v) a b name (agree name) (λ f. f) k (known_entry k name) (h.names name);
 }
 
-pub idle_agrees : (s : Table) (v : TermsView) (r : Reader) (a b : Script) (p : Place) → b.sorts ≡ a.sorts → ((name : List ℕ) → AgreesOn a b name) → IsIdle s v r a p → IsIdle s v r b p
+pub idle_agrees : (s : Table) (v : TermsView) (r : Reader) (a b : Script) (p : Place) → b.sorts ≡ a.sorts → ((name : List ℕ) → AgreesOn a b name) → IsReaderIdle s v r a p → IsReaderIdle s v r b p
 idle_agrees s v r a b p sorts agree h = idle_moves s s v r a b p (table_keeps_none s) h (script_agrees s v r.known a b sorts agree h.script)
 
 -- references still stand for their terms

@@ -11,10 +11,10 @@ use Rattle.term_model.specs.Terms.{Term, sort_eq}
 use Rattle.term_pool.specs.Views.{TermsView, RefersTo, ReferToAll, KeepsTerms}
 use Rattle.problem_text.specs.Commands.{assert_term}
 use Rattle.problem_text.specs.Forms.{form_of}
-use Rattle.problem_text.specs.Problems.{term_asserted, performed}
-use Rattle.term_reader.specs.Reading.{IsReadTerm, Reads}
+use Rattle.problem_text.specs.Problems.{term_asserted, script_performed}
+use Rattle.term_reader.specs.Reading.{IsReadTerm, ComesToTerm}
 use Rattle.problem_text.specs.TypedTerms.{Typed}
-use Rattle.problem_text.specs.Outcomes.{Outcome, done, refuse, goes_on}
+use Rattle.problem_text.specs.Outcomes.{Outcome, done, refuse, going_on}
 use Rattle.problem_text.specs.Scripts.{Script, with_assertion}
 use Rattle.smtlib_reader.specs.Sessions.{top, IsSession, IsReadBy, Performs}
 use Rattle.term_names.specs.Standing.{AddsNoSymbols}
@@ -51,8 +51,8 @@ module _ (replaces : Bool) (i : Item) (sc : Script) where
   abbrev judged : Typed → Script → Bool → Outcome Script ⊤
   judged t last same = if same then done tt (with_assertion t.tree last) else refuse SortMismatch (place_of i) last
 
-  asserted : performed replaces (assert_term i) sc ≡ term_asserted replaces i sc
-  unfolding performed
+  asserted : script_performed replaces (assert_term i) sc ≡ term_asserted replaces i sc
+  unfolding script_performed
   asserted = refl
 
   read_more : (t : Term) → IsReadTerm read_here t → IsReadBy (term_asserted replaces i sc) t
@@ -63,25 +63,25 @@ module _ (replaces : Bool) (i : Item) (sc : Script) where
       go t last false k = (k, tt)
 
   module _ (s : Table) (v w : TermsView) (r : Reader) where
-    pub term_fails : (d : Session) (fault : ReadFault) → Reads s v w r (top replaces) read_here (Err fault) → Performs s v w d (performed replaces (assert_term i) sc) (Err fault)
+    pub term_fails : (d : Session) (fault : ReadFault) → ComesToTerm s v w r (top replaces) read_here (Err fault) → Performs s v w d (script_performed replaces (assert_term i) sc) (Err fault)
     term_fails d (ReadFault.Text refusal) h = rw asserted (record {
-      outcome = ap (λ (q : Result Typed Refusal). (goes_on q read_here.state (λ t last. judged t last (sort_eq t.sort Sort.Bool))).result) h.outcome;
+      outcome = ap (λ (q : Result Typed Refusal). (going_on q read_here.state (λ t last. judged t last (sort_eq t.sort Sort.Bool))).result) h.outcome;
       placed = places_more s v.pass w.pass _ _ read_more h.placed;
     })
     term_fails d ReadFault.PoolFull h = rw asserted (record { outcome = lacks_more s w.pass _ _ read_more h.outcome; placed = places_more s v.pass w.pass _ _ read_more h.placed })
     term_fails d ReadFault.Memory h = rw asserted (record { outcome = tt; placed = places_more s v.pass w.pass _ _ read_more h.placed })
 
-    module _ (c : Value) (h : Reads s v w r (top replaces) read_here (Ok c)) where
-      pub no_memory : (d : Session) → Performs s v w d (performed replaces (assert_term i) sc) (Err ReadFault.Memory)
+    module _ (c : Value) (h : ComesToTerm s v w r (top replaces) read_here (Ok c)) where
+      pub no_memory : (d : Session) → Performs s v w d (script_performed replaces (assert_term i) sc) (Err ReadFault.Memory)
       no_memory d = rw asserted (record { outcome = tt; placed = places_more s v.pass w.pass _ _ read_more h.placed })
 
       -- with the sort of the term
       comes_to : (b : Bool) → sort_eq c.sort Sort.Bool ≡ b → term_asserted replaces i sc ≡ judged h.outcome.0 h.outcome.1 b
       comes_to b e =
-          ap (λ (q : Outcome Script Typed). goes_on q.result q.state (λ t last. judged t last (sort_eq t.sort Sort.Bool))) h.outcome.2
+          ap (λ (q : Outcome Script Typed). going_on q.result q.state (λ t last. judged t last (sort_eq t.sort Sort.Bool))) h.outcome.2
           ∙ ap (judged h.outcome.0 h.outcome.1) (ap (λ sort. sort_eq sort Sort.Bool) (sym h.outcome.3.sort) ∙ e)
 
-      pub other_sort : (d : Session) (refusal : Refusal) → Err refusal ≡ checked (sort_eq c.sort Sort.Bool) (place_of i) → Performs s v w d (performed replaces (assert_term i) sc) (Err (ReadFault.Text refusal))
+      pub other_sort : (d : Session) (refusal : Refusal) → Err refusal ≡ checked (sort_eq c.sort Sort.Bool) (place_of i) → Performs s v w d (script_performed replaces (assert_term i) sc) (Err (ReadFault.Text refusal))
       other_sort d refusal e = rw asserted (record { outcome = go (sort_eq c.sort Sort.Bool) refl e; placed = places_more s v.pass w.pass _ _ read_more h.placed })
         where
           go : (b : Bool) → sort_eq c.sort Sort.Bool ≡ b → Err refusal ≡ checked b (place_of i) → (term_asserted replaces i sc).result ≡ Err refusal
@@ -99,7 +99,7 @@ module _ (replaces : Bool) (i : Item) (sc : Script) where
       declared = subst (λ (q : Outcome Script Typed). DeclaresSame sc q.state) h.outcome.2 (same_declared (form_of i) (top replaces) sc)
 
       pub is_asserted : (a : Table) (d : Session) (more : Vec ℕ Global) → IsSession a v d sc → AddsNoSymbols a s → KeepsTerms v w → checked true (place_of i) ≡ checked (sort_eq c.sort Sort.Bool) (place_of i)
-          → more.items ≡ d.assertions.items ++ c.term ∷ [] → Performs s v w (record d { reader = r; assertions = more }) (performed replaces (assert_term i) sc) (Ok tt)
+          → more.items ≡ d.assertions.items ++ c.term ∷ [] → Performs s v w (record d { reader = r; assertions = more }) (script_performed replaces (assert_term i) sc) (Ok tt)
       is_asserted a d more session adds keeps e pushed =
           let t = h.outcome.0 in
           let last = h.outcome.1 in

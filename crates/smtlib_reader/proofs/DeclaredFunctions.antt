@@ -16,7 +16,7 @@ use Rattle.term_pool.specs.Views.{TermsView}
 use Rattle.term_names.specs.Known.{KnownView, known_entry}
 use Rattle.problem_text.specs.Scripts.{Script, is_taken, with_name, with_function}
 use Rattle.smtlib_reader.specs.Sessions.{IsSession, top}
-use Rattle.term_names.specs.Standing.{function_in, HasNoEntry, IsFunctionAt, IsFreeName, IsMeant, IsScript}
+use Rattle.term_names.specs.Standing.{function_in, HasNoEntry, IsFunctionAt, IsFreeName, IsNameMeant, IsScript}
 use Rattle.problem_text.specs.Words.{is_among, is_built_in}
 use Rattle.smtlib_reader.specs.declared.session.Session.{Session}
 use Rattle.smtlib_reader.proofs.AgreeingScripts.{meant_moves, idle_moves, all_refer_still}
@@ -33,7 +33,7 @@ function_is_free s name word none (inr h) = none h
 
 -- what the table says of a name that is free
 pub free_name : (s : Table) (v : TermsView) (k : KnownView) (sc : Script) (name : List ℕ) → IsScript s v k sc → is_taken sc name ≡ false → HasNoEntry sc name × IsFreeName s sc name
-free_name s v k sc name is untaken = go (subst (IsMeant s v k sc name) (no_entry s v k sc name is untaken) (is.names name))
+free_name s v k sc name is untaken = go (subst (IsNameMeant s v k sc name) (no_entry s v k sc name is untaken) (is.names name))
   where
     free : is_among sc.taken name ≡ false
     free = (or_parts (is_built_in name) (is_among sc.taken name) untaken).1
@@ -99,7 +99,7 @@ module _ (s : Table) (v : TermsView) (f : Fun) (sc : Script) where
     function_script : (k : KnownView) → is_taken sc f.name ≡ false → IsScript s v k sc → IsScript (with_leaf s (function_leaf f)) v k (with_declared f sc)
     function_script k untaken is = record { sorts = is.sorts; names = λ other. go other (bytes_eq other f.name) refl }
       where
-        here : HasNoEntry sc f.name × IsFreeName s sc f.name → IsMeant (with_leaf s (function_leaf f)) v k (with_declared f sc) f.name None
+        here : HasNoEntry sc f.name × IsFreeName s sc f.name → IsNameMeant (with_leaf s (function_leaf f)) v k (with_declared f sc) f.name None
         here (none, free) = (
           record { no_named = none.no_named; no_macro = none.no_macro },
           inl (record {
@@ -112,14 +112,14 @@ module _ (s : Table) (v : TermsView) (f : Fun) (sc : Script) where
           }),
         )
 
-        go : (other : List ℕ) (b : Bool) → bytes_eq other f.name ≡ b → IsMeant (with_leaf s (function_leaf f)) v k (with_declared f sc) other (known_entry k other)
+        go : (other : List ℕ) (b : Bool) → bytes_eq other f.name ≡ b → IsNameMeant (with_leaf s (function_leaf f)) v k (with_declared f sc) other (known_entry k other)
         go other false differs =
             meant_moves s (with_leaf s (function_leaf f)) v v keeps (keeps_none v) sc (with_declared f sc) other
             (record { functions = function_before other differs; macros = refl; named = refl; taken = taken_before other differs })
             (named_before other differs) k (known_entry k other) (is.names other)
         go other true e =
-            subst (λ (n : List ℕ). IsMeant (with_leaf s (function_leaf f)) v k (with_declared f sc) n (known_entry k n)) (sym ((bytes_eq-Decides other f.name).0 e))
-            (subst (IsMeant (with_leaf s (function_leaf f)) v k (with_declared f sc) f.name) (sym (no_entry s v k sc f.name is untaken)) (here (free_name s v k sc f.name is untaken)))
+            subst (λ (n : List ℕ). IsNameMeant (with_leaf s (function_leaf f)) v k (with_declared f sc) n (known_entry k n)) (sym ((bytes_eq-Decides other f.name).0 e))
+            (subst (IsNameMeant (with_leaf s (function_leaf f)) v k (with_declared f sc) f.name) (sym (no_entry s v k sc f.name is untaken)) (here (free_name s v k sc f.name is untaken)))
 
     -- the session, whose list of functions has the name last
     pub function_session : (d e : Session) → e.reader ≡ d.reader → e.functions ≡ d.functions ++ f.name ∷ [] → e.assertions ≡ d.assertions → e.has_logic ≡ d.has_logic → e.is_checked ≡ d.is_checked

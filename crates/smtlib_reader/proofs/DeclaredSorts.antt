@@ -8,14 +8,14 @@ use Rattle.std.proofs.lemmas.Map.Views.{list_any-from_Contains}
 use Rattle.std.proofs.lemmas.Slice.Eq.{bytes_eq-Decides}
 use Rattle.sexpr.specs.declared.causes.Cause.TheVariants.{Repeated, LeftOut}
 use Rattle.sexpr.specs.declared.causes.Refusal.{Refusal}
-use Rattle.sym_table.specs.Table.{Table, IsSortName, IsDeclaredSort, Keeps, with_sort}
+use Rattle.sym_table.specs.Table.{Table, IsSortName, IsDeclaredSort, Keeps, with_sort_name}
 use Rattle.sym_table.specs.Words.{IsBuiltIn, built_in_words}
 use Rattle.term_model.specs.declared.symbols.Sort.{Sort}
 use Rattle.term_pool.specs.Views.{TermsView}
 use Rattle.problem_text.specs.Commands.{declare_sort}
 use Rattle.text_items.specs.ItemShapes.{Name}
 use Rattle.term_names.specs.Known.{KnownView, known_entry}
-use Rattle.problem_text.specs.Problems.{performed}
+use Rattle.problem_text.specs.Problems.{script_performed}
 use Rattle.problem_text.specs.Scripts as spec
 use Rattle.problem_text.specs.Outcomes.{Outcome, done, refuse}
 use Rattle.problem_text.specs.Scripts.{Script}
@@ -72,20 +72,20 @@ sort_is_free s name e (inr (n, there)) =
     cc
 
 -- the script with one more sort
-module _ (s : Table) (v : TermsView) (name : List ℕ) (sc : Script) (keeps : Keeps s (with_sort s name)) where
-  sort_script : (k : KnownView) → IsScript s v k sc → IsScript (with_sort s name) v k (spec.with_sort name sc)
+module _ (s : Table) (v : TermsView) (name : List ℕ) (sc : Script) (keeps : Keeps s (with_sort_name s name)) where
+  sort_script : (k : KnownView) → IsScript s v k sc → IsScript (with_sort_name s name) v k (spec.with_sort name sc)
   sort_script k h = record {
     sorts = ap (λ names. names ++ name ∷ []) h.sorts;
     names = λ other.
-        meant_moves s (with_sort s name) v v keeps (keeps_none v) sc (spec.with_sort name sc) other
+        meant_moves s (with_sort_name s name) v v keeps (keeps_none v) sc (spec.with_sort name sc) other
         (record { functions = refl; macros = refl; named = refl; taken = refl }) (λ f. f) k (known_entry k other) (h.names other);
   }
 
-  sort_session : (d : Session) → IsSession s v d sc → IsSession (with_sort s name) v d (spec.with_sort name sc)
+  sort_session : (d : Session) → IsSession s v d sc → IsSession (with_sort_name s name) v d (spec.with_sort name sc)
   sort_session d h = record {
-    idle = idle_moves s (with_sort s name) v d.reader sc (spec.with_sort name sc) (top d.reader.replaces_lets) keeps h.idle (sort_script d.reader.known h.idle.script);
+    idle = idle_moves s (with_sort_name s name) v d.reader sc (spec.with_sort name sc) (top d.reader.replaces_lets) keeps h.idle (sort_script d.reader.known h.idle.script);
     functions = h.functions;
-    assertions = all_refer_still s (with_sort s name) v keeps d.assertions.items sc.assertions h.assertions;
+    assertions = all_refer_still s (with_sort_name s name) v keeps d.assertions.items sc.assertions h.assertions;
     has_logic = h.has_logic;
     is_checked = h.is_checked;
   }
@@ -95,25 +95,25 @@ module _ (s : Table) (v : TermsView) (d : Session) (replaces : Bool) (x : Name) 
   abbrev sort_by : Bool → Bool → Outcome Script ⊤
   sort_by taken none = if taken then refuse Repeated x.place sc else if none then done tt (spec.with_sort x.name sc) else refuse LeftOut place sc
 
-  sort_parts : (taken none : Bool) → (is_built_in x.name || is_among s.sorts x.name) ≡ taken → (arity == 0) ≡ none → performed replaces (declare_sort x place arity) sc ≡ sort_by taken none
-  unfolding performed
+  sort_parts : (taken none : Bool) → (is_built_in x.name || is_among s.sorts x.name) ≡ taken → (arity == 0) ≡ none → script_performed replaces (declare_sort x place arity) sc ≡ sort_by taken none
+  unfolding script_performed
   sort_parts taken none e f =
       ap (λ (names : List (List ℕ)). sort_by (is_built_in x.name || is_among names x.name) (arity == 0)) (sym is.idle.script.sorts)
       ∙ ap (λ b. sort_by b (arity == 0)) e
       ∙ ap (sort_by taken) f
 
-  pub sort_repeated : (r : Refusal) → (is_built_in x.name || is_among s.sorts x.name) ≡ true → r ≡ record { cause = Repeated; at = x.place } → Performs s v v d (performed replaces (declare_sort x place arity) sc) (Err (ReadFault.Text r))
+  pub sort_repeated : (r : Refusal) → (is_built_in x.name || is_among s.sorts x.name) ≡ true → r ≡ record { cause = Repeated; at = x.place } → Performs s v v d (script_performed replaces (declare_sort x place arity) sc) (Err (ReadFault.Text r))
   sort_repeated r taken same =
-      performs_refused s v d (performed replaces (declare_sort x place arity) sc) r (ap (λ o. o.result) (sort_parts true (arity == 0) taken refl) ∙ ap Err (sym same))
+      performs_refused s v d (script_performed replaces (declare_sort x place arity) sc) r (ap (λ o. o.result) (sort_parts true (arity == 0) taken refl) ∙ ap Err (sym same))
 
-  pub sort_left_out : (r : Refusal) → (is_built_in x.name || is_among s.sorts x.name) ≡ false → (arity == 0) ≡ false → r ≡ record { cause = LeftOut; at = place } → Performs s v v d (performed replaces (declare_sort x place arity) sc) (Err (ReadFault.Text r))
+  pub sort_left_out : (r : Refusal) → (is_built_in x.name || is_among s.sorts x.name) ≡ false → (arity == 0) ≡ false → r ≡ record { cause = LeftOut; at = place } → Performs s v v d (script_performed replaces (declare_sort x place arity) sc) (Err (ReadFault.Text r))
   sort_left_out r taken none same =
-      performs_refused s v d (performed replaces (declare_sort x place arity) sc) r (ap (λ o. o.result) (sort_parts false false taken none) ∙ ap Err (sym same))
+      performs_refused s v d (script_performed replaces (declare_sort x place arity) sc) r (ap (λ o. o.result) (sort_parts false false taken none) ∙ ap Err (sym same))
 
-  pub sort_added : (z : Table) (result : Result Unit ReadFault) → (is_built_in x.name || is_among s.sorts x.name) ≡ false → (arity == 0) ≡ true → OnOk result (z ≡ with_sort s x.name) → IfErr result (λ fault. fault ≡ ReadFault.Memory) → Keeps s z → Performs z v v d (performed replaces (declare_sort x place arity) sc) result
+  pub sort_added : (z : Table) (result : Result Unit ReadFault) → (is_built_in x.name || is_among s.sorts x.name) ≡ false → (arity == 0) ≡ true → OnOk result (z ≡ with_sort_name s x.name) → IfErr result (λ fault. fault ≡ ReadFault.Memory) → Keeps s z → Performs z v v d (script_performed replaces (declare_sort x place arity) sc) result
   sort_added z (Ok u) taken none added fault keeps =
-      let kept : Keeps s (with_sort s x.name) = subst (λ (t : Table). Keeps s t) added keeps in
-      subst (λ (t : Table). Performs t v v d (performed replaces (declare_sort x place arity) sc) (Ok tt)) (sym added)
-      (performs_done (with_sort s x.name) v d (performed replaces (declare_sort x place arity) sc) (spec.with_sort x.name sc) (sort_parts false true taken none) (sort_session s v x.name sc kept d is))
+      let kept : Keeps s (with_sort_name s x.name) = subst (λ (t : Table). Keeps s t) added keeps in
+      subst (λ (t : Table). Performs t v v d (script_performed replaces (declare_sort x place arity) sc) (Ok tt)) (sym added)
+      (performs_done (with_sort_name s x.name) v d (script_performed replaces (declare_sort x place arity) sc) (spec.with_sort x.name sc) (sort_parts false true taken none) (sort_session s v x.name sc kept d is))
   sort_added z (Err f) taken none added fault keeps =
-      subst (λ (g : ReadFault). Performs z v v d (performed replaces (declare_sort x place arity) sc) (Err g)) (sym fault) (performs_memory z v d (performed replaces (declare_sort x place arity) sc))
+      subst (λ (g : ReadFault). Performs z v v d (script_performed replaces (declare_sort x place arity) sc) (Err g)) (sym fault) (performs_memory z v d (script_performed replaces (declare_sort x place arity) sc))

@@ -7,13 +7,13 @@ use Rattle.term_pool.specs.Views.{TermsView}
 use Rattle.smtlib_reader.specs.Defining.{within, body_read, IsReadyForBody, ReadsBody}
 use Rattle.problem_text.specs.Forms.{form_of}
 use Rattle.term_names.specs.Known.{KnownView, known_entry}
-use Rattle.term_reader.specs.Reading.{IsIdle, Reads}
+use Rattle.term_reader.specs.Reading.{IsReaderIdle, ComesToTerm}
 use Rattle.rule_model.specs.Replacement.{HasNoLet}
 use Rattle.term_names.specs.Scope.{Scoped}
 use Rattle.problem_text.specs.TypedTerms.{Typed}
 use Rattle.problem_text.specs.Outcomes.{Outcome, done}
 use Rattle.problem_text.specs.Scripts.{Macro, Script}
-use Rattle.term_names.specs.Standing.{IsScript, IsMeant, macro_in}
+use Rattle.term_names.specs.Standing.{IsScript, IsNameMeant, macro_in}
 use Rattle.problem_text.specs.Terms.{read_term}
 use Rattle.term_names.specs.declared.faults.ReadFault.{ReadFault}
 use Rattle.term_names.specs.declared.known.KnownEntry.{KnownEntry}
@@ -31,7 +31,7 @@ macros_plain s v k sc is name = go (known_entry k name) (is.names name)
     none : macro_in sc name ≡ None → IfSome (macro_in sc name) (λ m. HasNoLet m.body)
     none e = subst (λ (o : Option Macro). IfSome o (λ m. HasNoLet m.body)) (sym e) tt
 
-    go : (e : Option KnownEntry) → IsMeant s v k sc name e → IfSome (macro_in sc name) (λ m. HasNoLet m.body)
+    go : (e : Option KnownEntry) → IsNameMeant s v k sc name e → IfSome (macro_in sc name) (λ m. HasNoLet m.body)
     go None m = none m.0.no_macro
     go (Some KnownEntry.Reserved) r = none r.no_entry.no_macro
     go (Some (KnownEntry.Macro w)) m = subst (λ (o : Option Macro). IfSome o (λ m. HasNoLet m.body)) (sym m.found) (m.is.body.plain m.is.plain)
@@ -43,7 +43,7 @@ body_plain s v k sc last xs i t is e =
     subst (λ (o : Outcome Script Typed). IfOk o.result (IsFreeIn (within xs))) e h.1 refl
 
 -- the reader is ready for the term that is the body
-pub ready_to_read : (s : Table) (v : TermsView) (r : Reader) (xs : List Var) (sc : Script) → IsReadyForBody s v r xs sc → IsIdle s v (record r { replaces_lets = true }) sc (within xs)
+pub ready_to_read : (s : Table) (v : TermsView) (r : Reader) (xs : List Var) (sc : Script) → IsReadyForBody s v r xs sc → IsReaderIdle s v (record r { replaces_lets = true }) sc (within xs)
 ready_to_read s v r xs sc h = record {
   script = h.script;
   scope = h.scope;
@@ -59,7 +59,7 @@ none_in_scope (x ∷ xs) = none_in_scope xs
 
 -- the body was read
 pub body_there : (s z : Table) (v w : TermsView) (r q : Reader) (xs : List Var) (i : Item) (sc : Script) (c : Value) (scope : List Scoped)
-    → IsReadyForBody s v r xs sc → Reads z v w q (within xs) (read_term i (within xs) sc) (Ok c) → scope ≡ []
+    → IsReadyForBody s v r xs sc → ComesToTerm z v w q (within xs) (read_term i (within xs) sc) (Ok c) → scope ≡ []
     → ReadsBody z v w (record q { replaces_lets = r.replaces_lets; scope = scope }) (body_read xs i sc) (Ok (record c { plain = true }))
 body_there s z v w r q xs i sc c scope ready h none =
     let (t, last, e, is, low, idle) = h.outcome in record {
@@ -83,5 +83,5 @@ body_there s z v w r q xs i sc c scope ready h none =
 
 -- the body has a fault
 pub body_faulty : (z : Table) (v w : TermsView) (q o : Reader) (xs : List Var) (i : Item) (sc : Script) (fault : ReadFault)
-    → Reads z v w q (within xs) (read_term i (within xs) sc) (Err fault) → ReadsBody z v w o (body_read xs i sc) (Err fault)
+    → ComesToTerm z v w q (within xs) (read_term i (within xs) sc) (Err fault) → ReadsBody z v w o (body_read xs i sc) (Err fault)
 body_faulty z v w q o xs i sc fault h = record { outcome = h.outcome; placed = h.placed }

@@ -16,7 +16,7 @@ use Rattle.problem_text.specs.Forms.{form_of}
 use Rattle.term_names.specs.Known.{KnownView}
 use Rattle.term_reader.specs.Reading.{IsReadTerm}
 use Rattle.problem_text.specs.TypedTerms.{Typed}
-use Rattle.problem_text.specs.Outcomes.{Outcome, done, refuse, goes_on}
+use Rattle.problem_text.specs.Outcomes.{Outcome, done, refuse, going_on}
 use Rattle.problem_text.specs.Scripts.{Macro, Script, with_macro}
 use Rattle.smtlib_reader.specs.Sessions.{IsReadBy}
 use Rattle.term_names.specs.Standing.{IsReservedName, AddsNoSymbols}
@@ -51,7 +51,7 @@ module _ (name : List ℕ) (xs : List Var) (target : Sort) (i : Item) (sc : Scri
   module _ (s : Table) (v w : TermsView) (r : Reader) where
     pub body_fails : (o : Reader) (fault : ReadFault) → ReadsBody s v w r (body_read xs i sc) (Err fault) → Defines s v w o (macro_defined name xs target i sc) (Err fault)
     body_fails o (ReadFault.Text refusal) h = record {
-      outcome = ap (λ (q : Result Typed Refusal). (goes_on q (body_read xs i sc).state (λ t last. judged t last (sort_eq t.sort target))).result) h.outcome;
+      outcome = ap (λ (q : Result Typed Refusal). (going_on q (body_read xs i sc).state (λ t last. judged t last (sort_eq t.sort target))).result) h.outcome;
       placed = places_more s v.pass w.pass _ _ read_more h.placed;
     }
     body_fails o ReadFault.PoolFull h = record { outcome = lacks_more s w.pass _ _ read_more h.outcome; placed = places_more s v.pass w.pass _ _ read_more h.placed }
@@ -64,7 +64,7 @@ module _ (name : List ℕ) (xs : List Var) (target : Sort) (i : Item) (sc : Scri
       -- with the sort of the body
       comes_to : (b : Bool) → sort_eq c.sort target ≡ b → macro_defined name xs target i sc ≡ judged h.outcome.0 h.outcome.1 b
       comes_to b e =
-          ap (λ (q : Outcome Script Typed). goes_on q.result q.state (λ t last. judged t last (sort_eq t.sort target))) h.outcome.2
+          ap (λ (q : Outcome Script Typed). going_on q.result q.state (λ t last. judged t last (sort_eq t.sort target))) h.outcome.2
           ∙ ap (judged h.outcome.0 h.outcome.1) (ap (λ sort. sort_eq sort target) (sym h.outcome.3.sort) ∙ e)
 
       pub other_sort : (o : Reader) (refusal : Refusal) → Err refusal ≡ checked (sort_eq c.sort target) (place_of i)

@@ -9,18 +9,18 @@ use Rattle.sym_table.specs.Table.{Table}
 use Rattle.term_model.specs.declared.symbols.Sort.{Sort}
 use Rattle.term_model.specs.Terms.{Var, sort_eq}
 use Rattle.term_pool.specs.Views.{TermsView, KeepsTerms}
-use Rattle.problem_text.specs.Commands.{Command, define_fun}
+use Rattle.problem_text.specs.Commands.{ScriptCommand, define_fun}
 use Rattle.smtlib_reader.specs.Defining.{Signature, signature_from, IsSignatureRead, within, body_read, macro_defined, IsDefining, Defines}
 use Rattle.term_names.specs.Entries.{EntriesView, lookup}
 use Rattle.text_items.specs.ItemShapes.{Name}
 use Rattle.problem_text.specs.Forms.{form_of}
 use Rattle.term_names.specs.Known.{KnownView}
-use Rattle.problem_text.specs.Problems.{performed}
+use Rattle.problem_text.specs.Problems.{script_performed}
 use Rattle.problem_text.specs.TypedTerms.{Typed}
-use Rattle.problem_text.specs.Outcomes.{Outcome, done, refuse, given, goes_on, and_then}
+use Rattle.problem_text.specs.Outcomes.{Outcome, done, refuse, given, going_on, and_then}
 use Rattle.problem_text.specs.Scripts.{Script, is_taken, with_name, with_macro}
 use Rattle.smtlib_reader.specs.Sessions.{IsSession, Performs}
-use Rattle.problem_text.specs.Sorts.{chained, sort_from, parameters_from}
+use Rattle.problem_text.specs.Sorts.{result_then, sort_from, parameters_from}
 use Rattle.term_names.specs.Standing.{AddsNoSymbols}
 use Rattle.problem_text.specs.Words.{is_among, is_built_in}
 use Rattle.term_names.specs.declared.faults.ReadFault.{ReadFault}
@@ -64,42 +64,42 @@ still_there name xs target body s =
     go t last p false = (p, tt)
 
 module _ (replaces : Bool) (n : Name) (parameters : Items) (target body : Item) (sc : Script) where
-  abbrev command : Command
+  abbrev command : ScriptCommand
   command = define_fun n parameters target body
 
   -- once the signature is read
   abbrev signed : Result Signature Refusal → Outcome Script ⊤
-  signed r = goes_on r (with_name n.name sc) (λ q named. macro_defined n.name q.parameters q.target body named)
+  signed r = going_on r (with_name n.name sc) (λ q named. macro_defined n.name q.parameters q.target body named)
 
   abbrev by_name : Bool → Result Signature Refusal → Outcome Script ⊤
   by_name b r = if b then refuse Repeated n.place sc else signed r
 
-  comes_to : performed replaces command sc ≡ by_name (is_taken sc n.name) (signature_from sc.sorts parameters target)
-  unfolding performed
+  comes_to : script_performed replaces command sc ≡ by_name (is_taken sc n.name) (signature_from sc.sorts parameters target)
+  unfolding script_performed
   comes_to = ap (λ (o : Outcome Script ⊤). if is_taken sc n.name then refuse Repeated n.place sc else o) (go (parameters_from sc.sorts [] parameters) (sort_from sc.sorts target))
     where
       go : (a : Result (List Var) Refusal) (b : Result Sort Refusal)
           → and_then (given a (with_name n.name sc)) (λ xs named. and_then (given b named) (λ sort sorted. macro_defined n.name xs sort body sorted))
-          ≡ signed (chained a (λ xs. chained b (λ t. Ok (record { parameters = xs; target = t }))))
+          ≡ signed (result_then a (λ xs. result_then b (λ t. Ok (record { parameters = xs; target = t }))))
       go (Ok xs) (Ok sort) = refl
       go (Ok xs) (Err refusal) = refl
       go (Err refusal) b = refl
 
   module _ (s : Table) (v : TermsView) (d : Session) where
-    pub name_taken : (e : Session) (refusal : Refusal) → is_taken sc n.name ≡ true → refusal ≡ record { cause = Repeated; at = n.place } → Performs s v v e (performed replaces command sc) (Err (ReadFault.Text refusal))
+    pub name_taken : (e : Session) (refusal : Refusal) → is_taken sc n.name ≡ true → refusal ≡ record { cause = Repeated; at = n.place } → Performs s v v e (script_performed replaces command sc) (Err (ReadFault.Text refusal))
     name_taken e refusal taken is = record {
       outcome = ap (λ (o : Outcome Script ⊤). o.result) (comes_to ∙ ap (λ b. by_name b (signature_from sc.sorts parameters target)) taken) ∙ ap Err (sym is);
       placed = places_none s v.pass v.pass _ refl;
     }
 
     module _ (session : IsSession s v d sc) (free : is_taken sc n.name ≡ false) where
-      named_so : (r : Result Signature Refusal) → signature_from s.sorts parameters target ≡ r → performed replaces command sc ≡ signed r
+      named_so : (r : Result Signature Refusal) → signature_from s.sorts parameters target ≡ r → script_performed replaces command sc ≡ signed r
       named_so r e =
           comes_to ∙ ap (λ b. by_name b (signature_from sc.sorts parameters target)) free
           ∙ ap (λ (sorts : List (List ℕ)). signed (signature_from sorts parameters target)) (sym session.idle.script.sorts) ∙ ap signed e
 
       pub signature_fails : (source : List ℕ) (nodes : List Node) (first last : ℕ) (ps : List Parameter) (e : Session) (fault : ReadFault)
-          → IsSignatureRead source nodes first last ps (signature_from s.sorts parameters target) (Err fault) → Performs s v v e (performed replaces command sc) (Err fault)
+          → IsSignatureRead source nodes first last ps (signature_from s.sorts parameters target) (Err fault) → Performs s v v e (script_performed replaces command sc) (Err fault)
       signature_fails source nodes first last ps e (ReadFault.Text refusal) h = record {
         outcome = ap (λ (o : Outcome Script ⊤). o.result) (named_so (Err refusal) h);
         placed = places_none s v.pass v.pass _ refl;
@@ -129,7 +129,7 @@ module _ (replaces : Bool) (n : Name) (parameters : Items) (target body : Item) 
       -- the macro was read
       pub is_performed : (z : Table) (w : TermsView) (r : Reader) (ps : Vec Parameter Global) (name : List ℕ) (xs : List Var) (sort : Sort) (result : Result Unit ReadFault) → name ≡ n.name
           → signature_from s.sorts parameters target ≡ Ok (record { parameters = xs; target = sort }) → AddsNoSymbols s z → KeepsTerms v w
-          → Defines z v w r (macro_defined name xs sort body (with_name n.name sc)) result → Performs z v w (record d { reader = r; parameters = ps }) (performed replaces command sc) result
+          → Defines z v w r (macro_defined name xs sort body (with_name n.name sc)) result → Performs z v w (record d { reader = r; parameters = ps }) (script_performed replaces command sc) result
       is_performed z w r ps name xs sort result same e adds keeps h =
           let defines : Defines z v w r (macro_defined n.name xs sort body (with_name n.name sc)) result =
           subst (λ (x : List ℕ). Defines z v w r (macro_defined x xs sort body (with_name n.name sc)) result) same h in

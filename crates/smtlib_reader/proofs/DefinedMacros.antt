@@ -9,7 +9,7 @@ use Rattle.term_pool.specs.Views.{TermsView}
 use Rattle.term_names.specs.Entries.{EntriesView, lookup}
 use Rattle.term_names.specs.Known.{KnownView, known_entry, own_entry, base_entry, PutsKnown, macro_of, named_of}
 use Rattle.problem_text.specs.Scripts.{Macro, Script, with_name, with_macro}
-use Rattle.term_names.specs.Standing.{IsScript, IsMeant, IsMacroOf, HasNoEntry, IsFunctionAt, IsFreeName, IsReservedName, macro_in}
+use Rattle.term_names.specs.Standing.{IsScript, IsNameMeant, IsMacroOf, HasNoEntry, IsFunctionAt, IsFreeName, IsReservedName, macro_in}
 use Rattle.problem_text.specs.Words.{is_among}
 use Rattle.term_names.specs.declared.entries.Entry.{Entry}
 use Rattle.term_names.specs.declared.entries.Macro as macro
@@ -51,7 +51,7 @@ module _ (s : Table) (v : TermsView) (old new : KnownView) (sc : Script) (name :
   taken_before other differs = among_before sc.taken name other differs
 
   -- another name
-  before_taking : (other : List ℕ) → bytes_eq other name ≡ false → (e : Option KnownEntry) → IsMeant s v old sc other e → IsMeant s v new (with_name name sc) other e
+  before_taking : (other : List ℕ) → bytes_eq other name ≡ false → (e : Option KnownEntry) → IsNameMeant s v old sc other e → IsNameMeant s v new (with_name name sc) other e
   before_taking other differs None (none, inl f) = (
     record { no_named = none.no_named; no_macro = none.no_macro },
     inl (record { leaf = f.leaf; meant = f.meant; here = f.here; same_name = f.same_name; found = f.found; taken = taken_before other differs ∙ f.taken }),
@@ -87,7 +87,7 @@ module _ (s : Table) (v : TermsView) (old new : KnownView) (sc : Script) (name :
   }
 
   pub name_reserved : IsScript s v old sc → is_among sc.taken name ≡ false → known_entry old name ≡ None → IsReservedName s (with_name name sc) name
-  name_reserved is free none = go (subst (IsMeant s v old sc name) none (is.names name))
+  name_reserved is free none = go (subst (IsNameMeant s v old sc name) none (is.names name))
     where
       go : HasNoEntry sc name × (IsFunctionAt s sc name ⊎ IsFreeName s sc name) → IsReservedName s (with_name name sc) name
       go (nothing, inl f) = let is_taken = f.taken in cc
@@ -100,13 +100,13 @@ module _ (s : Table) (v : TermsView) (old new : KnownView) (sc : Script) (name :
   pub reserved_script : IsScript s v old sc → is_among sc.taken name ≡ false → known_entry old name ≡ None → IsScript s v new (with_name name sc)
   reserved_script is free none = record {
     sorts = is.sorts;
-    names = λ other. subst (IsMeant s v new (with_name name sc) other) (sym (takes.entry other)) (go other (bytes_eq other name) refl);
+    names = λ other. subst (IsNameMeant s v new (with_name name sc) other) (sym (takes.entry other)) (go other (bytes_eq other name) refl);
   }
     where
-      go : (other : List ℕ) (b : Bool) → bytes_eq other name ≡ b → IsMeant s v new (with_name name sc) other (cond b (Some KnownEntry.Reserved) (known_entry old other))
+      go : (other : List ℕ) (b : Bool) → bytes_eq other name ≡ b → IsNameMeant s v new (with_name name sc) other (cond b (Some KnownEntry.Reserved) (known_entry old other))
       go other false e = before_taking other e (known_entry old other) (is.names other)
       go other true e =
-          subst (λ (n : List ℕ). IsMeant s v new (with_name name sc) n (Some KnownEntry.Reserved)) (sym ((bytes_eq-Decides other name).0 e)) (name_reserved is free none)
+          subst (λ (n : List ℕ). IsNameMeant s v new (with_name name sc) n (Some KnownEntry.Reserved)) (sym ((bytes_eq-Decides other name).0 e)) (name_reserved is free none)
 
 -- what entries say after one more macro
 pub record PutsMacro (old new : KnownView) (name : List ℕ) (held : macro.Macro) : Type 0 where
@@ -133,7 +133,7 @@ module _ (s : Table) (v : TermsView) (old new : KnownView) (sc : Script) (d : Ma
       ∙ or_none (macro_in sc other)
 
   -- another name
-  before_defining : (other : List ℕ) → bytes_eq other d.name ≡ false → (e : Option KnownEntry) → IsMeant s v old sc other e → IsMeant s v new (with_macro d sc) other e
+  before_defining : (other : List ℕ) → bytes_eq other d.name ≡ false → (e : Option KnownEntry) → IsNameMeant s v old sc other e → IsNameMeant s v new (with_macro d sc) other e
   before_defining other differs None (none, inl f) = (
     record { no_named = none.no_named; no_macro = macro_before other differs ∙ none.no_macro },
     inl (record { leaf = f.leaf; meant = f.meant; here = f.here; same_name = f.same_name; found = f.found; taken = f.taken }),
@@ -168,7 +168,7 @@ module _ (s : Table) (v : TermsView) (old new : KnownView) (sc : Script) (d : Ma
     taken = n.taken;
   }
 
-  now : IsMacroOf s v held d → IsReservedName s sc d.name → IsMeant s v new (with_macro d sc) d.name (Some (KnownEntry.Macro (Own (length old.own.macros))))
+  now : IsMacroOf s v held d → IsReservedName s sc d.name → IsNameMeant s v new (with_macro d sc) d.name (Some (KnownEntry.Macro (Own (length old.own.macros))))
   now is r = record {
     held = held;
     meant = d;
@@ -183,21 +183,21 @@ module _ (s : Table) (v : TermsView) (old new : KnownView) (sc : Script) (d : Ma
   pub defined_script : IsScript s v old sc → IsMacroOf s v held d → IsReservedName s sc d.name → IsScript s v new (with_macro d sc)
   defined_script is held_is r = record {
     sorts = is.sorts;
-    names = λ other. subst (IsMeant s v new (with_macro d sc) other) (sym (puts.entry other)) (go other (bytes_eq other d.name) refl);
+    names = λ other. subst (IsNameMeant s v new (with_macro d sc) other) (sym (puts.entry other)) (go other (bytes_eq other d.name) refl);
   }
     where
       entry : KnownEntry
       entry = KnownEntry.Macro (Own (length old.own.macros))
 
-      go : (other : List ℕ) (b : Bool) → bytes_eq other d.name ≡ b → IsMeant s v new (with_macro d sc) other (cond b (Some entry) (known_entry old other))
+      go : (other : List ℕ) (b : Bool) → bytes_eq other d.name ≡ b → IsNameMeant s v new (with_macro d sc) other (cond b (Some entry) (known_entry old other))
       go other false e = before_defining other e (known_entry old other) (is.names other)
-      go other true e = subst (λ (n : List ℕ). IsMeant s v new (with_macro d sc) n (Some entry)) (sym ((bytes_eq-Decides other d.name).0 e)) (now held_is r)
+      go other true e = subst (λ (n : List ℕ). IsNameMeant s v new (with_macro d sc) n (Some entry)) (sym ((bytes_eq-Decides other d.name).0 e)) (now held_is r)
 
 -- a name that the script says is taken for a macro has that entry
 pub reserved_name : (s : Table) (v : TermsView) (k : KnownView) (sc : Script) (name : List ℕ) → IsScript s v k sc → IsReservedIn sc name → (known_entry k name ≡ Some KnownEntry.Reserved) × IsReservedName s sc name
 reserved_name s v k sc name is r = go (known_entry k name) (is.names name)
   where
-    go : (e : Option KnownEntry) → IsMeant s v k sc name e → (e ≡ Some KnownEntry.Reserved) × IsReservedName s sc name
+    go : (e : Option KnownEntry) → IsNameMeant s v k sc name e → (e ≡ Some KnownEntry.Reserved) × IsReservedName s sc name
     go None (none, inl f) = absurd (let a = f.found in let b = r.no_function in cc)
     go None (none, inr f) = absurd (let a = f.free in let b = r.taken in cc)
     go (Some KnownEntry.Reserved) m = (refl, m)

@@ -10,10 +10,10 @@ use Rattle.term_pool.specs.StandsFor.{variable_leaf}
 use Rattle.term_pool.specs.Views.{TermsView}
 use Rattle.smtlib_reader.specs.Defining.{AddsParameter, AreListed, IsReadyForBody}
 use Rattle.rule_model.specs.Heights.{height}
-use Rattle.term_names.specs.InScope.{IsScope, AreBound}
+use Rattle.term_names.specs.InScope.{IsScope, AreValuesBound}
 use Rattle.problem_text.specs.Names.{Bound, Place, itself, inside}
 use Rattle.smtlib_reader.specs.Parameters.{IsParameter, AreParameters}
-use Rattle.term_reader.specs.Reading.{IsIdle}
+use Rattle.term_reader.specs.Reading.{IsReaderIdle}
 use Rattle.term_names.specs.Scope.{Scoped}
 use Rattle.problem_text.specs.Scripts.{Script}
 use Rattle.smtlib_reader.specs.Sessions.{top}
@@ -48,8 +48,8 @@ is_added s v old new k name sort x c here same same_sort known is high pushed = 
 
 -- one more that is bound
 bound_more : (s : Table) (v : TermsView) (ks : List ℕ) (cs : List Value) (bs : List Bound) (k : ℕ) (c : Value) (b : Bound)
-    → AreBound s v ks cs bs → IsLeaf s k (variable_leaf b.variable) → IsValue s v c (record { tree = b.stands_for; sort = b.variable.sort })
-    → AreBound s v (ks ++ k ∷ []) (cs ++ c ∷ []) (bs ++ b ∷ [])
+    → AreValuesBound s v ks cs bs → IsLeaf s k (variable_leaf b.variable) → IsValue s v c (record { tree = b.stands_for; sort = b.variable.sort })
+    → AreValuesBound s v (ks ++ k ∷ []) (cs ++ c ∷ []) (bs ++ b ∷ [])
 bound_more s v [] [] [] k c b h l is = (l, is, tt)
 bound_more s v [] [] (d ∷ bs) k c b h l is = absurd h
 bound_more s v [] (d ∷ cs) bs k c b h l is = absurd h
@@ -80,7 +80,7 @@ pub record AreListedUpTo (source : List ℕ) (nodes : List Node) (s : Table) (v 
   pub front : List Var
   pub back : List Var
   pub split : xs ≡ front ++ back
-  pub bound : AreBound s v leaves values (map itself front)
+  pub bound : AreValuesBound s v leaves values (map itself front)
   pub others : AreParameters source nodes left back
 
 pub none_listed : (source : List ℕ) (nodes : List Node) (s : Table) (v : TermsView) (ps : List Parameter) (values : List Value) (xs : List Var) → values ≡ [] → AreParameters source nodes ps xs
@@ -89,7 +89,7 @@ none_listed source nodes s v ps values xs none are = record {
   front = [];
   back = xs;
   split = refl;
-  bound = subst (λ (cs : List Value). AreBound s v [] cs []) (sym none) tt;
+  bound = subst (λ (cs : List Value). AreValuesBound s v [] cs []) (sym none) tt;
   others = are;
 }
 
@@ -120,19 +120,19 @@ one_listed source nodes s z v p left ps leaves more values new k xs e h keeps ad
         }
 
 pub all_listed : (source : List ℕ) (nodes : List Node) (s : Table) (v : TermsView) (left : List Parameter) (leaves : List ℕ) (values : List Value) (xs : List Var)
-    → left ≡ [] → AreListedUpTo source nodes s v left leaves values xs → AreBound s v leaves values (map itself xs)
+    → left ≡ [] → AreListedUpTo source nodes s v left leaves values xs → AreValuesBound s v leaves values (map itself xs)
 all_listed source nodes s v left leaves values xs none h = go h.back h.split (rw none at h.others)
   where
     ended : (ys : List Var) → ys ++ [] ≡ ys
     ended [] = refl
     ended (y ∷ ys) = ap (λ zs. y ∷ zs) (ended ys)
 
-    go : (back : List Var) → xs ≡ h.front ++ back → AreParameters source nodes [] back → AreBound s v leaves values (map itself xs)
-    go [] split are = subst (λ ys. AreBound s v leaves values (map itself ys)) (sym (split ∙ ended h.front)) h.bound
+    go : (back : List Var) → xs ≡ h.front ++ back → AreParameters source nodes [] back → AreValuesBound s v leaves values (map itself xs)
+    go [] split are = subst (λ ys. AreValuesBound s v leaves values (map itself ys)) (sym (split ∙ ended h.front)) h.bound
     go (x ∷ back) split are = absurd are
 
 -- leaves and sorts of what is bound
-leaves_bound : (s : Table) (v : TermsView) (ks : List ℕ) (cs : List Value) (xs : List Var) → AreBound s v ks cs (map itself xs) → AreLeavesOf s ks xs
+leaves_bound : (s : Table) (v : TermsView) (ks : List ℕ) (cs : List Value) (xs : List Var) → AreValuesBound s v ks cs (map itself xs) → AreLeavesOf s ks xs
 leaves_bound s v [] [] [] h = tt
 leaves_bound s v [] [] (x ∷ xs) h = absurd h
 leaves_bound s v [] (c ∷ cs) xs h = absurd h
@@ -140,7 +140,7 @@ leaves_bound s v (k ∷ ks) [] xs h = absurd h
 leaves_bound s v (k ∷ ks) (c ∷ cs) [] h = absurd h
 leaves_bound s v (k ∷ ks) (c ∷ cs) (x ∷ xs) h = (h.0, leaves_bound s v ks cs xs h.2)
 
-sorts_bound : (s : Table) (v : TermsView) (ks : List ℕ) (cs : List Value) (xs : List Var) → AreBound s v ks cs (map itself xs) → map (λ (c : Value). c.sort) cs ≡ map (λ (x : Var). x.sort) xs
+sorts_bound : (s : Table) (v : TermsView) (ks : List ℕ) (cs : List Value) (xs : List Var) → AreValuesBound s v ks cs (map itself xs) → map (λ (c : Value). c.sort) cs ≡ map (λ (x : Var). x.sort) xs
 sorts_bound s v [] [] [] h = refl
 sorts_bound s v [] [] (x ∷ xs) h = absurd h
 sorts_bound s v [] (c ∷ cs) xs h = absurd h
@@ -155,7 +155,7 @@ inside_themselves (x ∷ xs) = ap (λ bs. itself x ∷ bs) (inside_themselves xs
 
 -- the parameters are in scope, and listed
 pub is_entered : (s z : Table) (v : TermsView) (r : Reader) (l : Listed) (scope : List Scoped) (values none : List Value) (xs : List Var) (sc : Script)
-    → AddsNoSymbols s z → IsIdle s v r sc (top r.replaces_lets) → AreBound z v l.leaves.items values (map itself xs) → l.sorts.items ≡ map (λ (c : Value). c.sort) values
+    → AddsNoSymbols s z → IsReaderIdle s v r sc (top r.replaces_lets) → AreValuesBound z v l.leaves.items values (map itself xs) → l.sorts.items ≡ map (λ (c : Value). c.sort) values
     → ((p : Place) → IsScope z v r.scope p.scope → p.settings.replaces_lets ≡ false → IsScope z v scope (inside (map itself xs) p).scope) → none ≡ []
     → AreListed z l xs × IsReadyForBody z v (record r { scope = scope; values = none }) xs sc
 is_entered s z v r l scope values none xs sc adds idle bound sorts put no_values = (

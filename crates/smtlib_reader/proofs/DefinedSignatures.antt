@@ -7,7 +7,7 @@ use Rattle.term_model.specs.Terms.{Var}
 use Rattle.smtlib_reader.specs.Defining.{signature_from}
 use Rattle.text_items.specs.Nodes.{AreNodes}
 use Rattle.smtlib_reader.specs.Parameters.{AreParameters}
-use Rattle.problem_text.specs.Sorts.{chained, sort_from, parameter_from, parameters_from}
+use Rattle.problem_text.specs.Sorts.{result_then, sort_from, parameter_from, parameters_from}
 use Rattle.text_items.specs.declared.nodes.Node.{Node}
 use Rattle.smtlib_reader.specs.declared.parameters.Parameter.{Parameter}
 use Rattle.text_items.proofs.NodeSteps.{node_behind}
@@ -28,12 +28,12 @@ few_parameters source nodes sorts earlier k (item i rest) m xs (n, is, are) e =
     behind : k < n
     behind = node_behind source nodes k i n is
 
-    go : (r : Result Var Refusal) → chained r (λ x. chained (parameters_from sorts (x.name ∷ earlier) rest) (λ ys. Ok (x ∷ ys))) ≡ Ok xs
+    go : (r : Result Var Refusal) → result_then r (λ x. result_then (parameters_from sorts (x.name ∷ earlier) rest) (λ ys. Ok (x ∷ ys))) ≡ Ok xs
         → ((x : Var) (ys : List Var) → parameters_from sorts (x.name ∷ earlier) rest ≡ Ok ys → n + length ys ≤ m) → k + length xs ≤ m
     go (Err refusal) f later = cc
     go (Ok x) f later = others (parameters_from sorts (x.name ∷ earlier) rest) refl f
       where
-        others : (r : Result (List Var) Refusal) → parameters_from sorts (x.name ∷ earlier) rest ≡ r → chained r (λ ys. Ok (x ∷ ys)) ≡ Ok xs → k + length xs ≤ m
+        others : (r : Result (List Var) Refusal) → parameters_from sorts (x.name ∷ earlier) rest ≡ r → result_then r (λ ys. Ok (x ∷ ys)) ≡ Ok xs → k + length xs ≤ m
         others (Err refusal) g h = cc
         others (Ok ys) g h = let l = ap length (same_list (x ∷ ys) xs h) in let b = later x ys g in omega (arith, l, b, behind)
 
@@ -48,7 +48,7 @@ pub signature_there : (source : List ℕ) (nodes : List Node) (sorts : List (Lis
     → (xs : List Var) × (signature_from sorts items i ≡ Ok (record { parameters = xs; target = target })) × AreParameters source nodes ps xs × (k + length ps ≤ m)
 signature_there source nodes sorts k items m i ps target there (xs, e, are) f = (
   xs,
-  ap (λ r. chained r (λ ys. chained (sort_from sorts i) (λ t. Ok (record { parameters = ys; target = t })))) e ∙ ap (λ r. chained r (λ t. Ok (record { parameters = xs; target = t }))) (sym f),
+  ap (λ r. result_then r (λ ys. result_then (sort_from sorts i) (λ t. Ok (record { parameters = ys; target = t })))) e ∙ ap (λ r. result_then r (λ t. Ok (record { parameters = xs; target = t }))) (sym f),
   are,
   let l = as_many source nodes ps xs are in let few = few_parameters source nodes sorts [] k items m xs there e in omega (arith, l, few),
 )

@@ -12,7 +12,7 @@ use Rattle.term_pool.specs.Views.{TermsView}
 use Rattle.problem_text.specs.Commands.{declare_fun}
 use Rattle.term_names.specs.Faults.{IsFaultOf}
 use Rattle.text_items.specs.ItemShapes.{Name}
-use Rattle.problem_text.specs.Problems.{performed}
+use Rattle.problem_text.specs.Problems.{script_performed}
 use Rattle.problem_text.specs.Outcomes.{Outcome, done, refuse, given, and_then}
 use Rattle.problem_text.specs.Scripts.{Script, is_taken, with_name, with_function}
 use Rattle.smtlib_reader.specs.Sessions.{IsSession, Performs}
@@ -37,7 +37,7 @@ module _ (s : Table) (v : TermsView) (d : Session) (sc : Script) (name : List �
 
 module _ (s : Table) (v : TermsView) (d e : Session) (replaces : Bool) (x : Name) (arguments : Items) (target : Item) (sc : Script) (is : IsSession s v d sc) where
   abbrev asked : Outcome Script ⊤
-  asked = performed replaces (declare_fun x arguments target) sc
+  asked = script_performed replaces (declare_fun x arguments target) sc
 
   -- by the target sort, and before that by the arguments' sorts
   abbrev by_target : List Sort → Result Sort Refusal → Outcome Script ⊤
@@ -53,7 +53,7 @@ module _ (s : Table) (v : TermsView) (d e : Session) (replaces : Bool) (x : Name
   by_name taken = if taken then refuse Repeated x.place sc else by_arguments (sorts_from sc.sorts arguments)
 
   name_step : (taken : Bool) → is_taken sc x.name ≡ taken → asked ≡ by_name taken
-  unfolding performed
+  unfolding script_performed
   name_step taken e = ap by_name e
 
   arguments_step : (o : Result (List Sort) Refusal) → is_taken sc x.name ≡ false → sorts_from s.sorts arguments ≡ o → asked ≡ by_arguments o

@@ -9,14 +9,14 @@ use Rattle.term_model.specs.declared.symbols.Sort.{Sort}
 use Rattle.term_model.specs.Terms.{Term, numeral}
 use Rattle.problem_text.specs.Words.{is_among, is_built_in}
 use Rattle.text_items.specs.ItemShapes.{Name}
-use Rattle.problem_text.specs.Forms.{Form, faulty, number, symbol, application, let_form, annotated, Forms, no_forms, form, Binds, no_binds, bind}
+use Rattle.problem_text.specs.Forms.{Form, faulty, number, symbol, application, let_form, annotated, Forms, no_forms, form, LetBinds, no_binds, bind}
 use Rattle.rule_model.specs.Heights.{height}
 use Rattle.problem_text.specs.Limits.{is_low}
 use Rattle.problem_text.specs.TypedTerms.{Typed}
 use Rattle.problem_text.specs.Outcomes.{Outcome, done, refuse, and_then}
 use Rattle.problem_text.specs.Scripts.{Named, Script, is_taken, with_named, with_term, with_let_name}
-use Rattle.problem_text.specs.Names.{Place, Meaning, meaning_of, applied, inside, let_term}
-use Rattle.term_names.specs.Standing.{named_in, macro_in, function_in}
+use Rattle.problem_text.specs.Names.{Place, Meaning, meaning_of, meaning_applied, inside, let_term}
+use Rattle.term_names.specs.Standing.{named_in_script, macro_in, function_in}
 use Rattle.problem_text.specs.Terms.{settled, with_meaning, with_names, term_from, terms_from, bounds_from}
 use Rattle.term_reader.proofs.GivenNames.{named_before, taken_before}
 use Rattle.problem_text.proofs.Outcomes.{Ends, ends-and_then}
@@ -70,9 +70,9 @@ module _ (P : Script → Type 0) (after_term : (t : Term) (s : Script) → P s �
     pub in_term : (f : Form) (p : Place) (s : Script) → P s → Keeps (term_from f p s)
     in_term (faulty cause place) p s h = (h, tt)
     in_term (number place n) p s h = in_settled p.settings.limit place (Some (record { tree = numeral n; sort = Sort.Int })) s h
-    in_term (symbol n) p s h = in_meaning n.place (meaning_of p s n.name) s _ h (λ m. in_settled p.settings.limit n.place (applied m []) s h)
+    in_term (symbol n) p s h = in_meaning n.place (meaning_of p s n.name) s _ h (λ m. in_settled p.settings.limit n.place (meaning_applied m []) s h)
     in_term (application place head fs) p s h =
-        in_meaning head.place (meaning_of p s head.name) s _ h (λ m. and_kept (terms_from fs p s) _ (in_terms fs p s h) (λ ts end k. in_settled p.settings.limit place (applied m ts) end k))
+        in_meaning head.place (meaning_of p s head.name) s _ h (λ m. and_kept (terms_from fs p s) _ (in_terms fs p s h) (λ ts end k. in_settled p.settings.limit place (meaning_applied m ts) end k))
     in_term (let_form place bs body) p s h =
         and_kept (bounds_from bs [] p s) _ (in_bounds bs [] p s h)
         (λ bound end k. and_kept (term_from body (inside bound p) end) _ (in_term body (inside bound p) end k)
@@ -84,7 +84,7 @@ module _ (P : Script → Type 0) (after_term : (t : Term) (s : Script) → P s �
     in_terms (form f fs) p s h =
         and_kept (term_from f p s) _ (in_term f p s h) (λ t end k. and_kept (terms_from fs p end) _ (in_terms fs p end k) (λ ts last l. (l, tt)))
 
-    in_bounds : (bs : Binds) (earlier : List (List ℕ)) (p : Place) (s : Script) → P s → Keeps (bounds_from bs earlier p s)
+    in_bounds : (bs : LetBinds) (earlier : List (List ℕ)) (p : Place) (s : Script) → P s → Keeps (bounds_from bs earlier p s)
     in_bounds no_binds earlier p s h = (h, tt)
     in_bounds (bind n f bs) earlier p s h =
         unless (is_built_in n.name || is_among earlier n.name) Repeated n.place s _ h
@@ -120,7 +120,7 @@ same_declared f p s =
 -- the name is taken, but it is that of no function, macro or named term
 pub record IsReservedIn (sc : Script) (name : List ℕ) : Type 0 where
   pub taken : is_among sc.taken name ≡ true
-  pub no_named : named_in sc name ≡ None
+  pub no_named : named_in_script sc name ≡ None
   pub no_macro : macro_in sc name ≡ None
   pub no_function : function_in sc name ≡ None
 

@@ -8,7 +8,7 @@ use Rattle.problem_text.specs.Scripts.{Script}
 use Rattle.term_names.specs.declared.entries.Entry.{Entry}
 use Rattle.term_names.specs.Entries.{EntriesView, no_entries, lookup}
 use Rattle.term_names.specs.Known.{KnownView, own_entry, base_entry}
-use Rattle.term_names.specs.Standing.{IsScript, IsMeant}
+use Rattle.term_names.specs.Standing.{IsScript, IsNameMeant}
 
 abbrev own_of : EntriesView → KnownView
 own_of e = record { base = no_entries; own = e }
@@ -17,7 +17,7 @@ abbrev base_of : EntriesView → KnownView
 base_of e = record { base = e; own = no_entries }
 
 meant_still : (s : Table) (v : TermsView) (e : EntriesView) (sc : Script) (name : List ℕ) (o : Option Entry)
-    → IsMeant s v (own_of e) sc name (option_or (option_map own_entry o) None) → IsMeant s v (base_of e) sc name (option_map base_entry o)
+    → IsNameMeant s v (own_of e) sc name (option_or (option_map own_entry o) None) → IsNameMeant s v (base_of e) sc name (option_map base_entry o)
 meant_still s v e sc name None is = is
 meant_still s v e sc name (Some Entry.Reserved) is = is
 meant_still s v e sc name (Some (Entry.Macro n)) is = is

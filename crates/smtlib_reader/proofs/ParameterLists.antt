@@ -21,7 +21,7 @@ use Rattle.smtlib_reader.specs.declared.parameters.Parameter.{Parameter}
 use Rattle.problem_text.specs.Words.{is_among, is_built_in}
 use Rattle.text_items.specs.ItemShapes.{Name, name_at, excess, symbol_fault, pair_fault, pairs_fault}
 use Rattle.problem_text.specs.Commands.{refused}
-use Rattle.problem_text.specs.Sorts.{chained, sort_from, parameter_from, parameters_from}
+use Rattle.problem_text.specs.Sorts.{result_then, sort_from, parameter_from, parameters_from}
 use Rattle.text_items.specs.Nodes.{IsNode, AreNodes}
 use Rattle.text_items.specs.NameNodes.{IsNameNode}
 use Rattle.smtlib_reader.specs.Parameters.{IsParameter, AreParameters, AreKeysOf, IsParameterRead, AreParametersRead}
@@ -88,7 +88,7 @@ with_key keys new key names are is none = λ name.
 -- the reading of a parameter by its pair
 pub parameter_of : (sorts names : List (List ℕ)) (i : Item) (place : ℕ) (x t : Item) → i ≡ list place (item x (item t no_items))
     → parameter_from sorts names i ≡ (if is_built_in (name_at x).name || is_among names (name_at x).name then refused Repeated (place_of x)
-    else chained (sort_from sorts t) (λ s. Ok (record { name = (name_at x).name; sort = s })))
+    else result_then (sort_from sorts t) (λ s. Ok (record { name = (name_at x).name; sort = s })))
 parameter_of sorts names i place x t e = ap (parameter_from sorts names) e
 
 taken_so : (b : Bool) → false ≡ not b → b ≡ true
@@ -106,19 +106,19 @@ is_taken sorts names i place x t e name named free denied test p at r is =
     let b : (is_built_in (name_at x).name || is_among names (name_at x).name) ≡ true =
     ap (λ n. is_built_in n || is_among names n) (sym named) ∙ taken_so _ (sym denied ∙ test) in
     parameter_of sorts names i place x t e
-    ∙ ap (λ b. if b then refused Repeated (place_of x) else chained (sort_from sorts t) (λ s. Ok (record { name = (name_at x).name; sort = s }))) b
+    ∙ ap (λ b. if b then refused Repeated (place_of x) else result_then (sort_from sorts t) (λ s. Ok (record { name = (name_at x).name; sort = s }))) b
     ∙ ap (λ q. refused {A = Var} Repeated q) (sym at) ∙ ap Err (sym is)
 
 pub is_free : (sorts names : List (List ℕ)) (i : Item) (place : ℕ) (x t : Item) → i ≡ list place (item x (item t no_items))
     → (name : List ℕ) → name ≡ (name_at x).name → (free : Bool) → free ≡ true → free ≡ not (is_built_in name || is_among names name)
-    → (r : Result Sort Refusal) → r ≡ sort_from sorts t → parameter_from sorts names i ≡ chained r (λ s. Ok (record { name = name; sort = s }))
+    → (r : Result Sort Refusal) → r ≡ sort_from sorts t → parameter_from sorts names i ≡ result_then r (λ s. Ok (record { name = name; sort = s }))
 is_free sorts names i place x t e name named free granted test r is =
     let b : (is_built_in (name_at x).name || is_among names (name_at x).name) ≡ false =
     ap (λ n. is_built_in n || is_among names n) (sym named) ∙ free_so _ (sym granted ∙ test) in
     parameter_of sorts names i place x t e
-    ∙ ap (λ b. if b then refused Repeated (place_of x) else chained (sort_from sorts t) (λ s. Ok (record { name = (name_at x).name; sort = s }))) b
-    ∙ ap (λ q. chained q (λ s. Ok (record { name = (name_at x).name; sort = s }))) (sym is)
-    ∙ ap (λ n. chained r (λ s. Ok (record { name = n; sort = s }))) (sym named)
+    ∙ ap (λ b. if b then refused Repeated (place_of x) else result_then (sort_from sorts t) (λ s. Ok (record { name = (name_at x).name; sort = s }))) b
+    ∙ ap (λ q. result_then q (λ s. Ok (record { name = (name_at x).name; sort = s }))) (sym is)
+    ∙ ap (λ n. result_then r (λ s. Ok (record { name = n; sort = s }))) (sym named)
 
 -- a built-in word is not free, and any other name is where it is not among the names
 pub built_so : (b a : Bool) → true ≡ b → false ≡ not (b || a)
@@ -139,9 +139,9 @@ pub record IsReadUpTo (source : List ℕ) (nodes : List Node) (sorts : List (Lis
   pub are : AreKeysOf keys names
   pub variables : List Var
   pub says : AreParameters source nodes read variables
-  pub comes : parameters_from sorts [] items ≡ chained (parameters_from sorts names rest) (λ xs. Ok (variables ++ xs))
+  pub comes : parameters_from sorts [] items ≡ result_then (parameters_from sorts names rest) (λ xs. Ok (variables ++ xs))
 
-right_unit : (r : Result (List Var) Refusal) → r ≡ chained r (λ xs. Ok ([] ++ xs))
+right_unit : (r : Result (List Var) Refusal) → r ≡ result_then r (λ xs. Ok ([] ++ xs))
 right_unit (Ok xs) = refl
 right_unit (Err e) = refl
 
@@ -166,7 +166,7 @@ pushed source nodes (q ∷ qs) [] p x are is = absurd are
 pushed source nodes (q ∷ qs) (y ∷ ys) p x are is = (are.0, pushed source nodes qs ys p x are.1 is)
 
 more : (r : Result (List Var) Refusal) (variables : List Var) (x : Var)
-    → chained (chained r (λ xs. Ok (x ∷ xs))) (λ xs. Ok (variables ++ xs)) ≡ chained r (λ xs. Ok ((variables ++ x ∷ []) ++ xs))
+    → result_then (result_then r (λ xs. Ok (x ∷ xs))) (λ xs. Ok (variables ++ xs)) ≡ result_then r (λ xs. Ok ((variables ++ x ∷ []) ++ xs))
 more (Ok xs) variables x = ap Ok (sym (append_assoc variables (x ∷ []) xs))
 more (Err e) variables x = refl
 
@@ -178,7 +178,7 @@ pub record HasNext (source : List ℕ) (nodes : List Node) (sorts : List (List �
   pub fits : pair_fault pair ≡ None
   pub there : AreNodes source nodes next others last
   pub pairs : pairs_fault others ≡ None
-  pub comes : parameters_from sorts [] items ≡ chained (chained (parameter_from sorts names pair) (λ x. chained (parameters_from sorts (x.name ∷ names) others) (λ xs. Ok (x ∷ xs)))) (λ xs. Ok (variables ++ xs))
+  pub comes : parameters_from sorts [] items ≡ result_then (result_then (parameter_from sorts names pair) (λ x. result_then (parameters_from sorts (x.name ∷ names) others) (λ xs. Ok (x ∷ xs)))) (λ xs. Ok (variables ++ xs))
 
 pub has_next : (source : List ℕ) (nodes : List Node) (sorts : List (List ℕ)) (k : ℕ) (items : Items) (last : ℕ) (keys : List (Bor (List ℕ))) (read : List Parameter)
     (r : IsReadUpTo source nodes sorts k items last keys read) → k < last → (node : Node) → slice_get nodes k ≡ Some node → HasNext source nodes sorts k node.next items last r.names r.variables
@@ -191,7 +191,7 @@ has_next source nodes sorts k items last keys read r less node here =
       fits = fault.0;
       there = t.there;
       pairs = fault.1;
-      comes = r.comes ∙ ap (λ q. chained (parameters_from sorts r.names q) (λ xs. Ok (r.variables ++ xs))) t.same;
+      comes = r.comes ∙ ap (λ q. result_then (parameters_from sorts r.names q) (λ xs. Ok (r.variables ++ xs))) t.same;
     }
 
 pub one_more : (source : List ℕ) (nodes : List Node) (sorts : List (List ℕ)) (k next : ℕ) (items : Items) (last : ℕ) (keys new : List (Bor (List ℕ))) (read after : List Parameter) (p : Parameter)
@@ -205,7 +205,7 @@ one_more source nodes sorts k next items last keys new read after p r h (x, is, 
   are = are;
   variables = r.variables ++ x ∷ [];
   says = subst (λ ps. AreParameters source nodes ps (r.variables ++ x ∷ [])) (sym same) (pushed source nodes read r.variables p x r.says says);
-  comes = h.comes ∙ ap (λ q. chained (chained q (λ x. chained (parameters_from sorts (x.name ∷ r.names) h.others) (λ xs. Ok (x ∷ xs)))) (λ xs. Ok (r.variables ++ xs))) is
+  comes = h.comes ∙ ap (λ q. result_then (result_then q (λ x. result_then (parameters_from sorts (x.name ∷ r.names) h.others) (λ xs. Ok (x ∷ xs)))) (λ xs. Ok (r.variables ++ xs))) is
       ∙ more (parameters_from sorts (x.name ∷ r.names) h.others) r.variables x;
 }
 
@@ -213,7 +213,7 @@ pub at_fault : (source : List ℕ) (nodes : List Node) (sorts : List (List ℕ))
     (h : HasNext source nodes sorts k next items last names variables) (fault : ReadFault) → IsParameterRead source nodes names keys (Err fault) (parameter_from sorts names h.pair)
     → AreParametersRead source nodes (Err fault) ps (parameters_from sorts [] items)
 at_fault source nodes sorts k next items last names variables keys ps h (ReadFault.Text e) is =
-    h.comes ∙ ap (λ q. chained (chained q (λ x. chained (parameters_from sorts (x.name ∷ names) h.others) (λ xs. Ok (x ∷ xs)))) (λ xs. Ok (variables ++ xs))) is
+    h.comes ∙ ap (λ q. result_then (result_then q (λ x. result_then (parameters_from sorts (x.name ∷ names) h.others) (λ xs. Ok (x ∷ xs)))) (λ xs. Ok (variables ++ xs))) is
 at_fault source nodes sorts k next items last names variables keys ps h ReadFault.PoolFull is = is
 at_fault source nodes sorts k next items last names variables keys ps h ReadFault.Memory is = tt
 
@@ -224,7 +224,7 @@ append_none (x ∷ xs) = ap (λ ys. x ∷ ys) (append_none xs)
 pub all_read : (source : List ℕ) (nodes : List Node) (sorts : List (List ℕ)) (k : ℕ) (items : Items) (last : ℕ) (keys : List (Bor (List ℕ))) (read : List Parameter)
     (r : IsReadUpTo source nodes sorts k items last keys read) → last ≤ k → parameters_from sorts [] items ≡ Ok r.variables
 all_read source nodes sorts k items last keys read r done =
-    r.comes ∙ ap (λ q. chained (parameters_from sorts r.names q) (λ xs. Ok (r.variables ++ xs))) (none_left source nodes k r.rest last done r.there)
+    r.comes ∙ ap (λ q. result_then (parameters_from sorts r.names q) (λ xs. Ok (r.variables ++ xs))) (none_left source nodes k r.rest last done r.there)
     ∙ ap Ok (append_none r.variables)
 
 -- the next node lies in the nodes, and its item ends behind it

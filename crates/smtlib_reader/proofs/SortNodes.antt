@@ -12,7 +12,7 @@ use Rattle.term_model.specs.declared.symbols.Sort.{Sort}
 use Rattle.text_items.specs.declared.nodes.Node.{Node}
 use Rattle.problem_text.specs.Commands.{refused}
 use Rattle.text_items.specs.Nodes.{HasNode, IsTokenNode, IsNode, AreNodes}
-use Rattle.problem_text.specs.Sorts.{chained, sort_from, sorts_from, sort_spelled}
+use Rattle.problem_text.specs.Sorts.{result_then, sort_from, sorts_from, sort_spelled}
 use Rattle.text_items.proofs.NodeRanges.{node_after, nodes_order}
 use Rattle.text_items.proofs.FirstTokens.{open_is_word, open_is_quoted, open_is_text}
 
@@ -92,7 +92,7 @@ with_front_none : (r : Result (List Sort) Refusal) → r ≡ with_front [] r
 with_front_none (Ok back) = refl
 with_front_none (Err refusal) = refl
 
-with_front_more : (front : List Sort) (s : Sort) (r : Result (List Sort) Refusal) → with_front front (chained r (λ ss. Ok (s ∷ ss))) ≡ with_front (front ++ s ∷ []) r
+with_front_more : (front : List Sort) (s : Sort) (r : Result (List Sort) Refusal) → with_front front (result_then r (λ ss. Ok (s ∷ ss))) ≡ with_front (front ++ s ∷ []) r
 with_front_more front s (Ok back) = ap Ok (sym (append_assoc front (s ∷ []) back))
 with_front_more front s (Err refusal) = refl
 
@@ -116,7 +116,7 @@ module _ (source : List ℕ) (nodes : List Node) (sorts : List (List ℕ)) (firs
     pub others : Items
     pub is : IsNode source nodes place next behind
     pub are : AreNodes source nodes behind others end
-    pub sorts_are : sorts_from sorts items ≡ with_front read (chained (sort_from sorts next) (λ s. chained (sorts_from sorts others) (λ ss. Ok (s ∷ ss))))
+    pub sorts_are : sorts_from sorts items ≡ with_front read (result_then (sort_from sorts next) (λ s. result_then (sorts_from sorts others) (λ ss. Ok (s ∷ ss))))
 
   pub next_item : (place : ℕ) (read : List Sort) → AreReadSoFar place read → place < end → (items : Items) → AreNodes source nodes first items end → Next items place read
   next_item place read so_far before items are = let l = so_far items are in go l.left l.there l.sorts_are
@@ -133,14 +133,14 @@ module _ (source : List ℕ) (nodes : List Node) (sorts : List (List ℕ)) (firs
       record {
         left = n.others;
         there = subst (λ k. AreNodes source nodes k n.others end) (sym f.next) n.are;
-        sorts_are = n.sorts_are ∙ sym (ap (λ r. with_front read (chained r (λ s. chained (sorts_from sorts n.others) (λ ss. Ok (s ∷ ss))))) (is_sort n.next n.behind n.is)) ∙ with_front_more read s (sorts_from sorts n.others);
+        sorts_are = n.sorts_are ∙ sym (ap (λ r. with_front read (result_then r (λ s. result_then (sorts_from sorts n.others) (λ ss. Ok (s ∷ ss))))) (is_sort n.next n.behind n.is)) ∙ with_front_more read s (sorts_from sorts n.others);
       }
 
   pub one_refused : (place : ℕ) (read : List Sort) (refusal : Refusal) → AreReadSoFar place read → place < end
       → ((i : Item) (m : ℕ) → IsNode source nodes place i m → Err refusal ≡ sort_from sorts i) → (items : Items) → AreNodes source nodes first items end → sorts_from sorts items ≡ Err refusal
   one_refused place read refusal so_far before is_refused items are =
       let n = next_item place read so_far before items are in
-      n.sorts_are ∙ sym (ap (λ r. with_front read (chained r (λ s. chained (sorts_from sorts n.others) (λ ss. Ok (s ∷ ss))))) (is_refused n.next n.behind n.is))
+      n.sorts_are ∙ sym (ap (λ r. with_front read (result_then r (λ s. result_then (sorts_from sorts n.others) (λ ss. Ok (s ∷ ss))))) (is_refused n.next n.behind n.is))
 
   pub all_read : (place : ℕ) (read : List Sort) → AreReadSoFar place read → end ≤ place → (items : Items) → AreNodes source nodes first items end → sorts_from sorts items ≡ Ok read
   all_read place read so_far past items are = let l = so_far items are in go l.left l.there l.sorts_are

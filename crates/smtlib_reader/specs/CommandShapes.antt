@@ -9,7 +9,7 @@ use Rattle.smtlib_reader.specs.declared.commands.Command.{Command}
 use Rattle.smtlib_reader.specs.declared.command_words.CommandWord.{CommandWord}
 use Rattle.problem_text.specs.Words.{is_among, left_out_commands}
 use Rattle.text_items.specs.ItemShapes.{Name, excess, pairs_fault}
-use Rattle.problem_text.specs.Commands.{Command as Shape, set_logic, without_effect, declare_sort, declare_fun, define_fun, assert_term, check_sat, exit, refused, shaped, assert_shape, declare_fun_shape, declare_const_shape, define_fun_shape, declare_sort_shape, set_logic_shape, attribute_shape}
+use Rattle.problem_text.specs.Commands.{ScriptCommand as Shape, set_logic, without_effect, declare_sort, declare_fun, define_fun, assert_term, check_sat, exit, refused, script_shaped, assert_shape, declare_fun_shape, declare_const_shape, define_fun_shape, declare_sort_shape, set_logic_shape, attribute_shape}
 use Rattle.text_items.specs.Nodes.{IsNode, AreNodes}
 use Rattle.text_items.specs.NameNodes.{BeginsAt, IsNameNode}
 
@@ -48,20 +48,20 @@ pub record SaysDefinition (source : List ℕ) (nodes : List Node) (name first la
   pub value_here : IsNode source nodes body value behind
   pub in_order : last ≤ body
 
-abbrev pub SaysCommand : List ℕ → List Node → Command → Shape → Type 0
-SaysCommand source nodes (Command.SetLogic name) d = (n : Name) × (d ≡ set_logic n) × IsNameNode source nodes name n
-SaysCommand source nodes Command.WithoutEffect d = d ≡ without_effect
-SaysCommand source nodes (Command.DeclareSort name arity is_zero) d = SaysSort source nodes name arity is_zero d
-SaysCommand source nodes (Command.DeclareFun name first last target) d = SaysFun source nodes name first last target d
-SaysCommand source nodes (Command.DefineFun name first last target body) d = SaysDefinition source nodes name first last target body d
-SaysCommand source nodes (Command.Assert t) d = (i : Item) × (m : ℕ) × (d ≡ assert_term i) × IsNode source nodes t i m
-SaysCommand source nodes Command.CheckSat d = d ≡ check_sat
-SaysCommand source nodes Command.Exit d = d ≡ exit
+abbrev pub SaysScriptCommand : List ℕ → List Node → Command → Shape → Type 0
+SaysScriptCommand source nodes (Command.SetLogic name) d = (n : Name) × (d ≡ set_logic n) × IsNameNode source nodes name n
+SaysScriptCommand source nodes Command.WithoutEffect d = d ≡ without_effect
+SaysScriptCommand source nodes (Command.DeclareSort name arity is_zero) d = SaysSort source nodes name arity is_zero d
+SaysScriptCommand source nodes (Command.DeclareFun name first last target) d = SaysFun source nodes name first last target d
+SaysScriptCommand source nodes (Command.DefineFun name first last target body) d = SaysDefinition source nodes name first last target body d
+SaysScriptCommand source nodes (Command.Assert t) d = (i : Item) × (m : ℕ) × (d ≡ assert_term i) × IsNode source nodes t i m
+SaysScriptCommand source nodes Command.CheckSat d = d ≡ check_sat
+SaysScriptCommand source nodes Command.Exit d = d ≡ exit
 
 -- the result is the command or the refusal that is expected
-abbrev pub IsCommand : List ℕ → List Node → Result Command Refusal → Result Shape Refusal → Type 0
-IsCommand source nodes (Err r) expected = expected ≡ Err r
-IsCommand source nodes (Ok c) expected = (d : Shape) × (expected ≡ Ok d) × SaysCommand source nodes c d
+abbrev pub IsScriptCommand : List ℕ → List Node → Result Command Refusal → Result Shape Refusal → Type 0
+IsScriptCommand source nodes (Err r) expected = expected ≡ Err r
+IsScriptCommand source nodes (Ok c) expected = (d : Shape) × (expected ≡ Ok d) × SaysScriptCommand source nodes c d
 
 -- the word of a command, where the item is one
 abbrev pub head_word : Item → Option (List ℕ)
@@ -71,8 +71,8 @@ head_word (string place spelling) = None
 head_word (list place items) = None
 
 -- what a command's word asks for
-abbrev pub word_named : List ℕ → CommandWord
-word_named name =
+abbrev pub script_word_named : List ℕ → CommandWord
+script_word_named name =
     if bytes_eq name (codes "assert") then CommandWord.Assert
     else if bytes_eq name (codes "declare-fun") then CommandWord.DeclareFun
     else if bytes_eq name (codes "declare-const") then CommandWord.DeclareConst
@@ -87,21 +87,21 @@ word_named name =
     else CommandWord.Unknown
 
 -- the command of a word of this kind
-abbrev pub command_so : CommandWord → Bool → ℕ → ℕ → Items → Result Shape Refusal
-command_so CommandWord.Assert checked place word_place items = if checked then refused LeftOut word_place else assert_shape place items
-command_so CommandWord.DeclareFun checked place word_place items = declare_fun_shape place items
-command_so CommandWord.DeclareConst checked place word_place items = declare_const_shape place items
-command_so CommandWord.DefineFun checked place word_place items = define_fun_shape place items
-command_so CommandWord.DeclareSort checked place word_place items = declare_sort_shape place items
-command_so CommandWord.SetLogic checked place word_place items = set_logic_shape place items
-command_so CommandWord.Attribute checked place word_place items = attribute_shape place items
-command_so CommandWord.CheckSat checked place word_place items = shaped (excess items) check_sat
-command_so CommandWord.Question checked place word_place items = shaped (excess items) without_effect
-command_so CommandWord.Exit checked place word_place items = shaped (excess items) exit
-command_so CommandWord.LeftOut checked place word_place items = refused LeftOut word_place
-command_so CommandWord.Unknown checked place word_place items = refused UnknownCommand word_place
+abbrev pub script_command_so : CommandWord → Bool → ℕ → ℕ → Items → Result Shape Refusal
+script_command_so CommandWord.Assert checked place word_place items = if checked then refused LeftOut word_place else assert_shape place items
+script_command_so CommandWord.DeclareFun checked place word_place items = declare_fun_shape place items
+script_command_so CommandWord.DeclareConst checked place word_place items = declare_const_shape place items
+script_command_so CommandWord.DefineFun checked place word_place items = define_fun_shape place items
+script_command_so CommandWord.DeclareSort checked place word_place items = declare_sort_shape place items
+script_command_so CommandWord.SetLogic checked place word_place items = set_logic_shape place items
+script_command_so CommandWord.Attribute checked place word_place items = attribute_shape place items
+script_command_so CommandWord.CheckSat checked place word_place items = script_shaped (excess items) check_sat
+script_command_so CommandWord.Question checked place word_place items = script_shaped (excess items) without_effect
+script_command_so CommandWord.Exit checked place word_place items = script_shaped (excess items) exit
+script_command_so CommandWord.LeftOut checked place word_place items = refused LeftOut word_place
+script_command_so CommandWord.Unknown checked place word_place items = refused UnknownCommand word_place
 
 -- the command, unless a fault stands at a place
-abbrev pub unless : Option ℕ → Command → Result Command Refusal
-unless (Some place) c = Err (record { cause = BadCommand; at = place })
-unless None c = Ok c
+abbrev pub script_unless : Option ℕ → Command → Result Command Refusal
+script_unless (Some place) c = Err (record { cause = BadCommand; at = place })
+script_unless None c = Ok c

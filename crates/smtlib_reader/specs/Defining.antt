@@ -14,12 +14,12 @@ use Rattle.term_names.specs.Making.{PlacesCellsOf}
 use Rattle.problem_text.specs.Limits.{limited}
 use Rattle.problem_text.specs.Names.{Place, itself}
 use Rattle.smtlib_reader.specs.Parameters.{AreParameters}
-use Rattle.term_reader.specs.Reading.{IsReadTerm, EndsWith, IsIdle}
+use Rattle.term_reader.specs.Reading.{IsReadTerm, EndsWith, IsReaderIdle}
 use Rattle.problem_text.specs.TypedTerms.{Typed}
 use Rattle.problem_text.specs.Outcomes.{Outcome, done, refuse, and_then}
 use Rattle.problem_text.specs.Scripts.{Script, with_macro}
 use Rattle.smtlib_reader.specs.Sessions.{IsReadBy, top}
-use Rattle.problem_text.specs.Sorts.{chained, sort_from, parameters_from}
+use Rattle.problem_text.specs.Sorts.{result_then, sort_from, parameters_from}
 use Rattle.term_names.specs.Standing.{AreLeavesOf, IsScript, IsReservedName}
 use Rattle.problem_text.specs.Terms.{read_term}
 use Rattle.term_expansion.specs.Values.{IsValue}
@@ -37,7 +37,7 @@ pub record Signature : Type 0 where
 
 abbrev pub signature_from : List (List ℕ) → Items → Item → Result Signature Refusal
 signature_from sorts parameters target =
-    chained (parameters_from sorts [] parameters) (λ xs. chained (sort_from sorts target) (λ t. Ok (record { parameters = xs; target = t })))
+    result_then (parameters_from sorts [] parameters) (λ xs. result_then (sort_from sorts target) (λ t. Ok (record { parameters = xs; target = t })))
 
 -- What was read of the nodes from `first` on is the signature that is expected, unless memory was refused. Each parameter
 -- has a node of its own.
@@ -85,7 +85,7 @@ pub record IsReadyForBody (s : Table) (v : TermsView) (r : Reader) (xs : List Va
 -- What a body came to: a value without a let, and the reader outside the definition again; or a fault.
 abbrev pub IsBody : Table → TermsView → Reader → Outcome Script Typed → Result Value ReadFault → Type 0
 IsBody s v r whole (Ok c) =
-    (t : Typed) × (sc : Script) × (whole ≡ done t sc) × IsValue s v c t × (c.plain ≡ true) × IsIdle s v r sc (top r.replaces_lets)
+    (t : Typed) × (sc : Script) × (whole ≡ done t sc) × IsValue s v c t × (c.plain ≡ true) × IsReaderIdle s v r sc (top r.replaces_lets)
 IsBody s v r whole (Err fault) = EndsWith s v.pass whole.result (IsReadTerm whole) fault
 
 pub record ReadsBody (s : Table) (old new : TermsView) (r : Reader) (whole : Outcome Script Typed) (result : Result Value ReadFault) : Type 0 where
@@ -94,13 +94,13 @@ pub record ReadsBody (s : Table) (old new : TermsView) (r : Reader) (whole : Out
 
 -- The reader holds nothing of a term, and the name is taken for a macro of its own.
 pub record IsDefining (s : Table) (v : TermsView) (r : Reader) (name : List ℕ) (sc : Script) : Type 0 where
-  pub idle : IsIdle s v r sc (top r.replaces_lets)
+  pub idle : IsReaderIdle s v r sc (top r.replaces_lets)
   pub reserved : IsReservedName s sc name
   pub no_base : lookup r.known.base.names name ≡ None
 
 -- The macro is defined, or the command has its fault.
 abbrev pub IsDefined : Table → TermsView → Reader → Outcome Script ⊤ → Result Unit ReadFault → Type 0
-IsDefined s v r o (Ok _) = (sc : Script) × (o ≡ done tt sc) × IsIdle s v r sc (top r.replaces_lets)
+IsDefined s v r o (Ok _) = (sc : Script) × (o ≡ done tt sc) × IsReaderIdle s v r sc (top r.replaces_lets)
 IsDefined s v r o (Err fault) = EndsWith s v.pass o.result (IsReadBy o) fault
 
 pub record Defines (s : Table) (old new : TermsView) (r : Reader) (o : Outcome Script ⊤) (result : Result Unit ReadFault) : Type 0 where

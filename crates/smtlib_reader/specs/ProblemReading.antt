@@ -7,7 +7,7 @@ use Rattle.sym_table.specs.Table.{Table}
 use Rattle.term_pool.specs.Views.{TermsView}
 use Rattle.term_names.specs.Making.{PlacesCellsOf}
 use Rattle.text_items.specs.Nodes.{IsNode}
-use Rattle.problem_text.specs.Problems.{commands}
+use Rattle.problem_text.specs.Problems.{script_commands}
 use Rattle.term_reader.specs.Reading.{EndsWith}
 use Rattle.problem_text.specs.Outcomes.{Outcome, done}
 use Rattle.problem_text.specs.Scripts.{Script}
@@ -39,7 +39,7 @@ IsItemFound source nodes at items false = items ≡ no_items
 pub record AreLeft (source : List ℕ) (replaces_lets : Bool) (at : ℕ) (sc : Script) (whole : Outcome Script ⊤) : Type 0 where
   pub items : Items
   pub here : HasItems source at items
-  pub comes : commands replaces_lets items sc ≡ whole
+  pub comes : script_commands replaces_lets items sc ≡ whole
 
 -- A command was read, and others may be left; or the text is at its end or at an exit; or it has a fault.
 abbrev pub IsCommandRead : List ℕ → Table → TermsView → Session → ℕ → Outcome Script ⊤ → Result Bool ReadFault → Type 0

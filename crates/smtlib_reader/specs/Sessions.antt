@@ -6,7 +6,7 @@ use Rattle.term_pool.specs.Views.{TermsView, ReferToAll}
 use Rattle.term_names.specs.Making.{PlacesCellsOf}
 use Rattle.problem_text.specs.Limits.{limited}
 use Rattle.problem_text.specs.Names.{Place}
-use Rattle.term_reader.specs.Reading.{IsIdle, EndsWith}
+use Rattle.term_reader.specs.Reading.{IsReaderIdle, EndsWith}
 use Rattle.problem_text.specs.Outcomes.{Outcome, done}
 use Rattle.problem_text.specs.Scripts.{Script}
 use Rattle.term_names.specs.declared.faults.ReadFault.{ReadFault}
@@ -18,7 +18,7 @@ top replaces_lets = record { scope = []; settings = limited replaces_lets }
 
 -- what was read of a problem stands for the script
 pub record IsSession (s : Table) (v : TermsView) (d : Session) (sc : Script) : Type 0 where
-  pub idle : IsIdle s v d.reader sc (top d.reader.replaces_lets)
+  pub idle : IsReaderIdle s v d.reader sc (top d.reader.replaces_lets)
   pub functions : d.functions ≡ map (λ f. f.name) sc.functions
   pub assertions : ReferToAll s v d.assertions.items sc.assertions
   pub has_logic : d.has_logic ≡ sc.has_logic

@@ -3,9 +3,9 @@ ghost use Rattle.std.specs.Prelude.{◌≡◌, ◌≤◌, ◌^◌, ◌+◌, leng
 ghost use Rattle.sexpr.specs.Source.{source};
 ghost use Rattle.sym_table.specs.Table.{Keeps};
 ghost use Rattle.term_pool.specs.Views.{KeepsTerms};
-ghost use Rattle.smtlib_reader.specs.CommandShapes.{SaysCommand};
+ghost use Rattle.smtlib_reader.specs.CommandShapes.{SaysScriptCommand};
 ghost use Rattle.problem_text.specs.Commands as shape;
-ghost use Rattle.problem_text.specs.Problems.{performed};
+ghost use Rattle.problem_text.specs.Problems.{script_performed};
 ghost use Rattle.problem_text.specs.Scripts.{Script};
 ghost use Rattle.smtlib_reader.specs.Sessions.{IsSession, Performs};
 ghost use Rattle.smtlib_reader.specs.declared.commands.Command.TheVariants as command;
@@ -29,11 +29,11 @@ pub(crate) fn assert_term(
     session: &mut Session<'_>,
     term: usize,
 ) -> Result<(), ReadFault>
-    requires says { (c : shape.Command) × SaysCommand (source text.now) nodes.now (command.Assert term) c }
+    requires says { (c : shape.ScriptCommand) × SaysScriptCommand (source text.now) nodes.now (command.Assert term) c }
     requires session { (sc : Script) × IsSession symbols.old terms.old session.old sc }
     requires room { length symbols.old.leaves + length nodes.now ≤ 2 ^ 30 }
     requires room_for_sorts { length symbols.old.sorts + length nodes.now ≤ 2 ^ 30 }
-    ensures performs { (c : shape.Command) (sc : Script) → SaysCommand (source text.now) nodes.now (command.Assert term) c → IsSession symbols.old terms.old session.old sc → Performs symbols.new terms.old terms.new session.new (performed session.old.reader.replaces_lets c sc) result }
+    ensures performs { (c : shape.ScriptCommand) (sc : Script) → SaysScriptCommand (source text.now) nodes.now (command.Assert term) c → IsSession symbols.old terms.old session.old sc → Performs symbols.new terms.old terms.new session.new (script_performed session.old.reader.replaces_lets c sc) result }
     ensures symbols { Keeps symbols.old symbols.new }
     ensures few { length symbols.new.leaves ≤ length symbols.old.leaves + length nodes.now }
     ensures few_sorts { length symbols.new.sorts ≤ length symbols.old.sorts + length nodes.now }

@@ -105,7 +105,7 @@ fn is_numeral_kind(kind: WordKind) -> bool
 pub(crate) fn is_zero(text: &Lexer<'_>, nodes: &[Node], k: usize) -> bool
     requires spans { AreSpans (source text.now) nodes.now }
     requires inside { k < length nodes.now }
-    ensures { (i : Item) (m : ℕ) → IsNode (source text.now) nodes.now k i m → shape.numeral_fault i ≡ None → result ≡ (shape.value_of i == 0) }
+    ensures { (i : Item) (m : ℕ) → IsNode (source text.now) nodes.now k i m → shape.numeral_fault i ≡ None → result ≡ (shape.value_of_numeral i == 0) }
 {
     let token = node_at(nodes, k).token;
     is_nought(text.text(&token))

@@ -27,7 +27,7 @@ pub(crate) enum CommandWord {
 
 /// What the word of this name asks for.
 pub(crate) fn word_named(name: &[u8]) -> CommandWord
-    ensures { result ≡ spec.word_named name.now }
+    ensures { result ≡ spec.script_word_named name.now }
 {
     if name == b"assert".as_slice() {
         CommandWord::Assert

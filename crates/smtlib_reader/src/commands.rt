@@ -5,7 +5,7 @@ ghost use Rattle.sexpr.specs.Source.{source};
 ghost use Rattle.problem_text.specs.Commands as spec;
 ghost use Rattle.text_items.specs.Nodes.{IsNode, AreNodes};
 ghost use Rattle.text_items.specs.Children.{AreSpans};
-ghost use Rattle.smtlib_reader.specs.CommandShapes.{IsCommand, command_so, unless};
+ghost use Rattle.smtlib_reader.specs.CommandShapes.{IsScriptCommand, script_command_so, script_unless};
 
 use crate::command_shapes::{
     head_word, is_zero, keyword_fault, list_fault, numeral_fault, parameters_fault, symbol_fault,
@@ -57,7 +57,7 @@ pub(crate) fn command_of(
     checked: bool,
 ) -> Result<Command, Refusal>
     requires { (i : Item) × IsNode (source text.now) nodes.now 0 i (length nodes.now) }
-    ensures { (i : Item) → IsNode (source text.now) nodes.now 0 i (length nodes.now) → IsCommand (source text.now) nodes.now result (spec.command_of checked i) }
+    ensures { (i : Item) → IsNode (source text.now) nodes.now 0 i (length nodes.now) → IsScriptCommand (source text.now) nodes.now result (spec.script_command_of checked i) }
 {
     command_in(text, nodes, checked)
 }
@@ -65,7 +65,7 @@ pub(crate) fn command_of(
 fn command_in(text: &Lexer<'_>, nodes: &[Node], checked: bool) -> Result<Command, Refusal>
     requires spans { AreSpans (source text.now) nodes.now }
     requires some { 0 < length nodes.now }
-    ensures { (i : Item) → IsNode (source text.now) nodes.now 0 i (length nodes.now) → IsCommand (source text.now) nodes.now result (spec.command_of checked i) }
+    ensures { (i : Item) → IsNode (source text.now) nodes.now 0 i (length nodes.now) → IsScriptCommand (source text.now) nodes.now result (spec.script_command_of checked i) }
 {
     let start = place_at(nodes, 0);
     let mut at = 1;
@@ -97,7 +97,7 @@ fn command_so(
     at: usize,
 ) -> Result<Command, Refusal>
     requires { AreSpans (source text.now) nodes.now }
-    ensures { (items : Items) → AreNodes (source text.now) nodes.now at items (length nodes.now) → IsCommand (source text.now) nodes.now result (command_so word checked places.start places.word_start items) }
+    ensures { (items : Items) → AreNodes (source text.now) nodes.now at items (length nodes.now) → IsScriptCommand (source text.now) nodes.now result (script_command_so word checked places.start places.word_start items) }
 {
     match word {
         CommandWord::Assert if checked => Err(refused(Cause::LeftOut, places.word_start)),
@@ -117,7 +117,7 @@ fn command_so(
 }
 
 fn unless(fault: Option<u64>, command: Command) -> Result<Command, Refusal>
-    ensures { result ≡ unless fault command }
+    ensures { result ≡ script_unless fault command }
 {
     match fault {
         Some(place) => Err(bad_command(place)),
@@ -127,7 +127,7 @@ fn unless(fault: Option<u64>, command: Command) -> Result<Command, Refusal>
 
 fn set_logic(text: &Lexer<'_>, nodes: &[Node], start: u64, at: usize) -> Result<Command, Refusal>
     requires { AreSpans (source text.now) nodes.now }
-    ensures { (items : Items) → AreNodes (source text.now) nodes.now at items (length nodes.now) → IsCommand (source text.now) nodes.now result (spec.set_logic_shape start items) }
+    ensures { (items : Items) → AreNodes (source text.now) nodes.now at items (length nodes.now) → IsScriptCommand (source text.now) nodes.now result (spec.set_logic_shape start items) }
 {
     let mut rest = at;
     let name = take(nodes, &mut rest, nodes.len(), start)?;
@@ -138,7 +138,7 @@ fn set_logic(text: &Lexer<'_>, nodes: &[Node], start: u64, at: usize) -> Result<
 /// An information or an option that is set. What stands after its keyword may be anything.
 fn attribute(text: &Lexer<'_>, nodes: &[Node], start: u64, at: usize) -> Result<Command, Refusal>
     requires { AreSpans (source text.now) nodes.now }
-    ensures { (items : Items) → AreNodes (source text.now) nodes.now at items (length nodes.now) → IsCommand (source text.now) nodes.now result (spec.attribute_shape start items) }
+    ensures { (items : Items) → AreNodes (source text.now) nodes.now at items (length nodes.now) → IsScriptCommand (source text.now) nodes.now result (spec.attribute_shape start items) }
 {
     let mut rest = at;
     let keyword = take(nodes, &mut rest, nodes.len(), start)?;
@@ -147,7 +147,7 @@ fn attribute(text: &Lexer<'_>, nodes: &[Node], start: u64, at: usize) -> Result<
 
 fn declare_sort(text: &Lexer<'_>, nodes: &[Node], start: u64, at: usize) -> Result<Command, Refusal>
     requires { AreSpans (source text.now) nodes.now }
-    ensures { (items : Items) → AreNodes (source text.now) nodes.now at items (length nodes.now) → IsCommand (source text.now) nodes.now result (spec.declare_sort_shape start items) }
+    ensures { (items : Items) → AreNodes (source text.now) nodes.now at items (length nodes.now) → IsScriptCommand (source text.now) nodes.now result (spec.declare_sort_shape start items) }
 {
     let mut rest = at;
     let name = take(nodes, &mut rest, nodes.len(), start)?;
@@ -167,7 +167,7 @@ fn declare_sort(text: &Lexer<'_>, nodes: &[Node], start: u64, at: usize) -> Resu
 
 fn declare_fun(text: &Lexer<'_>, nodes: &[Node], start: u64, at: usize) -> Result<Command, Refusal>
     requires { AreSpans (source text.now) nodes.now }
-    ensures { (items : Items) → AreNodes (source text.now) nodes.now at items (length nodes.now) → IsCommand (source text.now) nodes.now result (spec.declare_fun_shape start items) }
+    ensures { (items : Items) → AreNodes (source text.now) nodes.now at items (length nodes.now) → IsScriptCommand (source text.now) nodes.now result (spec.declare_fun_shape start items) }
 {
     let mut rest = at;
     let name = take(nodes, &mut rest, nodes.len(), start)?;
@@ -194,7 +194,7 @@ fn declare_const(
     at: usize,
 ) -> Result<Command, Refusal>
     requires { AreSpans (source text.now) nodes.now }
-    ensures { (items : Items) → AreNodes (source text.now) nodes.now at items (length nodes.now) → IsCommand (source text.now) nodes.now result (spec.declare_const_shape start items) }
+    ensures { (items : Items) → AreNodes (source text.now) nodes.now at items (length nodes.now) → IsScriptCommand (source text.now) nodes.now result (spec.declare_const_shape start items) }
 {
     let mut rest = at;
     let name = take(nodes, &mut rest, nodes.len(), start)?;
@@ -215,7 +215,7 @@ fn declare_const(
 #[tactic(auto, using(text_items::proofs::NodeSteps::node_behind))]
 fn define_fun(text: &Lexer<'_>, nodes: &[Node], start: u64, at: usize) -> Result<Command, Refusal>
     requires { AreSpans (source text.now) nodes.now }
-    ensures { (items : Items) → AreNodes (source text.now) nodes.now at items (length nodes.now) → IsCommand (source text.now) nodes.now result (spec.define_fun_shape start items) }
+    ensures { (items : Items) → AreNodes (source text.now) nodes.now at items (length nodes.now) → IsScriptCommand (source text.now) nodes.now result (spec.define_fun_shape start items) }
 {
     let mut rest = at;
     let name = take(nodes, &mut rest, nodes.len(), start)?;
@@ -238,7 +238,7 @@ fn define_fun(text: &Lexer<'_>, nodes: &[Node], start: u64, at: usize) -> Result
 }
 
 fn assertion(nodes: &[Node], start: u64, at: usize) -> Result<Command, Refusal>
-    ensures { (source : List ℕ) (items : Items) → AreNodes source nodes.now at items (length nodes.now) → IsCommand source nodes.now result (spec.assert_shape start items) }
+    ensures { (source : List ℕ) (items : Items) → AreNodes source nodes.now at items (length nodes.now) → IsScriptCommand source nodes.now result (spec.assert_shape start items) }
 {
     let mut rest = at;
     let term = take(nodes, &mut rest, nodes.len(), start)?;

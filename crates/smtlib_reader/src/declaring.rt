@@ -2,11 +2,11 @@
 ghost use Rattle.std.specs.Prelude.{◌≡◌, ◌≤◌, ◌<◌, ◌^◌, ◌+◌, ◌||◌, ◌++◌, [], ◌∷◌, length, position, bytes_eq, false, None, OnOk, IfErr};
 ghost use Rattle.sexpr.specs.Source.{source};
 ghost use Rattle.sym_table.specs.Leaf.{function};
-ghost use Rattle.sym_table.specs.Table.{Keeps, IsFunctionName, with_leaf, with_sort};
+ghost use Rattle.sym_table.specs.Table.{Keeps, IsFunctionName, with_leaf, with_sort_name};
 ghost use Rattle.term_pool.specs.Views.{KeepsTerms};
-ghost use Rattle.smtlib_reader.specs.CommandShapes.{SaysCommand};
+ghost use Rattle.smtlib_reader.specs.CommandShapes.{SaysScriptCommand};
 ghost use Rattle.problem_text.specs.Commands as shape;
-ghost use Rattle.problem_text.specs.Problems.{performed};
+ghost use Rattle.problem_text.specs.Problems.{script_performed};
 ghost use Rattle.problem_text.specs.Scripts.{Script};
 ghost use Rattle.smtlib_reader.specs.Sessions.{IsSession, Performs};
 ghost use Rattle.problem_text.specs.Words.{is_among, is_built_in};
@@ -37,11 +37,11 @@ pub(crate) fn set_logic(
     session: &mut Session<'_>,
     name: usize,
 ) -> Result<(), ReadFault>
-    requires says { (c : shape.Command) × SaysCommand (source text.now) nodes.now (command.SetLogic name) c }
+    requires says { (c : shape.ScriptCommand) × SaysScriptCommand (source text.now) nodes.now (command.SetLogic name) c }
     requires session { (sc : Script) × IsSession symbols.old terms.old session.old sc }
     requires room { length symbols.old.leaves + length nodes.now ≤ 2 ^ 30 }
     requires room_for_sorts { length symbols.old.sorts + length nodes.now ≤ 2 ^ 30 }
-    ensures performs { (c : shape.Command) (sc : Script) → SaysCommand (source text.now) nodes.now (command.SetLogic name) c → IsSession symbols.old terms.old session.old sc → Performs symbols.new terms.old terms.new session.new (performed session.old.reader.replaces_lets c sc) result }
+    ensures performs { (c : shape.ScriptCommand) (sc : Script) → SaysScriptCommand (source text.now) nodes.now (command.SetLogic name) c → IsSession symbols.old terms.old session.old sc → Performs symbols.new terms.old terms.new session.new (script_performed session.old.reader.replaces_lets c sc) result }
     ensures symbols { Keeps symbols.old symbols.new }
     ensures few { length symbols.new.leaves ≤ length symbols.old.leaves + length nodes.now }
     ensures few_sorts { length symbols.new.sorts ≤ length symbols.old.sorts + length nodes.now }
@@ -72,11 +72,11 @@ pub(crate) fn declare_sort(
     arity: usize,
     is_zero: bool,
 ) -> Result<(), ReadFault>
-    requires says { (c : shape.Command) × SaysCommand (source text.now) nodes.now (command.DeclareSort name arity is_zero) c }
+    requires says { (c : shape.ScriptCommand) × SaysScriptCommand (source text.now) nodes.now (command.DeclareSort name arity is_zero) c }
     requires session { (sc : Script) × IsSession symbols.old terms.old session.old sc }
     requires room { length symbols.old.leaves + length nodes.now ≤ 2 ^ 30 }
     requires room_for_sorts { length symbols.old.sorts + length nodes.now ≤ 2 ^ 30 }
-    ensures performs { (c : shape.Command) (sc : Script) → SaysCommand (source text.now) nodes.now (command.DeclareSort name arity is_zero) c → IsSession symbols.old terms.old session.old sc → Performs symbols.new terms.old terms.new session.new (performed session.old.reader.replaces_lets c sc) result }
+    ensures performs { (c : shape.ScriptCommand) (sc : Script) → SaysScriptCommand (source text.now) nodes.now (command.DeclareSort name arity is_zero) c → IsSession symbols.old terms.old session.old sc → Performs symbols.new terms.old terms.new session.new (script_performed session.old.reader.replaces_lets c sc) result }
     ensures symbols { Keeps symbols.old symbols.new }
     ensures few { length symbols.new.leaves ≤ length symbols.old.leaves + length nodes.now }
     ensures few_sorts { length symbols.new.sorts ≤ length symbols.old.sorts + length nodes.now }
@@ -107,7 +107,7 @@ fn is_sort_taken(symbols: &Symbols, name: &[u8]) -> bool
 fn add_sort(symbols: &mut Symbols, name: &[u8]) -> Result<(), ReadFault>
     requires free { (is_built_in name.now || is_among symbols.old.sorts name.now) ≡ false }
     requires room { length symbols.old.sorts < 2 ^ 30 }
-    ensures added { OnOk result (symbols.new ≡ with_sort symbols.old name.now) }
+    ensures added { OnOk result (symbols.new ≡ with_sort_name symbols.old name.now) }
     ensures fault { IfErr result (λ fault. fault ≡ ReadFault.Memory) }
     ensures few { length symbols.new.sorts ≤ length symbols.old.sorts + 1 }
     ensures leaves { symbols.new.leaves ≡ symbols.old.leaves }
@@ -132,11 +132,11 @@ pub(crate) fn declare_fun(
     end: usize,
     target: usize,
 ) -> Result<(), ReadFault>
-    requires says { (c : shape.Command) × SaysCommand (source text.now) nodes.now (command.DeclareFun name first end target) c }
+    requires says { (c : shape.ScriptCommand) × SaysScriptCommand (source text.now) nodes.now (command.DeclareFun name first end target) c }
     requires session { (sc : Script) × IsSession symbols.old terms.old session.old sc }
     requires room { length symbols.old.leaves + length nodes.now ≤ 2 ^ 30 }
     requires room_for_sorts { length symbols.old.sorts + length nodes.now ≤ 2 ^ 30 }
-    ensures performs { (c : shape.Command) (sc : Script) → SaysCommand (source text.now) nodes.now (command.DeclareFun name first end target) c → IsSession symbols.old terms.old session.old sc → Performs symbols.new terms.old terms.new session.new (performed session.old.reader.replaces_lets c sc) result }
+    ensures performs { (c : shape.ScriptCommand) (sc : Script) → SaysScriptCommand (source text.now) nodes.now (command.DeclareFun name first end target) c → IsSession symbols.old terms.old session.old sc → Performs symbols.new terms.old terms.new session.new (script_performed session.old.reader.replaces_lets c sc) result }
     ensures symbols { Keeps symbols.old symbols.new }
     ensures few { length symbols.new.leaves ≤ length symbols.old.leaves + length nodes.now }
     ensures few_sorts { length symbols.new.sorts ≤ length symbols.old.sorts + length nodes.now }

@@ -5,16 +5,16 @@ ghost use Rattle.sexpr.specs.Source.{source};
 ghost use Rattle.sym_table.specs.Table.{Keeps};
 ghost use Rattle.term_model.specs.Terms.{Var};
 ghost use Rattle.term_pool.specs.Views.{TermsView, KeepsTerms};
-ghost use Rattle.smtlib_reader.specs.CommandShapes.{SaysCommand};
+ghost use Rattle.smtlib_reader.specs.CommandShapes.{SaysScriptCommand};
 ghost use Rattle.problem_text.specs.Commands as shape;
 ghost use Rattle.smtlib_reader.specs.Defining.{IsSignatureRead, signature_from, IsDefining, Defines, macro_defined, AreListed, IsReadyForBody, AddsParameter, ReadsBody, body_read};
 ghost use Rattle.text_items.specs.ItemShapes.{pairs_fault};
-ghost use Rattle.term_names.specs.InScope.{AreBound};
+ghost use Rattle.term_names.specs.InScope.{AreValuesBound};
 ghost use Rattle.problem_text.specs.Names.{itself};
 ghost use Rattle.text_items.specs.Nodes.{IsNode, AreNodes};
 ghost use Rattle.smtlib_reader.specs.Parameters.{IsParameter, AreParameters};
-ghost use Rattle.problem_text.specs.Problems.{performed};
-ghost use Rattle.term_reader.specs.Reading.{IsIdle};
+ghost use Rattle.problem_text.specs.Problems.{script_performed};
+ghost use Rattle.term_reader.specs.Reading.{IsReaderIdle};
 ghost use Rattle.problem_text.specs.Scripts.{Script};
 ghost use Rattle.smtlib_reader.specs.Sessions.{IsSession, Performs, top};
 ghost use Rattle.term_names.specs.Standing.{AddsNoSymbols};
@@ -56,11 +56,11 @@ pub(crate) fn define_fun(
     target: usize,
     body: usize,
 ) -> Result<(), ReadFault>
-    requires says { (c : shape.Command) × SaysCommand (source text.now) nodes.now (command.DefineFun name first end target body) c }
+    requires says { (c : shape.ScriptCommand) × SaysScriptCommand (source text.now) nodes.now (command.DefineFun name first end target body) c }
     requires session { (sc : Script) × IsSession symbols.old terms.old session.old sc }
     requires room { length symbols.old.leaves + length nodes.now ≤ 2 ^ 30 }
     requires room_for_sorts { length symbols.old.sorts + length nodes.now ≤ 2 ^ 30 }
-    ensures performs { (c : shape.Command) (sc : Script) → SaysCommand (source text.now) nodes.now (command.DefineFun name first end target body) c → IsSession symbols.old terms.old session.old sc → Performs symbols.new terms.old terms.new session.new (performed session.old.reader.replaces_lets c sc) result }
+    ensures performs { (c : shape.ScriptCommand) (sc : Script) → SaysScriptCommand (source text.now) nodes.now (command.DefineFun name first end target body) c → IsSession symbols.old terms.old session.old sc → Performs symbols.new terms.old terms.new session.new (script_performed session.old.reader.replaces_lets c sc) result }
     ensures symbols { Keeps symbols.old symbols.new }
     ensures few { length symbols.new.leaves ≤ length symbols.old.leaves + length nodes.now }
     ensures few_sorts { length symbols.new.sorts ≤ length symbols.old.sorts + length nodes.now }
@@ -167,9 +167,9 @@ fn enter_parameters(
     parameters: &[Parameter],
 ) -> Result<Listed, ReadFault>
     requires parameters { (xs : List Var) × AreParameters (source text.now) nodes.now parameters.now xs }
-    requires idle { (v : TermsView) × (sc : Script) × IsIdle symbols.old v reader.old sc (top reader.old.replaces_lets) }
+    requires idle { (v : TermsView) × (sc : Script) × IsReaderIdle symbols.old v reader.old sc (top reader.old.replaces_lets) }
     requires room { length symbols.old.leaves + length parameters.now ≤ 2 ^ 30 }
-    ensures entered { (v : TermsView) (xs : List Var) (sc : Script) → AreParameters (source text.now) nodes.now parameters.now xs → IsIdle symbols.old v reader.old sc (top reader.old.replaces_lets) → IfOk result (λ l. AreListed symbols.new l xs × IsReadyForBody symbols.new v reader.new xs sc) }
+    ensures entered { (v : TermsView) (xs : List Var) (sc : Script) → AreParameters (source text.now) nodes.now parameters.now xs → IsReaderIdle symbols.old v reader.old sc (top reader.old.replaces_lets) → IfOk result (λ l. AreListed symbols.new l xs × IsReadyForBody symbols.new v reader.new xs sc) }
     ensures memory { IfErr result (λ fault. fault ≡ ReadFault.Memory) }
     ensures symbols { AddsNoSymbols symbols.old symbols.new }
     ensures few { length symbols.new.leaves ≤ length symbols.old.leaves + length parameters.now }
@@ -209,7 +209,7 @@ fn list_parameters(
     requires parameters { (xs : List Var) × AreParameters (source text.now) nodes.now parameters.now xs }
     requires no_values { values.old ≡ [] }
     requires room { length symbols.old.leaves + length parameters.now ≤ 2 ^ 30 }
-    ensures bound { (v : TermsView) (xs : List Var) → AreParameters (source text.now) nodes.now parameters.now xs → IfOk result (λ leaves. AreBound symbols.new v leaves.items values.new (map itself xs)) }
+    ensures bound { (v : TermsView) (xs : List Var) → AreParameters (source text.now) nodes.now parameters.now xs → IfOk result (λ leaves. AreValuesBound symbols.new v leaves.items values.new (map itself xs)) }
     ensures memory { IfErr result (λ fault. fault ≡ ReadFault.Memory) }
     ensures symbols { AddsNoSymbols symbols.old symbols.new }
     ensures few { length symbols.new.leaves ≤ length symbols.old.leaves + length parameters.now }

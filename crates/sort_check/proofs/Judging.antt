@@ -8,7 +8,7 @@ use Rattle.term_model.proofs.Sorting.{one_list}
 use Rattle.sym_table.specs.Leaf.{Leaf, operator, kind_of}
 use Rattle.sym_table.specs.Table.{Table, LeafMeets}
 use Rattle.term_pool.specs.StandsFor.{variable_leaf, function_leaf}
-use Rattle.term_pool.specs.Building.{IsApplication}
+use Rattle.term_pool.specs.Building.{IsAppliedLeaf}
 use Rattle.sort_check.specs.Applications.{is_head, IsHead, applied_sort}
 use Rattle.sym_table.specs.declared.kind.Kind.TheVariants as Kind
 use Rattle.sort_check.proofs.Leaves.{meets, there, at_leaf, operator_leaf}
@@ -31,7 +31,7 @@ arguments_were us ts ss e h =
     let same : us ≡ terms_of ts = sym (listed us) ∙ ap terms_of e in
     let k : AreOf (terms_of ts) ss = rw same at h in k
 
-pub judged : (s : Table) (k : ℕ) (ts : List Term) (t : Term) (ss : List Sort) (sort : Sort) → IsHead s k → AreOf (terms_of ts) ss → IsApplication s k ts t → LeafMeets s k (λ l. applied_sort l ss ≡ Some sort) → IsOf t sort
+pub judged : (s : Table) (k : ℕ) (ts : List Term) (t : Term) (ss : List Sort) (sort : Sort) → IsHead s k → AreOf (terms_of ts) ss → IsAppliedLeaf s k ts t → LeafMeets s k (λ l. applied_sort l ss ≡ Some sort) → IsOf t sort
 judged s k ts (numeral n) ss sort h are p m =
     let no = at_leaf s k (Leaf.numeral (pos n)) (λ l. IsTrue (is_head l)) p.0 h in absurd cc
 judged s k ts (variable x) ss sort h are p m =
@@ -48,7 +48,7 @@ judged s k ts (call f us) ss sort h are p m = record {
 }
 judged s k ts (let_in bs u) ss sort h are p m = absurd p
 
-pub judged_back : (s : Table) (k : ℕ) (ts : List Term) (t : Term) (sort : Sort) → IsHead s k → IsApplication s k ts t → IsOf t sort → (ss : List Sort) × AreOf (terms_of ts) ss × LeafMeets s k (λ l. applied_sort l ss ≡ Some sort)
+pub judged_back : (s : Table) (k : ℕ) (ts : List Term) (t : Term) (sort : Sort) → IsHead s k → IsAppliedLeaf s k ts t → IsOf t sort → (ss : List Sort) × AreOf (terms_of ts) ss × LeafMeets s k (λ l. applied_sort l ss ≡ Some sort)
 judged_back s k ts (numeral n) sort h p i =
     let no = at_leaf s k (Leaf.numeral (pos n)) (λ l. IsTrue (is_head l)) p.0 h in absurd cc
 judged_back s k ts (variable x) sort h p i =
@@ -65,7 +65,7 @@ judged_back s k ts (call f us) sort h p i = (
 )
 judged_back s k ts (let_in bs u) sort h p i = absurd p
 
-pub accepted : (s : Table) (k : ℕ) (ss : List Sort) (r : Option Sort) → IsHead s k → LeafMeets s k (λ l. r ≡ applied_sort l ss) → IfSome r (λ sort. (ts : List Term) (t : Term) → AreOf (terms_of ts) ss → IsApplication s k ts t → IsOf t sort)
+pub accepted : (s : Table) (k : ℕ) (ss : List Sort) (r : Option Sort) → IsHead s k → LeafMeets s k (λ l. r ≡ applied_sort l ss) → IfSome r (λ sort. (ts : List Term) (t : Term) → AreOf (terms_of ts) ss → IsAppliedLeaf s k ts t → IsOf t sort)
 accepted s k ss None h m = tt
 accepted s k ss (Some sort) h m =
     let x = there s k (λ l. Some sort ≡ applied_sort l ss) m in
@@ -83,7 +83,7 @@ no_sort s k ss us sort e m n =
     differ : None ≡ Some sort → ⊥
     differ e = cc
 
-pub refused : (s : Table) (k : ℕ) (ss : List Sort) (r : Option Sort) → IsHead s k → LeafMeets s k (λ l. r ≡ applied_sort l ss) → IfNone r ((ts : List Term) (t : Term) → AreOf (terms_of ts) ss → IsApplication s k ts t → IsWellSorted t → ⊥)
+pub refused : (s : Table) (k : ℕ) (ss : List Sort) (r : Option Sort) → IsHead s k → LeafMeets s k (λ l. r ≡ applied_sort l ss) → IfNone r ((ts : List Term) (t : Term) → AreOf (terms_of ts) ss → IsAppliedLeaf s k ts t → IsWellSorted t → ⊥)
 refused s k ss (Some sort) h m = tt
 refused s k ss None h m =
     λ ts t are p w.

@@ -7,7 +7,7 @@ use Rattle.term_model.specs.Sorts.{sorts_eq, when}
 use Rattle.term_model.specs.Terms.{sort_eq}
 use Rattle.term_model.proofs.Tests.{sort_eq_decides, sorts_eq_decides}
 use Rattle.sym_table.specs.declared.kind.Kind.{Kind}
-use Rattle.sym_table.specs.Leaf.{Leaf, nil, let_head, operator, function, variable, numeral, kind_of, is_function, arguments_of, target_of}
+use Rattle.sym_table.specs.Leaf.{Leaf, nil, let_head, operator, function, variable, numeral, kind_of, is_function, leaf_arguments, target_of}
 use Rattle.sym_table.specs.Table.{Table, IsLeaf, LeafMeets}
 use Rattle.sort_check.specs.Applications.{is_head, applied_sort}
 
@@ -50,7 +50,7 @@ function_head n kind (variable name sort) e other h = absurd cc
 function_head n kind (numeral m) e other h = absurd cc
 
 -- the sort of a function's application
-pub function_sort : (l : Leaf) (ss : List Sort) (target : Sort) (fits : Bool) (r : Option Sort) → IsTrue (is_function l) → target_of l ≡ Some target → fits ≡ sorts_eq (arguments_of l) ss → r ≡ when fits target → r ≡ applied_sort l ss
+pub function_sort : (l : Leaf) (ss : List Sort) (target : Sort) (fits : Bool) (r : Option Sort) → IsTrue (is_function l) → target_of l ≡ Some target → fits ≡ sorts_eq (leaf_arguments l) ss → r ≡ when fits target → r ≡ applied_sort l ss
 function_sort nil ss target fits r h e f g = absurd cc
 function_sort let_head ss target fits r h e f g = absurd cc
 function_sort (operator op) ss target fits r h e f g = absurd cc
@@ -104,17 +104,17 @@ all_alike ss ts e all = sym ((sorts_eq_decides ss ts).1 (same_lists ss ts e all)
 -- the sorts of the arguments of what the leaf stands for
 abbrev pub sorts_at : Option Leaf → List Sort
 sorts_at None = []
-sorts_at (Some l) = arguments_of l
+sorts_at (Some l) = leaf_arguments l
 
-pub sorts_of : (s : Table) (k : ℕ) (l : Leaf) → IsLeaf s k l → sorts_at (slice_get s.leaves k) ≡ arguments_of l
+pub sorts_of : (s : Table) (k : ℕ) (l : Leaf) → IsLeaf s k l → sorts_at (slice_get s.leaves k) ≡ leaf_arguments l
 sorts_of s k l e = ap sorts_at e
 
-pub at_sorts : (s : Table) (k i : ℕ) (a : Sort) → LeafMeets s k (λ l. slice_get (arguments_of l) i ≡ Some a) → slice_get (sorts_at (slice_get s.leaves k)) i ≡ Some a
+pub at_sorts : (s : Table) (k i : ℕ) (a : Sort) → LeafMeets s k (λ l. slice_get (leaf_arguments l) i ≡ Some a) → slice_get (sorts_at (slice_get s.leaves k)) i ≡ Some a
 at_sorts s k i a h =
-    let x = there s k (λ l. slice_get (arguments_of l) i ≡ Some a) h in
+    let x = there s k (λ l. slice_get (leaf_arguments l) i ≡ Some a) h in
     ap (λ (ss : List Sort). slice_get ss i) (sorts_of s k x.0 x.1) ∙ x.2
 
-pub alike_of : (s : Table) (k : ℕ) (l : Leaf) (ts : List Sort) (n : ℕ) → IsLeaf s k l → AreAlikeBelow (sorts_at (slice_get s.leaves k)) ts n → AreAlikeBelow (arguments_of l) ts n
+pub alike_of : (s : Table) (k : ℕ) (l : Leaf) (ts : List Sort) (n : ℕ) → IsLeaf s k l → AreAlikeBelow (sorts_at (slice_get s.leaves k)) ts n → AreAlikeBelow (leaf_arguments l) ts n
 alike_of s k l ts n e h = λ i low. ap (λ (ss : List Sort). slice_get ss i) (sym (sorts_of s k l e)) ∙ h i low
 
 pub to_end : (ss ts : List Sort) (n : ℕ) → length ts ≤ n → AreAlikeBelow ss ts n → AreAlikeBelow ss ts (length ts)

@@ -4,7 +4,7 @@ ghost use Rattle.std.specs.Prelude.{◌≡◌, List, IfSome, IfNone};
 ghost use Rattle.sym_table.specs.Table.{LeafMeets};
 ghost use Rattle.term_model.specs.Sorts.{IsOf, AreOf, IsWellSorted};
 ghost use Rattle.term_model.specs.Terms.{Term, terms_of};
-ghost use Rattle.term_pool.specs.Building.{IsApplication};
+ghost use Rattle.term_pool.specs.Building.{IsAppliedLeaf};
 ghost use Rattle.sort_check.specs.Applications.{IsHead, applied_sort};
 
 use crate::functions::check_function;
@@ -24,8 +24,8 @@ pub fn check_app(symbols: &Symbols, head: u32, sorts: &[Sort]) -> Option<Sort>
     ensures sort { LeafMeets symbols.now head (λ l. result ≡ applied_sort l sorts.now) }
 
     // What is accepted is well sorted, and what is refused is not.
-    ensures accepted { IfSome result (λ sort. (ts : List Term) (t : Term) → AreOf (terms_of ts) sorts.now → IsApplication symbols.now head ts t → IsOf t sort) }
-    ensures refused { IfNone result ((ts : List Term) (t : Term) → AreOf (terms_of ts) sorts.now → IsApplication symbols.now head ts t → IsWellSorted t → ⊥) }
+    ensures accepted { IfSome result (λ sort. (ts : List Term) (t : Term) → AreOf (terms_of ts) sorts.now → IsAppliedLeaf symbols.now head ts t → IsOf t sort) }
+    ensures refused { IfNone result ((ts : List Term) (t : Term) → AreOf (terms_of ts) sorts.now → IsAppliedLeaf symbols.now head ts t → IsWellSorted t → ⊥) }
 {
     match symbols.kind(head) {
         Kind::Op(op) => check_operator(op, sorts),

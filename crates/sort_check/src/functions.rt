@@ -1,7 +1,7 @@
 //! What declared functions may be applied to (SMT-LIB 2.6, "Commands" and "Well-sorted terms").
 
 ghost use Rattle.std.specs.Prelude.{◌≡◌};
-ghost use Rattle.sym_table.specs.Leaf.{arguments_of};
+ghost use Rattle.sym_table.specs.Leaf.{leaf_arguments};
 ghost use Rattle.sym_table.specs.Table.{IsFunctionLeaf, LeafMeets};
 ghost use Rattle.term_model.specs.Sorts.{sorts_eq};
 ghost use Rattle.sort_check.specs.Applications.{applied_sort};
@@ -22,7 +22,7 @@ pub(crate) fn check_function(symbols: &Symbols, head: u32, sorts: &[Sort]) -> Op
 /// Whether these are the sorts of the function's arguments.
 fn takes(symbols: &Symbols, head: u32, sorts: &[Sort]) -> bool
     requires { IsFunctionLeaf symbols.now head }
-    ensures { LeafMeets symbols.now head (λ l. result ≡ sorts_eq (arguments_of l) sorts.now) }
+    ensures { LeafMeets symbols.now head (λ l. result ≡ sorts_eq (leaf_arguments l) sorts.now) }
 {
     let as_many = symbols.arity(head) == sorts.len();
     if !as_many {

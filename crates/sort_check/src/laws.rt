@@ -8,7 +8,7 @@ ghost use Rattle.term_model.specs.Sorts.{IsOf, AreOf, IsWellSorted};
 ghost use Rattle.term_model.specs.Terms.{Term, terms_of};
 ghost use Rattle.term_model.specs.declared.symbols.Op.{Op};
 ghost use Rattle.term_model.specs.declared.symbols.Sort.{Sort};
-ghost use Rattle.term_pool.specs.Building.{IsApplication};
+ghost use Rattle.term_pool.specs.Building.{IsAppliedLeaf};
 ghost use Rattle.sort_check.specs.Applications.{IsHead, is_head_kind, applied_sort};
 
 /// The operators and the declared functions are the symbols that head applications, and their kinds tell them.
@@ -21,6 +21,6 @@ pub fn heads_of_applications()
 /// An application is well sorted exactly where its arguments are and its symbol may be applied to arguments of their
 /// sorts, and then it has the sort that comes of it.
 pub fn applications_are_judged()
-    ensures well_sorted { (s : Table) (k : ℕ) (ts : List Term) (t : Term) (ss : List Sort) (sort : Sort) → IsHead s k → AreOf (terms_of ts) ss → IsApplication s k ts t → LeafMeets s k (λ l. applied_sort l ss ≡ Some sort) → IsOf t sort }
-    ensures arguments { (s : Table) (k : ℕ) (ts : List Term) (t : Term) (sort : Sort) → IsHead s k → IsApplication s k ts t → IsOf t sort → (ss : List Sort) × AreOf (terms_of ts) ss × LeafMeets s k (λ l. applied_sort l ss ≡ Some sort) }
+    ensures well_sorted { (s : Table) (k : ℕ) (ts : List Term) (t : Term) (ss : List Sort) (sort : Sort) → IsHead s k → AreOf (terms_of ts) ss → IsAppliedLeaf s k ts t → LeafMeets s k (λ l. applied_sort l ss ≡ Some sort) → IsOf t sort }
+    ensures arguments { (s : Table) (k : ℕ) (ts : List Term) (t : Term) (sort : Sort) → IsHead s k → IsAppliedLeaf s k ts t → IsOf t sort → (ss : List Sort) × AreOf (terms_of ts) ss × LeafMeets s k (λ l. applied_sort l ss ≡ Some sort) }
 {}

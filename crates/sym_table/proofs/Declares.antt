@@ -5,7 +5,7 @@ use Rattle.sym_table.specs.declared.cells.Function.{Function}
 use Rattle.sym_table.specs.Names.{Lacks}
 use Rattle.sym_table.specs.Leaf.{function}
 use Rattle.sym_table.specs.Table.{Table, IsFunctionName, with_leaf}
-use Rattle.sym_table.specs.Cells.{AreLinked}
+use Rattle.sym_table.specs.Cells.{AreKeysLinked}
 use Rattle.sym_table.proofs.Lists.{true-false}
 use Rattle.sym_table.proofs.Links.{AreLinked-push_function, length-push}
 use Rattle.sym_table.proofs.Tables.{leaves_of-push_function}
@@ -22,7 +22,7 @@ pub record AddsFunction (names more_names : List (List ℕ)) (functions more : L
 pub adds : (names more_names : List (List ℕ)) (functions more : List Function) (keys more_keys : List Symbol) (name : List ℕ) (f : Function) → more_names ≡ names ++ name ∷ [] → more ≡ functions ++ f ∷ [] → more_keys ≡ keys ++ Symbol.Function (length functions) ∷ [] → AddsFunction names more_names functions more keys more_keys name f
 adds names more_names functions more keys more_keys name f a b c = record { names_grown = a; functions_grown = b; keys_grown = c }
 
-module _ (names more_names : List (List ℕ)) (functions more : List Function) (variables : List (List ℕ)) (keys more_keys : List Symbol) (sorts : List (List ℕ)) (name : List ℕ) (f : Function) (t : Table) (v : table_of names functions variables keys sorts ≡ t) (h : AreLinked names functions variables keys) (a : AddsFunction names more_names functions more keys more_keys name f) where
+module _ (names more_names : List (List ℕ)) (functions more : List Function) (variables : List (List ℕ)) (keys more_keys : List Symbol) (sorts : List (List ℕ)) (name : List ℕ) (f : Function) (t : Table) (v : table_of names functions variables keys sorts ≡ t) (h : AreKeysLinked names functions variables keys) (a : AddsFunction names more_names functions more keys more_keys name f) where
   -- the fields after it
   grown : table_of more_names more variables more_keys sorts ≡ table_of (names ++ name ∷ []) (functions ++ f ∷ []) variables (keys ++ Symbol.Function (length functions) ∷ []) sorts
   grown =
@@ -36,17 +36,17 @@ module _ (names more_names : List (List ℕ)) (functions more : List Function) (
       ∙ ap (λ ls. record { leaves = ls; sorts = sorts }) (leaves_of-push_function names functions variables keys name f h)
       ∙ ap (λ (u : Table). with_leaf u (function name f.arguments.items f.target)) v
 
-  pub AreLinked-declared : Lacks names name → f.place ≡ length keys → AreLinked more_names more variables more_keys
+  pub AreLinked-declared : Lacks names name → f.place ≡ length keys → AreKeysLinked more_names more variables more_keys
   AreLinked-declared lacks p =
-      subst (λ ns. AreLinked ns more variables more_keys) (sym a.names_grown)
-      (subst (λ fs. AreLinked (names ++ name ∷ []) fs variables more_keys) (sym a.functions_grown)
-      (subst (λ ks. AreLinked (names ++ name ∷ []) (functions ++ f ∷ []) variables ks) (sym a.keys_grown) (AreLinked-push_function names functions variables keys name f h lacks p)))
+      subst (λ ns. AreKeysLinked ns more variables more_keys) (sym a.names_grown)
+      (subst (λ fs. AreKeysLinked (names ++ name ∷ []) fs variables more_keys) (sym a.functions_grown)
+      (subst (λ ks. AreKeysLinked (names ++ name ∷ []) (functions ++ f ∷ []) variables ks) (sym a.keys_grown) (AreLinked-push_function names functions variables keys name f h lacks p)))
 
   pub few-declared : length t.leaves < 2 ^ 30 → length more_keys + 19 ≤ 2 ^ 30
   few-declared room =
       omega (arith, length-seen t names functions variables keys sorts v, ap length a.keys_grown, length-push keys (Symbol.Function (length functions)))
 
-module _ (names : List (List ℕ)) (functions : List Function) (variables : List (List ℕ)) (keys : List Symbol) (sorts : List (List ℕ)) (name : List ℕ) (t : Table) (v : table_of names functions variables keys sorts ≡ t) (h : AreLinked names functions variables keys) where
+module _ (names : List (List ℕ)) (functions : List Function) (variables : List (List ℕ)) (keys : List Symbol) (sorts : List (List ℕ)) (name : List ℕ) (t : Table) (v : table_of names functions variables keys sorts ≡ t) (h : AreKeysLinked names functions variables keys) where
   -- a name that is not declared is not there
   pub Lacks-undeclared : (IsFunctionName t name → ⊥) → Lacks names name
   Lacks-undeclared free k e = free (IsFunctionName-number t names functions variables keys sorts k name v h e)

@@ -9,7 +9,7 @@ use Rattle.sym_table.specs.declared.cells.Symbol.{Symbol}
 use Rattle.sym_table.specs.declared.cells.Function.{Function}
 use Rattle.sym_table.specs.Leaf.{Leaf, nil, let_head, operator, function, variable, numeral, is_function, kind_of, name_of, first_leaves}
 use Rattle.sym_table.specs.Table.{Table, LeafMeets, IsFunctionLeaf, IsFun, functions_before}
-use Rattle.sym_table.specs.Cells.{leaf_of, leaves_of, is_function_key, IsInRange, AreLinked}
+use Rattle.sym_table.specs.Cells.{leaf_of_key, leaves_of, is_function_key, IsInRange, AreKeysLinked}
 use Rattle.sym_table.proofs.Lists.{count_by-take-map, true-false}
 use Rattle.sym_table.proofs.Tables.{first_leaf, key_leaf}
 use Rattle.sym_table.proofs.Laws.{table_of, is_first, first_kind, function_at-shape}
@@ -33,7 +33,7 @@ first_is_no_function (Kind.Op op) e f = f
 first_is_no_function (Kind.Var sort) e f = f
 first_is_no_function (Kind.Num n) e f = f
 
-module _ (t : Table) (names : List (List ℕ)) (functions : List Function) (variables : List (List ℕ)) (keys : List Symbol) (sorts : List (List ℕ)) (leaf : ℕ) (v : table_of names functions variables keys sorts ≡ t) (h : AreLinked names functions variables keys) where
+module _ (t : Table) (names : List (List ℕ)) (functions : List Function) (variables : List (List ℕ)) (keys : List Symbol) (sorts : List (List ℕ)) (leaf : ℕ) (v : table_of names functions variables keys sorts ≡ t) (h : AreKeysLinked names functions variables keys) where
   -- one of the first leaves
   pub first_meets : (P : Leaf → Type 0) → IsSomeAnd (slice_get first_leaves leaf) P → LeafMeets t leaf P
   first_meets P m =
@@ -64,26 +64,26 @@ module _ (t : Table) (names : List (List ℕ)) (functions : List Function) (vari
     pub back : 19 + (leaf - 19) ≡ leaf
     back = omega arith
 
-    pub key_meets : (P : Leaf → Type 0) → P (leaf_of names functions variables key) → LeafMeets t leaf P
+    pub key_meets : (P : Leaf → Type 0) → P (leaf_of_key names functions variables key) → LeafMeets t leaf P
     key_meets P p =
         subst (λ (u : Table). LeafMeets u leaf P) v
         (meets P _ _ (ap (slice_get (leaves_of names functions variables keys)) (sym back) ∙ key_leaf names functions variables keys (leaf - 19) key at_key) p)
 
 -- keys in range stand for functions exactly where they are keys of functions
-is_function-leaf_of : (names : List (List ℕ)) (functions : List Function) (variables : List (List ℕ)) (key : Symbol) → length names ≡ length functions → IsInRange (length functions) (length variables) key → is_function (leaf_of names functions variables key) ≡ is_function_key key
+is_function-leaf_of : (names : List (List ℕ)) (functions : List Function) (variables : List (List ℕ)) (key : Symbol) → length names ≡ length functions → IsInRange (length functions) (length variables) key → is_function (leaf_of_key names functions variables key) ≡ is_function_key key
 is_function-leaf_of names functions variables (Symbol.Function n) same r = ap is_function (function_at-shape names functions n same r).4
 is_function-leaf_of names functions variables (Symbol.Variable n sort) same r = refl
 is_function-leaf_of names functions variables (Symbol.Numeral n) same r = refl
 
 -- how many functions are before the leaf of a key
-functions_before-key : (names : List (List ℕ)) (functions : List Function) (variables : List (List ℕ)) (keys : List Symbol) (sorts : List (List ℕ)) (k : ℕ) → AreLinked names functions variables keys → functions_before (table_of names functions variables keys sorts) (19 + k) ≡ count_by is_function_key (take k keys)
+functions_before-key : (names : List (List ℕ)) (functions : List Function) (variables : List (List ℕ)) (keys : List Symbol) (sorts : List (List ℕ)) (k : ℕ) → AreKeysLinked names functions variables keys → functions_before (table_of names functions variables keys sorts) (19 + k) ≡ count_by is_function_key (take k keys)
 functions_before-key names functions variables keys sorts k h =
-    ap (count_by is_function) (take-append-add first_leaves (map (leaf_of names functions variables) keys) k)
-    ∙ sum_by-append (λ l. cond (is_function l) 1 0) first_leaves (take k (map (leaf_of names functions variables) keys))
-    ∙ zero-add (count_by is_function (take k (map (leaf_of names functions variables) keys)))
-    ∙ count_by-take-map is_function is_function_key (leaf_of names functions variables) keys k (λ j key e. is_function-leaf_of names functions variables key h.named (h.in_range j key e))
+    ap (count_by is_function) (take-append-add first_leaves (map (leaf_of_key names functions variables) keys) k)
+    ∙ sum_by-append (λ l. cond (is_function l) 1 0) first_leaves (take k (map (leaf_of_key names functions variables) keys))
+    ∙ zero-add (count_by is_function (take k (map (leaf_of_key names functions variables) keys)))
+    ∙ count_by-take-map is_function is_function_key (leaf_of_key names functions variables) keys k (λ j key e. is_function-leaf_of names functions variables key h.named (h.in_range j key e))
 
-module _ (t : Table) (names : List (List ℕ)) (functions : List Function) (variables : List (List ℕ)) (keys : List Symbol) (sorts : List (List ℕ)) (leaf : ℕ) (v : table_of names functions variables keys sorts ≡ t) (h : AreLinked names functions variables keys) (seen : List Symbol) (d key : Symbol) (same : seen ≡ keys) (low : 19 ≤ leaf) (high : leaf < length t.leaves) (read : get_or seen (leaf - 19) d ≡ key) where
+module _ (t : Table) (names : List (List ℕ)) (functions : List Function) (variables : List (List ℕ)) (keys : List Symbol) (sorts : List (List ℕ)) (leaf : ℕ) (v : table_of names functions variables keys sorts ≡ t) (h : AreKeysLinked names functions variables keys) (seen : List Symbol) (d key : Symbol) (same : seen ≡ keys) (low : 19 ≤ leaf) (high : leaf < length t.leaves) (read : get_or seen (leaf - 19) d ≡ key) where
   -- a function's number is how many were declared before
   pub before_key : (n : ℕ) → key ≡ Symbol.Function n → functions_before t leaf ≡ n
   before_key n e =
@@ -95,7 +95,7 @@ module _ (t : Table) (names : List (List ℕ)) (functions : List Function) (vari
   pub function_kind : (n : ℕ) → key ≡ Symbol.Function n → LeafMeets t leaf (λ l. Kind.Fun n ≡ kind_of (functions_before t leaf) l)
   function_kind n e =
       key_meets t names functions variables keys sorts leaf v h seen d key same low high read (λ l. Kind.Fun n ≡ kind_of (functions_before t leaf) l)
-      (ap Kind.Fun (sym (before_key n e)) ∙ sym (ap (kind_of (functions_before t leaf)) (ap (leaf_of names functions variables) e ∙ (function_at-shape names functions n h.named (subst (IsInRange (length functions) (length variables)) e (in_range t names functions variables keys sorts leaf v h seen d key same low high read))).4)))
+      (ap Kind.Fun (sym (before_key n e)) ∙ sym (ap (kind_of (functions_before t leaf)) (ap (leaf_of_key names functions variables) e ∙ (function_at-shape names functions n h.named (subst (IsInRange (length functions) (length variables)) e (in_range t names functions variables keys sorts leaf v h seen d key same low high read))).4)))
 
   pub function_is : (n : ℕ) → key ≡ Symbol.Function n → IsFunctionLeaf t leaf
   function_is n e =
@@ -109,7 +109,7 @@ module _ (t : Table) (names : List (List ℕ)) (functions : List Function) (vari
       omega (arith, count_by-le-length is_function_key keys, h.counted)
 
 -- the name of a function's leaf is the one at its number
-pub function_name : (names : List (List ℕ)) (functions : List Function) (variables : List (List ℕ)) (n : ℕ) (name : List ℕ) → length names ≡ length functions → n < length functions → slice_get names n ≡ Some name → name ≡ name_of (leaf_of names functions variables (Symbol.Function n))
+pub function_name : (names : List (List ℕ)) (functions : List Function) (variables : List (List ℕ)) (n : ℕ) (name : List ℕ) → length names ≡ length functions → n < length functions → slice_get names n ≡ Some name → name ≡ name_of (leaf_of_key names functions variables (Symbol.Function n))
 function_name names functions variables n name same r e =
     let x = function_at-shape names functions n same r in
     same_Some _ _ (sym e ∙ x.2) ∙ sym (ap name_of x.4)

@@ -9,7 +9,7 @@ use Rattle.sym_table.specs.declared.cells.Function.{Function}
 use Rattle.sym_table.specs.Names.{Lacks, AreApart}
 use Rattle.sym_table.specs.Leaf.{Leaf, function, numeral, kind_of, name_of, first_leaves}
 use Rattle.sym_table.specs.Table.{Table, IsTable, LacksLeaf}
-use Rattle.sym_table.specs.Cells.{function_at, leaf_of, leaves_of, IsInRange, AreLinked}
+use Rattle.sym_table.specs.Cells.{function_at, leaf_of_key, leaves_of, IsInRange, AreKeysLinked}
 use Rattle.sym_table.proofs.Lists.{slice_get-there, true-false, passes_at, and_left, and_right}
 use Rattle.sym_table.proofs.Tables.{function_at-known, first_leaf, leaf_cases}
 
@@ -87,13 +87,13 @@ function_at-shape names functions n same below = go (slice_get functions n) refl
     go (Some f) e = (name, f, named, e, function_at-known names functions n name f named e)
 
 -- a key's leaf is none of the first
-key_kind : (names : List (List ℕ)) (functions : List Function) (variables : List (List ℕ)) (key : Symbol) → length names ≡ length functions → IsInRange (length functions) (length variables) key → is_first (kind_of 0 (leaf_of names functions variables key)) ≡ false
+key_kind : (names : List (List ℕ)) (functions : List Function) (variables : List (List ℕ)) (key : Symbol) → length names ≡ length functions → IsInRange (length functions) (length variables) key → is_first (kind_of 0 (leaf_of_key names functions variables key)) ≡ false
 key_kind names functions variables (Symbol.Function n) same r = ap (λ l. is_first (kind_of 0 l)) (function_at-shape names functions n same r).4
 key_kind names functions variables (Symbol.Variable n sort) same r = refl
 key_kind names functions variables (Symbol.Numeral n) same r = refl
 
 -- leaves of one kind and name have one key
-same_key : (names : List (List ℕ)) (functions : List Function) (variables : List (List ℕ)) (keys : List Symbol) → AreLinked names functions variables keys → (a b : Symbol) → IsInRange (length functions) (length variables) a → IsInRange (length functions) (length variables) b → kind_of 0 (leaf_of names functions variables a) ≡ kind_of 0 (leaf_of names functions variables b) → name_of (leaf_of names functions variables a) ≡ name_of (leaf_of names functions variables b) → a ≡ b
+same_key : (names : List (List ℕ)) (functions : List Function) (variables : List (List ℕ)) (keys : List Symbol) → AreKeysLinked names functions variables keys → (a b : Symbol) → IsInRange (length functions) (length variables) a → IsInRange (length functions) (length variables) b → kind_of 0 (leaf_of_key names functions variables a) ≡ kind_of 0 (leaf_of_key names functions variables b) → name_of (leaf_of_key names functions variables a) ≡ name_of (leaf_of_key names functions variables b) → a ≡ b
 same_key names functions variables keys h (Symbol.Function m) (Symbol.Function n) r s kinds names_same =
     let x = function_at-shape names functions m h.named r in
     let y = function_at-shape names functions n h.named s in
@@ -123,13 +123,13 @@ same_key names functions variables keys h (Symbol.Numeral m) (Symbol.Variable n 
 same_key names functions variables keys h (Symbol.Numeral m) (Symbol.Numeral n) r s kinds names_same = cc
 
 -- two leaves differ in kind or name
-leaves_apart : (names : List (List ℕ)) (functions : List Function) (variables : List (List ℕ)) (keys : List Symbol) → AreLinked names functions variables keys → (j k : ℕ) (l m : Leaf) → slice_get (leaves_of names functions variables keys) j ≡ Some l → slice_get (leaves_of names functions variables keys) k ≡ Some m → kind_of 0 l ≡ kind_of 0 m → name_of l ≡ name_of m → j ≡ k
+leaves_apart : (names : List (List ℕ)) (functions : List Function) (variables : List (List ℕ)) (keys : List Symbol) → AreKeysLinked names functions variables keys → (j k : ℕ) (l m : Leaf) → slice_get (leaves_of names functions variables keys) j ≡ Some l → slice_get (leaves_of names functions variables keys) k ≡ Some m → kind_of 0 l ≡ kind_of 0 m → name_of l ≡ name_of m → j ≡ k
 leaves_apart names functions variables keys h j k l m at_j at_k kinds names_same = go (leaf_cases names functions variables keys j l at_j) (leaf_cases names functions variables keys k m at_k)
   where
     range : (i : ℕ) (key : Symbol) → slice_get keys i ≡ Some key → IsInRange (length functions) (length variables) key
     range i key e = h.in_range i key e
 
-    go : (slice_get first_leaves j ≡ Some l) ⊎ ((i : ℕ) × (key : Symbol) × (j ≡ 19 + i) × (slice_get keys i ≡ Some key) × (l ≡ leaf_of names functions variables key)) → (slice_get first_leaves k ≡ Some m) ⊎ ((i : ℕ) × (key : Symbol) × (k ≡ 19 + i) × (slice_get keys i ≡ Some key) × (m ≡ leaf_of names functions variables key)) → j ≡ k
+    go : (slice_get first_leaves j ≡ Some l) ⊎ ((i : ℕ) × (key : Symbol) × (j ≡ 19 + i) × (slice_get keys i ≡ Some key) × (l ≡ leaf_of_key names functions variables key)) → (slice_get first_leaves k ≡ Some m) ⊎ ((i : ℕ) × (key : Symbol) × (k ≡ 19 + i) × (slice_get keys i ≡ Some key) × (m ≡ leaf_of_key names functions variables key)) → j ≡ k
     go (inl a) (inl b) = sym (first_place j l a) ∙ ap kind_place kinds ∙ first_place k m b
     go (inl a) (inr b) = absurd (true-false (sym (first_kind j l a) ∙ ap is_first kinds ∙ ap (λ x. is_first (kind_of 0 x)) b.4 ∙ key_kind names functions variables b.1 h.named (range b.0 b.1 b.3)))
     go (inr a) (inl b) = absurd (true-false (sym (first_kind k m b) ∙ ap is_first (sym kinds) ∙ ap (λ x. is_first (kind_of 0 x)) a.4 ∙ key_kind names functions variables a.1 h.named (range a.0 a.1 a.3)))
@@ -139,14 +139,14 @@ leaves_apart names functions variables keys h j k l m at_j at_k kinds names_same
         a.2 ∙ ap (λ i. 19 + i) place ∙ sym b.2
 
 -- no numeral is negative
-numeral_leaf : (names : List (List ℕ)) (functions : List Function) (variables : List (List ℕ)) (key : Symbol) (n : ℤ) → length names ≡ length functions → IsInRange (length functions) (length variables) key → numeral n ≡ leaf_of names functions variables key → pos 0 ≤ℤ n
+numeral_leaf : (names : List (List ℕ)) (functions : List Function) (variables : List (List ℕ)) (key : Symbol) (n : ℤ) → length names ≡ length functions → IsInRange (length functions) (length variables) key → numeral n ≡ leaf_of_key names functions variables key → pos 0 ≤ℤ n
 numeral_leaf names functions variables (Symbol.Function m) n same r e =
     let clash : Kind.Num n ≡ Kind.Fun 0 = ap (kind_of 0) e ∙ ap (kind_of 0) (function_at-shape names functions m same r).4 in
     cc
 numeral_leaf names functions variables (Symbol.Variable m sort) n same r e = let clash : Kind.Num n ≡ Kind.Var sort = ap (kind_of 0) e in cc
 numeral_leaf names functions variables (Symbol.Numeral m) n same r e = let one : n ≡ m = cc in subst (λ z. pos 0 ≤ℤ z) (sym one) r.0
 
-not_negative : (names : List (List ℕ)) (functions : List Function) (variables : List (List ℕ)) (keys : List Symbol) → AreLinked names functions variables keys → (k : ℕ) (n : ℤ) → slice_get (leaves_of names functions variables keys) k ≡ Some (numeral n) → pos 0 ≤ℤ n
+not_negative : (names : List (List ℕ)) (functions : List Function) (variables : List (List ℕ)) (keys : List Symbol) → AreKeysLinked names functions variables keys → (k : ℕ) (n : ℤ) → slice_get (leaves_of names functions variables keys) k ≡ Some (numeral n) → pos 0 ≤ℤ n
 not_negative names functions variables keys h k n e =
     elim (leaf_cases names functions variables keys k (numeral n) e) [
       | inl a ↦ absurd (true-false (sym (first_kind k (numeral n) a)))
@@ -154,7 +154,7 @@ not_negative names functions variables keys h k n e =
     ]
 
 -- so the fields make a table
-pub IsTable-linked : (names : List (List ℕ)) (functions : List Function) (variables : List (List ℕ)) (keys : List Symbol) (sorts : List (List ℕ)) → AreLinked names functions variables keys → AreApart sorts → IsTable (table_of names functions variables keys sorts)
+pub IsTable-linked : (names : List (List ℕ)) (functions : List Function) (variables : List (List ℕ)) (keys : List Symbol) (sorts : List (List ℕ)) → AreKeysLinked names functions variables keys → AreApart sorts → IsTable (table_of names functions variables keys sorts)
 IsTable-linked names functions variables keys sorts h apart = record {
   begins = λ k l e. first_leaf names functions variables keys k l e;
   apart = λ j k l m a b kinds names_same. leaves_apart names functions variables keys h j k l m a b kinds names_same;
@@ -163,9 +163,9 @@ IsTable-linked names functions variables keys sorts h apart = record {
 }
 
 -- a key that is nowhere stands for what no leaf does
-pub LacksLeaf-key : (names : List (List ℕ)) (functions : List Function) (variables : List (List ℕ)) (keys : List Symbol) (sorts : List (List ℕ)) (key : Symbol) → AreLinked names functions variables keys → IsInRange (length functions) (length variables) key → Lacks keys key → LacksLeaf (table_of names functions variables keys sorts) (leaf_of names functions variables key)
+pub LacksLeaf-key : (names : List (List ℕ)) (functions : List Function) (variables : List (List ℕ)) (keys : List Symbol) (sorts : List (List ℕ)) (key : Symbol) → AreKeysLinked names functions variables keys → IsInRange (length functions) (length variables) key → Lacks keys key → LacksLeaf (table_of names functions variables keys sorts) (leaf_of_key names functions variables key)
 LacksLeaf-key names functions variables keys sorts key h r lacks k e =
-    elim (leaf_cases names functions variables keys k (leaf_of names functions variables key) e) [
+    elim (leaf_cases names functions variables keys k (leaf_of_key names functions variables key) e) [
       | inl a ↦ true-false (sym (first_kind k _ a) ∙ key_kind names functions variables key h.named r)
       | inr a ↦ lacks a.0 (a.3 ∙ ap Some (same_key names functions variables keys h a.1 key (h.in_range a.0 a.1 a.3) r (ap (kind_of 0) (sym a.4)) (ap name_of (sym a.4))))
     ]

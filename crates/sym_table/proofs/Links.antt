@@ -8,7 +8,7 @@ use Rattle.std.proofs.Math.Seq.{take-append_seam}
 use Rattle.sym_table.specs.declared.cells.Symbol.{Symbol}
 use Rattle.sym_table.specs.declared.cells.Function.{Function}
 use Rattle.sym_table.specs.Names.{Lacks, PlacesItem}
-use Rattle.sym_table.specs.Cells.{is_function_key, IsInRange, AreLinked}
+use Rattle.sym_table.specs.Cells.{is_function_key, IsInRange, AreKeysLinked}
 use Rattle.sym_table.proofs.Lists.{AreApart-push, AreApart-PlacesItem, slice_get-left, slice_get-last, slice_get-push_cases}
 
 -- a wider range has the keys of a narrower one
@@ -31,11 +31,11 @@ pub length-push : {X : Type 0} (xs : List X) (x : X) → length (xs ++ x ∷ [])
 length-push xs x = length-append xs (x ∷ [])
 
 -- the next function has no key yet
-pub lacks_function : (names : List (List ℕ)) (functions : List Function) (variables : List (List ℕ)) (keys : List Symbol) → AreLinked names functions variables keys → Lacks keys (Symbol.Function (length functions))
+pub lacks_function : (names : List (List ℕ)) (functions : List Function) (variables : List (List ℕ)) (keys : List Symbol) → AreKeysLinked names functions variables keys → Lacks keys (Symbol.Function (length functions))
 lacks_function names functions variables keys h k e = absurd (let r = h.in_range k (Symbol.Function (length functions)) e in omega arith)
 
 -- a new function with its key
-pub AreLinked-push_function : (names : List (List ℕ)) (functions : List Function) (variables : List (List ℕ)) (keys : List Symbol) (name : List ℕ) (f : Function) → AreLinked names functions variables keys → Lacks names name → f.place ≡ length keys → AreLinked (names ++ name ∷ []) (functions ++ f ∷ []) variables (keys ++ Symbol.Function (length functions) ∷ [])
+pub AreLinked-push_function : (names : List (List ℕ)) (functions : List Function) (variables : List (List ℕ)) (keys : List Symbol) (name : List ℕ) (f : Function) → AreKeysLinked names functions variables keys → Lacks names name → f.place ≡ length keys → AreKeysLinked (names ++ name ∷ []) (functions ++ f ∷ []) variables (keys ++ Symbol.Function (length functions) ∷ [])
 AreLinked-push_function names functions variables keys name f h new p = record {
   named = omega (arith, length-push names name, length-push functions f, h.named);
   functions_apart = AreApart-push names name h.functions_apart new;
@@ -64,7 +64,7 @@ AreLinked-push_function names functions variables keys name f h new p = record {
         ap (λ i. count_by is_function_key (take i (keys ++ Symbol.Function (length functions) ∷ []))) e.0 ∙ count-all_before keys (Symbol.Function (length functions)) ∙ h.counted ∙ same
 
 -- a new key that is no function
-pub AreLinked-push_key : (names : List (List ℕ)) (functions : List Function) (variables : List (List ℕ)) (keys : List Symbol) (key : Symbol) → AreLinked names functions variables keys → Lacks keys key → IsInRange (length functions) (length variables) key → is_function_key key ≡ false → AreLinked names functions variables (keys ++ key ∷ [])
+pub AreLinked-push_key : (names : List (List ℕ)) (functions : List Function) (variables : List (List ℕ)) (keys : List Symbol) (key : Symbol) → AreKeysLinked names functions variables keys → Lacks keys key → IsInRange (length functions) (length variables) key → is_function_key key ≡ false → AreKeysLinked names functions variables (keys ++ key ∷ [])
 AreLinked-push_key names functions variables keys key h new r other = record {
   named = h.named;
   functions_apart = h.functions_apart;
@@ -94,12 +94,12 @@ length-PlacesItem old new k x (inr h) =
     ((omega arith), (omega arith), ap (λ xs. slice_get xs k) h.2 ∙ ap (slice_get (old ++ x ∷ [])) h.1 ∙ slice_get-last old x)
 
 -- a key that is no function was placed
-pub AreLinked-PlacesItem : (names : List (List ℕ)) (functions : List Function) (variables : List (List ℕ)) (keys more : List Symbol) (k : ℕ) (key : Symbol) → AreLinked names functions variables keys → IsInRange (length functions) (length variables) key → is_function_key key ≡ false → PlacesItem keys more k key → AreLinked names functions variables more
-AreLinked-PlacesItem names functions variables keys more k key h r other (inl e) = subst (AreLinked names functions variables) (sym e.1) h
-AreLinked-PlacesItem names functions variables keys more k key h r other (inr e) = subst (AreLinked names functions variables) (sym e.2) (AreLinked-push_key names functions variables keys key h e.0 r other)
+pub AreLinked-PlacesItem : (names : List (List ℕ)) (functions : List Function) (variables : List (List ℕ)) (keys more : List Symbol) (k : ℕ) (key : Symbol) → AreKeysLinked names functions variables keys → IsInRange (length functions) (length variables) key → is_function_key key ≡ false → PlacesItem keys more k key → AreKeysLinked names functions variables more
+AreLinked-PlacesItem names functions variables keys more k key h r other (inl e) = subst (AreKeysLinked names functions variables) (sym e.1) h
+AreLinked-PlacesItem names functions variables keys more k key h r other (inr e) = subst (AreKeysLinked names functions variables) (sym e.2) (AreLinked-push_key names functions variables keys key h e.0 r other)
 
 -- a name of a variable was placed
-pub AreLinked-more_variables : (names : List (List ℕ)) (functions : List Function) (variables more : List (List ℕ)) (keys : List Symbol) (k : ℕ) (name : List ℕ) → AreLinked names functions variables keys → PlacesItem variables more k name → AreLinked names functions more keys
+pub AreLinked-more_variables : (names : List (List ℕ)) (functions : List Function) (variables more : List (List ℕ)) (keys : List Symbol) (k : ℕ) (name : List ℕ) → AreKeysLinked names functions variables keys → PlacesItem variables more k name → AreKeysLinked names functions more keys
 AreLinked-more_variables names functions variables more keys k name h p = record {
   named = h.named;
   functions_apart = h.functions_apart;

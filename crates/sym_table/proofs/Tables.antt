@@ -8,7 +8,7 @@ use Rattle.sym_table.specs.declared.cells.Symbol.{Symbol}
 use Rattle.sym_table.specs.declared.cells.Function.{Function}
 use Rattle.sym_table.specs.Names.{PlacesItem}
 use Rattle.sym_table.specs.Leaf.{Leaf, nil, function, variable, first_leaves}
-use Rattle.sym_table.specs.Cells.{function_at, leaf_of, leaves_of, IsInRange, AreLinked}
+use Rattle.sym_table.specs.Cells.{function_at, leaf_of_key, leaves_of, IsInRange, AreKeysLinked}
 use Rattle.sym_table.proofs.Lists.{slice_get-left, slice_get-right, slice_get-last, slice_get-cases, slice_get-kept, map-agree}
 
 -- the function of a number, where its name and its sorts are known
@@ -19,13 +19,13 @@ function_at-known names functions n name f e g =
 
 -- where a leaf of the first ones stands, and where that of a key
 pub first_leaf : (names : List (List ℕ)) (functions : List Function) (variables : List (List ℕ)) (keys : List Symbol) (k : ℕ) (l : Leaf) → slice_get first_leaves k ≡ Some l → slice_get (leaves_of names functions variables keys) k ≡ Some l
-first_leaf names functions variables keys k l e = slice_get-left first_leaves (map (leaf_of names functions variables) keys) k l e
+first_leaf names functions variables keys k l e = slice_get-left first_leaves (map (leaf_of_key names functions variables) keys) k l e
 
-pub key_leaf : (names : List (List ℕ)) (functions : List Function) (variables : List (List ℕ)) (keys : List Symbol) (k : ℕ) (key : Symbol) → slice_get keys k ≡ Some key → slice_get (leaves_of names functions variables keys) (19 + k) ≡ Some (leaf_of names functions variables key)
+pub key_leaf : (names : List (List ℕ)) (functions : List Function) (variables : List (List ℕ)) (keys : List Symbol) (k : ℕ) (key : Symbol) → slice_get keys k ≡ Some key → slice_get (leaves_of names functions variables keys) (19 + k) ≡ Some (leaf_of_key names functions variables key)
 key_leaf names functions variables keys k key e =
-    slice_get-right first_leaves (map (leaf_of names functions variables) keys) k
-    ∙ slice_get-map (leaf_of names functions variables) keys k
-    ∙ ap (option_map (leaf_of names functions variables)) e
+    slice_get-right first_leaves (map (leaf_of_key names functions variables) keys) k
+    ∙ slice_get-map (leaf_of_key names functions variables) keys k
+    ∙ ap (option_map (leaf_of_key names functions variables)) e
 
 -- an item of an image is the image of an item
 image_item : {X Y : Type 0} (v : X → Y) (xs : List X) (k : ℕ) (y : Y) → slice_get (map v xs) k ≡ Some y → (x : X) × (slice_get xs k ≡ Some x) × (y ≡ v x)
@@ -36,15 +36,15 @@ image_item {X} v xs k y g = go (slice_get xs k) refl
     go (Some x) h = (x, h, sym (same_Some _ _ (sym (ap (option_map v) h) ∙ sym (slice_get-map v xs k) ∙ g)))
 
 -- a leaf is one of the first, or that of a key
-pub leaf_cases : (names : List (List ℕ)) (functions : List Function) (variables : List (List ℕ)) (keys : List Symbol) (k : ℕ) (l : Leaf) → slice_get (leaves_of names functions variables keys) k ≡ Some l → (slice_get first_leaves k ≡ Some l) ⊎ ((j : ℕ) × (key : Symbol) × (k ≡ 19 + j) × (slice_get keys j ≡ Some key) × (l ≡ leaf_of names functions variables key))
+pub leaf_cases : (names : List (List ℕ)) (functions : List Function) (variables : List (List ℕ)) (keys : List Symbol) (k : ℕ) (l : Leaf) → slice_get (leaves_of names functions variables keys) k ≡ Some l → (slice_get first_leaves k ≡ Some l) ⊎ ((j : ℕ) × (key : Symbol) × (k ≡ 19 + j) × (slice_get keys j ≡ Some key) × (l ≡ leaf_of_key names functions variables key))
 leaf_cases names functions variables keys k l e =
-    elim (slice_get-cases first_leaves (map (leaf_of names functions variables) keys) k l e) [
+    elim (slice_get-cases first_leaves (map (leaf_of_key names functions variables) keys) k l e) [
       | inl h ↦ inl h
-      | inr h ↦ (let x = image_item (leaf_of names functions variables) keys h.0 l h.2 in inr (h.0, x.0, h.1, x.1, x.2))
+      | inr h ↦ (let x = image_item (leaf_of_key names functions variables) keys h.0 l h.2 in inr (h.0, x.0, h.1, x.1, x.2))
     ]
 
 -- keys in range stand for the same leaves where lists grow
-same_leaf : (names more_names : List (List ℕ)) (functions more : List Function) (variables more_variables : List (List ℕ)) (key : Symbol) → length names ≡ length functions → IsInRange (length functions) (length variables) key → leaf_of (names ++ more_names) (functions ++ more) (variables ++ more_variables) key ≡ leaf_of names functions variables key
+same_leaf : (names more_names : List (List ℕ)) (functions more : List Function) (variables more_variables : List (List ℕ)) (key : Symbol) → length names ≡ length functions → IsInRange (length functions) (length variables) key → leaf_of_key (names ++ more_names) (functions ++ more) (variables ++ more_variables) key ≡ leaf_of_key names functions variables key
 same_leaf names more_names functions more variables more_variables (Symbol.Function n) e h =
     ap (λ o. option_map_or (λ (x : Function). function (slice_index_or (names ++ more_names) n []) x.arguments.items x.target) o nil) (slice_get-kept functions more n h)
     ∙ ap (λ x. option_map_or (λ (f : Function). function x f.arguments.items f.target) (slice_get functions n) nil) (get_or-append names more_names [] n (omega arith))
@@ -52,25 +52,25 @@ same_leaf names more_names functions more variables more_variables (Symbol.Varia
 same_leaf names more_names functions more variables more_variables (Symbol.Numeral n) e h = refl
 
 -- one more key is one more leaf
-pub leaves_of-push : (names : List (List ℕ)) (functions : List Function) (variables : List (List ℕ)) (keys : List Symbol) (key : Symbol) → leaves_of names functions variables (keys ++ key ∷ []) ≡ leaves_of names functions variables keys ++ leaf_of names functions variables key ∷ []
+pub leaves_of-push : (names : List (List ℕ)) (functions : List Function) (variables : List (List ℕ)) (keys : List Symbol) (key : Symbol) → leaves_of names functions variables (keys ++ key ∷ []) ≡ leaves_of names functions variables keys ++ leaf_of_key names functions variables key ∷ []
 leaves_of-push names functions variables keys key =
-    ap (λ ls. first_leaves ++ ls) (map-append (leaf_of names functions variables) keys (key ∷ []))
-    ∙ sym (append_assoc first_leaves (map (leaf_of names functions variables) keys) (leaf_of names functions variables key ∷ []))
+    ap (λ ls. first_leaves ++ ls) (map-append (leaf_of_key names functions variables) keys (key ∷ []))
+    ∙ sym (append_assoc first_leaves (map (leaf_of_key names functions variables) keys) (leaf_of_key names functions variables key ∷ []))
 
 -- where a name of a variable was placed, the leaves stay
-pub leaves_of-more_variables : (names : List (List ℕ)) (functions : List Function) (variables more : List (List ℕ)) (keys : List Symbol) (k : ℕ) (name : List ℕ) → AreLinked names functions variables keys → PlacesItem variables more k name → leaves_of names functions more keys ≡ leaves_of names functions variables keys
+pub leaves_of-more_variables : (names : List (List ℕ)) (functions : List Function) (variables more : List (List ℕ)) (keys : List Symbol) (k : ℕ) (name : List ℕ) → AreKeysLinked names functions variables keys → PlacesItem variables more k name → leaves_of names functions more keys ≡ leaves_of names functions variables keys
 leaves_of-more_variables names functions variables more keys k name h (inl p) = ap (λ vs. leaves_of names functions vs keys) p.1
 leaves_of-more_variables names functions variables more keys k name h (inr p) =
     ap (λ vs. leaves_of names functions vs keys) p.2
     ∙ ap (λ ls. first_leaves ++ ls) (map-agree _ _ keys (λ j key e. same_variable key (h.in_range j key e)))
   where
-    same_variable : (key : Symbol) → IsInRange (length functions) (length variables) key → leaf_of names functions (variables ++ name ∷ []) key ≡ leaf_of names functions variables key
+    same_variable : (key : Symbol) → IsInRange (length functions) (length variables) key → leaf_of_key names functions (variables ++ name ∷ []) key ≡ leaf_of_key names functions variables key
     same_variable (Symbol.Function n) r = refl
     same_variable (Symbol.Variable n sort) r = ap (λ x. variable x sort) (get_or-append variables (name ∷ []) [] n r)
     same_variable (Symbol.Numeral n) r = refl
 
 -- a new function with its name and its key is one more leaf
-pub leaves_of-push_function : (names : List (List ℕ)) (functions : List Function) (variables : List (List ℕ)) (keys : List Symbol) (name : List ℕ) (f : Function) → AreLinked names functions variables keys → leaves_of (names ++ name ∷ []) (functions ++ f ∷ []) variables (keys ++ Symbol.Function (length functions) ∷ []) ≡ leaves_of names functions variables keys ++ function name f.arguments.items f.target ∷ []
+pub leaves_of-push_function : (names : List (List ℕ)) (functions : List Function) (variables : List (List ℕ)) (keys : List Symbol) (name : List ℕ) (f : Function) → AreKeysLinked names functions variables keys → leaves_of (names ++ name ∷ []) (functions ++ f ∷ []) variables (keys ++ Symbol.Function (length functions) ∷ []) ≡ leaves_of names functions variables keys ++ function name f.arguments.items f.target ∷ []
 leaves_of-push_function names functions variables keys name f h =
     leaves_of-push (names ++ name ∷ []) (functions ++ f ∷ []) variables keys (Symbol.Function (length functions))
     ∙ ap (λ ls. ls ++ function_at (names ++ name ∷ []) (functions ++ f ∷ []) (length functions) ∷ []) grown
@@ -79,7 +79,7 @@ leaves_of-push_function names functions variables keys name f h =
     at_name : slice_get (names ++ name ∷ []) (length functions) ≡ Some name
     at_name = ap (slice_get (names ++ name ∷ [])) (sym h.named) ∙ slice_get-last names name
 
-    same : (key : Symbol) → IsInRange (length functions) (length variables) key → leaf_of (names ++ name ∷ []) (functions ++ f ∷ []) variables key ≡ leaf_of names functions variables key
+    same : (key : Symbol) → IsInRange (length functions) (length variables) key → leaf_of_key (names ++ name ∷ []) (functions ++ f ∷ []) variables key ≡ leaf_of_key names functions variables key
     same (Symbol.Function n) r = same_leaf names (name ∷ []) functions (f ∷ []) variables [] (Symbol.Function n) h.named r
     same (Symbol.Variable n sort) r = refl
     same (Symbol.Numeral n) r = refl

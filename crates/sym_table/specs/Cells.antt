@@ -13,14 +13,14 @@ function_at names functions n =
     option_map_or (λ f. function (slice_index_or names n []) f.arguments.items f.target) (slice_get functions n) nil
 
 -- what a key stands for
-abbrev pub leaf_of : List (List ℕ) → List Function → List (List ℕ) → Symbol → Leaf
-leaf_of names functions variables (Symbol.Function n) = function_at names functions n
-leaf_of names functions variables (Symbol.Variable n sort) = variable (slice_index_or variables n []) sort
-leaf_of names functions variables (Symbol.Numeral n) = numeral n
+abbrev pub leaf_of_key : List (List ℕ) → List Function → List (List ℕ) → Symbol → Leaf
+leaf_of_key names functions variables (Symbol.Function n) = function_at names functions n
+leaf_of_key names functions variables (Symbol.Variable n sort) = variable (slice_index_or variables n []) sort
+leaf_of_key names functions variables (Symbol.Numeral n) = numeral n
 
 -- the leaves of a table with these names, functions and keys
 abbrev pub leaves_of : List (List ℕ) → List Function → List (List ℕ) → List Symbol → List Leaf
-leaves_of names functions variables keys = first_leaves ++ map (leaf_of names functions variables) keys
+leaves_of names functions variables keys = first_leaves ++ map (leaf_of_key names functions variables) keys
 
 -- whether a key is a function
 abbrev pub is_function_key : Symbol → Bool
@@ -36,7 +36,7 @@ IsInRange functions variables (Symbol.Numeral n) = (pos 0 ≤ℤ n) × FitsSigne
 
 -- nothing stands twice; the numbers of the keys are in range; each function has its key at its place; a function's
 -- number is how many have keys before it
-pub record AreLinked (names : List (List ℕ)) (functions : List Function) (variables : List (List ℕ)) (keys : List Symbol) : Type 0 where
+pub record AreKeysLinked (names : List (List ℕ)) (functions : List Function) (variables : List (List ℕ)) (keys : List Symbol) : Type 0 where
   pub named : length names ≡ length functions
   pub functions_apart : AreApart names
   pub variables_apart : AreApart variables

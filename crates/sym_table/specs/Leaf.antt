@@ -43,13 +43,13 @@ is_function (variable name sort) = false
 is_function (numeral n) = false
 
 -- the sorts of a function's arguments
-abbrev pub arguments_of : Leaf → List Sort
-arguments_of (function name arguments target) = arguments
-arguments_of nil = []
-arguments_of let_head = []
-arguments_of (operator op) = []
-arguments_of (variable name sort) = []
-arguments_of (numeral n) = []
+abbrev pub leaf_arguments : Leaf → List Sort
+leaf_arguments (function name arguments target) = arguments
+leaf_arguments nil = []
+leaf_arguments let_head = []
+leaf_arguments (operator op) = []
+leaf_arguments (variable name sort) = []
+leaf_arguments (numeral n) = []
 
 -- the target sort of a function
 abbrev pub target_of : Leaf → Option Sort

@@ -64,8 +64,8 @@ LacksLeaf t l = (k : ℕ) → IsLeaf t k l → ⊥
 abbrev pub with_leaf : Table → Leaf → Table
 with_leaf t l = record t { leaves = t.leaves ++ l ∷ [] }
 
-abbrev pub with_sort : Table → List ℕ → Table
-with_sort t name = record t { sorts = t.sorts ++ name ∷ [] }
+abbrev pub with_sort_name : Table → List ℕ → Table
+with_sort_name t name = record t { sorts = t.sorts ++ name ∷ [] }
 
 -- leaf k was there and nothing changed, or it is new and nothing else did
 abbrev pub FindsOrAdds : Table → Table → ℕ → Leaf → Type 0

@@ -31,7 +31,7 @@ impl Model for Symbols {
     ghost use Rattle.std.specs.Prelude.{◌+◌, ◌^◌, ◌≤◌, length};
     ghost use Rattle.sym_table.specs.Table.{Table};
     ghost use Rattle.sym_table.specs.Names.{texts, AreApart};
-    ghost use Rattle.sym_table.specs.Cells.{leaves_of, AreLinked};
+    ghost use Rattle.sym_table.specs.Cells.{leaves_of, AreKeysLinked};
 
     ghost Value = { Table };
 
@@ -41,7 +41,7 @@ impl Model for Symbols {
     } };
 
     ghost invariant = { λ s.
-        AreLinked (texts s.function_names.keys) s.functions.items (texts s.variable_names.keys) s.leaves.keys
+        AreKeysLinked (texts s.function_names.keys) s.functions.items (texts s.variable_names.keys) s.leaves.keys
         × (length s.leaves.keys + 19 ≤ 2 ^ 30)
         × (length (texts s.sort_names.keys) ≤ 2 ^ 30)
         × AreApart (texts s.sort_names.keys) };

@@ -1,7 +1,7 @@
 -- Variables that are put in and taken away again, one by one.
 use Rattle.std.proofs.Common.{◌≡◌, ℕ, ◌+◌, ◌-◌, ◌<◌, ◌≤◌, zero, suc, refl, sym, ◌∙◌, ap, arith, List, [], ◌∷◌, length, drop, get_or, drop-cons, Some, None, Bool, true, false, cond, eqb}
 use Rattle.std.proofs.lemmas.List.{get_or_default}
-use Rattle.term_expansion.specs.Assigned.{assigned_to, term_of, assigned_all}
+use Rattle.term_expansion.specs.Assigned.{assigned_for, term_of, assigned_all}
 use Rattle.term_expansion.specs.declared.assignments.Assigned.{Assigned}
 
 drop-whole : {X : Type 0} (xs : List X) → drop (length xs) xs ≡ []
@@ -17,12 +17,12 @@ drop-number xs at above within =
     let inside : at - 1 < length xs = omega arith in
     drop-cons xs (at - 1) 0 inside ∙ ap (λ n. get_or xs (at - 1) 0 ∷ drop n xs) back
 
-pub assign-next : (ks is : List ℕ) (outer now new : List Assigned) (at i : ℕ) → length ks ≡ length is → 0 < at → at ≤ length ks → i ≡ get_or is (at - 1) i → now ≡ assigned_all (drop at ks) (drop at is) outer → new ≡ record { variable = get_or ks (at - 1) 0; term = i; outer = assigned_to (get_or ks (at - 1) 0) now } ∷ now → new ≡ assigned_all (drop (at - 1) ks) (drop (at - 1) is) outer
+pub assign-next : (ks is : List ℕ) (outer now new : List Assigned) (at i : ℕ) → length ks ≡ length is → 0 < at → at ≤ length ks → i ≡ get_or is (at - 1) i → now ≡ assigned_all (drop at ks) (drop at is) outer → new ≡ record { variable = get_or ks (at - 1) 0; term = i; outer = assigned_for (get_or ks (at - 1) 0) now } ∷ now → new ≡ assigned_all (drop (at - 1) ks) (drop (at - 1) is) outer
 assign-next ks is outer now new at i same above within read so_far e =
     let inside : at - 1 < length is = omega arith in
     e
-    ∙ ap (λ (j : ℕ). record { variable = get_or ks (at - 1) 0; term = j; outer = assigned_to (get_or ks (at - 1) 0) now } ∷ now) (read ∙ get_or_default is (at - 1) i 0 inside)
-    ∙ ap (λ (o : List Assigned). record { variable = get_or ks (at - 1) 0; term = get_or is (at - 1) 0; outer = assigned_to (get_or ks (at - 1) 0) o } ∷ o) so_far
+    ∙ ap (λ (j : ℕ). record { variable = get_or ks (at - 1) 0; term = j; outer = assigned_for (get_or ks (at - 1) 0) now } ∷ now) (read ∙ get_or_default is (at - 1) i 0 inside)
+    ∙ ap (λ (o : List Assigned). record { variable = get_or ks (at - 1) 0; term = get_or is (at - 1) 0; outer = assigned_for (get_or ks (at - 1) 0) o } ∷ o) so_far
     ∙ sym (ap (λ js. assigned_all js (drop (at - 1) is) outer) (drop-number ks at above within)
     ∙ ap (λ js. assigned_all (get_or ks (at - 1) 0 ∷ drop at ks) js outer) (drop-number is at above (omega arith)))
 
@@ -76,18 +76,18 @@ pub assigned_same : (ks js is hs : List ℕ) (outer other : List Assigned) → k
 assigned_same ks js is hs outer other e f g = ap (λ xs. assigned_all xs is outer) e ∙ ap (λ xs. assigned_all js xs outer) f ∙ ap (assigned_all js hs) g
 
 -- what stands for a leaf, by what was found for it
-pub term_found : (k i : ℕ) (assigned : List Assigned) → assigned_to k assigned ≡ Some i → term_of k assigned ≡ i
+pub term_found : (k i : ℕ) (assigned : List Assigned) → assigned_for k assigned ≡ Some i → term_of k assigned ≡ i
 term_found k i [] e = absurd cc
 term_found k i (a ∷ assigned) e = go (eqb a.variable k) e (term_found k i assigned)
   where
-    go : (b : Bool) → cond b (Some a.term) (assigned_to k assigned) ≡ Some i → (assigned_to k assigned ≡ Some i → term_of k assigned ≡ i) → cond b a.term (term_of k assigned) ≡ i
+    go : (b : Bool) → cond b (Some a.term) (assigned_for k assigned) ≡ Some i → (assigned_for k assigned ≡ Some i → term_of k assigned ≡ i) → cond b a.term (term_of k assigned) ≡ i
     go true f rest = cc
     go false f rest = rest f
 
-pub term_missed : (k : ℕ) (assigned : List Assigned) → assigned_to k assigned ≡ None → term_of k assigned ≡ k
+pub term_missed : (k : ℕ) (assigned : List Assigned) → assigned_for k assigned ≡ None → term_of k assigned ≡ k
 term_missed k [] e = refl
 term_missed k (a ∷ assigned) e = go (eqb a.variable k) e (term_missed k assigned)
   where
-    go : (b : Bool) → cond b (Some a.term) (assigned_to k assigned) ≡ None → (assigned_to k assigned ≡ None → term_of k assigned ≡ k) → cond b a.term (term_of k assigned) ≡ k
+    go : (b : Bool) → cond b (Some a.term) (assigned_for k assigned) ≡ None → (assigned_for k assigned ≡ None → term_of k assigned ≡ k) → cond b a.term (term_of k assigned) ≡ k
     go true f rest = absurd cc
     go false f rest = rest f

@@ -11,7 +11,7 @@ use Rattle.pair_pool.specs.Views.{PassView, Knows, IsKnown, IsPlaced, IsOneToOne
 use Rattle.sym_table.specs.Leaf.{Leaf, operator}
 use Rattle.sym_table.specs.Table.{Table, IsLeaf, IsTable}
 use Rattle.term_model.specs.Terms.{Var, Term, numeral, variable, operation, call, let_in, no_terms, term, Bindings}
-use Rattle.term_pool.specs.Building.{IsApplication, AreBindings, IsCellIn, PlacesOnlyIn, IsFullIn}
+use Rattle.term_pool.specs.Building.{IsAppliedLeaf, AreBindings, IsCellIn, PlacesOnlyIn, IsFullIn}
 use Rattle.term_pool.specs.Reading.{arguments_of, IsLet}
 use Rattle.term_pool.specs.StandsFor.{variable_leaf, function_leaf, StandsFor, StandForAll}
 use Rattle.term_pool.specs.Trees.{IsPartOf, app_tree}
@@ -19,10 +19,10 @@ use Rattle.term_pool.specs.declared.stop.TermStop.{TermStop}
 use Rattle.term_pool.specs.declared.stop.TermStop.TheVariants as Stop
 use Rattle.term_pool.specs.Views.{TermsView, RefersTo, ReferToAll, KnowsAll, KeepsPass, KeepsTerms, IsTerm}
 use Rattle.term_expansion.specs.Assigned.{term_of, assigned_all}
-use Rattle.term_expansion.specs.Expanding.{AreVariables, Says, SaysAll, IsSaid, AreSaid, replaced_each, HasPart, HasParts, key_of, Done, HasBecome, AreDone, IsGiven}
+use Rattle.term_expansion.specs.Expanding.{AreVariables, Says, SaysAll, IsSaid, AreSaid, replaced_each, HasPart, HasPartTerms, key_of, Done, HasBecomeBy, AreDone, AreValuesGiven}
 use Rattle.term_expansion.specs.Free.{AddsLeaves}
 use Rattle.term_expansion.specs.Needs.{IsNeeded, Values, AreValuesOf, HasNeeds}
-use Rattle.rule_model.specs.Replacement.{Replacement, term_at, replaced, replaced_bindings}
+use Rattle.rule_model.specs.Replacement.{Replacement, replaced_by, replaced, replaced_bindings}
 use Rattle.term_expansion.specs.declared.assignments.Assigned.{Assigned}
 use Rattle.term_expansion.proofs.Images.{same_some}
 use Rattle.term_expansion.proofs.NeedLemmas as need
@@ -43,10 +43,10 @@ abbrev pub ExpandsAll : Table → TermsView → TermsView → List Assigned → 
 ExpandsAll s v w a rs is = (ts : List Term) (q : Replacement) → ReferToAll s v rs ts → SaysAll s v a q ts → ReferToAll s w is (replaced_each q ts)
 
 abbrev pub PlacesAll : Table → TermsView → TermsView → List Assigned → List ℕ → Type 0
-PlacesAll s v w a rs = (ts : List Term) (q : Replacement) (whole : Tree) → ReferToAll s v rs ts → SaysAll s v a q ts → HasParts s whole (replaced_each q ts) → PlacesOnlyIn v.pass w.pass whole
+PlacesAll s v w a rs = (ts : List Term) (q : Replacement) (whole : Tree) → ReferToAll s v rs ts → SaysAll s v a q ts → HasPartTerms s whole (replaced_each q ts) → PlacesOnlyIn v.pass w.pass whole
 
 abbrev pub FillsAll : Table → TermsView → TermsView → List Assigned → List ℕ → Type 0
-FillsAll s v w a rs = (ts : List Term) (q : Replacement) (whole : Tree) → ReferToAll s v rs ts → SaysAll s v a q ts → HasParts s whole (replaced_each q ts) → IsFullIn w.pass whole
+FillsAll s v w a rs = (ts : List Term) (q : Replacement) (whole : Tree) → ReferToAll s v rs ts → SaysAll s v a q ts → HasPartTerms s whole (replaced_each q ts) → IsFullIn w.pass whole
 
 -- the law that references are equal exactly where terms are
 abbrev pub AreOne : Table → TermsView → Type 0
@@ -133,15 +133,15 @@ known_leaf pass r number k e f known =
 -- what is remembered
 pub remembered : (s : Table) (v : TermsView) (a : List Assigned) (r i : ℕ) (leaves : List ℕ) (key : Vec ℕ Global) (done : Done) → AreOne s v → AreDone s v done → key.items ≡ key_of r a leaves → Some i ≡ get (λ x y. pointwise nat_eq x.items y.items) done key → ExpandsOne s v v a r i
 remembered s v a r i leaves key done one are is e t q refers says =
-    let h : HasBecome s v key.items i = are.each key i (sym e) in
+    let h : HasBecomeBy s v key.items i = are.each key i (sym e) in
     let same = need.pairs-same h.assigned a h.cell r h.leaves leaves (sym h.key_is ∙ is) in
     let term : h.means ≡ t = (one h.cell r h.means t h.refers refers).0 same.0 in
     let becomes : replaced h.puts h.means ≡ replaced q h.means =
     need.replaced-same h.means h.puts q
-    (λ x n. let (k, is_leaf, c) = h.covered x n in (one (term_of k h.assigned) (term_of k a) (term_at h.puts x) (term_at q x) (h.says.puts k x is_leaf n) (says.puts k x is_leaf (subst (λ (u : Term). IsNeeded x u) term n))).0 (same.2 k c)) in
+    (λ x n. let (k, is_leaf, c) = h.covered x n in (one (term_of k h.assigned) (term_of k a) (replaced_by h.puts x) (replaced_by q x) (h.says.puts k x is_leaf n) (says.puts k x is_leaf (subst (λ (u : Term). IsNeeded x u) term n))).0 (same.2 k c)) in
     subst (λ (u : Term). RefersTo s v i u) (becomes ∙ ap (replaced q) term) h.becomes
 
-pub has_become : (s : Table) (v w : TermsView) (a : List Assigned) (r i : ℕ) (leaves : List ℕ) (key : Vec ℕ Global) → AreOne s v → KeepsTerms v w → IsSaid s v a r → HasNeeds s v r leaves → key.items ≡ key_of r a leaves → ExpandsOne s v w a r i → HasBecome s w key.items i
+pub has_become : (s : Table) (v w : TermsView) (a : List Assigned) (r i : ℕ) (leaves : List ℕ) (key : Vec ℕ Global) → AreOne s v → KeepsTerms v w → IsSaid s v a r → HasNeeds s v r leaves → key.items ≡ key_of r a leaves → ExpandsOne s v w a r i → HasBecomeBy s w key.items i
 has_become s v w a r i leaves key one keeps said needs is expands = record {
   cell = r;
   assigned = a;
@@ -155,13 +155,13 @@ has_become s v w a r i leaves key one keeps said needs is expands = record {
   becomes = expands said.means said.puts said.refers said.says;
 }
 
-pub noted : (s : Table) (w : TermsView) (i : ℕ) (key : Vec ℕ Global) (old new : Done) → AreDone s w old → HasBecome s w key.items i → ((k : Vec ℕ Global) → get (λ x y. pointwise nat_eq x.items y.items) new k ≡ cond (pointwise nat_eq key.items k.items) (Some i) (get (λ x y. pointwise nat_eq x.items y.items) old k)) → AreDone s w new
+pub noted : (s : Table) (w : TermsView) (i : ℕ) (key : Vec ℕ Global) (old new : Done) → AreDone s w old → HasBecomeBy s w key.items i → ((k : Vec ℕ Global) → get (λ x y. pointwise nat_eq x.items y.items) new k ≡ cond (pointwise nat_eq key.items k.items) (Some i) (get (λ x y. pointwise nat_eq x.items y.items) old k)) → AreDone s w new
 noted s w i key old new are h updates = record { each = λ k j e. go k j (pointwise nat_eq key.items k.items) refl (sym (updates k) ∙ e) }
   where
-    go : (k : Vec ℕ Global) (j : ℕ) (b : Bool) → pointwise nat_eq key.items k.items ≡ b → cond b (Some i) (get (λ x y. pointwise nat_eq x.items y.items) old k) ≡ Some j → HasBecome s w k.items j
+    go : (k : Vec ℕ Global) (j : ℕ) (b : Bool) → pointwise nat_eq key.items k.items ≡ b → cond b (Some i) (get (λ x y. pointwise nat_eq x.items y.items) old k) ≡ Some j → HasBecomeBy s w k.items j
     go k j true same e =
-        subst (λ (n : ℕ). HasBecome s w k.items n) (same_some e)
-        (subst (λ (ks : List ℕ). HasBecome s w ks i) (need.list-same key.items k.items same) h)
+        subst (λ (n : ℕ). HasBecomeBy s w k.items n) (same_some e)
+        (subst (λ (ks : List ℕ). HasBecomeBy s w ks i) (need.list-same key.items k.items same) h)
     go k j false same e = are.each k j e
 
 -- items of lists
@@ -182,7 +182,7 @@ all_at P [] i t h e = absurd (cc)
 all_at P (u ∷ ts) zero t h e = subst P (same_some e) h.0
 all_at P (u ∷ ts) (suc i) t h e = all_at P ts i t h.1 e
 
-parts_at : (s : Table) (whole : Tree) (q : Replacement) (ts : List Term) (i : ℕ) (t : Term) → HasParts s whole (replaced_each q ts) → slice_get ts i ≡ Some t → HasPart s whole (replaced q t)
+parts_at : (s : Table) (whole : Tree) (q : Replacement) (ts : List Term) (i : ℕ) (t : Term) → HasPartTerms s whole (replaced_each q ts) → slice_get ts i ≡ Some t → HasPart s whole (replaced q t)
 parts_at s whole q [] i t h e = absurd (cc)
 parts_at s whole q (u ∷ ts) zero t h e = subst (λ (x : Term). HasPart s whole (replaced q x)) (same_some e) h.0
 parts_at s whole q (u ∷ ts) (suc i) t h e = parts_at s whole q ts i t h.1 e
@@ -303,7 +303,7 @@ pub all_fill_moved : (s : Table) (v w z : TermsView) (a : List Assigned) (rs ks 
 all_fill_moved s v w z a rs ks e f h = subst (λ (x : List ℕ). FillsAll s v z a x) f (subst (λ (x : TermsView). FillsAll s x z a ks) e h)
 
 -- applications
-module _ (s : Table) (v : TermsView) (a : List Assigned) (r head : ℕ) (rs : List ℕ) (application : (t : Term) → RefersTo s v r t → IsApplication s head (arguments_of t) t) (refer : (t : Term) → RefersTo s v r t → ReferToAll s v rs (arguments_of t)) where
+module _ (s : Table) (v : TermsView) (a : List Assigned) (r head : ℕ) (rs : List ℕ) (application : (t : Term) → RefersTo s v r t → IsAppliedLeaf s head (arguments_of t) t) (refer : (t : Term) → RefersTo s v r t → ReferToAll s v rs (arguments_of t)) where
   never_let : (t : Term) → RefersTo s v r t → IsLet t → ⊥
   never_let t refers = no_let s head (arguments_of t) t (application t refers)
 
@@ -349,8 +349,8 @@ module _ (s : Table) (v : TermsView) (a : List Assigned) (r head : ℕ) (rs : Li
       go (i ∷ is) (u ∷ us) h zero l = record { tree = h.0.tree; stands = h.0.known }
       go (i ∷ is) (u ∷ us) h (suc k) l = go is us h.1 k (omega arith)
 
-  module _ (table : IsTable s) (built : (s : Table) (head : ℕ) (trees : List Tree) (ts : List Term) (t : Term) → StandForAll s trees ts → IsApplication s head ts t → StandsFor s (app_tree head trees) t) (one_tree : (s : Table) (a b : Tree) (t : Term) → IsTable s → StandsFor s a t → StandsFor s b t → a ≡ b) (never : (x : Var) → RefersTo s v r (variable x) → ⊥) (w z : TermsView) (is : List ℕ) (expands : ExpandsAll s v w a rs is) where
-    becomes : (t : Term) (q : Replacement) → RefersTo s v r t → IsApplication s head (replaced_each q (arguments_of t)) (replaced q t)
+  module _ (table : IsTable s) (built : (s : Table) (head : ℕ) (trees : List Tree) (ts : List Term) (t : Term) → StandForAll s trees ts → IsAppliedLeaf s head ts t → StandsFor s (app_tree head trees) t) (one_tree : (s : Table) (a b : Tree) (t : Term) → IsTable s → StandsFor s a t → StandsFor s b t → a ≡ b) (never : (x : Var) → RefersTo s v r (variable x) → ⊥) (w z : TermsView) (is : List ℕ) (expands : ExpandsAll s v w a rs is) where
+    becomes : (t : Term) (q : Replacement) → RefersTo s v r t → IsAppliedLeaf s head (replaced_each q (arguments_of t)) (replaced q t)
     becomes t q refers = becomes_application s q head t (λ x e. never x (subst (λ (u : Term). RefersTo s v r u) e refers)) (application t refers)
 
     part_is : (t : Term) (q : Replacement) (whole : Tree) (refers : RefersTo s v r t) (h : HasTrees w is (replaced_each q (arguments_of t))) → HasPart s whole (replaced q t) → IsPartOf (app_tree head h.trees) whole
@@ -369,7 +369,7 @@ module _ (s : Table) (v : TermsView) (a : List Assigned) (r head : ℕ) (rs : Li
         let h = trees_of w is (replaced_each q (arguments_of t)) (arguments_expanded w is expands t q refers says) in
         full-larger z.pass (app_tree head h.trees) whole (part_is t q whole refers h part) (last h.trees h.known)
 
-    pub application_is : (i : ℕ) → ((ts : List Term) (t : Term) → ReferToAll s w is ts → IsApplication s head ts t → RefersTo s z i t) → ExpandsOne s v z a r i
+    pub application_is : (i : ℕ) → ((ts : List Term) (t : Term) → ReferToAll s w is ts → IsAppliedLeaf s head ts t → RefersTo s z i t) → ExpandsOne s v z a r i
     application_is i made t q refers says =
         made (replaced_each q (arguments_of t)) (replaced q t) (arguments_expanded w is expands t q refers says) (becomes t q refers)
 
@@ -384,10 +384,10 @@ pub record IsLetWork (s : Table) (v : TermsView) (r body : ℕ) (gs ps : List �
   pub inside : RefersTo s v body inner
   pub leaves : List ℕ
   pub needed : AddsLeaves s [] leaves (λ x. IsNeeded x inner)
-  pub given : IsGiven leaves vars values gs ps
+  pub given : AreValuesGiven leaves vars values gs ps
   pub terms : HasGivenTerms s v bindings inner gs ps
 
-pub let_work : (s : Table) (v : TermsView) (r body : ℕ) (vars values leaves gs ps : List ℕ) (m : Values) → IsTable s → AreOne s v → ((t : Term) → RefersTo s v r t → IsLet t) → ((s : Table) (bs : Bindings) (u : Term) → RefersTo s v r (let_in bs u) → AreBindings s v vars values bs) → ((s : Table) (bs : Bindings) (u : Term) → RefersTo s v r (let_in bs u) → RefersTo s v body u) → HasNeeds s v body leaves → AreValuesOf m vars values → ((ks rs : List ℕ) → AreValuesOf m ks rs → IsGiven leaves ks rs gs ps) → (t : Term) → RefersTo s v r t → IsLetWork s v r body gs ps t
+pub let_work : (s : Table) (v : TermsView) (r body : ℕ) (vars values leaves gs ps : List ℕ) (m : Values) → IsTable s → AreOne s v → ((t : Term) → RefersTo s v r t → IsLet t) → ((s : Table) (bs : Bindings) (u : Term) → RefersTo s v r (let_in bs u) → AreBindings s v vars values bs) → ((s : Table) (bs : Bindings) (u : Term) → RefersTo s v r (let_in bs u) → RefersTo s v body u) → HasNeeds s v body leaves → AreValuesOf m vars values → ((ks rs : List ℕ) → AreValuesOf m ks rs → AreValuesGiven leaves ks rs gs ps) → (t : Term) → RefersTo s v r t → IsLetWork s v r body gs ps t
 let_work s v r body vars values leaves gs ps m table one is_let bindings bodies needs by_leaves given t refers =
     let (bs, u, e) = let_is t (is_let t refers) in
     let let_refers : RefersTo s v r (let_in bs u) = subst (λ (x : Term). RefersTo s v r x) e refers in
@@ -410,7 +410,7 @@ let_work s v r body vars values leaves gs ps m table one is_let bindings bodies 
       terms = need.given-terms s v table vars values bs u bound leaves (need.leaves-needed s leaves u needed) gs ps is_given.are;
     }
 
-pub let_work_from : (s : Table) (v w x : TermsView) (r body : ℕ) (own_vars own_values vars values inside leaves gs ps : List ℕ) (m : Values) → IsTable s → w ≡ v → x ≡ w → AreOne s x → ((t : Term) → RefersTo s v r t → IsLet t) → ((s : Table) (bs : Bindings) (u : Term) → RefersTo s v r (let_in bs u) → AreBindings s v own_vars own_values bs) → ((s : Table) (bs : Bindings) (u : Term) → RefersTo s v r (let_in bs u) → RefersTo s v body u) → HasNeeds s w body inside → vars ≡ own_vars → values ≡ own_values → leaves ≡ inside → AreValuesOf m vars values → ((ks rs : List ℕ) → AreValuesOf m ks rs → IsGiven leaves ks rs gs ps) → (t : Term) → RefersTo s v r t → IsLetWork s v r body gs ps t
+pub let_work_from : (s : Table) (v w x : TermsView) (r body : ℕ) (own_vars own_values vars values inside leaves gs ps : List ℕ) (m : Values) → IsTable s → w ≡ v → x ≡ w → AreOne s x → ((t : Term) → RefersTo s v r t → IsLet t) → ((s : Table) (bs : Bindings) (u : Term) → RefersTo s v r (let_in bs u) → AreBindings s v own_vars own_values bs) → ((s : Table) (bs : Bindings) (u : Term) → RefersTo s v r (let_in bs u) → RefersTo s v body u) → HasNeeds s w body inside → vars ≡ own_vars → values ≡ own_values → leaves ≡ inside → AreValuesOf m vars values → ((ks rs : List ℕ) → AreValuesOf m ks rs → AreValuesGiven leaves ks rs gs ps) → (t : Term) → RefersTo s v r t → IsLetWork s v r body gs ps t
 let_work_from s v w x r body own_vars own_values vars values inside leaves gs ps m table e f one is_let bindings bodies needs same_vars same_values same_leaves by_leaves given =
     let_work s v r body vars values leaves gs ps m table (one_moved s v x (f ∙ e) one) is_let
     (λ z bs u refers. subst (λ (ks : List ℕ). AreBindings z v ks values bs) (sym same_vars) (subst (λ (rs : List ℕ). AreBindings z v own_vars rs bs) (sym same_values) (bindings z bs u refers)))

@@ -10,13 +10,14 @@ use Rattle.sym_table.specs.Table.{Table, IsLeaf, IsTable}
 use Rattle.term_model.specs.Terms.{Var, var_eq, Term, numeral, variable, operation, call, let_in, Terms, no_terms, term, Bindings, no_bindings, binding}
 use Rattle.term_model.proofs.Tests.{var_eq_decides}
 use Rattle.term_pool.specs.declared.putting.Image.{Image}
-use Rattle.term_pool.specs.Putting.{Piece, itself, joined, put, Images, IsImage, IsWithin, IsImageOf, AreImages, HasImages, PlacesImage, LacksRoomForImage}
+use Rattle.term_pool.specs.Putting.{Piece, staying, joined_pieces, put, CellImages, IsImageOfPiece, IsLowPiece, IsImageOf, ArePiecesOfLeaves, HasPieceImages, PlacesPiece, LacksRoomForPiece}
 use Rattle.term_pool.specs.StandsFor.{variable_leaf, function_leaf, StandsFor, StandsForApplication, StandsForList, StandsForBindings}
 use Rattle.term_pool.specs.Trees.{depth}
 use Rattle.term_pool.specs.Views.{TermsView}
 use Rattle.rule_model.specs.Heights.{height, highest, highest_bound}
-use Rattle.term_expansion.specs.Images.{IsPieceOf, PutsFor, ArePutFor, IsSomeReplacement, IsSomeValue, PlacesTerm, LacksRoomFor}
-use Rattle.rule_model.specs.Replacement.{Replacement, term_at, replaced, replaced_all, HasNoLet, HaveNoLet}
+use Rattle.term_expansion.specs.Images.{IsPieceOf, IsSomeReplacement, IsSomeValue, PlacesTerm, LacksRoomFor}
+use Rattle.term_expansion.specs.PutFor.{PutsFor, ArePutFor}
+use Rattle.rule_model.specs.Replacement.{Replacement, replaced_by, replaced, replaced_all, HasNoLet, HaveNoLet}
 use Rattle.problem_text.specs.TypedTerms.{Typed}
 use Rattle.term_expansion.specs.Values.{IsValue, PutsIn, IsReplacement}
 use Rattle.term_expansion.specs.declared.values.Bound.{Bound}
@@ -75,7 +76,7 @@ leaf_variable x y e = var_same x y (names e) (sorts e)
 abbrev pub with_piece : ℕ → Piece → (ℕ → Piece) → ℕ → Piece
 with_piece n p f k = cond (eqb k n) p (f k)
 
-puts_start : (s : Table) → PutsFor s [] itself
+puts_start : (s : Table) → PutsFor s [] staying
 unfolding height
 puts_start s = record {
   variables = λ k x h. record { stands = h; height = refl; plain = λ e. tt };
@@ -93,7 +94,7 @@ puts_more s table n p x t q f leaf_is piece h = record { variables = vars; other
         let g2 : IsLeaf s n (variable_leaf y) = rw e at g in
         leaf_variable x y (same_some (sym leaf_is ∙ g2))
 
-    put_at : (k : ℕ) (y : Var) → IsLeaf s k (variable_leaf y) → (b c : Bool) → eqb k n ≡ b → var_eq x y ≡ c → ((b ≡ true) × (k ≡ n)) ⊎ ((b ≡ false) × (k ≢ n)) → IsPieceOf s (cond b p (f k)) (if c then t else term_at q y)
+    put_at : (k : ℕ) (y : Var) → IsLeaf s k (variable_leaf y) → (b c : Bool) → eqb k n ≡ b → var_eq x y ≡ c → ((b ≡ true) × (k ≡ n)) ⊎ ((b ≡ false) × (k ≢ n)) → IsPieceOf s (cond b p (f k)) (if c then t else replaced_by q y)
     put_at k y g true true e d tells = piece
     put_at k y g true false e d (inl both) =
         absurd (let f2 = (var_eq_decides x y).1 (same k y g both.1) in cc)
@@ -102,17 +103,17 @@ puts_more s table n p x t q f leaf_is piece h = record { variables = vars; other
     put_at k y g false true e d (inr both) = absurd (both.1 (sym (apart k y g ((var_eq_decides x y).0 d))))
     put_at k y g false false e d tells = h.variables k y g
 
-    vars : (k : ℕ) (y : Var) → IsLeaf s k (variable_leaf y) → IsPieceOf s (with_piece n p f k) (term_at ((x, t) ∷ q) y)
+    vars : (k : ℕ) (y : Var) → IsLeaf s k (variable_leaf y) → IsPieceOf s (with_piece n p f k) (replaced_by ((x, t) ∷ q) y)
     vars k y g = put_at k y g (eqb k n) (var_eq x y) refl refl (eqb_tells k n)
 
-    stays : (k : ℕ) (l : Leaf) → IsLeaf s k l → ((y : Var) → l ≢ variable_leaf y) → (b : Bool) → ((b ≡ true) × (k ≡ n)) ⊎ ((b ≡ false) × (k ≢ n)) → cond b p (f k) ≡ itself k
+    stays : (k : ℕ) (l : Leaf) → IsLeaf s k l → ((y : Var) → l ≢ variable_leaf y) → (b : Bool) → ((b ≡ true) × (k ≡ n)) ⊎ ((b ≡ false) × (k ≢ n)) → cond b p (f k) ≡ staying k
     stays k l g never true (inl both) =
         let g2 : IsLeaf s n l = rw both.1 at g in absurd (never x (same_some (sym g2 ∙ leaf_is)))
     stays k l g never true (inr both) = absurd (let z = both.0 in cc)
     stays k l g never false (inl both) = absurd (let z = both.0 in cc)
     stays k l g never false (inr both) = h.others k l g never
 
-    rest : (k : ℕ) (l : Leaf) → IsLeaf s k l → ((y : Var) → l ≢ variable_leaf y) → with_piece n p f k ≡ itself k
+    rest : (k : ℕ) (l : Leaf) → IsLeaf s k l → ((y : Var) → l ≢ variable_leaf y) → with_piece n p f k ≡ staying k
     rest k l g never = stays k l g never (eqb k n) (eqb_tells k n)
 
 -- one variable more
@@ -122,14 +123,14 @@ piece_in s v b x t h = record { tree = h.value.refers.tree; height = b.value.hei
 piece_in-is : (s : Table) (v : TermsView) (b : Bound) (x : Var) (t : Term) → (h : PutsIn s v b x t) → IsPieceOf s (piece_in s v b x t h) t
 piece_in-is s v b x t h = record { stands = h.value.refers.stands; height = h.value.high; plain = h.value.plain }
 
-piece_in-within : (s : Table) (v : TermsView) (b : Bound) (x : Var) (t : Term) → (h : PutsIn s v b x t) → IsWithin (piece_in s v b x t h)
+piece_in-within : (s : Table) (v : TermsView) (b : Bound) (x : Var) (t : Term) → (h : PutsIn s v b x t) → IsLowPiece (piece_in s v b x t h)
 piece_in-within s v b x t h =
     let d = height-depth s t h.value.refers.tree h.value.refers.stands in
     let e = h.value.high in
     record { height = omega arith; highest = omega arith }
 
 pub put_for : (s : Table) (v : TermsView) → IsTable s → (bs : List Bound) (q : Replacement) → IsReplacement s v bs q → (f : ℕ → Piece) × PutsFor s q f
-put_for s v table [] [] h = (itself, puts_start s)
+put_for s v table [] [] h = (staying, puts_start s)
 put_for s v table [] (c ∷ q) h = absurd h
 put_for s v table (b ∷ bs) [] h = absurd h
 put_for s v table (b ∷ bs) (c ∷ q) h =
@@ -141,19 +142,19 @@ put_for s v table (b ∷ bs) (c ∷ q) h =
 image_at : (p : PassView) (k : ℕ) (o o2 : Option Image) (x y : Piece) → o ≡ o2 → x ≡ y → IsImageOf p o2 k y → IsImageOf p o k x
 image_at p k o o2 x y e f h = rw (e, f) h
 
-none_at : (images : Images) (k : ℕ) → images.entries ≡ [] → get nat_eq images k ≡ None
+none_at : (images : CellImages) (k : ℕ) → images.entries ≡ [] → get nat_eq images k ≡ None
 none_at images k e = rw e
 
-pub images_start : (s : Table) (v : TermsView) (images : Images) (bs : List Bound) (q : Replacement) → images.entries ≡ [] → length bs ≡ 0 → IsReplacement s v bs q → ArePutFor s v images q
+pub images_start : (s : Table) (v : TermsView) (images : CellImages) (bs : List Bound) (q : Replacement) → images.entries ≡ [] → length bs ≡ 0 → IsReplacement s v bs q → ArePutFor s v images q
 images_start s v images [] [] e z h = record {
-  pieces = itself;
+  pieces = staying;
   puts = puts_start s;
-  are = λ k. image_at v.pass k _ None (itself k) (itself k) (none_at images k e) refl refl;
+  are = λ k. image_at v.pass k _ None (staying k) (staying k) (none_at images k e) refl refl;
 }
 images_start s v images [] (c ∷ q) e z h = absurd h
 images_start s v images (b ∷ bs) q e z h = absurd (omega arith)
 
-pub images_more : (s : Table) (v : TermsView) → IsTable s → (old new : Images) (b : Bound) (bs : List Bound) → get nat_eq new b.variable ≡ Some (record { term = b.value.term; height = b.value.height; highest = 0; plain = b.value.plain }) → ((k : ℕ) → k ≢ b.variable → get nat_eq new k ≡ get nat_eq old k) → ((q : Replacement) → IsReplacement s v bs q → ArePutFor s v old q) → (q : Replacement) → IsReplacement s v (b ∷ bs) q → ArePutFor s v new q
+pub images_more : (s : Table) (v : TermsView) → IsTable s → (old new : CellImages) (b : Bound) (bs : List Bound) → get nat_eq new b.variable ≡ Some (record { term = b.value.term; height = b.value.height; highest = 0; plain = b.value.plain }) → ((k : ℕ) → k ≢ b.variable → get nat_eq new k ≡ get nat_eq old k) → ((q : Replacement) → IsReplacement s v bs q → ArePutFor s v old q) → (q : Replacement) → IsReplacement s v (b ∷ bs) q → ArePutFor s v new q
 images_more s v table old new b bs here others before [] h = absurd h
 images_more s v table old new b bs here others before (c ∷ q) h =
     let was = before q h.1 in
@@ -164,7 +165,7 @@ images_more s v table old new b bs here others before (c ∷ q) h =
       are = λ k. go was.pieces was.are k (eqb k b.variable) (eqb_tells k b.variable);
     }
   where
-    go : (f : ℕ → Piece) → AreImages v.pass old f → (k : ℕ) (t : Bool) → ((t ≡ true) × (k ≡ b.variable)) ⊎ ((t ≡ false) × (k ≢ b.variable)) → IsImageOf v.pass (get nat_eq new k) k (cond t (piece_in s v b c.0 c.1 h.0) (f k))
+    go : (f : ℕ → Piece) → ArePiecesOfLeaves v.pass old f → (k : ℕ) (t : Bool) → ((t ≡ true) × (k ≡ b.variable)) ⊎ ((t ≡ false) × (k ≢ b.variable)) → IsImageOf v.pass (get nat_eq new k) k (cond t (piece_in s v b c.0 c.1 h.0) (f k))
     go f are k true (inl both) =
         image_at v.pass k _ (Some (record { term = b.value.term; height = b.value.height; highest = 0; plain = b.value.plain })) (piece_in s v b c.0 c.1 h.0) (piece_in s v b c.0 c.1 h.0) (ap (get nat_eq new) both.1 ∙ here) refl
         (record { known = h.0.value.refers.known; height = refl; highest = refl; plain = refl }, piece_in-within s v b c.0 c.1 h.0)
@@ -198,15 +199,15 @@ both_true false b e = absurd (cc)
 leaf_at : (s : Table) (l : Leaf) (p q : Piece) → p ≡ q → StandsForApplication s q.tree l no_terms → StandsForApplication s p.tree l no_terms
 leaf_at s l p q e h = rw e h
 
-joined_application : (s : Table) (l : Leaf) (a b c : Piece) (k : ℕ) (t : Term) (ts : Terms) → a ≡ itself k → IsLeaf s k l → IsPieceOf s b t → IsListPiece s c ts → IsApplicationPiece s (joined a (joined b c)) l (term t ts)
+joined_application : (s : Table) (l : Leaf) (a b c : Piece) (k : ℕ) (t : Term) (ts : Terms) → a ≡ staying k → IsLeaf s k l → IsPieceOf s b t → IsListPiece s c ts → IsApplicationPiece s (joined_pieces a (joined_pieces b c)) l (term t ts)
 unfolding height
 joined_application s l a b c k t ts e g x y = record {
-  stands = (leaf_at s l a (itself k) e g, (x.stands, y.stands));
+  stands = (leaf_at s l a (staying k) e g, (x.stands, y.stands));
   height_is = let xh = x.height in let yh = y.highest_is in omega arith;
   plain = λ d. let parts = both_true a.plain (b.plain && c.plain) d in let two = both_true b.plain c.plain parts.1 in (x.plain two.0, y.plain two.1);
 }
 
-joined_list : (s : Table) (b c : Piece) (t : Term) (ts : Terms) → IsPieceOf s b t → IsListPiece s c ts → IsListPiece s (joined b c) (term t ts)
+joined_list : (s : Table) (b c : Piece) (t : Term) (ts : Terms) → IsPieceOf s b t → IsListPiece s c ts → IsListPiece s (joined_pieces b c) (term t ts)
 unfolding height
 joined_list s b c t ts x y = record {
   stands = (x.stands, y.stands);
@@ -214,7 +215,7 @@ joined_list s b c t ts x y = record {
   plain = λ d. let two = both_true b.plain c.plain d in (x.plain two.0, y.plain two.1);
 }
 
-leaf_application : (s : Table) (l : Leaf) (p : Piece) (k : ℕ) → p ≡ itself k → IsLeaf s k l → IsApplicationPiece s p l no_terms
+leaf_application : (s : Table) (l : Leaf) (p : Piece) (k : ℕ) → p ≡ staying k → IsLeaf s k l → IsApplicationPiece s p l no_terms
 unfolding height
 leaf_application s l p k e g = rw e (record { stands = g; height_is = refl; plain = λ d. tt })
 
@@ -283,14 +284,14 @@ places_nothing s v w table bs c e p t q h k =
     let piece = put_term s table q f puts t.tree h.refers.tree h.refers.stands (h.plain p) in
     record { tree = (put f h.refers.tree).tree; stands = piece.stands; placed = λ r a b g. inl (rw e at g) }
 
-pub some_images : (s : Table) (v : TermsView) → IsTable s → (bs : List Bound) (images : Images) → ((s : Table) (v : TermsView) (q : Replacement) → IsTable s → IsReplacement s v bs q → ArePutFor s v images q) → IsSomeReplacement s v bs → HasImages v.pass images
+pub some_images : (s : Table) (v : TermsView) → IsTable s → (bs : List Bound) (images : CellImages) → ((s : Table) (v : TermsView) (q : Replacement) → IsTable s → IsReplacement s v bs q → ArePutFor s v images q) → IsSomeReplacement s v bs → HasPieceImages v.pass images
 some_images s v table bs images put_in h =
     let r = put_in s v h.means table h.is in record { pieces = r.pieces; are = r.are }
 
 pub value_known : (s : Table) (v : TermsView) (c : Value) → IsSomeValue s v c → IsKnown v.pass c.term
 value_known s v c h = record { tree = h.is.refers.tree; stands = h.is.refers.known }
 
-pub image_value : (s : Table) (v w : TermsView) → IsTable s → (bs : List Bound) (images : Images) (c d : Value) (i : Image) → ((s : Table) (v : TermsView) (q : Replacement) → IsTable s → IsReplacement s v bs q → ArePutFor s v images q) → ((f : ℕ → Piece) (t : Tree) → AreImages v.pass images f → Knows v.pass c.term t → IsImage w.pass i (put f t)) → d ≡ record { term = i.term; sort = c.sort; height = i.height; plain = i.plain } → c.plain ≡ true → (t : Typed) (q : Replacement) → IsValue s v c t → IsReplacement s v bs q → IsValue s w d (record { tree = replaced q t.tree; sort = t.sort })
+pub image_value : (s : Table) (v w : TermsView) → IsTable s → (bs : List Bound) (images : CellImages) (c d : Value) (i : Image) → ((s : Table) (v : TermsView) (q : Replacement) → IsTable s → IsReplacement s v bs q → ArePutFor s v images q) → ((f : ℕ → Piece) (t : Tree) → ArePiecesOfLeaves v.pass images f → Knows v.pass c.term t → IsImageOfPiece w.pass i (put f t)) → d ≡ record { term = i.term; sort = c.sort; height = i.height; plain = i.plain } → c.plain ≡ true → (t : Typed) (q : Replacement) → IsValue s v c t → IsReplacement s v bs q → IsValue s w d (record { tree = replaced q t.tree; sort = t.sort })
 image_value s v w table bs images c d i put_in image e p t q h k =
     let r = put_in s v q table k in
     let piece = put_term s table q r.pieces r.puts t.tree h.refers.tree h.refers.stands (h.plain p) in
@@ -302,13 +303,13 @@ image_value s v w table bs images c d i put_in image e p t q h k =
       plain = λ g. piece.plain (sym is.plain ∙ g);
     })
 
-pub image_places : (s : Table) (v w : TermsView) → IsTable s → (bs : List Bound) (images : Images) (c : Value) → ((s : Table) (v : TermsView) (q : Replacement) → IsTable s → IsReplacement s v bs q → ArePutFor s v images q) → ((f : ℕ → Piece) → AreImages v.pass images f → PlacesImage v.pass w.pass f c.term) → c.plain ≡ true → (t : Typed) (q : Replacement) → IsValue s v c t → IsReplacement s v bs q → PlacesTerm s v.pass w.pass (replaced q t.tree)
+pub image_places : (s : Table) (v w : TermsView) → IsTable s → (bs : List Bound) (images : CellImages) (c : Value) → ((s : Table) (v : TermsView) (q : Replacement) → IsTable s → IsReplacement s v bs q → ArePutFor s v images q) → ((f : ℕ → Piece) → ArePiecesOfLeaves v.pass images f → PlacesPiece v.pass w.pass f c.term) → c.plain ≡ true → (t : Typed) (q : Replacement) → IsValue s v c t → IsReplacement s v bs q → PlacesTerm s v.pass w.pass (replaced q t.tree)
 image_places s v w table bs images c put_in places p t q h k =
     let r = put_in s v q table k in
     let piece = put_term s table q r.pieces r.puts t.tree h.refers.tree h.refers.stands (h.plain p) in
     record { tree = (put r.pieces h.refers.tree).tree; stands = piece.stands; placed = places r.pieces r.are h.refers.tree h.refers.known }
 
-pub image_lacks : (s : Table) (v w : TermsView) → IsTable s → (bs : List Bound) (images : Images) (c : Value) → ((s : Table) (v : TermsView) (q : Replacement) → IsTable s → IsReplacement s v bs q → ArePutFor s v images q) → ((f : ℕ → Piece) → AreImages v.pass images f → LacksRoomForImage v.pass w.pass f c.term) → c.plain ≡ true → (t : Typed) (q : Replacement) → IsValue s v c t → IsReplacement s v bs q → LacksRoomFor s w.pass (replaced q t.tree)
+pub image_lacks : (s : Table) (v w : TermsView) → IsTable s → (bs : List Bound) (images : CellImages) (c : Value) → ((s : Table) (v : TermsView) (q : Replacement) → IsTable s → IsReplacement s v bs q → ArePutFor s v images q) → ((f : ℕ → Piece) → ArePiecesOfLeaves v.pass images f → LacksRoomForPiece v.pass w.pass f c.term) → c.plain ≡ true → (t : Typed) (q : Replacement) → IsValue s v c t → IsReplacement s v bs q → LacksRoomFor s w.pass (replaced q t.tree)
 image_lacks s v w table bs images c put_in lacks p t q h k =
     let r = put_in s v q table k in
     let piece = put_term s table q r.pieces r.puts t.tree h.refers.tree h.refers.stands (h.plain p) in

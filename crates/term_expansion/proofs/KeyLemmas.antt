@@ -4,7 +4,7 @@ use Rattle.std.specs.HashMap.{get}
 use Rattle.std.proofs.lemmas.List.{take_more, length-append}
 use Rattle.std.proofs.lemmas.List.Elements.{Contains-append_left, Contains-push, Contains-push_cases}
 use Rattle.term_expansion.specs.Assigned.{term_of}
-use Rattle.term_expansion.specs.Expanding.{pairs_of, key_of, AreGiven, IsGiven}
+use Rattle.term_expansion.specs.Expanding.{pairs_of, key_of, AreGiven, AreValuesGiven}
 use Rattle.term_expansion.specs.Needs.{value_of, Values, AreValuesOf}
 use Rattle.term_expansion.specs.declared.assignments.Assigned.{Assigned}
 
@@ -42,13 +42,13 @@ none_in k h = let below = h.1 in absurd (omega arith)
 some_none : (r : ℕ) → Some r ≡ None → ⊥
 some_none r e = cc
 
-pub given-start : (ks rs gs ps : List ℕ) → gs ≡ [] → ps ≡ [] → IsGiven [] ks rs gs ps
+pub given-start : (ks rs gs ps : List ℕ) → gs ≡ [] → ps ≡ [] → AreValuesGiven [] ks rs gs ps
 given-start ks rs gs ps e f =
-    subst (λ (xs : List ℕ). IsGiven [] ks rs xs ps) (sym e)
-    (subst (λ (xs : List ℕ). IsGiven [] ks rs [] xs) (sym f)
+    subst (λ (xs : List ℕ). AreValuesGiven [] ks rs xs ps) (sym e)
+    (subst (λ (xs : List ℕ). AreValuesGiven [] ks rs [] xs) (sym f)
     (record { are = tt; all = λ k r c v. absurd (none_in k c) }))
 
-pub given-found : (leaves ks rs gs ps : List ℕ) (k r : ℕ) → value_of k ks rs ≡ Some r → IsGiven leaves ks rs gs ps → IsGiven (leaves ++ k ∷ []) ks rs (gs ++ k ∷ []) (ps ++ r ∷ [])
+pub given-found : (leaves ks rs gs ps : List ℕ) (k r : ℕ) → value_of k ks rs ≡ Some r → AreValuesGiven leaves ks rs gs ps → AreValuesGiven (leaves ++ k ∷ []) ks rs (gs ++ k ∷ []) (ps ++ r ∷ [])
 given-found leaves ks rs gs ps k r value h = record {
   are = are-push (leaves ++ k ∷ []) ks rs gs ps k r (Contains-push leaves k) value
       (are-more (leaves ++ k ∷ []) leaves ks rs gs ps (λ j c. Contains-append_left leaves (k ∷ []) j c) h.are);
@@ -58,7 +58,7 @@ given-found leaves ks rs gs ps k r value h = record {
   ];
 }
 
-pub given-missed : (leaves ks rs gs ps : List ℕ) (k : ℕ) → value_of k ks rs ≡ None → IsGiven leaves ks rs gs ps → IsGiven (leaves ++ k ∷ []) ks rs gs ps
+pub given-missed : (leaves ks rs gs ps : List ℕ) (k : ℕ) → value_of k ks rs ≡ None → AreValuesGiven leaves ks rs gs ps → AreValuesGiven (leaves ++ k ∷ []) ks rs gs ps
 given-missed leaves ks rs gs ps k value h = record {
   are = are-more (leaves ++ k ∷ []) leaves ks rs gs ps (λ j c. Contains-append_left leaves (k ∷ []) j c) h.are;
   all = λ j i c v. elim (Contains-push_cases leaves k j c) [
@@ -67,18 +67,18 @@ given-missed leaves ks rs gs ps k value h = record {
   ];
 }
 
-pub found-next : (values : Values) (leaves gs ps more_gs more_ps : List ℕ) (i r : ℕ) → i < length leaves → Some r ≡ get nat_eq values (get_or leaves i 0) → more_gs ≡ gs ++ get_or leaves i 0 ∷ [] → more_ps ≡ ps ++ r ∷ [] → ((ks rs : List ℕ) → AreValuesOf values ks rs → IsGiven (take i leaves) ks rs gs ps) → (ks rs : List ℕ) → AreValuesOf values ks rs → IsGiven (take (i + 1) leaves) ks rs more_gs more_ps
+pub found-next : (values : Values) (leaves gs ps more_gs more_ps : List ℕ) (i r : ℕ) → i < length leaves → Some r ≡ get nat_eq values (get_or leaves i 0) → more_gs ≡ gs ++ get_or leaves i 0 ∷ [] → more_ps ≡ ps ++ r ∷ [] → ((ks rs : List ℕ) → AreValuesOf values ks rs → AreValuesGiven (take i leaves) ks rs gs ps) → (ks rs : List ℕ) → AreValuesOf values ks rs → AreValuesGiven (take (i + 1) leaves) ks rs more_gs more_ps
 found-next values leaves gs ps more_gs more_ps i r l value e f so_far ks rs h =
     let k : ℕ = get_or leaves i 0 in
-    subst (λ (ls : List ℕ). IsGiven ls ks rs more_gs more_ps) (sym (take_more leaves i 0 l))
-    (subst (λ (xs : List ℕ). IsGiven (take i leaves ++ k ∷ []) ks rs xs more_ps) (sym e)
-    (subst (λ (xs : List ℕ). IsGiven (take i leaves ++ k ∷ []) ks rs (gs ++ k ∷ []) xs) (sym f)
+    subst (λ (ls : List ℕ). AreValuesGiven ls ks rs more_gs more_ps) (sym (take_more leaves i 0 l))
+    (subst (λ (xs : List ℕ). AreValuesGiven (take i leaves ++ k ∷ []) ks rs xs more_ps) (sym e)
+    (subst (λ (xs : List ℕ). AreValuesGiven (take i leaves ++ k ∷ []) ks rs (gs ++ k ∷ []) xs) (sym f)
     (given-found (take i leaves) ks rs gs ps k r (sym (h k) ∙ sym value) (so_far ks rs h))))
 
-pub missed-next : (values : Values) (leaves gs ps : List ℕ) (i : ℕ) → i < length leaves → None ≡ get nat_eq values (get_or leaves i 0) → ((ks rs : List ℕ) → AreValuesOf values ks rs → IsGiven (take i leaves) ks rs gs ps) → (ks rs : List ℕ) → AreValuesOf values ks rs → IsGiven (take (i + 1) leaves) ks rs gs ps
+pub missed-next : (values : Values) (leaves gs ps : List ℕ) (i : ℕ) → i < length leaves → None ≡ get nat_eq values (get_or leaves i 0) → ((ks rs : List ℕ) → AreValuesOf values ks rs → AreValuesGiven (take i leaves) ks rs gs ps) → (ks rs : List ℕ) → AreValuesOf values ks rs → AreValuesGiven (take (i + 1) leaves) ks rs gs ps
 missed-next values leaves gs ps i l value so_far ks rs h =
     let k : ℕ = get_or leaves i 0 in
-    subst (λ (ls : List ℕ). IsGiven ls ks rs gs ps) (sym (take_more leaves i 0 l))
+    subst (λ (ls : List ℕ). AreValuesGiven ls ks rs gs ps) (sym (take_more leaves i 0 l))
     (given-missed (take i leaves) ks rs gs ps k (sym (h k) ∙ sym value) (so_far ks rs h))
 
 pub one_more_each : (gs ps more_gs more_ps : List ℕ) (k r : ℕ) → more_gs ≡ gs ++ k ∷ [] → more_ps ≡ ps ++ r ∷ [] → length gs ≡ length ps → length more_gs ≡ length more_ps

@@ -11,7 +11,7 @@ use Rattle.sym_table.specs.Leaf as Leaf
 use Rattle.sym_table.specs.Table.{Table, IsLeaf, LeafMeets, IsTable}
 use Rattle.term_model.specs.declared.symbols.Sort.{Sort}
 use Rattle.term_model.specs.Terms.{Var, Term, numeral, variable, operation, call, let_in, Bindings}
-use Rattle.term_pool.specs.Building.{IsApplication, AreBindings}
+use Rattle.term_pool.specs.Building.{IsAppliedLeaf, AreBindings}
 use Rattle.term_pool.specs.Reading.{IsLet}
 use Rattle.term_pool.specs.StandsFor.{variable_leaf, function_leaf}
 use Rattle.term_pool.specs.Views.{TermsView, ReferToAll, KeepsTerms}
@@ -89,14 +89,14 @@ swapped P Q (inl p) = inr p
 swapped P Q (inr q) = inl q
 
 -- a variable, and an application
-pub head_within : (s : Table) (k : ℕ) (ts : List Term) (t : Term) → IsApplication s k ts t → k < length s.leaves
+pub head_within : (s : Table) (k : ℕ) (ts : List Term) (t : Term) → IsAppliedLeaf s k ts t → k < length s.leaves
 head_within s k ts (numeral n) h = slice_get_within s.leaves k _ h.0
 head_within s k ts (variable x) h = slice_get_within s.leaves k _ h.0
 head_within s k ts (operation op us) h = slice_get_within s.leaves k _ h.0
 head_within s k ts (call f us) h = slice_get_within s.leaves k _ h.0
 head_within s k ts (let_in bs u) h = absurd h
 
-pub application-no_let : (s : Table) (k : ℕ) (ts : List Term) (t : Term) → IsApplication s k ts t → IsLet t → ⊥
+pub application-no_let : (s : Table) (k : ℕ) (ts : List Term) (t : Term) → IsAppliedLeaf s k ts t → IsLet t → ⊥
 application-no_let s k ts (numeral n) h e = e
 application-no_let s k ts (variable x) h e = e
 application-no_let s k ts (operation op us) h e = e
@@ -106,7 +106,7 @@ application-no_let s k ts (let_in bs u) h e = h
 two_leaves : (s : Table) (k : ℕ) (l m : Leaf) → IsLeaf s k l → IsLeaf s k m → l ≡ m
 two_leaves s k l m g h = same_some (sym g ∙ h)
 
-pub is_variable : (s : Table) (k : ℕ) (x : Var) (ts : List Term) (t : Term) → IsLeaf s k (variable_leaf x) → IsApplication s k ts t → t ≡ variable x
+pub is_variable : (s : Table) (k : ℕ) (x : Var) (ts : List Term) (t : Term) → IsLeaf s k (variable_leaf x) → IsAppliedLeaf s k ts t → t ≡ variable x
 is_variable s k x ts (numeral n) g h = absurd (let e = two_leaves s k (variable_leaf x) (Leaf.numeral (pos n)) g h.0 in cc)
 is_variable s k x ts (operation op us) g h = absurd (let e = two_leaves s k (variable_leaf x) (operator op) g h.0 in cc)
 is_variable s k x ts (call f us) g h = absurd (let e = two_leaves s k (variable_leaf x) (function_leaf f) g h.0 in cc)

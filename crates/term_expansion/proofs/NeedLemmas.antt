@@ -15,10 +15,10 @@ use Rattle.term_pool.specs.StandsFor.{variable_leaf, function_leaf, StandsForApp
 use Rattle.term_pool.specs.Trees.{IsPartOf}
 use Rattle.term_pool.specs.Views.{TermsView, RefersTo, ReferToAll, KeepsTerms}
 use Rattle.term_expansion.specs.Assigned.{term_of, assigned_all}
-use Rattle.term_expansion.specs.Expanding.{AreVariables, Says, SaysAll, HasPart, HasParts, pairs_of, key_of, Done, AreDone, AreGiven, IsGiven}
+use Rattle.term_expansion.specs.Expanding.{AreVariables, Says, SaysAll, HasPart, HasPartTerms, pairs_of, key_of, Done, AreDone, AreGiven, AreValuesGiven}
 use Rattle.term_expansion.specs.Free.{AddsLeaves}
 use Rattle.term_expansion.specs.Needs.{IsNeeded, IsNeededAmong, IsNeededFor, value_of, Needs, AreNeeds}
-use Rattle.rule_model.specs.Replacement.{Replacement, term_at, replaced, replaced_all, replaced_bindings}
+use Rattle.rule_model.specs.Replacement.{Replacement, replaced_by, replaced, replaced_all, replaced_bindings}
 use Rattle.term_expansion.specs.declared.assignments.Assigned.{Assigned}
 use Rattle.term_expansion.proofs.Images.{leaf_variable, same_some}
 
@@ -26,7 +26,7 @@ use Rattle.term_expansion.proofs.Images.{leaf_variable, same_some}
 mutual
   unfolding replaced
 
-  pub replaced-same : (t : Term) (p q : Replacement) → ((x : Var) → IsNeeded x t → term_at p x ≡ term_at q x) → replaced p t ≡ replaced q t
+  pub replaced-same : (t : Term) (p q : Replacement) → ((x : Var) → IsNeeded x t → replaced_by p x ≡ replaced_by q x) → replaced p t ≡ replaced q t
   replaced-same (numeral n) p q h = refl
   replaced-same (variable x) p q h = h x refl
   replaced-same (operation op ts) p q h = ap (operation op) (replaced_all-same ts p q h)
@@ -35,21 +35,21 @@ mutual
       replaced-same t (replaced_bindings p bs ++ p) (replaced_bindings q bs ++ q)
       (λ y n. replaced_bindings-same bs y p q (λ x m. h x (y, n, m)))
 
-  pub replaced_all-same : (ts : Terms) (p q : Replacement) → ((x : Var) → IsNeededAmong x ts → term_at p x ≡ term_at q x) → replaced_all p ts ≡ replaced_all q ts
+  pub replaced_all-same : (ts : Terms) (p q : Replacement) → ((x : Var) → IsNeededAmong x ts → replaced_by p x ≡ replaced_by q x) → replaced_all p ts ≡ replaced_all q ts
   replaced_all-same no_terms p q h = refl
   replaced_all-same (term t ts) p q h =
       let e = replaced-same t p q (λ x n. h x (inl n)) in
       let f = replaced_all-same ts p q (λ x n. h x (inr n)) in
       cc
 
-  pub replaced_bindings-same : (bs : Bindings) (y : Var) (p q : Replacement) → ((x : Var) → IsNeededFor x bs y → term_at p x ≡ term_at q x) → term_at (replaced_bindings p bs ++ p) y ≡ term_at (replaced_bindings q bs ++ q) y
+  pub replaced_bindings-same : (bs : Bindings) (y : Var) (p q : Replacement) → ((x : Var) → IsNeededFor x bs y → replaced_by p x ≡ replaced_by q x) → replaced_by (replaced_bindings p bs ++ p) y ≡ replaced_by (replaced_bindings q bs ++ q) y
   replaced_bindings-same no_bindings y p q h = h y refl
   replaced_bindings-same (binding z t bs) y p q h =
       go (var_eq z y) refl
       (λ e. replaced-same t p q (λ x n. h x (inl (e, n))))
       (λ d. replaced_bindings-same bs y p q (λ x n. h x (inr (d, n))))
     where
-      go : (b : Bool) → var_eq z y ≡ b → (z ≡ y → replaced p t ≡ replaced q t) → (z ≢ y → term_at (replaced_bindings p bs ++ p) y ≡ term_at (replaced_bindings q bs ++ q) y) → (if b then replaced p t else term_at (replaced_bindings p bs ++ p) y) ≡ (if b then replaced q t else term_at (replaced_bindings q bs ++ q) y)
+      go : (b : Bool) → var_eq z y ≡ b → (z ≡ y → replaced p t ≡ replaced q t) → (z ≢ y → replaced_by (replaced_bindings p bs ++ p) y ≡ replaced_by (replaced_bindings q bs ++ q) y) → (if b then replaced p t else replaced_by (replaced_bindings p bs ++ p) y) ≡ (if b then replaced q t else replaced_by (replaced_bindings q bs ++ q) y)
       go true e first rest = first ((var_eq_decides z y).0 e)
       go false e first rest = rest (λ same. let f = (var_eq_decides z y).1 same in absurd cc)
 
@@ -65,13 +65,13 @@ part-trans a b (cell c d) h (inr (inl k)) = inr (inl (part-trans a b c h k))
 part-trans a b (cell c d) h (inr (inr k)) = inr (inr (part-trans a b d h k))
 
 -- the parts of an application
-list-parts : (s : Table) (whole : Tree) (ts : Terms) (tree : Tree) → StandsForList s tree ts → IsPartOf tree whole → HasParts s whole (list_of ts)
+list-parts : (s : Table) (whole : Tree) (ts : Terms) (tree : Tree) → StandsForList s tree ts → IsPartOf tree whole → HasPartTerms s whole (list_of ts)
 list-parts s whole no_terms tree h part = tt
 list-parts s whole (term t ts) (leaf k) h part = absurd h
 list-parts s whole (term t ts) (cell a b) h part =
     (record { tree = a; stands = h.0; part = part-trans a (cell a b) whole (inr (inl (part-refl a))) part }, list-parts s whole ts b h.1 (part-trans b (cell a b) whole (inr (inr (part-refl b))) part))
 
-application-parts : (s : Table) (whole : Tree) (l : Leaf) (ts : Terms) (tree : Tree) → StandsForApplication s tree l ts → IsPartOf tree whole → HasParts s whole (list_of ts)
+application-parts : (s : Table) (whole : Tree) (l : Leaf) (ts : Terms) (tree : Tree) → StandsForApplication s tree l ts → IsPartOf tree whole → HasPartTerms s whole (list_of ts)
 application-parts s whole l no_terms tree h part = tt
 application-parts s whole l (term t ts) (leaf k) h part = absurd h
 application-parts s whole l (term t ts) (cell a b) h part =
@@ -81,9 +81,9 @@ mutual
   unfolding replaced
 
   -- what is put in for a variable that a term needs is a part of what the term becomes
-  pub needed-part : (s : Table) (t : Term) (x : Var) (q : Replacement) (whole : Tree) → IsNeeded x t → HasPart s whole (replaced q t) → HasPart s whole (term_at q x)
+  pub needed-part : (s : Table) (t : Term) (x : Var) (q : Replacement) (whole : Tree) → IsNeeded x t → HasPart s whole (replaced q t) → HasPart s whole (replaced_by q x)
   needed-part s (numeral n) x q whole need h = absurd need
-  needed-part s (variable y) x q whole need h = subst (λ (z : Var). HasPart s whole (term_at q z)) need h
+  needed-part s (variable y) x q whole need h = subst (λ (z : Var). HasPart s whole (replaced_by q z)) need h
   needed-part s (operation op ts) x q whole need h =
       needed-part_among s ts x q whole need (application-parts s whole (operator op) (replaced_all q ts) h.tree h.stands h.part)
   needed-part s (call f ts) x q whole need h =
@@ -91,17 +91,17 @@ mutual
   needed-part s (let_in bs t) x q whole need h =
       needed-part_for s bs need.0 x q whole need.2 (needed-part s t need.0 (replaced_bindings q bs ++ q) whole need.1 h)
 
-  needed-part_among : (s : Table) (ts : Terms) (x : Var) (q : Replacement) (whole : Tree) → IsNeededAmong x ts → HasParts s whole (list_of (replaced_all q ts)) → HasPart s whole (term_at q x)
+  needed-part_among : (s : Table) (ts : Terms) (x : Var) (q : Replacement) (whole : Tree) → IsNeededAmong x ts → HasPartTerms s whole (list_of (replaced_all q ts)) → HasPart s whole (replaced_by q x)
   needed-part_among s no_terms x q whole need h = absurd need
   needed-part_among s (term t ts) x q whole (inl need) h = needed-part s t x q whole need h.0
   needed-part_among s (term t ts) x q whole (inr need) h = needed-part_among s ts x q whole need h.1
 
-  needed-part_for : (s : Table) (bs : Bindings) (y x : Var) (q : Replacement) (whole : Tree) → IsNeededFor x bs y → HasPart s whole (term_at (replaced_bindings q bs ++ q) y) → HasPart s whole (term_at q x)
-  needed-part_for s no_bindings y x q whole need h = subst (λ (z : Var). HasPart s whole (term_at q z)) need h
+  needed-part_for : (s : Table) (bs : Bindings) (y x : Var) (q : Replacement) (whole : Tree) → IsNeededFor x bs y → HasPart s whole (replaced_by (replaced_bindings q bs ++ q) y) → HasPart s whole (replaced_by q x)
+  needed-part_for s no_bindings y x q whole need h = subst (λ (z : Var). HasPart s whole (replaced_by q z)) need h
   needed-part_for s (binding z t bs) y x q whole need h =
       go (var_eq z y) refl need h (λ n k. needed-part s t x q whole n k) (λ n k. needed-part_for s bs y x q whole n k)
     where
-      go : (b : Bool) → var_eq z y ≡ b → ((z ≡ y) × IsNeeded x t) ⊎ ((¬ (z ≡ y)) × IsNeededFor x bs y) → HasPart s whole (if b then replaced q t else term_at (replaced_bindings q bs ++ q) y) → (IsNeeded x t → HasPart s whole (replaced q t) → HasPart s whole (term_at q x)) → (IsNeededFor x bs y → HasPart s whole (term_at (replaced_bindings q bs ++ q) y) → HasPart s whole (term_at q x)) → HasPart s whole (term_at q x)
+      go : (b : Bool) → var_eq z y ≡ b → ((z ≡ y) × IsNeeded x t) ⊎ ((¬ (z ≡ y)) × IsNeededFor x bs y) → HasPart s whole (if b then replaced q t else replaced_by (replaced_bindings q bs ++ q) y) → (IsNeeded x t → HasPart s whole (replaced q t) → HasPart s whole (replaced_by q x)) → (IsNeededFor x bs y → HasPart s whole (replaced_by (replaced_bindings q bs ++ q) y) → HasPart s whole (replaced_by q x)) → HasPart s whole (replaced_by q x)
       go true e (inl n) k first rest = first n.1 k
       go true e (inr n) k first rest = absurd (n.0 ((var_eq_decides z y).0 e))
       go false e (inl n) k first rest = let f = (var_eq_decides z y).1 n.0 in absurd cc
@@ -113,17 +113,17 @@ unfolding replaced
 arguments-replaced q no_terms = refl
 arguments-replaced q (term t ts) = ap (λ us. replaced q t ∷ us) (arguments-replaced q ts)
 
-pub argument-parts : (s : Table) (q : Replacement) (whole : Tree) (t : Term) → (IsLet t → ⊥) → HasPart s whole (replaced q t) → HasParts s whole (map (replaced q) (arguments_of t))
+pub argument-parts : (s : Table) (q : Replacement) (whole : Tree) (t : Term) → (IsLet t → ⊥) → HasPart s whole (replaced q t) → HasPartTerms s whole (map (replaced q) (arguments_of t))
 unfolding replaced
 argument-parts s q whole (numeral n) plain h = tt
 argument-parts s q whole (variable x) plain h = tt
 argument-parts s q whole (operation op ts) plain h =
-    subst (HasParts s whole) (arguments-replaced q ts) (application-parts s whole (operator op) (replaced_all q ts) h.tree h.stands h.part)
+    subst (HasPartTerms s whole) (arguments-replaced q ts) (application-parts s whole (operator op) (replaced_all q ts) h.tree h.stands h.part)
 argument-parts s q whole (call f ts) plain h =
-    subst (HasParts s whole) (arguments-replaced q ts) (application-parts s whole (function_leaf f) (replaced_all q ts) h.tree h.stands h.part)
+    subst (HasPartTerms s whole) (arguments-replaced q ts) (application-parts s whole (function_leaf f) (replaced_all q ts) h.tree h.stands h.part)
 argument-parts s q whole (let_in bs u) plain h = absurd (plain tt)
 
-among-says : (s : Table) (v : TermsView) (assigned : List Assigned) (q : Replacement) (ts : Terms) → AreVariables s assigned → ((k : ℕ) (x : Var) → IsLeaf s k (variable_leaf x) → IsNeededAmong x ts → RefersTo s v (term_of k assigned) (term_at q x)) → SaysAll s v assigned q (list_of ts)
+among-says : (s : Table) (v : TermsView) (assigned : List Assigned) (q : Replacement) (ts : Terms) → AreVariables s assigned → ((k : ℕ) (x : Var) → IsLeaf s k (variable_leaf x) → IsNeededAmong x ts → RefersTo s v (term_of k assigned) (replaced_by q x)) → SaysAll s v assigned q (list_of ts)
 among-says s v assigned q no_terms vars h = tt
 among-says s v assigned q (term t ts) vars h =
     (record { variables = vars; puts = λ k x g n. h k x g (inl n) }, among-says s v assigned q ts vars (λ k x g n. h k x g (inr n)))
@@ -184,12 +184,12 @@ one_leaf s table j k x y g h e =
 pub record IsBoundValue (s : Table) (v : TermsView) (bs : Bindings) (x : Var) (r : ℕ) : Type 0 where
   pub means : Term
   pub refers : RefersTo s v r means
-  pub put : (q : Replacement) → term_at (replaced_bindings q bs ++ q) x ≡ replaced q means
+  pub put : (q : Replacement) → replaced_by (replaced_bindings q bs ++ q) x ≡ replaced q means
   pub needs : (y : Var) → IsNeeded y means → IsNeededFor y bs x
 
 -- the let does not bind the variable
 pub record IsUnbound (bs : Bindings) (x : Var) : Type 0 where
-  pub put : (q : Replacement) → term_at (replaced_bindings q bs ++ q) x ≡ term_at q x
+  pub put : (q : Replacement) → replaced_by (replaced_bindings q bs ++ q) x ≡ replaced_by q x
   pub needs : IsNeededFor x bs x
 
 true_false : ◌≡◌ {A = Bool} true false → ⊥
@@ -200,7 +200,7 @@ unfolding replaced
 bound-first s v bs z x t r e refers = record {
   means = t;
   refers = refers;
-  put = λ q. ap (λ (b : Bool). if b then replaced q t else term_at (replaced_bindings q bs ++ q) x) ((var_eq_decides z x).1 e);
+  put = λ q. ap (λ (b : Bool). if b then replaced q t else replaced_by (replaced_bindings q bs ++ q) x) ((var_eq_decides z x).1 e);
   needs = λ y n. inl (e, n);
 }
 
@@ -211,9 +211,9 @@ other_variable z x d = go (var_eq z x) refl
     go true e = absurd (d ((var_eq_decides z x).0 e))
     go false e = refl
 
-skipped : (bs : Bindings) (z x : Var) (t : Term) (q : Replacement) → z ≢ x → term_at (replaced_bindings q (binding z t bs) ++ q) x ≡ term_at (replaced_bindings q bs ++ q) x
+skipped : (bs : Bindings) (z x : Var) (t : Term) (q : Replacement) → z ≢ x → replaced_by (replaced_bindings q (binding z t bs) ++ q) x ≡ replaced_by (replaced_bindings q bs ++ q) x
 unfolding replaced
-skipped bs z x t q d = ap (λ (b : Bool). if b then replaced q t else term_at (replaced_bindings q bs ++ q) x) (other_variable z x d)
+skipped bs z x t q d = ap (λ (b : Bool). if b then replaced q t else replaced_by (replaced_bindings q bs ++ q) x) (other_variable z x d)
 
 bound-later : (s : Table) (v : TermsView) (bs : Bindings) (z x : Var) (t : Term) (r : ℕ) → z ≢ x → IsBoundValue s v bs x r → IsBoundValue s v (binding z t bs) x r
 bound-later s v bs z x t r d h = record {
@@ -262,7 +262,7 @@ pub record IsGivenTerm (s : Table) (v : TermsView) (bs : Bindings) (u : Term) (k
   pub leaf : IsLeaf s k (variable_leaf variable)
   pub needed : IsNeeded variable u
   pub refers : RefersTo s v r t
-  pub put : (q : Replacement) → term_at (replaced_bindings q bs ++ q) variable ≡ replaced q t
+  pub put : (q : Replacement) → replaced_by (replaced_bindings q bs ++ q) variable ≡ replaced q t
   pub needs : (y : Var) → IsNeeded y t → IsNeededFor y bs variable
 
 abbrev pub AreGivenTerms : Table → TermsView → Bindings → Term → List ℕ → List ℕ → List Term → Type 0
@@ -317,7 +317,7 @@ given-says s v w bs u (g ∷ gs) (p ∷ ps) (t ∷ ts) assigned q h says =
       given-says s v w bs u gs ps ts assigned q h.1 says,
     )
 
-pub given-parts : (s : Table) (v : TermsView) (bs : Bindings) (u : Term) (gs ps : List ℕ) (ts : List Term) (q : Replacement) (whole : Tree) → AreGivenTerms s v bs u gs ps ts → HasPart s whole (replaced q (let_in bs u)) → HasParts s whole (map (replaced q) ts)
+pub given-parts : (s : Table) (v : TermsView) (bs : Bindings) (u : Term) (gs ps : List ℕ) (ts : List Term) (q : Replacement) (whole : Tree) → AreGivenTerms s v bs u gs ps ts → HasPart s whole (replaced q (let_in bs u)) → HasPartTerms s whole (map (replaced q) ts)
 unfolding replaced
 given-parts s v bs u [] [] [] q whole h part = tt
 given-parts s v bs u [] [] (t ∷ ts) q whole h part = absurd h
@@ -339,7 +339,7 @@ inside-variables s v bs u (g ∷ gs) (p ∷ ps) [] (i ∷ is) assigned h vars = 
 inside-variables s v bs u (g ∷ gs) (p ∷ ps) (t ∷ ts) (i ∷ is) assigned h vars =
     ((h.0.variable, h.0.leaf), inside-variables s v bs u gs ps ts is assigned h.1 vars)
 
-inside-puts : (s : Table) (v w : TermsView) (bs : Bindings) (u : Term) (gs ps : List ℕ) (ts : List Term) (is : List ℕ) (assigned : List Assigned) (q : Replacement) (k : ℕ) (x : Var) → IsLeaf s k (variable_leaf x) → AreGivenTerms s v bs u gs ps ts → ReferToAll s w is (map (replaced q) ts) → (¬ Contains gs k → RefersTo s w (term_of k assigned) (term_at (replaced_bindings q bs ++ q) x)) → RefersTo s w (term_of k (assigned_all gs is assigned)) (term_at (replaced_bindings q bs ++ q) x)
+inside-puts : (s : Table) (v w : TermsView) (bs : Bindings) (u : Term) (gs ps : List ℕ) (ts : List Term) (is : List ℕ) (assigned : List Assigned) (q : Replacement) (k : ℕ) (x : Var) → IsLeaf s k (variable_leaf x) → AreGivenTerms s v bs u gs ps ts → ReferToAll s w is (map (replaced q) ts) → (¬ Contains gs k → RefersTo s w (term_of k assigned) (replaced_by (replaced_bindings q bs ++ q) x)) → RefersTo s w (term_of k (assigned_all gs is assigned)) (replaced_by (replaced_bindings q bs ++ q) x)
 inside-puts s v w bs u [] ps ts is assigned q k x l h refer rest = rest (λ c. let below = c.1 in absurd (omega arith))
 inside-puts s v w bs u (g ∷ gs) [] ts is assigned q k x l h refer rest = absurd h
 inside-puts s v w bs u (g ∷ gs) (p ∷ ps) [] is assigned q k x l h refer rest = absurd h
@@ -347,15 +347,15 @@ inside-puts s v w bs u (g ∷ gs) (p ∷ ps) (t ∷ ts) [] assigned q k x l h re
 inside-puts s v w bs u (g ∷ gs) (p ∷ ps) (t ∷ ts) (i ∷ is) assigned q k x l h refer rest =
     go (eqb g k) (eqb_tells g k) (λ d. inside-puts s v w bs u gs ps ts is assigned q k x l h.1 refer.1 (λ n. rest (λ c. elim (contains-cases g gs k c) [ inl e ↦ d e | inr later ↦ n later ])))
   where
-    go : (b : Bool) → ((b ≡ true) × (g ≡ k)) ⊎ ((b ≡ false) × (g ≢ k)) → (g ≢ k → RefersTo s w (term_of k (assigned_all gs is assigned)) (term_at (replaced_bindings q bs ++ q) x)) → RefersTo s w (cond b i (term_of k (assigned_all gs is assigned))) (term_at (replaced_bindings q bs ++ q) x)
+    go : (b : Bool) → ((b ≡ true) × (g ≡ k)) ⊎ ((b ≡ false) × (g ≢ k)) → (g ≢ k → RefersTo s w (term_of k (assigned_all gs is assigned)) (replaced_by (replaced_bindings q bs ++ q) x)) → RefersTo s w (cond b i (term_of k (assigned_all gs is assigned))) (replaced_by (replaced_bindings q bs ++ q) x)
     go true (inl both) later =
         let same = one_variable s g k h.0.variable x h.0.leaf l both.1 in
-        subst (λ (z : Var). RefersTo s w i (term_at (replaced_bindings q bs ++ q) z)) same (subst (RefersTo s w i) (sym (h.0.put q)) refer.0)
+        subst (λ (z : Var). RefersTo s w i (replaced_by (replaced_bindings q bs ++ q) z)) same (subst (RefersTo s w i) (sym (h.0.put q)) refer.0)
     go true (inr both) later = absurd (true_false both.0)
     go false (inl both) later = absurd (true_false (sym both.0))
     go false (inr both) later = later both.1
 
-pub inside-says : (s : Table) (v w : TermsView) → IsTable s → ((r : ℕ) (t : Term) → RefersTo s v r t → RefersTo s w r t) → (ks rs : List ℕ) (bs : Bindings) (u : Term) → AreBindings s v ks rs bs → (leaves : List ℕ) → AddsLeaves s [] leaves (λ x. IsNeeded x u) → (gs ps : List ℕ) → IsGiven leaves ks rs gs ps → (ts : List Term) → AreGivenTerms s v bs u gs ps ts → (is : List ℕ) (assigned : List Assigned) (q : Replacement) → Says s v assigned q (let_in bs u) → ReferToAll s w is (map (replaced q) ts) → Says s w (assigned_all gs is assigned) (replaced_bindings q bs ++ q) u
+pub inside-says : (s : Table) (v w : TermsView) → IsTable s → ((r : ℕ) (t : Term) → RefersTo s v r t → RefersTo s w r t) → (ks rs : List ℕ) (bs : Bindings) (u : Term) → AreBindings s v ks rs bs → (leaves : List ℕ) → AddsLeaves s [] leaves (λ x. IsNeeded x u) → (gs ps : List ℕ) → AreValuesGiven leaves ks rs gs ps → (ts : List Term) → AreGivenTerms s v bs u gs ps ts → (is : List ℕ) (assigned : List Assigned) (q : Replacement) → Says s v assigned q (let_in bs u) → ReferToAll s w is (map (replaced q) ts) → Says s w (assigned_all gs is assigned) (replaced_bindings q bs ++ q) u
 inside-says s v w table grows ks rs bs u h leaves adds gs ps given ts are is assigned q says refer = record {
   variables = inside-variables s v bs u gs ps ts is assigned are says.variables;
   puts = λ k x l need. inside-puts s v w bs u gs ps ts is assigned q k x l are refer (λ none. outside k x l need none (value_of k ks rs) refl);
@@ -365,11 +365,11 @@ inside-says s v w table grows ks rs bs u h leaves adds gs ps given ts are is ass
     has k x l need =
         let a = adds.all x need in subst (Contains leaves) (one_leaf s table a.0 k x x a.1 l refl) a.2
 
-    outside : (k : ℕ) (x : Var) → IsLeaf s k (variable_leaf x) → IsNeeded x u → ¬ Contains gs k → (o : Option ℕ) → value_of k ks rs ≡ o → RefersTo s w (term_of k assigned) (term_at (replaced_bindings q bs ++ q) x)
+    outside : (k : ℕ) (x : Var) → IsLeaf s k (variable_leaf x) → IsNeeded x u → ¬ Contains gs k → (o : Option ℕ) → value_of k ks rs ≡ o → RefersTo s w (term_of k assigned) (replaced_by (replaced_bindings q bs ++ q) x)
     outside k x l need none (Some r) e = absurd (none (given.all k r (has k x l need) e))
     outside k x l need none None e =
         let b = unbound-value s v table ks rs bs h k x l e in
-        subst (RefersTo s w (term_of k assigned)) (sym (b.put q)) (grows (term_of k assigned) (term_at q x) (says.puts k x l (x, need, b.needs)))
+        subst (RefersTo s w (term_of k assigned)) (sym (b.put q)) (grows (term_of k assigned) (replaced_by q x) (says.puts k x l (x, need, b.needs)))
 
 -- what stays as the pass comes to know more
 pub refers-grow : (s : Table) (v w : TermsView) → KeepsTerms v w → (r : ℕ) (t : Term) → RefersTo s v r t → RefersTo s w r t
@@ -384,7 +384,7 @@ refer-grow s v w grows (r ∷ rs) (t ∷ ts) h = (grows r t h.0, refer-grow s v 
 pub says-grow : (s : Table) (v w : TermsView) → ((r : ℕ) (t : Term) → RefersTo s v r t → RefersTo s w r t) → (assigned : List Assigned) (q : Replacement) (t : Term) → Says s v assigned q t → Says s w assigned q t
 says-grow s v w grows assigned q t h = record {
   variables = h.variables;
-  puts = λ k x l n. grows (term_of k assigned) (term_at q x) (h.puts k x l n);
+  puts = λ k x l n. grows (term_of k assigned) (replaced_by q x) (h.puts k x l n);
 }
 
 pub needs-grow : (s : Table) (v w : TermsView) → ((r : ℕ) (t : Term) → RefersTo s v r t → RefersTo s w r t) → (needs : Needs) → AreNeeds s v needs → AreNeeds s w needs

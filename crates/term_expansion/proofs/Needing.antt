@@ -6,7 +6,7 @@ use Rattle.std.proofs.lemmas.Bool.Decides.{eqb_tells}
 use Rattle.std.proofs.lemmas.List.Elements.{Contains-get_or, Contains-append_left, Contains-push, Contains-push_cases}
 use Rattle.sym_table.specs.Table.{Table, IsLeaf, IsTable}
 use Rattle.term_model.specs.Terms.{Var, Term, numeral, variable, operation, call, let_in, Terms, no_terms, term, list_of, Bindings, no_bindings, binding}
-use Rattle.term_pool.specs.Building.{IsApplication, AreBindings}
+use Rattle.term_pool.specs.Building.{IsAppliedLeaf, AreBindings}
 use Rattle.term_pool.specs.Reading.{arguments_of}
 use Rattle.term_pool.specs.StandsFor.{variable_leaf}
 use Rattle.term_pool.specs.Views.{TermsView, RefersTo, ReferToAll, IsTerm}
@@ -17,7 +17,7 @@ use Rattle.term_expansion.proofs.Images.{drop-at, same_some}
 use Rattle.term_expansion.proofs.SetLemmas.{none_in}
 
 -- by the top of a term
-pub variable-needs : (s : Table) (k : ℕ) (x : Var) (ts : List Term) (t : Term) (a b : List ℕ) → IsLeaf s k (variable_leaf x) → AddsOne a b k → IsApplication s k ts t → AddsLeaves s a b (λ y. IsNeeded y t)
+pub variable-needs : (s : Table) (k : ℕ) (x : Var) (ts : List Term) (t : Term) (a b : List ℕ) → IsLeaf s k (variable_leaf x) → AddsOne a b k → IsAppliedLeaf s k ts t → AddsLeaves s a b (λ y. IsNeeded y t)
 variable-needs s k x ts t a b leaf one h =
     subst (λ (u : Term). AddsLeaves s a b (λ y. IsNeeded y u)) (sym (is_variable s k x ts t leaf h)) (one-adds s k x a b leaf one)
 
@@ -31,7 +31,7 @@ any-among no_terms x h = absurd h
 any-among (term t ts) x (inl h) = inl h
 any-among (term t ts) x (inr h) = inr (any-among ts x h)
 
-pub application-needs : (s : Table) (k : ℕ) (t : Term) (a b : List ℕ) → ((x : Var) → IsLeaf s k (variable_leaf x) → ⊥) → IsApplication s k (arguments_of t) t → AddsLeaves s a b (λ x. IsNeededInAny x (arguments_of t)) → AddsLeaves s a b (λ x. IsNeeded x t)
+pub application-needs : (s : Table) (k : ℕ) (t : Term) (a b : List ℕ) → ((x : Var) → IsLeaf s k (variable_leaf x) → ⊥) → IsAppliedLeaf s k (arguments_of t) t → AddsLeaves s a b (λ x. IsNeededInAny x (arguments_of t)) → AddsLeaves s a b (λ x. IsNeeded x t)
 application-needs s k (numeral n) a b never h adds = adds-same s a b _ _ (λ x p. absurd p) (λ x p. absurd p) adds
 application-needs s k (variable x) a b never h adds = absurd (never x h.0)
 application-needs s k (operation op us) a b never h adds =

@@ -10,7 +10,7 @@ use Rattle.term_pool.specs.Views.{TermsView, RefersTo}
 use Rattle.term_expansion.specs.Expanding.{Says, SaysWhole, IsSaid, HasPart}
 use Rattle.rule_model.specs.Heights.{height}
 use Rattle.term_expansion.specs.Images.{PlacesTerm, LacksRoomFor}
-use Rattle.rule_model.specs.Replacement.{Replacement, term_at, replaced, replaced_all, replaced_bindings}
+use Rattle.rule_model.specs.Replacement.{Replacement, replaced_by, replaced, replaced_all, replaced_bindings}
 use Rattle.problem_text.specs.TypedTerms.{Typed}
 use Rattle.term_expansion.specs.Values.{IsValue, IsReplacement}
 use Rattle.term_expansion.specs.declared.assignments.Assigned.{Assigned}
@@ -41,11 +41,11 @@ have-joined : (s : Table) (p q : Replacement) → HaveTrees s p → HaveTrees s 
 have-joined s [] q h k = k
 have-joined s (x ∷ p) q h k = (h.0, have-joined s p q h.1 k)
 
-variable_tree : (s : Table) (q : Replacement) (x : Var) (tree : Tree) → HaveTrees s q → StandsFor s tree (variable x) → HasTree s (term_at q x)
+variable_tree : (s : Table) (q : Replacement) (x : Var) (tree : Tree) → HaveTrees s q → StandsFor s tree (variable x) → HasTree s (replaced_by q x)
 variable_tree s [] x tree h k = record { tree = tree; stands = k }
 variable_tree s (y ∷ q) x tree h k = go (var_eq y.0 x) (variable_tree s q x tree h.1 k)
   where
-    go : (b : Bool) → HasTree s (term_at q x) → HasTree s (if b then y.1 else term_at q x)
+    go : (b : Bool) → HasTree s (replaced_by q x) → HasTree s (if b then y.1 else replaced_by q x)
     go true rest = h.0
     go false rest = rest
 

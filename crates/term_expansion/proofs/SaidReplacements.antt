@@ -11,7 +11,7 @@ use Rattle.term_pool.specs.StandsFor.{variable_leaf}
 use Rattle.term_pool.specs.Views.{TermsView, RefersTo}
 use Rattle.term_expansion.specs.Assigned.{term_of}
 use Rattle.term_expansion.specs.Expanding.{SaysWhole}
-use Rattle.rule_model.specs.Replacement.{Replacement, term_at}
+use Rattle.rule_model.specs.Replacement.{Replacement, replaced_by}
 use Rattle.term_expansion.specs.Values.{IsReplacement}
 use Rattle.term_expansion.specs.declared.assignments.Assigned.{Assigned}
 use Rattle.term_expansion.specs.declared.values.Bound.{Bound}
@@ -23,7 +23,7 @@ unfolding Knows
 leaf_known pass k low = (refl, low)
 
 -- a variable stands for itself
-itself_refers : (s : Table) (v : TermsView) → length s.leaves ≤ 2 ^ 30 → (k : ℕ) (x : Var) → IsLeaf s k (variable_leaf x) → RefersTo s v k (term_at [] x)
+itself_refers : (s : Table) (v : TermsView) → length s.leaves ≤ 2 ^ 30 → (k : ℕ) (x : Var) → IsLeaf s k (variable_leaf x) → RefersTo s v k (replaced_by [] x)
 itself_refers s v few k x l =
     let within = slice_get_within s.leaves k (variable_leaf x) l in
     record { tree = leaf k; known = leaf_known v.pass k (omega arith); stands = l }
@@ -50,7 +50,7 @@ says-one s v table assigned q a x t here refers h = record {
   puts = λ k y l. go k y l (eqb a.variable k) (var_eq x y) refl (eqb_tells a.variable k);
 }
   where
-    go : (k : ℕ) (y : Var) → IsLeaf s k (variable_leaf y) → (b c : Bool) → var_eq x y ≡ c → ((b ≡ true) × (a.variable ≡ k)) ⊎ ((b ≡ false) × (a.variable ≢ k)) → RefersTo s v (cond b a.term (term_of k assigned)) (if c then t else term_at q y)
+    go : (k : ℕ) (y : Var) → IsLeaf s k (variable_leaf y) → (b c : Bool) → var_eq x y ≡ c → ((b ≡ true) × (a.variable ≡ k)) ⊎ ((b ≡ false) × (a.variable ≢ k)) → RefersTo s v (cond b a.term (term_of k assigned)) (if c then t else replaced_by q y)
     go k y l true true d tells = refers
     go k y l true false d (inl both) =
         absurd (true_false (sym ((var_eq_decides x y).1 (one_variable s a.variable k x y here l both.1)) ∙ d))

@@ -11,18 +11,18 @@ abbrev pub Numbers : Type 0
 Numbers = HashMap ℕ ℕ (BuildHasherDefault FoldHasher)
 
 -- what is put in for the variable with this leaf
-abbrev pub assigned_to : ℕ → List Assigned → Option ℕ
-assigned_to k [] = None
-assigned_to k (a ∷ assigned) = if a.variable == k then Some a.term else assigned_to k assigned
+abbrev pub assigned_for : ℕ → List Assigned → Option ℕ
+assigned_for k [] = None
+assigned_for k (a ∷ assigned) = if a.variable == k then Some a.term else assigned_for k assigned
 
 -- each knows what is put in for its variable further out
 abbrev pub KnowOuter : List Assigned → Type 0
 KnowOuter [] = Unit {0}
-KnowOuter (a ∷ assigned) = (a.outer ≡ assigned_to a.variable assigned) × KnowOuter assigned
+KnowOuter (a ∷ assigned) = (a.outer ≡ assigned_for a.variable assigned) × KnowOuter assigned
 
-pub record AreNested (innermost : Numbers) (assigned : List Assigned) : Type 0 where
+pub record AreAssignedInside (innermost : Numbers) (assigned : List Assigned) : Type 0 where
   pub outer : KnowOuter assigned
-  pub innermost_is : (k : ℕ) → get nat_eq innermost k ≡ assigned_to k assigned
+  pub innermost_is : (k : ℕ) → get nat_eq innermost k ≡ assigned_for k assigned
 
 -- what stands for the variable with this leaf: the leaf where nothing else does
 abbrev pub term_of : ℕ → List Assigned → ℕ
@@ -34,4 +34,4 @@ abbrev pub assigned_all : List ℕ → List ℕ → List Assigned → List Assig
 assigned_all [] is outer = outer
 assigned_all (k ∷ ks) [] outer = outer
 assigned_all (k ∷ ks) (i ∷ is) outer =
-    record { variable = k; term = i; outer = assigned_to k (assigned_all ks is outer) } ∷ assigned_all ks is outer
+    record { variable = k; term = i; outer = assigned_for k (assigned_all ks is outer) } ∷ assigned_all ks is outer

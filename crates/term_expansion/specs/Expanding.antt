@@ -15,7 +15,7 @@ use Rattle.term_pool.specs.Views.{TermsView, RefersTo, ReferToAll}
 use Rattle.term_expansion.specs.Assigned.{term_of}
 use Rattle.term_expansion.specs.Free.{HasVariable}
 use Rattle.term_expansion.specs.Needs.{IsNeeded, value_of}
-use Rattle.rule_model.specs.Replacement.{Replacement, term_at, replaced}
+use Rattle.rule_model.specs.Replacement.{Replacement, replaced_by, replaced}
 use Rattle.term_expansion.specs.declared.assignments.Assigned.{Assigned}
 
 -- only variables have something put in for them
@@ -25,12 +25,12 @@ AreVariables s assigned = AllByRecursion (λ a. (x : Var) × IsLeaf s a.variable
 -- what is put in for the variables that the term needs is as the replacement says
 pub record Says (s : Table) (v : TermsView) (assigned : List Assigned) (q : Replacement) (t : Term) : Type 0 where
   pub variables : AreVariables s assigned
-  pub puts : (k : ℕ) (x : Var) → IsLeaf s k (variable_leaf x) → IsNeeded x t → RefersTo s v (term_of k assigned) (term_at q x)
+  pub puts : (k : ℕ) (x : Var) → IsLeaf s k (variable_leaf x) → IsNeeded x t → RefersTo s v (term_of k assigned) (replaced_by q x)
 
 -- what is put in for any variable is as the replacement says
 pub record SaysWhole (s : Table) (v : TermsView) (assigned : List Assigned) (q : Replacement) : Type 0 where
   pub variables : AreVariables s assigned
-  pub puts : (k : ℕ) (x : Var) → IsLeaf s k (variable_leaf x) → RefersTo s v (term_of k assigned) (term_at q x)
+  pub puts : (k : ℕ) (x : Var) → IsLeaf s k (variable_leaf x) → RefersTo s v (term_of k assigned) (replaced_by q x)
 
 -- and so for what each of the terms needs
 abbrev pub SaysAll : Table → TermsView → List Assigned → Replacement → List Term → Type 0
@@ -59,8 +59,8 @@ pub record HasPart (s : Table) (whole : Tree) (t : Term) : Type 0 where
   pub stands : StandsFor s tree t
   pub part : IsPartOf tree whole
 
-abbrev pub HasParts : Table → Tree → List Term → Type 0
-HasParts s whole ts = AllByRecursion (HasPart s whole) ts
+abbrev pub HasPartTerms : Table → Tree → List Term → Type 0
+HasPartTerms s whole ts = AllByRecursion (HasPart s whole) ts
 
 -- a reference, and what is put in for the variables with these leaves
 abbrev pub pairs_of : List Assigned → List ℕ → List ℕ
@@ -74,7 +74,7 @@ key_of r assigned leaves = r ∷ pairs_of assigned leaves
 abbrev pub Done : Type 0
 Done = HashMap (Vec ℕ Global) ℕ (BuildHasherDefault FoldHasher)
 
-pub record HasBecome (s : Table) (v : TermsView) (key : List ℕ) (i : ℕ) : Type 0 where
+pub record HasBecomeBy (s : Table) (v : TermsView) (key : List ℕ) (i : ℕ) : Type 0 where
   pub cell : ℕ
   pub assigned : List Assigned
   pub leaves : List ℕ
@@ -87,7 +87,7 @@ pub record HasBecome (s : Table) (v : TermsView) (key : List ℕ) (i : ℕ) : Ty
   pub becomes : RefersTo s v i (replaced puts means)
 
 pub record AreDone (s : Table) (v : TermsView) (done : Done) : Type 0 where
-  pub each : (key : Vec ℕ Global) (i : ℕ) → get (λ x y. pointwise nat_eq x.items y.items) done key ≡ Some i → HasBecome s v key.items i
+  pub each : (key : Vec ℕ Global) (i : ℕ) → get (λ x y. pointwise nat_eq x.items y.items) done key ≡ Some i → HasBecomeBy s v key.items i
 
 -- of the variables with these leaves those that are given values, and the values
 abbrev pub AreGiven : List ℕ → List ℕ → List ℕ → List ℕ → List ℕ → Type 0
@@ -96,6 +96,6 @@ AreGiven leaves vars values [] (r ∷ rs) = ⊥
 AreGiven leaves vars values (k ∷ ks) [] = ⊥
 AreGiven leaves vars values (k ∷ ks) (r ∷ rs) = (Contains leaves k × (value_of k vars values ≡ Some r)) × AreGiven leaves vars values ks rs
 
-pub record IsGiven (leaves vars values ks rs : List ℕ) : Type 0 where
+pub record AreValuesGiven (leaves vars values ks rs : List ℕ) : Type 0 where
   pub are : AreGiven leaves vars values ks rs
   pub all : (k r : ℕ) → Contains leaves k → value_of k vars values ≡ Some r → Contains ks k

@@ -68,7 +68,7 @@ ArePartsOfLet s v r ks rs body =
     (bs : Bindings) (u : Term) → RefersTo s v r (let_in bs u) → AreBindings s v ks rs bs × RefersTo s v body u
 
 -- the leaves that were found have those of the free variables of each term that was seen
-pub record Covers (s : Table) (v : TermsView) (seen found : List ℕ) : Type 0 where
+pub record CoversFree (s : Table) (v : TermsView) (seen found : List ℕ) : Type 0 where
   pub each : (r : ℕ) → Contains seen r → (t : Term) → RefersTo s v r t → (x : Var) → IsFree x t → HasVariable s found x
 
 -- for some bodies of lets the leaves of their free variables

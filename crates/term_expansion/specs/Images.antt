@@ -1,16 +1,15 @@
 -- Public. What is put in for leaves, by a replacement.
-use Rattle.std.specs.Prelude.{◌≡◌, ◌≢◌, ℕ, true, List}
+use Rattle.std.specs.Prelude.{◌≡◌, true, List}
 use Rattle.pair_pool.specs.Trees.{Tree}
 use Rattle.pair_pool.specs.Views.{PassView}
-use Rattle.sym_table.specs.Leaf.{Leaf}
-use Rattle.sym_table.specs.Table.{Table, IsLeaf}
-use Rattle.term_model.specs.Terms.{Var, Term}
+use Rattle.sym_table.specs.Table.{Table}
+use Rattle.term_model.specs.Terms.{Term}
 use Rattle.term_pool.specs.Building.{PlacesOnlyIn, IsFullIn}
-use Rattle.term_pool.specs.Putting.{Piece, itself, Images, AreImages}
-use Rattle.term_pool.specs.StandsFor.{variable_leaf, StandsFor}
+use Rattle.term_pool.specs.Putting.{Piece}
+use Rattle.term_pool.specs.StandsFor.{StandsFor}
 use Rattle.term_pool.specs.Views.{TermsView}
 use Rattle.rule_model.specs.Heights.{height}
-use Rattle.rule_model.specs.Replacement.{Replacement, term_at, HasNoLet}
+use Rattle.rule_model.specs.Replacement.{Replacement, HasNoLet}
 use Rattle.problem_text.specs.TypedTerms.{Typed}
 use Rattle.term_expansion.specs.Values.{IsValue, IsReplacement}
 use Rattle.term_expansion.specs.declared.values.Bound.{Bound}
@@ -21,17 +20,6 @@ pub record IsPieceOf (s : Table) (p : Piece) (t : Term) : Type 0 where
   pub stands : StandsFor s p.tree t
   pub height : p.height ≡ height t
   pub plain : p.plain ≡ true → HasNoLet t
-
--- what the replacement puts in for leaves: something for variables, and other leaves stay
-pub record PutsFor (s : Table) (q : Replacement) (f : ℕ → Piece) : Type 0 where
-  pub variables : (k : ℕ) (x : Var) → IsLeaf s k (variable_leaf x) → IsPieceOf s (f k) (term_at q x)
-  pub others : (k : ℕ) (l : Leaf) → IsLeaf s k l → ((x : Var) → l ≢ variable_leaf x) → f k ≡ itself k
-
--- the images are what the replacement puts in
-pub record ArePutFor (s : Table) (v : TermsView) (images : Images) (q : Replacement) : Type 0 where
-  pub pieces : ℕ → Piece
-  pub puts : PutsFor s q pieces
-  pub are : AreImages v.pass images pieces
 
 -- by the table the list is some replacement
 pub record IsSomeReplacement (s : Table) (v : TermsView) (bs : List Bound) : Type 0 where

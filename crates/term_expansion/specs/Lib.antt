@@ -2,5 +2,6 @@ pub mod Needs
 pub mod Values
 pub mod Expanding
 pub mod Images
+pub mod PutFor
 pub mod Free
 pub mod Assigned

@@ -1,6 +1,6 @@
 //! What is put in for variables while the lets of a term are replaced.
 ghost use Rattle.std.specs.Prelude.{◌≡◌, ◌<◌, ◌≤◌, ◌-◌, [], ◌∷◌, drop, length, OnOk};
-ghost use Rattle.term_expansion.specs.Assigned.{assigned_to, term_of, assigned_all};
+ghost use Rattle.term_expansion.specs.Assigned.{assigned_for, term_of, assigned_all};
 ghost use Rattle.term_expansion.specs.declared.assignments.Assigned.{Assigned};
 
 use pair_pool::{Memory, Ref};
@@ -28,13 +28,13 @@ pub(crate) struct Assignments {
 impl Model for Assignments {
     ghost use Rattle.std.specs.Prelude.{List, reverse};
     ghost use Rattle.term_expansion.specs.declared.assignments.Assigned.{Assigned};
-    ghost use Rattle.term_expansion.specs.Assigned.{AreNested};
+    ghost use Rattle.term_expansion.specs.Assigned.{AreAssignedInside};
 
     ghost Value = { List Assigned };
 
     ghost view = { λ a. reverse a.assigned.items };
 
-    ghost invariant = { λ a. AreNested a.innermost (reverse a.assigned.items) };
+    ghost invariant = { λ a. AreAssignedInside a.innermost (reverse a.assigned.items) };
 }
 
 impl Assignments {
@@ -56,14 +56,14 @@ impl Assignments {
 
     /// What is put in for the variable with this leaf.
     pub(crate) fn find(&self, variable: u32) -> Option<Ref>
-        ensures { result ≡ assigned_to variable self.now }
+        ensures { result ≡ assigned_for variable self.now }
     {
         self.innermost.get(&variable).copied()
     }
 
     /// Puts in a term for a variable, inside all others.
     pub(crate) fn push(&mut self, variable: u32, term: Ref) -> Result<(), Memory>
-        ensures { OnOk result (self.new ≡ record { variable = variable; term = term; outer = assigned_to variable self.old } ∷ self.old) }
+        ensures { OnOk result (self.new ≡ record { variable = variable; term = term; outer = assigned_for variable self.old } ∷ self.old) }
     {
         self.assigned.reserve(1)?;
         let outer = self.innermost.insert(variable, term)?;

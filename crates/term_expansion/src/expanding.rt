@@ -6,11 +6,11 @@
 ghost use Rattle.std.specs.Prelude.{◌≡◌, ◌≤◌, ◌^◌, ℕ, List, IfOk, IfErr, OnOk, length};
 ghost use Rattle.pair_pool.specs.Trees.{Tree};
 ghost use Rattle.term_model.specs.Terms.{Var, Term, variable};
-ghost use Rattle.term_pool.specs.Building.{IsApplication, PlacesOnlyIn, IsFullIn};
+ghost use Rattle.term_pool.specs.Building.{IsAppliedLeaf, PlacesOnlyIn, IsFullIn};
 ghost use Rattle.term_pool.specs.Reading.{arguments_of, IsLet};
 ghost use Rattle.term_pool.specs.Views.{RefersTo, ReferToAll, KeepsTerms};
 ghost use Rattle.term_pool.specs.declared.stop.TermStop.TheVariants as TermStop;
-ghost use Rattle.term_expansion.specs.Expanding.{Says, SaysAll, IsSaid, AreSaid, replaced_each, HasPart, HasParts, key_of, AreDone, IsGiven};
+ghost use Rattle.term_expansion.specs.Expanding.{Says, SaysAll, IsSaid, AreSaid, replaced_each, HasPart, HasPartTerms, key_of, AreDone, AreValuesGiven};
 ghost use Rattle.term_expansion.specs.Needs.{AreValuesOf, AreNeeds};
 ghost use Rattle.rule_model.specs.Replacement.{Replacement, replaced};
 
@@ -45,7 +45,7 @@ struct GivenValues {
 
 /// Of the variables with these leaves those that a let gives a value, and the values.
 fn given(alloc: Global, values: &HashMap<u32, Ref>, leaves: &[u32]) -> Result<GivenValues, Memory>
-    ensures given { IfOk result (λ g. (ks rs : List ℕ) → AreValuesOf values.now ks rs → IsGiven leaves.now ks rs g.variables.items g.values.items) }
+    ensures given { IfOk result (λ g. (ks rs : List ℕ) → AreValuesOf values.now ks rs → AreValuesGiven leaves.now ks rs g.variables.items g.values.items) }
     ensures one_each { IfOk result (λ g. length g.variables.items ≡ length g.values.items) }
 {
     let mut given = GivenValues {
@@ -161,7 +161,7 @@ fn expand_application(
     head: u32,
 ) -> Result<Ref, TermStop>
     requires no_variable { (x : Var) → RefersTo symbols.now terms.old r (variable x) → ⊥ }
-    requires head { (t : Term) → RefersTo symbols.now terms.old r t → IsApplication symbols.now head (arguments_of t) t }
+    requires head { (t : Term) → RefersTo symbols.now terms.old r t → IsAppliedLeaf symbols.now head (arguments_of t) t }
     requires said { IsSaid symbols.now terms.old assignments.old r }
     requires needs { AreNeeds symbols.now terms.old needs.old }
     requires done { AreDone symbols.now terms.old done.old }
@@ -264,8 +264,8 @@ fn expand_all(
     requires needs { AreNeeds symbols.now terms.old needs.old }
     requires done { AreDone symbols.now terms.old done.old }
     ensures value { IfOk result (λ all. (ts : List Term) (q : Replacement) → ReferToAll symbols.now terms.old list.now ts → SaysAll symbols.now terms.old assignments.old q ts → ReferToAll symbols.now terms.new all.items (replaced_each q ts)) }
-    ensures placed { (ts : List Term) (q : Replacement) (whole : Tree) → ReferToAll symbols.now terms.old list.now ts → SaysAll symbols.now terms.old assignments.old q ts → HasParts symbols.now whole (replaced_each q ts) → PlacesOnlyIn terms.old.pass terms.new.pass whole }
-    ensures full { IfErr result (λ e. e ≡ TermStop.PoolFull → (ts : List Term) (q : Replacement) (whole : Tree) → ReferToAll symbols.now terms.old list.now ts → SaysAll symbols.now terms.old assignments.old q ts → HasParts symbols.now whole (replaced_each q ts) → IsFullIn terms.new.pass whole) }
+    ensures placed { (ts : List Term) (q : Replacement) (whole : Tree) → ReferToAll symbols.now terms.old list.now ts → SaysAll symbols.now terms.old assignments.old q ts → HasPartTerms symbols.now whole (replaced_each q ts) → PlacesOnlyIn terms.old.pass terms.new.pass whole }
+    ensures full { IfErr result (λ e. e ≡ TermStop.PoolFull → (ts : List Term) (q : Replacement) (whole : Tree) → ReferToAll symbols.now terms.old list.now ts → SaysAll symbols.now terms.old assignments.old q ts → HasPartTerms symbols.now whole (replaced_each q ts) → IsFullIn terms.new.pass whole) }
     ensures one_each { IfOk result (λ all. length all.items ≡ length list.now) }
     ensures assignments { OnOk result (assignments.new ≡ assignments.old) }
     ensures needs { OnOk result (AreNeeds symbols.now terms.new needs.new) }

@@ -3,7 +3,7 @@ ghost use Rattle.std.specs.Prelude.{◌≡◌, ◌<◌, length, IfOk, IfSome, If
 ghost use Rattle.pair_pool.specs.Views.{IsKnown};
 ghost use Rattle.sym_table.specs.Table.{Table, IsTable, IsLeaf};
 ghost use Rattle.term_model.specs.Terms.{Var, Term, Bindings, variable, let_in};
-ghost use Rattle.term_pool.specs.Building.{AreBindings, IsApplication};
+ghost use Rattle.term_pool.specs.Building.{AreBindings, IsAppliedLeaf};
 ghost use Rattle.term_pool.specs.Reading as read;
 ghost use Rattle.term_pool.specs.Reading.{IsLet, IsLetTerm};
 ghost use Rattle.term_pool.specs.StandsFor.{variable_leaf};
@@ -26,7 +26,7 @@ pub(crate) struct LetParts {
 /// The leaf of the head of an application, and the leaf itself where the term is one. A let has none.
 pub(crate) fn head_of(terms: &mut Terms<'_>, r: Ref) -> Option<u32>
     requires { IsKnown terms.old.pass r }
-    ensures application { IfSome result (λ k. (s : Table) (t : Term) → IsTable s → RefersTo s terms.old r t → IsApplication s k (read.arguments_of t) t) }
+    ensures application { IfSome result (λ k. (s : Table) (t : Term) → IsTable s → RefersTo s terms.old r t → IsAppliedLeaf s k (read.arguments_of t) t) }
     ensures variable { IfSome result (λ k. (s : Table) (x : Var) → RefersTo s terms.old r (variable x) → k ≡ r) }
     ensures let_term { IfNone result ((s : Table) (t : Term) → IsTable s → RefersTo s terms.old r t → IsLet t) }
     ensures same { terms.new ≡ terms.old }

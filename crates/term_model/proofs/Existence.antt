@@ -4,7 +4,7 @@ use Rattle.std.proofs.lemmas.Bool.Decides.{Decides-and, Decides-like}
 use Rattle.std.proofs.lemmas.Slice.Eq.{bytes_eq-Decides}
 use Rattle.term_model.specs.Terms.{Fun, sort_eq}
 use Rattle.term_model.specs.Values.{Value, HasSort, HaveSorts, some_value}
-use Rattle.term_model.specs.Interpretations.{Row, Table, TableFits, Interpretation, first_row}
+use Rattle.term_model.specs.Interpretations.{Row, FunctionTable, TableFits, Interpretation, first_row}
 use Rattle.term_model.specs.Sorts.{sorts_eq}
 use Rattle.term_model.proofs.Basics.{then_branch}
 use Rattle.term_model.proofs.Tests.{sort_eq_decides, sorts_eq_decides}
@@ -30,10 +30,10 @@ fun_eq_decides f g =
     (sorts_eq_decides f.arguments g.arguments) (sort_eq_decides f.target g.target)))
 
 -- this table at one function, and constants at all others
-table_for : Fun → Table → Fun → Table
+table_for : Fun → FunctionTable → Fun → FunctionTable
 table_for f table g = if fun_eq f g then table else record { rows = []; default = some_value g.target }
 
-table_for_fits : (f : Fun) (table : Table) → TableFits f table → (g : Fun) → TableFits g (table_for f table g)
+table_for_fits : (f : Fun) (table : FunctionTable) → TableFits f table → (g : Fun) → TableFits g (table_for f table g)
 unfolding table_for
 table_for_fits f table fits g = go (fun_eq f g) refl
   where
@@ -41,7 +41,7 @@ table_for_fits f table fits g = go (fun_eq f g) refl
     go true e = subst (λ h. TableFits h table) ((fun_eq_decides f g).0 e) fits
     go false e = record { rows = tt; default = some_value_fits g.target }
 
-table_for_here : (f : Fun) (table : Table) → table_for f table f ≡ table
+table_for_here : (f : Fun) (table : FunctionTable) → table_for f table f ≡ table
 unfolding table_for
 table_for_here f table = then_branch (fun_eq f f) table _ ((fun_eq_decides f f).1 refl)
 
@@ -56,5 +56,5 @@ two_results f vs ws v w fit at other apart = (
     row : Row
     row = record { arguments = vs; result = v }
 
-    table : Table
+    table : FunctionTable
     table = record { rows = row ∷ []; default = w }

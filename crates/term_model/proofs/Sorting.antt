@@ -6,7 +6,7 @@ use Rattle.term_model.specs.declared.symbols.Sort.{Sort}
 use Rattle.term_model.specs.declared.symbols.Op.{Op}
 use Rattle.term_model.specs.Terms.{Var, Fun, Term, numeral, variable, operation, call, let_in, Terms, no_terms, term, Bindings, no_bindings, binding, list_of, sort_eq, var_eq}
 use Rattle.term_model.specs.Values.{Value, truth, whole, HasSort, HaveSorts, some_value, as_truth}
-use Rattle.term_model.specs.Operators.{meaning, choice}
+use Rattle.term_model.specs.Operators.{meaning, chosen_value}
 use Rattle.term_model.specs.Interpretations.{Row, RowFits, Interpretation, first_row, values_eq}
 use Rattle.term_model.specs.Meaning.{Valuation, ValuationFits, value_at, value, values, bound}
 use Rattle.term_model.specs.Sorts.{when, sorts_eq, choice_sort, application_sort, call_sort, IsOf, AreOf, AreBound, IsWellSorted}
@@ -57,7 +57,7 @@ pub choice_fits : (s : Sort) (c : Bool) (v w : Value) → HasSort s v → HasSor
 choice_fits s true v w h k = h
 choice_fits s false v w h k = k
 
-pub choice_has_sort : (ss : List Sort) (vs : List Value) (u : Sort) → choice_sort ss ≡ Some u → HaveSorts ss vs → HasSort u (choice vs)
+pub choice_has_sort : (ss : List Sort) (vs : List Value) (u : Sort) → choice_sort ss ≡ Some u → HaveSorts ss vs → HasSort u (chosen_value vs)
 choice_has_sort [] vs u e h = absurd cc
 choice_has_sort (c ∷ []) vs u e h = absurd cc
 choice_has_sort (c ∷ s ∷ []) vs u e h = absurd cc
@@ -67,7 +67,7 @@ choice_has_sort (c ∷ s ∷ t ∷ []) (v ∷ []) u e h = absurd h.1
 choice_has_sort (c ∷ s ∷ t ∷ []) (v ∷ w ∷ []) u e h = absurd h.1.1
 choice_has_sort (c ∷ s ∷ t ∷ []) (v ∷ w ∷ x ∷ []) u e h =
     let b = choice_sort-branches c s t u e in
-    subst (λ k. HasSort k (choice (v ∷ w ∷ x ∷ []))) (sym b.0)
+    subst (λ k. HasSort k (chosen_value (v ∷ w ∷ x ∷ []))) (sym b.0)
     (choice_fits s (as_truth v) w x h.1.0 (subst (λ k. HasSort k x) (sym b.1) h.1.1.0))
 choice_has_sort (c ∷ s ∷ t ∷ []) (v ∷ w ∷ x ∷ y ∷ vs) u e h = absurd h.1.1.1
 

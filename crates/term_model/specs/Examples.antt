@@ -4,7 +4,7 @@ use Rattle.term_model.specs.declared.symbols.Sort.{Sort}
 use Rattle.term_model.specs.declared.symbols.Op.{Op}
 use Rattle.term_model.specs.Terms.{Var, Term, operation, no_terms}
 use Rattle.term_model.specs.Values.{Value, whole}
-use Rattle.term_model.specs.Interpretations.{Table}
+use Rattle.term_model.specs.Interpretations.{FunctionTable}
 
 abbrev pub number : ℕ → Value
 number n = whole (pos n)
@@ -20,7 +20,7 @@ x = record { name = 120 ∷ []; sort = Sort.Int }
 abbrev pub y : Var
 y = record { name = 121 ∷ []; sort = Sort.Int }
 
-abbrev pub table : Table
+abbrev pub table : FunctionTable
 table = record {
   rows = record { arguments = number 1 ∷ []; result = number 5 }
       ∷ record { arguments = number 1 ∷ []; result = number 6 } ∷ [];

@@ -11,7 +11,7 @@ pub record Row : Type 0 where
   pub result : Value
 
 -- finitely many rows, and the result at all other arguments
-pub record Table : Type 0 where
+pub record FunctionTable : Type 0 where
   pub rows : List Row
   pub default : Value
 
@@ -32,11 +32,11 @@ pub record RowFits (f : Fun) (row : Row) : Type 0 where
   pub arguments : HaveSorts f.arguments row.arguments
   pub result : HasSort f.target row.result
 
-pub record TableFits (f : Fun) (table : Table) : Type 0 where
+pub record TableFits (f : Fun) (table : FunctionTable) : Type 0 where
   pub rows : AllByRecursion (RowFits f) table.rows
   pub default : HasSort f.target table.default
 
 -- a table for each function, all of the right kind
 pub record Interpretation : Type 0 where
-  pub table : Fun → Table
+  pub table : Fun → FunctionTable
   pub fits : (f : Fun) → TableFits f (table f)

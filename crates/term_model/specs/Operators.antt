@@ -41,9 +41,9 @@ pairwise_distinct [] = true
 pairwise_distinct (v ∷ vs) = not (list_any (value_eq v) vs) && pairwise_distinct vs
 
 -- the first decides between the second and the third
-abbrev pub choice : List Value → Value
-choice (c ∷ a ∷ b ∷ rest) = if as_truth c then a else b
-choice _ = truth false
+abbrev pub chosen_value : List Value → Value
+chosen_value (c ∷ a ∷ b ∷ rest) = if as_truth c then a else b
+chosen_value _ = truth false
 
 abbrev pub meaning : Op → List Value → Value
 meaning Op.True vs = truth true
@@ -55,7 +55,7 @@ meaning Op.Or vs = truth (list_any as_truth vs)
 meaning Op.Xor vs = truth (from_left exclusive_or false (map as_truth vs))
 meaning Op.Equal vs = truth (chained value_eq vs)
 meaning Op.Distinct vs = truth (pairwise_distinct vs)
-meaning Op.Ite vs = choice vs
+meaning Op.Ite vs = chosen_value vs
 meaning Op.Minus vs = whole (difference (map as_whole vs))
 meaning Op.Plus vs = whole (from_left ◌+ℤ◌ (pos 0) (map as_whole vs))
 meaning Op.Times vs = whole (from_left ◌*ℤ◌ (pos 1) (map as_whole vs))

@@ -12,7 +12,7 @@ use Rattle.term_pool.specs.Views.{TermsView}
 use Rattle.term_names.specs.Heads.{IsSymbolOf, IsMacroMeant}
 use Rattle.rule_model.specs.Heights.{height}
 use Rattle.term_names.specs.Making.{IsMade}
-use Rattle.problem_text.specs.Names.{Meaning, macro, applied}
+use Rattle.problem_text.specs.Names.{Meaning, macro, meaning_applied}
 use Rattle.rule_model.specs.Replacement.{HasNoLet}
 use Rattle.problem_text.specs.Scripts.{Macro}
 use Rattle.term_names.specs.Standing.{IsMacroOf, AreLeavesOf}
@@ -25,10 +25,10 @@ record IsAlone (s : Table) (k : ℕ) (m : Meaning) (o : Option Sort) : Type 0 wh
   stands : StandsFor s (leaf k) term
   high : height term ≡ 1
   plain : HasNoLet term
-  made : applied m [] ≡ option_map (λ u. record { tree = term; sort = u }) o
+  made : meaning_applied m [] ≡ option_map (λ u. record { tree = term; sort = u }) o
 
 alone : (s : Table) (k : ℕ) (m : Meaning) (o : Option Sort) → IsSymbolOf s k m → LeafMeets s k (λ l. o ≡ applied_sort l []) → IsAlone s k m o
-unfolding applied height
+unfolding meaning_applied height
 alone s k m o (inl (f, here, is)) judged =
     let sorted = rw here at judged in
     subst (λ (n : Meaning). IsAlone s k n o) (sym is)
@@ -38,7 +38,7 @@ alone s k m o (inr (op, here, is)) judged =
     subst (λ (n : Meaning). IsAlone s k n o) (sym is)
     (record { term = operation op no_terms; stands = here; high = refl; plain = tt; made = ap (option_map (λ u. record { tree = operation op no_terms; sort = u })) (sym sorted) })
 
-pub symbol_made : (s : Table) (v : TermsView) (k r : ℕ) (m : Meaning) (sort : Sort) → ((pass : PassView) → Knows pass r (leaf k)) → IsSymbolOf s k m → LeafMeets s k (λ l. Some sort ≡ applied_sort l []) → IsMade s v (applied m []) (Ok (Some (record { term = r; sort = sort; height = 1; plain = true })))
+pub symbol_made : (s : Table) (v : TermsView) (k r : ℕ) (m : Meaning) (sort : Sort) → ((pass : PassView) → Knows pass r (leaf k)) → IsSymbolOf s k m → LeafMeets s k (λ l. Some sort ≡ applied_sort l []) → IsMade s v (meaning_applied m []) (Ok (Some (record { term = r; sort = sort; height = 1; plain = true })))
 symbol_made s v k r m sort known is judged =
     let a = alone s k m (Some sort) is judged in (
       record { tree = a.term; sort = sort },
@@ -46,7 +46,7 @@ symbol_made s v k r m sort known is judged =
       record { refers = record { tree = leaf k; known = known v.pass; stands = a.stands }; sort = refl; high = sym a.high; plain = λ e. a.plain },
     )
 
-pub symbol_takes : (s : Table) (k : ℕ) (m : Meaning) → IsSymbolOf s k m → LeafMeets s k (λ l. None ≡ applied_sort l []) → applied m [] ≡ None
+pub symbol_takes : (s : Table) (k : ℕ) (m : Meaning) → IsSymbolOf s k m → LeafMeets s k (λ l. None ≡ applied_sort l []) → meaning_applied m [] ≡ None
 symbol_takes s k m is judged = (alone s k m None is judged).made
 
 pub symbol_within : (s : Table) (k : ℕ) (m : Meaning) → IsSymbolOf s k m → k < length s.leaves
@@ -59,27 +59,27 @@ no_parameters s [] [] h e = refl
 no_parameters s [] (x ∷ xs) h e = absurd h
 no_parameters s (k ∷ ks) xs h e = absurd (omega arith)
 
-body_alone : (d : Macro) → d.parameters ≡ [] → HasNoLet d.body → applied (macro d) [] ≡ Some (record { tree = d.body; sort = d.target })
-unfolding applied
+body_alone : (d : Macro) → d.parameters ≡ [] → HasNoLet d.body → meaning_applied (macro d) [] ≡ Some (record { tree = d.body; sort = d.target })
+unfolding meaning_applied
 body_alone d e plain = rw e (ap (λ t. Some (record { tree = t; sort = d.target })) (replaced-none d.body plain))
 
-takes_some : (d : Macro) (s : Table) (ks : List ℕ) (xs : List Var) → d.parameters ≡ xs → AreLeavesOf s ks xs → 0 < length ks → applied (macro d) [] ≡ None
-unfolding applied
+takes_some : (d : Macro) (s : Table) (ks : List ℕ) (xs : List Var) → d.parameters ≡ xs → AreLeavesOf s ks xs → 0 < length ks → meaning_applied (macro d) [] ≡ None
+unfolding meaning_applied
 takes_some d s [] xs e h below = absurd (omega arith)
 takes_some d s (k ∷ ks) [] e h below = absurd h
 takes_some d s (k ∷ ks) (x ∷ xs) e h below = rw e refl
 
-pub macro_made : (s : Table) (v : TermsView) (h : held.Macro) (m : Meaning) → length h.parameters.items ≡ 0 → IsMacroMeant s v (Some h) m → IsMade s v (applied m []) (Ok (Some h.body))
+pub macro_made : (s : Table) (v : TermsView) (h : held.Macro) (m : Meaning) → length h.parameters.items ≡ 0 → IsMacroMeant s v (Some h) m → IsMade s v (meaning_applied m []) (Ok (Some h.body))
 macro_made s v h m none (g, d, same, is, meant) = rw (meant, same_Some _ _ same) (made is)
   where
-    made : IsMacroOf s v g d → IsMade s v (applied (macro d) []) (Ok (Some g.body))
+    made : IsMacroOf s v g d → IsMade s v (meaning_applied (macro d) []) (Ok (Some g.body))
     made is = (
       record { tree = d.body; sort = d.target },
       body_alone d (no_parameters s g.parameters.items d.parameters is.parameters (ap (λ (x : held.Macro). length x.parameters.items) (sym (same_Some _ _ same)) ∙ none)) (is.body.plain is.plain),
       is.body,
     )
 
-pub macro_takes : (s : Table) (v : TermsView) (h : held.Macro) (m : Meaning) → 0 < length h.parameters.items → IsMacroMeant s v (Some h) m → applied m [] ≡ None
+pub macro_takes : (s : Table) (v : TermsView) (h : held.Macro) (m : Meaning) → 0 < length h.parameters.items → IsMacroMeant s v (Some h) m → meaning_applied m [] ≡ None
 macro_takes s v h m some (g, d, same, is, meant) =
     let some2 : 0 < length g.parameters.items = subst (λ (x : held.Macro). 0 < length x.parameters.items) (same_Some _ _ same) some in
-    ap (λ (n : Meaning). applied n []) meant ∙ takes_some d s g.parameters.items d.parameters refl is.parameters some2
+    ap (λ (n : Meaning). meaning_applied n []) meant ∙ takes_some d s g.parameters.items d.parameters refl is.parameters some2

@@ -11,14 +11,14 @@ use Rattle.sym_table.specs.Table.{Table, IsLeaf, LeafMeets}
 use Rattle.term_model.specs.declared.symbols.Sort.{Sort}
 use Rattle.term_model.specs.Terms.{Term, list_of, terms_of, operation, call}
 use Rattle.sort_check.specs.Applications.{applied_sort}
-use Rattle.term_pool.specs.Building.{IsApplication, Builds, LacksRoom}
+use Rattle.term_pool.specs.Building.{IsAppliedLeaf, Builds, LacksRoom}
 use Rattle.term_pool.specs.StandsFor.{function_leaf, StandsFor, StandForAll}
 use Rattle.term_pool.specs.Trees.{app_tree}
 use Rattle.term_pool.specs.Views.{TermsView, RefersTo, ReferToAll, KnowsAll}
 use Rattle.term_names.specs.Heads.{IsSymbolOf}
 use Rattle.rule_model.specs.Heights.{height, highest}
 use Rattle.term_names.specs.Making.{Makes}
-use Rattle.problem_text.specs.Names.{Meaning, value, trees, sorts_of, applied}
+use Rattle.problem_text.specs.Names.{Meaning, value, trees, sorts_of, meaning_applied}
 use Rattle.rule_model.specs.Replacement.{HasNoLet, HaveNoLet}
 use Rattle.problem_text.specs.TypedTerms.{Typed}
 use Rattle.term_names.specs.Stacks.{greatest_height}
@@ -89,16 +89,16 @@ at_leaf s k l P e h = let m : IsSomeAnd (slice_get s.leaves k) P = h in let n : 
 
 -- the term is that of the symbol applied to the others
 pub record IsTermOf (s : Table) (k : ℕ) (ts : List Typed) (t : Term) : Type 0 where
-  pub application : IsApplication s k (map (λ u. u.tree) ts) t
+  pub application : IsAppliedLeaf s k (map (λ u. u.tree) ts) t
   pub high : height t ≡ 1 + highest (trees ts)
   pub plain : HaveNoLet (trees ts) → HasNoLet t
 
 pub record IsAppliedTo (s : Table) (k : ℕ) (m : Meaning) (ts : List Typed) (t : Typed) : Type 0 where
-  pub expected : applied m ts ≡ Some t
+  pub expected : meaning_applied m ts ≡ Some t
   pub is : IsTermOf s k ts t.tree
 
 symbol-applied : (s : Table) (k : ℕ) (m : Meaning) (ts : List Typed) (sort : Sort) → IsSymbolOf s k m → LeafMeets s k (λ l. Some sort ≡ applied_sort l (sorts_of ts)) → (t : Typed) × (t.sort ≡ sort) × IsAppliedTo s k m ts t
-unfolding applied height
+unfolding meaning_applied height
 symbol-applied s k m ts sort (inl (f, here, e)) h =
     let given = at_leaf s k (function_leaf f) (λ l. Some sort ≡ applied_sort l (sorts_of ts)) here h in
     rw e (
@@ -124,8 +124,8 @@ pub symbol-below : (s : Table) (k : ℕ) (m : Meaning) → IsSymbolOf s k m → 
 symbol-below s k m (inl (f, here, e)) = slice_get_within s.leaves k _ here
 symbol-below s k m (inr (op, here, e)) = slice_get_within s.leaves k _ here
 
-symbol-refused : (s : Table) (k : ℕ) (m : Meaning) (ts : List Typed) → IsSymbolOf s k m → LeafMeets s k (λ l. None ≡ applied_sort l (sorts_of ts)) → applied m ts ≡ None
-unfolding applied
+symbol-refused : (s : Table) (k : ℕ) (m : Meaning) (ts : List Typed) → IsSymbolOf s k m → LeafMeets s k (λ l. None ≡ applied_sort l (sorts_of ts)) → meaning_applied m ts ≡ None
+unfolding meaning_applied
 symbol-refused s k m ts (inl (f, here, e)) h =
     let given = at_leaf s k (function_leaf f) (λ l. None ≡ applied_sort l (sorts_of ts)) here h in
     rw e (ap (λ o. option_map (λ z. record { tree = call f (trees ts); sort = z }) o) (sym given))
@@ -140,19 +140,19 @@ module _ (s : Table) (old : TermsView) (k : ℕ) (cs : List Value) (m : Meaning)
       subst (λ us. LeafMeets s k (λ l. w ≡ applied_sort l us)) (given ∙ values-sorts s old cs ts values)
       (subst (λ z. LeafMeets s k (λ l. z ≡ applied_sort l ss)) e meets)
 
-  pub not-applied : o ≡ None → Makes s old old (applied m ts) (Ok None)
-  not-applied e = unchanged s old (applied m ts) (Ok None) (symbol-refused s k m ts symbol (meets-sorts None e))
+  pub not-applied : o ≡ None → Makes s old old (meaning_applied m ts) (Ok None)
+  not-applied e = unchanged s old (meaning_applied m ts) (Ok None) (symbol-refused s k m ts symbol (meets-sorts None e))
 
   module _ (new : TermsView) (sort : Sort) (some : o ≡ Some sort)
-      (law : (s : Table) (head : ℕ) (trees : List Tree) (ts : List Term) (t : Term) → StandForAll s trees ts → IsApplication s head ts t → StandsFor s (app_tree head trees) t) where
+      (law : (s : Table) (head : ℕ) (trees : List Tree) (ts : List Term) (t : Term) → StandForAll s trees ts → IsAppliedLeaf s head ts t → StandsFor s (app_tree head trees) t) where
     what : (t : Typed) × (t.sort ≡ sort) × IsAppliedTo s k m ts t
     what = symbol-applied s k m ts sort symbol (meets-sorts (Some sort) some)
 
     pub application-made : (r high : ℕ) (plain : Bool)
-        → ((s : Table) (us : List Term) (t : Term) → ReferToAll s old (references cs) us → IsApplication s k us t → RefersTo s new r t)
+        → ((s : Table) (us : List Term) (t : Term) → ReferToAll s old (references cs) us → IsAppliedLeaf s k us t → RefersTo s new r t)
         → ((us : List Tree) → KnowsAll old.pass (references cs) us → Builds old.pass new.pass r (app_tree k us))
         → high ≡ 1 + greatest_height cs → plain ≡ list_all (λ c. c.plain) cs
-        → Makes s old new (applied m ts) (Ok (Some (record { term = r; sort = sort; height = high; plain = plain })))
+        → Makes s old new (meaning_applied m ts) (Ok (Some (record { term = r; sort = sort; height = high; plain = plain })))
     application-made r high plain term built e f =
         let (t, same, is) = what in
         let known = values-trees s old cs ts values in
@@ -171,7 +171,7 @@ module _ (s : Table) (old : TermsView) (k : ℕ) (cs : List Value) (m : Meaning)
     pub application-full : (result : Result (Option Value) ReadFault)
         → ((us : List Tree) → KnowsAll old.pass (references cs) us → LacksRoom old.pass new.pass (app_tree k us))
         → result ≡ Err ReadFault.PoolFull
-        → Makes s old new (applied m ts) result
+        → Makes s old new (meaning_applied m ts) result
     application-full result lacks e =
         let (t, same, is) = what in
         let known = values-trees s old cs ts values in
@@ -181,14 +181,14 @@ module _ (s : Table) (old : TermsView) (k : ℕ) (cs : List Value) (m : Meaning)
         no_room.placed no_room.full e)
 
 -- A term takes no arguments.
-pub term-refused : (s : Table) (v : TermsView) (from : ℕ) (cs : List Value) (m : Meaning) (ts : List Typed) → from < length cs → AreValues s v (drop from cs) ts → (t : Typed) × (m ≡ value t) → Makes s v v (applied m ts) (Ok None)
-unfolding applied
-term-refused s v from cs m ts below h (t, e) = unchanged s v (applied m ts) (Ok None) (go (drop from cs) ts some h)
+pub term-refused : (s : Table) (v : TermsView) (from : ℕ) (cs : List Value) (m : Meaning) (ts : List Typed) → from < length cs → AreValues s v (drop from cs) ts → (t : Typed) × (m ≡ value t) → Makes s v v (meaning_applied m ts) (Ok None)
+unfolding meaning_applied
+term-refused s v from cs m ts below h (t, e) = unchanged s v (meaning_applied m ts) (Ok None) (go (drop from cs) ts some h)
   where
     some : 0 < length (drop from cs)
     some = let count = length-drop {A = Value} from cs in omega arith
 
-    go : (cs : List Value) (ts : List Typed) → 0 < length cs → AreValues s v cs ts → applied m ts ≡ None
+    go : (cs : List Value) (ts : List Typed) → 0 < length cs → AreValues s v cs ts → meaning_applied m ts ≡ None
     go [] ts n h = absurd (omega arith)
     go (c ∷ cs) [] n h = absurd h
-    go (c ∷ cs) (u ∷ ts) n h = ap (λ k. applied k (u ∷ ts)) e
+    go (c ∷ cs) (u ∷ ts) n h = ap (λ k. meaning_applied k (u ∷ ts)) e

@@ -14,7 +14,7 @@ use Rattle.term_names.specs.BoundLeaves.{IsBoundLeaf, AreBoundLeaves, PutsInBoun
 use Rattle.term_expansion.specs.Free.{AreFreeLeaves}
 use Rattle.term_names.specs.InScope.{IsScope}
 use Rattle.problem_text.specs.Names.{Bound, innermost, is_bound, replacement}
-use Rattle.rule_model.specs.Replacement.{Replacement, term_at}
+use Rattle.rule_model.specs.Replacement.{Replacement, replaced_by}
 use Rattle.term_names.specs.Scope.{Scoped}
 use Rattle.term_expansion.specs.Values.{PutsIn, IsReplacement}
 use Rattle.term_expansion.specs.declared.values.Bound as held
@@ -22,11 +22,11 @@ use Rattle.problem_text.proofs.Outcomes.{all_at_end}
 use Rattle.term_names.proofs.ScopeNames.{AreFound, found_in_scope, variable_of_leaf, passes_each}
 
 -- a variable that is bound stands for what the innermost variable of its name stands for
-innermost_stands : (bs : List Bound) (x : Var) (b : Bound) → innermost bs x.name ≡ Some b → b.variable ≡ x → term_at (replacement bs) x ≡ b.stands_for
+innermost_stands : (bs : List Bound) (x : Var) (b : Bound) → innermost bs x.name ≡ Some b → b.variable ≡ x → replaced_by (replacement bs) x ≡ b.stands_for
 innermost_stands [] x b found same = absurd cc
 innermost_stands (d ∷ bs) x b found same = go (bytes_eq d.variable.name x.name) (sort_eq d.variable.sort x.sort) refl refl found (innermost_stands bs x b)
   where
-    go : (t u : Bool) → bytes_eq d.variable.name x.name ≡ t → sort_eq d.variable.sort x.sort ≡ u → cond t (Some d) (innermost bs x.name) ≡ Some b → (innermost bs x.name ≡ Some b → b.variable ≡ x → term_at (replacement bs) x ≡ b.stands_for) → (if t && u then d.stands_for else term_at (replacement bs) x) ≡ b.stands_for
+    go : (t u : Bool) → bytes_eq d.variable.name x.name ≡ t → sort_eq d.variable.sort x.sort ≡ u → cond t (Some d) (innermost bs x.name) ≡ Some b → (innermost bs x.name ≡ Some b → b.variable ≡ x → replaced_by (replacement bs) x ≡ b.stands_for) → (if t && u then d.stands_for else replaced_by (replacement bs) x) ≡ b.stands_for
     go true true e f found rest = ap (λ (c : Bound). c.stands_for) (same_Some _ _ found)
     go true false e f found rest =
         let is : d.variable ≡ x = ap (λ (c : Bound). c.variable) (same_Some _ _ found) ∙ same in
@@ -42,17 +42,17 @@ moved s v b c y x t u e f g h =
     subst (λ (z : held.Bound). PutsIn s v z x u) e
     (subst (λ (z : Var). PutsIn s v b z u) f (subst (λ (z : Term). PutsIn s v b y z) (sym g) h))
 
-pub bound_stands : (s : Table) (v : TermsView) (es : List Scoped) (bs : List Bound) → IsScope s v es bs → (name : List ℕ) (x : Var) → name ≡ x.name → is_bound bs x ≡ true → (c : held.Bound) → Some c ≡ option_map (λ e. e.bound) (find (λ e. bytes_eq e.name name) es) → PutsIn s v c x (term_at (replacement bs) x)
+pub bound_stands : (s : Table) (v : TermsView) (es : List Scoped) (bs : List Bound) → IsScope s v es bs → (name : List ℕ) (x : Var) → name ≡ x.name → is_bound bs x ≡ true → (c : held.Bound) → Some c ≡ option_map (λ e. e.bound) (find (λ e. bytes_eq e.name name) es) → PutsIn s v c x (replaced_by (replacement bs) x)
 bound_stands s v es bs h name x named bound c found =
     go (find (λ e. bytes_eq e.name x.name) es) (innermost bs x.name) refl (found_in_scope s v es bs h x.name) bound
     (found ∙ ap (λ n. option_map (λ e. e.bound) (find (λ e. bytes_eq e.name n) es)) named)
   where
-    go : (q : Option Scoped) (r : Option Bound) → innermost bs x.name ≡ r → AreFound s v x.name q r → option_map_or (λ b. sort_eq b.variable.sort x.sort) r false ≡ true → Some c ≡ option_map (λ e. e.bound) q → PutsIn s v c x (term_at (replacement bs) x)
+    go : (q : Option Scoped) (r : Option Bound) → innermost bs x.name ≡ r → AreFound s v x.name q r → option_map_or (λ b. sort_eq b.variable.sort x.sort) r false ≡ true → Some c ≡ option_map (λ e. e.bound) q → PutsIn s v c x (replaced_by (replacement bs) x)
     go None r f a sorted g = absurd cc
     go (Some e) None f a sorted g = absurd a
     go (Some e) (Some b) f a sorted g =
         let is : b.variable ≡ x = same_variable b.variable x a.0 ((sort_eq_decides b.variable.sort x.sort).0 sorted) in
-        moved s v e.bound c b.variable x b.stands_for (term_at (replacement bs) x) (sym (same_Some _ _ g)) is (innermost_stands bs x b f is) a.1
+        moved s v e.bound c b.variable x b.stands_for (replaced_by (replacement bs) x) (sym (same_Some _ _ g)) is (innermost_stands bs x b f is) a.1
 
 pub bound_is_there : (s : Table) (scope : List Scoped) (leaf : ℕ) → (h : IsBoundLeaf s scope leaf) → (name : List ℕ) → name ≡ h.variable.name → IsSome (option_map (λ (e : Scoped). e.bound) (find (λ e. bytes_eq e.name name) scope))
 bound_is_there s scope leaf h name named =
@@ -89,12 +89,12 @@ puts_at_end s v [] (c ∷ q) b x t h p = absurd h
 puts_at_end s v (a ∷ bs) [] b x t h p = absurd h
 puts_at_end s v (a ∷ bs) (c ∷ q) b x t h p = (h.0, puts_at_end s v bs q b x t h.1 p)
 
-same_for_all : (q r : Replacement) (x : Var) → AllByRecursion (λ b. b.1 ≡ term_at r b.0) q → Has q x → term_at q x ≡ term_at r x
+same_for_all : (q r : Replacement) (x : Var) → AllByRecursion (λ b. b.1 ≡ replaced_by r b.0) q → Has q x → replaced_by q x ≡ replaced_by r x
 same_for_all [] r x h has = absurd has
 same_for_all (b ∷ q) r x h has = go (var_eq b.0 x) refl has (same_for_all q r x h.1)
   where
-    go : (t : Bool) → var_eq b.0 x ≡ t → (b.0 ≡ x) ⊎ Has q x → (Has q x → term_at q x ≡ term_at r x) → (if t then b.1 else term_at q x) ≡ term_at r x
-    go true e has rest = h.0 ∙ ap (term_at r) ((var_eq_decides b.0 x).0 e)
+    go : (t : Bool) → var_eq b.0 x ≡ t → (b.0 ≡ x) ⊎ Has q x → (Has q x → replaced_by q x ≡ replaced_by r x) → (if t then b.1 else replaced_by q x) ≡ replaced_by r x
+    go true e has rest = h.0 ∙ ap (replaced_by r) ((var_eq_decides b.0 x).0 e)
     go false e (inl same) rest = absurd (let f = (var_eq_decides b.0 x).1 same in cc)
     go false e (inr later) rest = rest later
 
@@ -102,23 +102,23 @@ same_for_all (b ∷ q) r x h has = go (var_eq b.0 x) refl has (same_for_all q r 
 pub record PutsBefore (s : Table) (v : TermsView) (list : List held.Bound) (scope : List Bound) (leaves : List ℕ) (i : ℕ) : Type 0 where
   pub means : Replacement
   pub is : IsReplacement s v list means
-  pub same : AllByRecursion (λ b. b.1 ≡ term_at (replacement scope) b.0) means
+  pub same : AllByRecursion (λ b. b.1 ≡ replaced_by (replacement scope) b.0) means
   pub has : (k : ℕ) → k < i → (x : Var) → IsLeaf s (get_or leaves k 0) (variable_leaf x) → Has means x
 
 pub puts_none : (s : Table) (v : TermsView) (scope : List Bound) (leaves : List ℕ) → PutsBefore s v [] scope leaves 0
 puts_none s v scope leaves = record { means = []; is = tt; same = tt; has = λ k below. absurd (omega arith) }
 
-puts_more_of : (s : Table) (v : TermsView) (list : List held.Bound) (scope : List Bound) (leaves : List ℕ) (i : ℕ) (b : held.Bound) (x : Var) → IsLeaf s (get_or leaves i 0) (variable_leaf x) → PutsIn s v b x (term_at (replacement scope) x) → PutsBefore s v list scope leaves i → PutsBefore s v (list ++ b ∷ []) scope leaves (i + 1)
+puts_more_of : (s : Table) (v : TermsView) (list : List held.Bound) (scope : List Bound) (leaves : List ℕ) (i : ℕ) (b : held.Bound) (x : Var) → IsLeaf s (get_or leaves i 0) (variable_leaf x) → PutsIn s v b x (replaced_by (replacement scope) x) → PutsBefore s v list scope leaves i → PutsBefore s v (list ++ b ∷ []) scope leaves (i + 1)
 puts_more_of s v list scope leaves i b x here puts before = record {
-  means = before.means ++ (x, term_at (replacement scope) x) ∷ [];
-  is = puts_at_end s v list before.means b x (term_at (replacement scope) x) before.is puts;
-  same = all_at_end (λ b. b.1 ≡ term_at (replacement scope) b.0) before.means (x, term_at (replacement scope) x) before.same refl;
-  has = below_more _ _ (λ k below y there. has_before before.means ((x, term_at (replacement scope) x) ∷ []) y (before.has k below y there))
-      (λ y there. subst (λ (z : Var). Has (before.means ++ (x, term_at (replacement scope) x) ∷ []) z) (variable_of_leaf s (get_or leaves i 0) x y here there)
-      (has_last before.means x (term_at (replacement scope) x)));
+  means = before.means ++ (x, replaced_by (replacement scope) x) ∷ [];
+  is = puts_at_end s v list before.means b x (replaced_by (replacement scope) x) before.is puts;
+  same = all_at_end (λ b. b.1 ≡ replaced_by (replacement scope) b.0) before.means (x, replaced_by (replacement scope) x) before.same refl;
+  has = below_more _ _ (λ k below y there. has_before before.means ((x, replaced_by (replacement scope) x) ∷ []) y (before.has k below y there))
+      (λ y there. subst (λ (z : Var). Has (before.means ++ (x, replaced_by (replacement scope) x) ∷ []) z) (variable_of_leaf s (get_or leaves i 0) x y here there)
+      (has_last before.means x (replaced_by (replacement scope) x)));
 }
 
-pub puts_one_more : (s : Table) (v : TermsView) (list : List held.Bound) (scope : List Bound) (leaves : List ℕ) (i : ℕ) (b : held.Bound) (xs : List Var) → AreFreeLeaves s leaves xs → list_all (is_bound scope) xs ≡ true → i < length leaves → ((x : Var) → IsLeaf s (get_or leaves i 0) (variable_leaf x) → is_bound scope x ≡ true → PutsIn s v b x (term_at (replacement scope) x)) → PutsBefore s v list scope leaves i → PutsBefore s v (list ++ b ∷ []) scope leaves (i + 1)
+pub puts_one_more : (s : Table) (v : TermsView) (list : List held.Bound) (scope : List Bound) (leaves : List ℕ) (i : ℕ) (b : held.Bound) (xs : List Var) → AreFreeLeaves s leaves xs → list_all (is_bound scope) xs ≡ true → i < length leaves → ((x : Var) → IsLeaf s (get_or leaves i 0) (variable_leaf x) → is_bound scope x ≡ true → PutsIn s v b x (replaced_by (replacement scope) x)) → PutsBefore s v list scope leaves i → PutsBefore s v (list ++ b ∷ []) scope leaves (i + 1)
 puts_one_more s v list scope leaves i b xs free bound below puts before =
     let (x, here, there) = free.each (get_or leaves i 0) (i, below, get_or_default leaves i (get_or leaves i 0) 0 below) in
     puts_more_of s v list scope leaves i b x here (puts x here (passes_each (is_bound scope) xs bound x there)) before
@@ -126,7 +126,7 @@ puts_one_more s v list scope leaves i b xs free bound below puts before =
 pub puts_all : (s : Table) (v : TermsView) (list : List held.Bound) (scope : List Bound) (leaves : List ℕ) (xs : List Var) (n : ℕ) → n ≡ length leaves → AreFreeLeaves s leaves xs → PutsBefore s v list scope leaves n → PutsInBound s v list scope xs
 puts_all s v list scope leaves xs n whole free before = record { means = before.means; is = before.is; same = each }
   where
-    each : (x : Var) → Contains xs x → term_at before.means x ≡ term_at (replacement scope) x
+    each : (x : Var) → Contains xs x → replaced_by before.means x ≡ replaced_by (replacement scope) x
     each x there =
         let (leaf, here, (k, below, same)) = free.all x there in
         same_for_all before.means (replacement scope) x before.same

@@ -5,9 +5,9 @@ use Rattle.sym_table.specs.Table.{Table}
 use Rattle.term_pool.specs.Views.{TermsView}
 use Rattle.term_names.specs.Heads.{IsSymbolOf, IsMacroMeant}
 use Rattle.term_names.specs.Known.{KnownView, macro_of, named_of}
-use Rattle.term_names.specs.LookingUp.{IsNamedMeant, IsFound}
+use Rattle.term_names.specs.LookingUp.{IsNamedMeant, IsFoundMeaning}
 use Rattle.term_names.specs.Making.{IsMade}
-use Rattle.problem_text.specs.Names.{Place, Meaning, applied}
+use Rattle.problem_text.specs.Names.{Place, Meaning, meaning_applied}
 use Rattle.term_names.specs.declared.entries.Macro as macro
 use Rattle.term_names.specs.declared.entries.Named as named
 use Rattle.term_names.specs.declared.known.Which.{Which}
@@ -15,18 +15,18 @@ use Rattle.term_names.specs.declared.looking_up.Found.{Found}
 use Rattle.term_expansion.specs.declared.values.Value.{Value}
 use Rattle.term_names.proofs.NamedUses.{applied_value}
 
-pub term_made : (s : Table) (v : TermsView) (k : KnownView) (p : Place) (c : Value) (m : Meaning) → IsFound s v k p (Found.Term c) (Some m) → IsMade s v (applied m []) (Ok (Some c))
+pub term_made : (s : Table) (v : TermsView) (k : KnownView) (p : Place) (c : Value) (m : Meaning) → IsFoundMeaning s v k p (Found.Term c) (Some m) → IsMade s v (meaning_applied m []) (Ok (Some c))
 term_made s v k p c m (t, same, is) = (t, applied_value m t (same_Some _ _ same), is)
 
-pub named_meant : (s : Table) (v : TermsView) (k : KnownView) (p : Place) (w : Which) (n : named.Named) (m : Meaning) → named_of k w ≡ Some n → IsFound s v k p (Found.Named w) (Some m) → IsNamedMeant s v p (Some n) m
+pub named_meant : (s : Table) (v : TermsView) (k : KnownView) (p : Place) (w : Which) (n : named.Named) (m : Meaning) → named_of k w ≡ Some n → IsFoundMeaning s v k p (Found.Named w) (Some m) → IsNamedMeant s v p (Some n) m
 named_meant s v k p w n m there (found, same, meant) =
     subst (λ (o : Option named.Named). IsNamedMeant s v p o m) there
     (subst (λ (x : Meaning). IsNamedMeant s v p (named_of k w) x) (sym (same_Some _ _ same)) meant)
 
-pub macro_meant : (s : Table) (v : TermsView) (k : KnownView) (p : Place) (w : Which) (h : macro.Macro) (m : Meaning) → macro_of k w ≡ Some h → IsFound s v k p (Found.Macro w) (Some m) → IsMacroMeant s v (Some h) m
+pub macro_meant : (s : Table) (v : TermsView) (k : KnownView) (p : Place) (w : Which) (h : macro.Macro) (m : Meaning) → macro_of k w ≡ Some h → IsFoundMeaning s v k p (Found.Macro w) (Some m) → IsMacroMeant s v (Some h) m
 macro_meant s v k p w h m there (found, same, meant) =
     subst (λ (o : Option macro.Macro). IsMacroMeant s v o m) there
     (subst (λ (x : Meaning). IsMacroMeant s v (macro_of k w) x) (sym (same_Some _ _ same)) meant)
 
-pub symbol_meant : (s : Table) (v : TermsView) (k : KnownView) (p : Place) (n : ℕ) (m : Meaning) → IsFound s v k p (Found.Symbol n) (Some m) → IsSymbolOf s n m
+pub symbol_meant : (s : Table) (v : TermsView) (k : KnownView) (p : Place) (n : ℕ) (m : Meaning) → IsFoundMeaning s v k p (Found.Symbol n) (Some m) → IsSymbolOf s n m
 symbol_meant s v k p n m (found, same, meant) = subst (λ (x : Meaning). IsSymbolOf s n x) (sym (same_Some _ _ same)) meant

@@ -6,16 +6,16 @@ use Rattle.std.proofs.lemmas.List.Elements.{All-nil, All-cons, Contains-append_r
 use Rattle.sym_table.specs.Table.{Table, IsLeaf, IsTable}
 use Rattle.term_model.specs.FreeVariables.{IsFree, IsFreeAmong, IsFreeBound, Binds, variables_of, bound_terms}
 use Rattle.term_model.specs.Terms.{Var, Term, numeral, variable, operation, call, let_in, Terms, no_terms, term, list_of, Bindings, no_bindings, binding}
-use Rattle.term_pool.specs.Building.{IsApplication, AreBindings}
+use Rattle.term_pool.specs.Building.{IsAppliedLeaf, AreBindings}
 use Rattle.term_pool.specs.Reading.{arguments_of, IsLet, IsLetTerm}
 use Rattle.term_pool.specs.StandsFor.{variable_leaf}
 use Rattle.term_pool.specs.Views.{TermsView, RefersTo, ReferToAll}
-use Rattle.term_expansion.specs.Free.{HasVariable, IsLeafOfSome, AreFreeLeaves, AddsLeaves, AddsOne, AddsUnbound, IsAtMost, IsFreeInAny, AreLeavesOf, ArePartsOfLet, Covers, Bodies, AreBodies}
+use Rattle.term_expansion.specs.Free.{HasVariable, IsLeafOfSome, AreFreeLeaves, AddsLeaves, AddsOne, AddsUnbound, IsAtMost, IsFreeInAny, AreLeavesOf, ArePartsOfLet, CoversFree, Bodies, AreBodies}
 use Rattle.rule_model.specs.Heights.{height, highest, highest_bound}
 use Rattle.term_names.specs.Known.{KnownView, named_of}
 use Rattle.rule_model.specs.Replacement.{free_variables}
 use Rattle.problem_text.specs.Scripts.{Script}
-use Rattle.term_names.specs.Standing.{IsMeant}
+use Rattle.term_names.specs.Standing.{IsNameMeant}
 use Rattle.term_names.specs.declared.entries.Named as held
 use Rattle.term_names.specs.declared.known.KnownEntry.{KnownEntry}
 use Rattle.term_names.specs.declared.known.Which.{Which}
@@ -25,10 +25,10 @@ use Rattle.term_expansion.proofs.SetLemmas.{none_in}
 use Rattle.term_expansion.proofs.LeafLemmas.{added-leaves, adds-both, adds-same, has_more, is_variable, one-adds, one-more, one_leaf, one_variable, same_some, swapped}
 
 -- what was gone through
-pub covers-kept : (s : Table) (v : TermsView) (seen a b : List ℕ) → ((k : ℕ) → Contains a k → Contains b k) → Covers s v seen a → Covers s v seen b
+pub covers-kept : (s : Table) (v : TermsView) (seen a b : List ℕ) → ((k : ℕ) → Contains a k → Contains b k) → CoversFree s v seen a → CoversFree s v seen b
 covers-kept s v seen a b kept h = record { each = λ r c t refers x free. has_more s a b x kept (h.each r c t refers x free) }
 
-pub covers-more : (s : Table) (v : TermsView) (seen new a found : List ℕ) (r : ℕ) → ((t : Term) → RefersTo s v r t → AddsLeaves s a found (λ x. IsFree x t)) → AddsOne seen new r → Covers s v seen found → Covers s v new found
+pub covers-more : (s : Table) (v : TermsView) (seen new a found : List ℕ) (r : ℕ) → ((t : Term) → RefersTo s v r t → AddsLeaves s a found (λ x. IsFree x t)) → AddsOne seen new r → CoversFree s v seen found → CoversFree s v new found
 covers-more s v seen new a found r adds one h = record { each = each }
   where
     here : (q : ℕ) → q ≡ r → (t : Term) → RefersTo s v q t → (x : Var) → IsFree x t → HasVariable s found x
@@ -38,10 +38,10 @@ covers-more s v seen new a found r adds one h = record { each = each }
     each q c t refers x free =
         elim (one.only q c) [ inl old ↦ h.each q old t refers x free | inr same ↦ here q same t refers x free ]
 
-pub covers-adds : (s : Table) (v : TermsView) (seen found : List ℕ) (r : ℕ) → Covers s v seen found → Contains seen r → (t : Term) → RefersTo s v r t → AddsLeaves s found found (λ x. IsFree x t)
+pub covers-adds : (s : Table) (v : TermsView) (seen found : List ℕ) (r : ℕ) → CoversFree s v seen found → Contains seen r → (t : Term) → RefersTo s v r t → AddsLeaves s found found (λ x. IsFree x t)
 covers-adds s v seen found r h c t refers = record { kept = λ k i. i; all = λ x free. h.each r c t refers x free; only = λ k i. inl i }
 
-pub variable-adds : (s : Table) (k : ℕ) (x : Var) (ts : List Term) (t : Term) (a b : List ℕ) → IsLeaf s k (variable_leaf x) → AddsOne a b k → IsApplication s k ts t → AddsLeaves s a b (λ y. IsFree y t)
+pub variable-adds : (s : Table) (k : ℕ) (x : Var) (ts : List Term) (t : Term) (a b : List ℕ) → IsLeaf s k (variable_leaf x) → AddsOne a b k → IsAppliedLeaf s k ts t → AddsLeaves s a b (λ y. IsFree y t)
 variable-adds s k x ts t a b g one h =
     subst (λ (u : Term). AddsLeaves s a b (λ y. IsFree y u)) (sym (is_variable s k x ts t g h)) (one-adds s k x a b g one)
 
@@ -55,7 +55,7 @@ any-among no_terms x h = absurd h
 any-among (term t ts) x (inl h) = inl h
 any-among (term t ts) x (inr h) = inr (any-among ts x h)
 
-pub application-adds : (s : Table) (k : ℕ) (ts : List Term) (t : Term) (a b : List ℕ) → ((x : Var) → IsLeaf s k (variable_leaf x) → ⊥) → IsApplication s k ts t → AddsLeaves s a b (λ x. IsFreeInAny x (arguments_of t)) → AddsLeaves s a b (λ x. IsFree x t)
+pub application-adds : (s : Table) (k : ℕ) (ts : List Term) (t : Term) (a b : List ℕ) → ((x : Var) → IsLeaf s k (variable_leaf x) → ⊥) → IsAppliedLeaf s k ts t → AddsLeaves s a b (λ x. IsFreeInAny x (arguments_of t)) → AddsLeaves s a b (λ x. IsFree x t)
 application-adds s k ts (numeral n) a b never h adds = adds-same s a b _ _ (λ x p. absurd p) (λ x p. absurd p) adds
 application-adds s k ts (variable x) a b never h adds = absurd (never x h.0)
 application-adds s k ts (operation op us) a b never h adds =
@@ -267,7 +267,7 @@ free-leaves s leaves t h = record {
 }
 
 -- what is kept for a name holds of its term, whatever the term is reached by
-pub named-adds : (s : Table) (v : TermsView) (k : KnownView) (sc : Script) (name : List ℕ) (w : Which) (n : held.Named) (r : ℕ) (t : Term) → named_of k w ≡ Some n → IsMeant s v k sc name (Some (KnownEntry.Named w)) → ((p q : ℕ) (a b : Term) → RefersTo s v p a → RefersTo s v q b → (p ≡ q) ↔ (a ≡ b)) → n.value.term ≡ r → RefersTo s v r t → AddsLeaves s [] n.free.items (λ x. IsFree x t)
+pub named-adds : (s : Table) (v : TermsView) (k : KnownView) (sc : Script) (name : List ℕ) (w : Which) (n : held.Named) (r : ℕ) (t : Term) → named_of k w ≡ Some n → IsNameMeant s v k sc name (Some (KnownEntry.Named w)) → ((p q : ℕ) (a b : Term) → RefersTo s v p a → RefersTo s v q b → (p ≡ q) ↔ (a ≡ b)) → n.value.term ≡ r → RefersTo s v r t → AddsLeaves s [] n.free.items (λ x. IsFree x t)
 named-adds s v k sc name w n r t there h one same refers =
     let held_is : n ≡ h.held = same_some (sym there ∙ h.there) in
     let leaves : AreFreeLeaves s n.free.items (free_variables h.meant.meant.tree) = rw held_is h.is.free in
@@ -280,16 +280,16 @@ pub record IsPassed (s : Table) (v now : TermsView) (list : List ℕ) (at : ℕ)
   pub within : at ≤ length list
   pub same : now ≡ v
   pub bodies : AreBodies s v kept
-  pub covers : Covers s v seen found
+  pub covers : CoversFree s v seen found
   pub adds : (ts : List Term) → ReferToAll s v (drop at list) ts → AddsLeaves s old found (λ x. IsFreeInAny x ts)
 
 -- one term more
-pub passed-more : (s : Table) (v now after : TermsView) (list : List ℕ) (at item : ℕ) (old seen found seen2 found2 : List ℕ) (kept kept2 : Bodies) → IsPassed s v now list at old seen found kept → 0 < at → item ≡ get_or list (at - 1) item → after ≡ now → ((t : Term) → RefersTo s now item t → AddsLeaves s found found2 (λ x. IsFree x t)) → Covers s now seen2 found2 → AreBodies s now kept2 → IsPassed s v after list (at - 1) old seen2 found2 kept2
+pub passed-more : (s : Table) (v now after : TermsView) (list : List ℕ) (at item : ℕ) (old seen found seen2 found2 : List ℕ) (kept kept2 : Bodies) → IsPassed s v now list at old seen found kept → 0 < at → item ≡ get_or list (at - 1) item → after ≡ now → ((t : Term) → RefersTo s now item t → AddsLeaves s found found2 (λ x. IsFree x t)) → CoversFree s now seen2 found2 → AreBodies s now kept2 → IsPassed s v after list (at - 1) old seen2 found2 kept2
 passed-more s v now after list at item old seen found seen2 found2 kept kept2 h above is same adds covers bodies = record {
   within = let within = h.within in omega arith;
   same = same ∙ h.same;
   bodies = subst (λ z. AreBodies s z kept2) h.same bodies;
-  covers = subst (λ z. Covers s z seen2 found2) h.same covers;
+  covers = subst (λ z. CoversFree s z seen2 found2) h.same covers;
   adds = λ ts refer. more ts (subst (λ rs. ReferToAll s v rs ts) (drop-at list at item above h.within is) refer);
 }
   where

@@ -9,7 +9,8 @@ use Rattle.std.proofs.lemmas.Slice.Eq.{bytes_eq-Decides}
 use Rattle.term_names.specs.declared.scope.Held.{Held}
 use Rattle.term_names.specs.NameNumbers.{AreApart}
 use Rattle.term_names.specs.Scope.{Scoped}
-use Rattle.term_names.specs.Held.{named, scoped, innermost, AreHeld, IsLinked, IsNumbered}
+use Rattle.term_names.specs.Held.{scoped_held, scoped, innermost_held, AreHeld, IsHeldLinked}
+use Rattle.term_names.specs.NameNumbers.{IsNumbered}
 
 true-false : ◌≡◌ {A = Bool} true false → ⊥
 true-false e = cc
@@ -23,11 +24,11 @@ abbrev pub place_in : List Held → ℕ → Option Held
 place_in held zero = None
 place_in held (suc p) = slice_get held p
 
-pub innermost-within : (k : ℕ) (held : List Held) → innermost k held ≤ length held
+pub innermost-within : (k : ℕ) (held : List Held) → innermost_held k held ≤ length held
 innermost-within k [] = omega arith
 innermost-within k (h ∷ held) = go (eqb h.name k) (innermost-within k held)
   where
-    go : (b : Bool) → innermost k held ≤ length held → cond b (length held + 1) (innermost k held) ≤ suc (length held)
+    go : (b : Bool) → innermost_held k held ≤ length held → cond b (length held + 1) (innermost_held k held) ≤ suc (length held)
     go true e = omega arith
     go false e = omega arith
 
@@ -45,14 +46,14 @@ place_in-kept held h zero l = refl
 place_in-kept held h (suc p) l = slice_get-kept held (h ∷ []) p (omega arith)
 
 -- `innermost` is where the innermost variable of the name stands
-pub find-innermost : (k : ℕ) (held : List Held) → find (has_number k) held ≡ place_in (reverse held) (innermost k held)
+pub find-innermost : (k : ℕ) (held : List Held) → find (has_number k) held ≡ place_in (reverse held) (innermost_held k held)
 find-innermost k [] = refl
 find-innermost k (h ∷ held) =
-    go (eqb h.name k) (find-innermost k held) ∙ ap (λ hs. place_in hs (innermost k (h ∷ held))) (sym (reverse-append (h ∷ []) held))
+    go (eqb h.name k) (find-innermost k held) ∙ ap (λ hs. place_in hs (innermost_held k (h ∷ held))) (sym (reverse-append (h ∷ []) held))
   where
-    go : (b : Bool) → find (has_number k) held ≡ place_in (reverse held) (innermost k held) → cond b (Some h) (find (has_number k) held) ≡ place_in (reverse held ++ h ∷ []) (cond b (length held + 1) (innermost k held))
+    go : (b : Bool) → find (has_number k) held ≡ place_in (reverse held) (innermost_held k held) → cond b (Some h) (find (has_number k) held) ≡ place_in (reverse held ++ h ∷ []) (cond b (length held + 1) (innermost_held k held))
     go true e = rw add-one (sym (slice_get-last (reverse held) h (length held) (length-reverse held)))
-    go false e = e ∙ sym (place_in-kept (reverse held) h (innermost k held) (omega (arith, innermost-within k held, length-reverse held)))
+    go false e = e ∙ sym (place_in-kept (reverse held) h (innermost_held k held) (omega (arith, innermost-within k held, length-reverse held)))
 
 -- the name at a place is found there
 own_place : (names : List (List ℕ)) (k : ℕ) (name : List ℕ) → AreApart names → k < length names → bytes_eq (get_or names k []) name ≡ true → position (bytes_eq name) names ≡ Some k
@@ -94,13 +95,13 @@ abbrev pub is_named : List ℕ → Scoped → Bool
 is_named name e = bytes_eq e.name name
 
 -- to look for a name is to look for its number
-pub find-scoped : (names : List (List ℕ)) (k : ℕ) (name : List ℕ) (held : List Held) → AreApart names → position (bytes_eq name) names ≡ Some k → AreHeld (length names) held → find (is_named name) (scoped names held) ≡ option_map (named names) (find (has_number k) held)
+pub find-scoped : (names : List (List ℕ)) (k : ℕ) (name : List ℕ) (held : List Held) → AreApart names → position (bytes_eq name) names ≡ Some k → AreHeld (length names) held → find (is_named name) (scoped names held) ≡ option_map (scoped_held names) (find (has_number k) held)
 find-scoped names k name [] apart e h = refl
 find-scoped names k name (x ∷ held) apart e h =
-    ap (λ b. cond b (Some (named names x)) (find (is_named name) (scoped names held))) (same_test names k x.name name apart e h.0)
+    ap (λ b. cond b (Some (scoped_held names x)) (find (is_named name) (scoped names held))) (same_test names k x.name name apart e h.0)
     ∙ go (eqb x.name k) (find-scoped names k name held apart e h.2)
   where
-    go : (b : Bool) → find (is_named name) (scoped names held) ≡ option_map (named names) (find (has_number k) held) → cond b (Some (named names x)) (find (is_named name) (scoped names held)) ≡ option_map (named names) (cond b (Some x) (find (has_number k) held))
+    go : (b : Bool) → find (is_named name) (scoped names held) ≡ option_map (scoped_held names) (find (has_number k) held) → cond b (Some (scoped_held names x)) (find (is_named name) (scoped names held)) ≡ option_map (scoped_held names) (cond b (Some x) (find (has_number k) held))
     go true f = refl
     go false f = f
 
@@ -108,35 +109,35 @@ find-scoped names k name (x ∷ held) apart e h =
 pub find-no_number : (names : List (List ℕ)) (name : List ℕ) (held : List Held) → AreApart names → position (bytes_eq name) names ≡ None → AreHeld (length names) held → find (is_named name) (scoped names held) ≡ None
 find-no_number names name [] apart e h = refl
 find-no_number names name (x ∷ held) apart e h =
-    ap (λ b. cond b (Some (named names x)) (find (is_named name) (scoped names held))) (no_test names x.name name apart e h.0)
+    ap (λ b. cond b (Some (scoped_held names x)) (find (is_named name) (scoped names held))) (no_test names x.name name apart e h.0)
     ∙ find-no_number names name held apart e h.2
 
 AreHeld-more : (m n : ℕ) (held : List Held) → m ≤ n → AreHeld m held → AreHeld n held
 AreHeld-more m n [] l h = tt
 AreHeld-more m n (x ∷ held) l h = ((let f = h.0 in omega arith), h.1, AreHeld-more m n held l h.2)
 
-innermost-none : (n k : ℕ) (held : List Held) → AreHeld n held → n ≤ k → innermost k held ≡ 0
+innermost-none : (n k : ℕ) (held : List Held) → AreHeld n held → n ≤ k → innermost_held k held ≡ 0
 innermost-none n k [] h l = refl
 innermost-none n k (x ∷ held) h l = elim (eqb_tells x.name k) [
   | inl a ↦ (let f = h.0 in let g = a.1 in absurd (omega arith))
-  | inr a ↦ ap (λ b. cond b (length held + 1) (innermost k held)) a.0 ∙ innermost-none n k held h.2 l
+  | inr a ↦ ap (λ b. cond b (length held + 1) (innermost_held k held)) a.0 ∙ innermost-none n k held h.2 l
 ]
 
 -- what is there stays linked where a name gets a number
-pub IsLinked-numbered : (names more : List (List ℕ)) (firsts more_firsts : List ℕ) (held : List Held) (name : List ℕ) (k : ℕ) → IsNumbered names more firsts more_firsts name k → IsLinked names firsts held → IsLinked more more_firsts held
+pub IsLinked-numbered : (names more : List (List ℕ)) (firsts more_firsts : List ℕ) (held : List Held) (name : List ℕ) (k : ℕ) → IsNumbered names more firsts more_firsts name k → IsHeldLinked names firsts held → IsHeldLinked more more_firsts held
 IsLinked-numbered names more firsts more_firsts held name k n h = elim n.others [ inl a ↦ same a.0 a.1 | inr a ↦ longer a.0 a.1 ]
   where
-    same : more ≡ names → more_firsts ≡ firsts → IsLinked more more_firsts held
+    same : more ≡ names → more_firsts ≡ firsts → IsHeldLinked more more_firsts held
     same a b = rw (a, b) h
 
-    longer : more ≡ names ++ name ∷ [] → more_firsts ≡ firsts ++ 0 ∷ [] → IsLinked more more_firsts held
+    longer : more ≡ names ++ name ∷ [] → more_firsts ≡ firsts ++ 0 ∷ [] → IsHeldLinked more more_firsts held
     longer a b = rw (a, b) (record {
       one_each = length_push names name ∙ ap (λ m. m + 1) h.one_each ∙ sym (length_push firsts 0);
       outer = AreHeld-more (length names) (length (names ++ name ∷ [])) held (omega (arith, length_push names name)) h.outer;
       tops = tops;
     })
       where
-        tops : (j : ℕ) → j < length (names ++ name ∷ []) → get_or (firsts ++ 0 ∷ []) j 0 ≡ innermost j held
+        tops : (j : ℕ) → j < length (names ++ name ∷ []) → get_or (firsts ++ 0 ∷ []) j 0 ≡ innermost_held j held
         tops j l = elim (eqb_tells j (length names)) [
           | inl e ↦
               let at = e.1 in
@@ -163,7 +164,7 @@ scoped-numbered names more firsts more_firsts held name k h n e are =
     cc
 
 module _ (names : List (List ℕ)) (firsts : List ℕ) (held : List Held) (h : Held) where
-  pub IsLinked-push : IsLinked names firsts held → h.name < length names → h.outer ≡ get_or firsts h.name 0 → IsLinked names (set firsts h.name (length held + 1)) (h ∷ held)
+  pub IsLinked-push : IsHeldLinked names firsts held → h.name < length names → h.outer ≡ get_or firsts h.name 0 → IsHeldLinked names (set firsts h.name (length held + 1)) (h ∷ held)
   IsLinked-push l within outer = record {
     one_each = l.one_each ∙ sym (length-set firsts h.name (length held + 1));
     outer = (within, outer ∙ l.tops h.name within, l.outer);
@@ -172,15 +173,15 @@ module _ (names : List (List ℕ)) (firsts : List ℕ) (held : List Held) (h : H
           let one_each = l.one_each in
           ap (λ i. get_or (set firsts h.name (length held + 1)) i 0) (sym a.1)
           ∙ get_or-set_same firsts h.name (length held + 1) 0 (omega arith)
-          ∙ sym (ap (λ b. cond b (length held + 1) (innermost j held)) a.0)
+          ∙ sym (ap (λ b. cond b (length held + 1) (innermost_held j held)) a.0)
       | inr a ↦
           get_or-set_other firsts h.name j (length held + 1) 0 (λ e. a.1 (sym e))
           ∙ l.tops j below
-          ∙ sym (ap (λ b. cond b (length held + 1) (innermost j held)) a.0)
+          ∙ sym (ap (λ b. cond b (length held + 1) (innermost_held j held)) a.0)
     ];
   }
 
-  pub IsLinked-pop : IsLinked names firsts (h ∷ held) → IsLinked names (set firsts h.name h.outer) held
+  pub IsLinked-pop : IsHeldLinked names firsts (h ∷ held) → IsHeldLinked names (set firsts h.name h.outer) held
   IsLinked-pop l = record {
     one_each = l.one_each ∙ sym (length-set firsts h.name h.outer);
     outer = l.outer.2;
@@ -191,15 +192,15 @@ module _ (names : List (List ℕ)) (firsts : List ℕ) (held : List Held) (h : H
           ap (λ i. get_or (set firsts h.name h.outer) i 0) (sym a.1)
           ∙ get_or-set_same firsts h.name h.outer 0 (omega arith)
           ∙ l.outer.1
-          ∙ ap (λ i. innermost i held) a.1
+          ∙ ap (λ i. innermost_held i held) a.1
       | inr a ↦
           get_or-set_other firsts h.name j h.outer 0 (λ e. a.1 (sym e))
           ∙ l.tops j below
-          ∙ ap (λ b. cond b (length held + 1) (innermost j held)) a.0
+          ∙ ap (λ b. cond b (length held + 1) (innermost_held j held)) a.0
     ];
   }
 
-module _ (names : List (List ℕ)) (firsts : List ℕ) (items : List Held) (k : ℕ) (name : List ℕ) (place : ℕ) (apart : AreApart names) (number : position (bytes_eq name) names ≡ Some k) (l : IsLinked names firsts (reverse items)) where
+module _ (names : List (List ℕ)) (firsts : List ℕ) (items : List Held) (k : ℕ) (name : List ℕ) (place : ℕ) (apart : AreApart names) (number : position (bytes_eq name) names ≡ Some k) (l : IsHeldLinked names firsts (reverse items)) where
   pub number-within : k < length firsts
   number-within =
       let at = (position-Some (bytes_eq name) names k [] number).0 in
@@ -207,7 +208,7 @@ module _ (names : List (List ℕ)) (firsts : List ℕ) (items : List Held) (k : 
       omega arith
 
   -- the place that is read
-  pub place-innermost : place ≡ get_or firsts k place → place ≡ innermost k (reverse items)
+  pub place-innermost : place ≡ get_or firsts k place → place ≡ innermost_held k (reverse items)
   place-innermost read =
       read ∙ get_or_default firsts k place 0 number-within ∙ l.tops k (position-Some (bytes_eq name) names k [] number).0
 
@@ -218,16 +219,16 @@ module _ (names : List (List ℕ)) (firsts : List ℕ) (items : List Held) (k : 
   -- the variable that is found
   pub find-place : place ≡ get_or firsts k place → option_map (λ e. e.bound) (find (is_named name) (scoped names (reverse items))) ≡ option_map (λ h. h.bound) (place_in items place)
   find-place read =
-      ap (option_map (λ (e : Scoped). e.bound)) (find-scoped names k name (reverse items) apart number l.outer ∙ ap (option_map (named names)) found)
+      ap (option_map (λ (e : Scoped). e.bound)) (find-scoped names k name (reverse items) apart number l.outer ∙ ap (option_map (scoped_held names)) found)
       ∙ go (place_in items place)
     where
       found : find (has_number k) (reverse items) ≡ place_in items place
       found =
           find-innermost k (reverse items)
-          ∙ ap (λ hs. place_in hs (innermost k (reverse items))) (reverse-reverse items)
+          ∙ ap (λ hs. place_in hs (innermost_held k (reverse items))) (reverse-reverse items)
           ∙ ap (place_in items) (sym (place-innermost read))
 
-      go : (o : Option Held) → option_map (λ (e : Scoped). e.bound) (option_map (named names) o) ≡ option_map (λ (h : Held). h.bound) o
+      go : (o : Option Held) → option_map (λ (e : Scoped). e.bound) (option_map (scoped_held names) o) ≡ option_map (λ (h : Held). h.bound) o
       go None = refl
       go (Some h) = refl
 

@@ -9,7 +9,7 @@ use Rattle.term_model.specs.Terms.{Var, variable}
 use Rattle.term_pool.specs.StandsFor.{variable_leaf}
 use Rattle.term_pool.specs.Views.{TermsView}
 use Rattle.rule_model.specs.Heights.{height}
-use Rattle.term_names.specs.InScope.{IsScope, AreBound}
+use Rattle.term_names.specs.InScope.{IsScope, AreValuesBound}
 use Rattle.problem_text.specs.Names.{Bound, itself}
 use Rattle.term_names.specs.Scope.{Scoped}
 use Rattle.term_expansion.specs.Values.{IsValue}
@@ -39,21 +39,21 @@ drop-item (a ∷ xs) zero x e = let same : a ≡ x = cc in ap (λ y. y ∷ xs) s
 drop-item (a ∷ xs) (suc n) x e = drop-item xs n x e
 
 -- there is one value for each variable
-pub bound-lengths : (s : Table) (v : TermsView) (ks : List ℕ) (cs : List Value) (bs : List Bound) → AreBound s v ks cs bs → length ks ≡ length cs
+pub bound-lengths : (s : Table) (v : TermsView) (ks : List ℕ) (cs : List Value) (bs : List Bound) → AreValuesBound s v ks cs bs → length ks ≡ length cs
 bound-lengths s v [] [] bs h = refl
 bound-lengths s v [] (c ∷ cs) bs h = absurd h
 bound-lengths s v (k ∷ ks) [] bs h = absurd h
 bound-lengths s v (k ∷ ks) (c ∷ cs) [] h = absurd h
 bound-lengths s v (k ∷ ks) (c ∷ cs) (b ∷ bs) h = ap suc (bound-lengths s v ks cs bs h.2)
 
-pub bound-within : (s : Table) (v : TermsView) (ks : List ℕ) (cs : List Value) (bs : List Bound) (from i : ℕ) → AreBound s v ks (drop from cs) bs → from ≤ length cs → i < length ks → from + i < length cs
+pub bound-within : (s : Table) (v : TermsView) (ks : List ℕ) (cs : List Value) (bs : List Bound) (from i : ℕ) → AreValuesBound s v ks (drop from cs) bs → from ≤ length cs → i < length ks → from + i < length cs
 bound-within s v ks cs bs from i h within below =
     let e = bound-lengths s v ks (drop from cs) bs h in
     let f = length-drop {A = Value} from cs in
     omega arith
 
 -- each of the leaves is that of a variable
-pub bound-leaf : (s : Table) (v : TermsView) (ks : List ℕ) (cs : List Value) (bs : List Bound) (i d : ℕ) → AreBound s v ks cs bs → i < length ks → (x : Var) × IsLeaf s (get_or ks i d) (variable_leaf x)
+pub bound-leaf : (s : Table) (v : TermsView) (ks : List ℕ) (cs : List Value) (bs : List Bound) (i d : ℕ) → AreValuesBound s v ks cs bs → i < length ks → (x : Var) × IsLeaf s (get_or ks i d) (variable_leaf x)
 bound-leaf s v [] cs bs i d h below = absurd (omega arith)
 bound-leaf s v (k ∷ ks) [] bs i d h below = absurd h
 bound-leaf s v (k ∷ ks) (c ∷ cs) [] i d h below = absurd h
@@ -67,8 +67,8 @@ standing replaces bs = if replaces then bs else map (λ b. itself b.variable) bs
 -- one more variable in scope
 next-scope : (s : Table) (v : TermsView) (replaces : Bool) (k : ℕ) (ks : List ℕ) (c : Value) (cs : List Value) (entry old new : List Scoped)
     → ((b : Bound) (bs : List Bound) → IsLeaf s k (variable_leaf b.variable) → IsValue s v c (record { tree = b.stands_for; sort = b.variable.sort }) → IsScope s v old bs → IsScope s v new ((if replaces then b else itself b.variable) ∷ bs))
-    → ((bs ps : List Bound) → AreBound s v ks cs bs → IsScope s v entry ps → IsScope s v old (standing replaces bs ++ ps))
-    → (bs ps : List Bound) → AreBound s v (k ∷ ks) (c ∷ cs) bs → IsScope s v entry ps → IsScope s v new (standing replaces bs ++ ps)
+    → ((bs ps : List Bound) → AreValuesBound s v ks cs bs → IsScope s v entry ps → IsScope s v old (standing replaces bs ++ ps))
+    → (bs ps : List Bound) → AreValuesBound s v (k ∷ ks) (c ∷ cs) bs → IsScope s v entry ps → IsScope s v new (standing replaces bs ++ ps)
 next-scope s v replaces k ks c cs entry old new more before [] ps h g = absurd h
 next-scope s v true k ks c cs entry old new more before (b ∷ bs) ps h g = more b (bs ++ ps) h.0 h.1 (before bs ps h.2 g)
 next-scope s v false k ks c cs entry old new more before (b ∷ bs) ps h g =
@@ -78,8 +78,8 @@ next-scope s v false k ks c cs entry old new more before (b ∷ bs) ps h g =
 pub bind-next : (s : Table) (v : TermsView) (replaces : Bool) (ks : List ℕ) (cs : List Value) (from at : ℕ) (c : Value) (entry old new : List Scoped)
     → 0 < at → at ≤ length ks → slice_get cs (from + (at - 1)) ≡ Some c
     → ((b : Bound) (bs : List Bound) → IsLeaf s (get_or ks (at - 1) 0) (variable_leaf b.variable) → IsValue s v c (record { tree = b.stands_for; sort = b.variable.sort }) → IsScope s v old bs → IsScope s v new ((if replaces then b else itself b.variable) ∷ bs))
-    → ((bs ps : List Bound) → AreBound s v (drop at ks) (drop (from + at) cs) bs → IsScope s v entry ps → IsScope s v old (standing replaces bs ++ ps))
-    → (bs ps : List Bound) → AreBound s v (drop (at - 1) ks) (drop (from + (at - 1)) cs) bs → IsScope s v entry ps → IsScope s v new (standing replaces bs ++ ps)
+    → ((bs ps : List Bound) → AreValuesBound s v (drop at ks) (drop (from + at) cs) bs → IsScope s v entry ps → IsScope s v old (standing replaces bs ++ ps))
+    → (bs ps : List Bound) → AreValuesBound s v (drop (at - 1) ks) (drop (from + (at - 1)) cs) bs → IsScope s v entry ps → IsScope s v new (standing replaces bs ++ ps)
 bind-next s v replaces ks cs from at c entry old new above within is more before bs ps h g =
     let k = get_or ks (at - 1) 0 in
     let leaves : drop (at - 1) ks ≡ k ∷ drop at ks = drop-at ks at k above within (get_or_default ks (at - 1) 0 k (omega arith)) in
@@ -87,4 +87,4 @@ bind-next s v replaces ks cs from at c entry old new above within is more before
     let values : drop (from + (at - 1)) cs ≡ c ∷ drop (from + at) cs =
     subst (λ n. drop (from + (at - 1)) cs ≡ c ∷ drop n cs) next (drop-item cs (from + (at - 1)) c is) in
     next-scope s v replaces k (drop at ks) c (drop (from + at) cs) entry old new more before bs ps
-    (subst (λ zs. AreBound s v (k ∷ drop at ks) zs bs) values (subst (λ js. AreBound s v js (drop (from + (at - 1)) cs) bs) leaves h)) g
+    (subst (λ zs. AreValuesBound s v (k ∷ drop at ks) zs bs) values (subst (λ js. AreValuesBound s v js (drop (from + (at - 1)) cs) bs) leaves h)) g

@@ -11,9 +11,9 @@ use Rattle.term_pool.specs.StandsFor.{StandsFor, StandForValues}
 use Rattle.term_pool.specs.Trees.{let_term_tree}
 use Rattle.term_pool.specs.Views.{TermsView, RefersTo, KnowsAll}
 use Rattle.rule_model.specs.Heights.{height, highest_bound}
-use Rattle.term_names.specs.InScope.{AreBound}
+use Rattle.term_names.specs.InScope.{AreValuesBound}
 use Rattle.term_names.specs.Making.{Makes}
-use Rattle.problem_text.specs.Names.{Bound, Place, bindings_of, let_term}
+use Rattle.problem_text.specs.Names.{Bound, Place, let_bindings_of, let_term}
 use Rattle.problem_text.specs.TypedTerms.{Typed}
 use Rattle.term_names.specs.Stacks.{greatest_height}
 use Rattle.term_expansion.specs.Values.{IsValue}
@@ -23,7 +23,7 @@ use Rattle.term_names.proofs.MadeTerms.{made, full}
 use Rattle.term_names.proofs.ValueLists.{references}
 
 module _ (s : Table) (v : TermsView) where
-  pub leaves-few : (ks : List ℕ) (cs : List Value) (bs : List Bound) → length s.leaves ≤ 2 ^ 30 → AreBound s v ks cs bs → All (λ k. k < 2 ^ 30) ks
+  pub leaves-few : (ks : List ℕ) (cs : List Value) (bs : List Bound) → length s.leaves ≤ 2 ^ 30 → AreValuesBound s v ks cs bs → All (λ k. k < 2 ^ 30) ks
   leaves-few [] cs bs few h = All-nil (λ k. k < 2 ^ 30)
   leaves-few (k ∷ ks) [] bs few h = absurd h
   leaves-few (k ∷ ks) (c ∷ cs) [] few h = absurd h
@@ -31,7 +31,7 @@ module _ (s : Table) (v : TermsView) where
       let below = slice_get_within s.leaves k _ h.0 in
       All-cons (λ k. k < 2 ^ 30) k ks (omega arith) (leaves-few ks cs bs few h.2)
 
-  pub bound-known : (ks : List ℕ) (cs : List Value) (bs : List Bound) → AreBound s v ks cs bs → All (IsKnown v.pass) (references cs)
+  pub bound-known : (ks : List ℕ) (cs : List Value) (bs : List Bound) → AreValuesBound s v ks cs bs → All (IsKnown v.pass) (references cs)
   bound-known [] [] bs h = All-nil (IsKnown v.pass)
   bound-known [] (c ∷ cs) bs h = absurd h
   bound-known (k ∷ ks) [] bs h = absurd h
@@ -39,7 +39,7 @@ module _ (s : Table) (v : TermsView) where
   bound-known (k ∷ ks) (c ∷ cs) (b ∷ bs) h =
       All-cons (IsKnown v.pass) c.term (references cs) (record { tree = h.1.refers.tree; stands = h.1.refers.known }) (bound-known ks cs bs h.2)
 
-  bound-refers : (ks : List ℕ) (cs : List Value) (bs : List Bound) → AreBound s v ks cs bs → AreBindings s v ks (references cs) (bindings_of bs)
+  bound-refers : (ks : List ℕ) (cs : List Value) (bs : List Bound) → AreValuesBound s v ks cs bs → AreBindings s v ks (references cs) (let_bindings_of bs)
   bound-refers [] [] [] h = tt
   bound-refers [] [] (b ∷ bs) h = absurd h
   bound-refers [] (c ∷ cs) bs h = absurd h
@@ -51,9 +51,9 @@ module _ (s : Table) (v : TermsView) where
   record AreTreesOf (ks : List ℕ) (cs : List Value) (bs : List Bound) : Type 0 where
     trees : List Tree
     known : KnowsAll v.pass (references cs) trees
-    stand : StandForValues s ks trees (bindings_of bs)
+    stand : StandForValues s ks trees (let_bindings_of bs)
 
-  bound-trees : (ks : List ℕ) (cs : List Value) (bs : List Bound) → AreBound s v ks cs bs → AreTreesOf ks cs bs
+  bound-trees : (ks : List ℕ) (cs : List Value) (bs : List Bound) → AreValuesBound s v ks cs bs → AreTreesOf ks cs bs
   bound-trees [] [] [] h = record { trees = []; known = tt; stand = tt }
   bound-trees [] [] (b ∷ bs) h = absurd h
   bound-trees [] (c ∷ cs) bs h = absurd h
@@ -67,7 +67,7 @@ module _ (s : Table) (v : TermsView) where
         stand = (h.0, h.1.refers.stands, rest.stand);
       }
 
-  bound-highest : (ks : List ℕ) (cs : List Value) (bs : List Bound) → AreBound s v ks cs bs → highest_bound (bindings_of bs) ≡ greatest_height cs
+  bound-highest : (ks : List ℕ) (cs : List Value) (bs : List Bound) → AreValuesBound s v ks cs bs → highest_bound (let_bindings_of bs) ≡ greatest_height cs
   unfolding height
   bound-highest [] [] [] h = refl
   bound-highest [] [] (b ∷ bs) h = absurd h
@@ -81,14 +81,14 @@ let-height : (bs : Bindings) (t : Term) → height (let_in bs t) ≡ 1 + max (hi
 unfolding height
 let-height bs t = refl
 
-let-kept : (p : Place) (bs : List Bound) (t : Typed) (replaces : Bool) → p.settings.replaces_lets ≡ replaces → replaces ≡ false → let_term p bs t ≡ record { tree = let_in (bindings_of bs) t.tree; sort = t.sort }
-let-kept p bs t replaces e f = ap (λ b. if b then t else record { tree = let_in (bindings_of bs) t.tree; sort = t.sort }) (e ∙ f)
+let-kept : (p : Place) (bs : List Bound) (t : Typed) (replaces : Bool) → p.settings.replaces_lets ≡ replaces → replaces ≡ false → let_term p bs t ≡ record { tree = let_in (let_bindings_of bs) t.tree; sort = t.sort }
+let-kept p bs t replaces e f = ap (λ b. if b then t else record { tree = let_in (let_bindings_of bs) t.tree; sort = t.sort }) (e ∙ f)
 
 module _ (s : Table) (old new : TermsView) (ks : List ℕ) (cs : List Value) (bs : List Bound) (p : Place) (t : Typed) (body : Value) (replaces : Bool)
     (law : (s : Table) (vars : List ℕ) (trees : List Tree) (body : Tree) (bs : Bindings) (u : Term) → StandForValues s vars trees bs → StandsFor s body u → StandsFor s (let_term_tree vars trees body) (let_in bs u))
-    (bound : AreBound s old ks cs bs) (is : IsValue s old body t) (same : p.settings.replaces_lets ≡ replaces) (kept : replaces ≡ false) where
-  stands : (h : AreTreesOf s old ks cs bs) → StandsFor s (let_term_tree ks h.trees is.refers.tree) (let_in (bindings_of bs) t.tree)
-  stands h = law s ks h.trees is.refers.tree (bindings_of bs) t.tree h.stand is.refers.stands
+    (bound : AreValuesBound s old ks cs bs) (is : IsValue s old body t) (same : p.settings.replaces_lets ≡ replaces) (kept : replaces ≡ false) where
+  stands : (h : AreTreesOf s old ks cs bs) → StandsFor s (let_term_tree ks h.trees is.refers.tree) (let_in (let_bindings_of bs) t.tree)
+  stands h = law s ks h.trees is.refers.tree (let_bindings_of bs) t.tree h.stand is.refers.stands
 
   pub let-made : (r high : ℕ)
       → ((s : Table) (bs : Bindings) (u : Term) → AreBindings s old ks (references cs) bs → RefersTo s old body.term u → RefersTo s new r (let_in bs u))
@@ -98,14 +98,14 @@ module _ (s : Table) (old new : TermsView) (ks : List ℕ) (cs : List Value) (bs
   let-made r high term built e =
       let trees = bound-trees s old ks cs bs bound in
       let highest = bound-highest s old ks cs bs bound in
-      let whole = let-height (bindings_of bs) t.tree in
+      let whole = let-height (let_bindings_of bs) t.tree in
       let below = is.high in
       rw (let-kept p bs t replaces same kept)
-      (made s old new (record { tree = let_in (bindings_of bs) t.tree; sort = t.sort }) (let_term_tree ks trees.trees is.refers.tree)
+      (made s old new (record { tree = let_in (let_bindings_of bs) t.tree; sort = t.sort }) (let_term_tree ks trees.trees is.refers.tree)
       (record { term = r; sort = body.sort; height = high; plain = false }) (stands trees)
       (built trees.trees is.refers.tree trees.known is.refers.known).placed
       (record {
-        refers = term s (bindings_of bs) t.tree (bound-refers s old ks cs bs bound) is.refers;
+        refers = term s (let_bindings_of bs) t.tree (bound-refers s old ks cs bs bound) is.refers;
         sort = is.sort;
         high = omega arith;
         plain = λ e. absurd cc;
@@ -119,5 +119,5 @@ module _ (s : Table) (old new : TermsView) (ks : List ℕ) (cs : List Value) (bs
       let trees = bound-trees s old ks cs bs bound in
       let no_room = lacks trees.trees is.refers.tree trees.known is.refers.known in
       rw (let-kept p bs t replaces same kept)
-      (full s old new (record { tree = let_in (bindings_of bs) t.tree; sort = t.sort }) (let_term_tree ks trees.trees is.refers.tree) result (stands trees)
+      (full s old new (record { tree = let_in (let_bindings_of bs) t.tree; sort = t.sort }) (let_term_tree ks trees.trees is.refers.tree) result (stands trees)
       no_room.placed no_room.full e)

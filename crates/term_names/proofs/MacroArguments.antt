@@ -11,7 +11,7 @@ use Rattle.term_pool.specs.Views.{TermsView}
 use Rattle.term_names.specs.Applying.{bounds_of}
 use Rattle.term_expansion.specs.Images.{PlacesTerm, LacksRoomFor}
 use Rattle.term_names.specs.Making.{Makes}
-use Rattle.problem_text.specs.Names.{macro, sorts_of, expansion, applied}
+use Rattle.problem_text.specs.Names.{macro, sorts_of, expansion, meaning_applied}
 use Rattle.rule_model.specs.Replacement.{Replacement, replaced}
 use Rattle.problem_text.specs.TypedTerms.{Typed}
 use Rattle.problem_text.specs.Scripts.{Macro}
@@ -54,12 +54,12 @@ arguments-replace s v (k ∷ ks) (c ∷ cs) (x ∷ xs) (t ∷ ts) h g e =
     )
 
 -- a macro may be applied exactly to terms of its parameters' sorts
-macro-applied : (m : Macro) (ts : List Typed) → sorts_eq (map (λ x. x.sort) m.parameters) (sorts_of ts) ≡ true → applied (macro m) ts ≡ Some (record { tree = expansion m ts; sort = m.target })
-unfolding applied
+macro-applied : (m : Macro) (ts : List Typed) → sorts_eq (map (λ x. x.sort) m.parameters) (sorts_of ts) ≡ true → meaning_applied (macro m) ts ≡ Some (record { tree = expansion m ts; sort = m.target })
+unfolding meaning_applied
 macro-applied m ts e = ap (λ b. if b then Some (record { tree = expansion m ts; sort = m.target }) else None) e
 
-macro-refused : (m : Macro) (ts : List Typed) → sorts_eq (map (λ x. x.sort) m.parameters) (sorts_of ts) ≡ false → applied (macro m) ts ≡ None
-unfolding applied
+macro-refused : (m : Macro) (ts : List Typed) → sorts_eq (map (λ x. x.sort) m.parameters) (sorts_of ts) ≡ false → meaning_applied (macro m) ts ≡ None
+unfolding meaning_applied
 macro-refused m ts e = ap (λ b. if b then Some (record { tree = expansion m ts; sort = m.target }) else None) e
 
 expansion-made : (s : Table) (old new : TermsView) (t : Typed) (c : Value) → PlacesTerm s old.pass new.pass t.tree → IsValue s new c t → Makes s old new (Some t) (Ok (Some c))
@@ -103,8 +103,8 @@ module _ (s : Table) (v : TermsView) (h : held.Macro) (d : Macro) (cs : List Val
   same-sorts : fits ≡ true → map (λ x. x.sort) d.parameters ≡ sorts_of ts
   same-sorts e = (sorts_eq_decides (map (λ x. x.sort) d.parameters) (sorts_of ts)).0 (same-test ∙ e)
 
-  pub sorts-differ : fits ≡ false → Makes s v v (applied (macro d) ts) (Ok None)
-  sorts-differ e = unchanged s v (applied (macro d) ts) (Ok None) (macro-refused d ts (same-test ∙ e))
+  pub sorts-differ : fits ≡ false → Makes s v v (meaning_applied (macro d) ts) (Ok None)
+  sorts-differ e = unchanged s v (meaning_applied (macro d) ts) (Ok None) (macro-refused d ts (same-test ∙ e))
 
   pub one-each : fits ≡ true → length h.parameters.items ≡ length cs
   one-each e =
@@ -127,7 +127,7 @@ module _ (s : Table) (v : TermsView) (h : held.Macro) (d : Macro) (cs : List Val
 
     pub macro-made : (c : Value)
         → ((t : Typed) (q : Replacement) → IsValue s v h.body t → IsReplacement s v bounds q → IsValue s new c (record { tree = replaced q t.tree; sort = t.sort }))
-        → Makes s v new (applied (macro d) ts) (Ok (Some c))
+        → Makes s v new (meaning_applied (macro d) ts) (Ok (Some c))
     macro-made c made =
         let q = zip d.parameters (map (λ t. t.tree) ts) in
         rw (macro-applied d ts (same-test ∙ fit))
@@ -137,7 +137,7 @@ module _ (s : Table) (v : TermsView) (h : held.Macro) (d : Macro) (cs : List Val
         → ((t : Typed) (q : Replacement) → IsValue s v h.body t → IsReplacement s v bounds q → e ≡ ReadFault.PoolFull → LacksRoomFor s new.pass (replaced q t.tree))
         → ((r : Refusal) → e ≡ ReadFault.Text r → ⊥)
         → result ≡ Err e
-        → Makes s v new (applied (macro d) ts) result
+        → Makes s v new (meaning_applied (macro d) ts) result
     macro-not-made result e full text same =
         let q = zip d.parameters (map (λ t. t.tree) ts) in
         rw (macro-applied d ts (same-test ∙ fit), same)

@@ -7,7 +7,7 @@ use Rattle.sym_table.specs.Table.{Table}
 use Rattle.term_pool.specs.Building.{PlacesOnlyIn, IsCellIn, IsFullIn}
 use Rattle.term_pool.specs.Views.{TermsView}
 use Rattle.term_pool.specs.StandsFor.{StandsFor}
-use Rattle.term_names.specs.Making.{IsCellOf, PlacesCellsOf, IsExpected, IsMade, Makes}
+use Rattle.term_names.specs.Making.{IsWantedCell, PlacesCellsOf, IsExpected, IsMade, Makes}
 use Rattle.problem_text.specs.TypedTerms.{Typed}
 use Rattle.term_expansion.specs.Values.{IsValue}
 use Rattle.term_names.specs.declared.faults.ReadFault.{ReadFault}
@@ -17,7 +17,7 @@ use Rattle.term_expansion.specs.declared.values.Value.{Value}
 pub places-cells : (s : Table) (old new : PassView) (t : Typed) (tree : Tree) → StandsFor s tree t.tree → PlacesOnlyIn old new tree → PlacesCellsOf s old new (IsExpected (Some t))
 places-cells s old new t tree stands only r a b p = go (only r a b p)
   where
-    go : IsPlaced old r a b ⊎ IsCellIn new a b tree → IsPlaced old r a b ⊎ IsCellOf s new (IsExpected (Some t)) a b
+    go : IsPlaced old r a b ⊎ IsCellIn new a b tree → IsPlaced old r a b ⊎ IsWantedCell s new (IsExpected (Some t)) a b
     go (inl q) = inl q
     go (inr q) = inr (record { whole = t.tree; wanted = (t, refl, refl); tree = tree; stands = stands; cell = q })
 

@@ -10,9 +10,9 @@ use Rattle.term_pool.specs.Views.{TermsView}
 use Rattle.term_names.specs.BoundLeaves.{PutsInBound}
 use Rattle.term_expansion.specs.Free.{AreFreeLeaves}
 use Rattle.term_expansion.specs.Images.{IsSomeReplacement, PlacesTerm, LacksRoomFor}
-use Rattle.term_names.specs.LookingUp.{used, IsNamedMeant}
+use Rattle.term_names.specs.LookingUp.{term_used, IsNamedMeant}
 use Rattle.term_names.specs.Making.{IsMade, Makes, PlacesCellsOf, IsExpected}
-use Rattle.problem_text.specs.Names.{Place, Meaning, value, is_bound, replacement, applied}
+use Rattle.problem_text.specs.Names.{Place, Meaning, value, is_bound, replacement, meaning_applied}
 use Rattle.rule_model.specs.Replacement.{Replacement, replaced, free_variables}
 use Rattle.problem_text.specs.TypedTerms.{Typed}
 use Rattle.term_expansion.specs.Values.{IsValue, IsReplacement}
@@ -23,8 +23,8 @@ use Rattle.term_expansion.specs.declared.values.Value.{Value}
 use Rattle.problem_text.proofs.Agreement.{replaced_agrees}
 use Rattle.rule_model.proofs.Freedom.{free_variables-are}
 
-pub applied_value : (m : Meaning) (t : Typed) → m ≡ value t → applied m [] ≡ Some t
-unfolding applied
+pub applied_value : (m : Meaning) (t : Typed) → m ≡ value t → meaning_applied m [] ≡ Some t
+unfolding meaning_applied
 applied_value m t e = rw e refl
 
 -- nothing is placed where nothing is done
@@ -32,10 +32,10 @@ pub answers : (s : Table) (v : TermsView) (o : Option Typed) (r : Result (Option
 answers s v o r h = record { answer = h; placed = λ q a b g. inl g }
 
 -- where lets stay the named term stays as it is
-pub named_stays : (s : Table) (v : TermsView) (p : Place) (n : held.Named) (m : Meaning) → p.settings.replaces_lets ≡ false → IsNamedMeant s v p (Some n) m → IsMade s v (applied m []) (Ok (Some n.value))
+pub named_stays : (s : Table) (v : TermsView) (p : Place) (n : held.Named) (m : Meaning) → p.settings.replaces_lets ≡ false → IsNamedMeant s v p (Some n) m → IsMade s v (meaning_applied m []) (Ok (Some n.value))
 named_stays s v p n m lets (h, d, same, is, meant, bound) = (
   d.meant,
-  applied_value m (used p d.meant) meant
+  applied_value m (term_used p d.meant) meant
       ∙ ap (λ b. Some (if b then record { tree = replaced (replacement p.scope) d.meant.tree; sort = d.meant.sort } else d.meant)) lets,
   subst (λ (c : held.Named). IsValue s v c.value d.meant) (sym (same_Some _ _ same)) is.value,
 )
@@ -53,7 +53,7 @@ pub record IsPutIn (s : Table) (v : TermsView) (c : Value) (list : List holds.Bo
   pub is : IsReplacement s v list means
   pub made : o ≡ Some (record { tree = replaced means term.tree; sort = term.sort })
 
-pub named_put_in : (s : Table) (v : TermsView) (p : Place) (n : held.Named) (m : Meaning) (list : List holds.Bound) → p.settings.replaces_lets ≡ true → IsNamedMeant s v p (Some n) m → PutsInFree s v n list p → IsPutIn s v n.value list (applied m [])
+pub named_put_in : (s : Table) (v : TermsView) (p : Place) (n : held.Named) (m : Meaning) (list : List holds.Bound) → p.settings.replaces_lets ≡ true → IsNamedMeant s v p (Some n) m → PutsInFree s v n list p → IsPutIn s v n.value list (meaning_applied m [])
 named_put_in s v p n m list lets (h, d, same, is, meant, bound) puts =
     let free = subst (λ (c : held.Named). AreFreeLeaves s c.free.items (free_variables d.meant.tree)) (sym (same_Some _ _ same)) is.free in
     let put = puts (free_variables d.meant.tree) free bound in
@@ -64,7 +64,7 @@ named_put_in s v p n m list lets (h, d, same, is, meant, bound) puts =
       is_value = subst (λ (c : held.Named). IsValue s v c.value d.meant) (sym (same_Some _ _ same)) is.value;
       is = put.is;
       made =
-          applied_value m (used p d.meant) meant
+          applied_value m (term_used p d.meant) meant
           ∙ ap (λ b. Some (if b then record { tree = replaced (replacement p.scope) d.meant.tree; sort = d.meant.sort } else d.meant)) lets
           ∙ ap (λ t. Some (record { tree = t; sort = d.meant.sort })) (sym agrees);
     }

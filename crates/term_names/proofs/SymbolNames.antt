@@ -8,7 +8,7 @@ use Rattle.term_pool.specs.StandsFor.{function_leaf}
 use Rattle.sym_table.specs.Leaf.{Leaf, nil, let_head, is_function, name_of}
 use Rattle.sym_table.specs.Leaf as leaf
 use Rattle.sym_table.specs.Table.{Table, IsTable, IsLeaf, IsFunctionNamed, IsFunctionName}
-use Rattle.term_names.specs.LookingUp.{AgreeOnFunction, IsSymbolMeant, meaning_of_symbol}
+use Rattle.term_names.specs.Lookups.{AgreeOnFunction, IsSymbolMeant, meaning_of_symbol}
 use Rattle.problem_text.specs.Names.{function, operator}
 use Rattle.problem_text.specs.Scripts.{Script}
 use Rattle.term_names.specs.Standing.{function_in}

@@ -4,7 +4,7 @@ use Rattle.std.specs.List.{list_all}
 use Rattle.std.proofs.lemmas.List.{map-append, take-map, drop-map, take_rest}
 use Rattle.term_model.specs.declared.symbols.Sort.{Sort}
 use Rattle.term_expansion.specs.declared.values.Value.{Value}
-use Rattle.term_names.specs.Stacks.{values_of, AreParts}
+use Rattle.term_names.specs.StackParts.{values_of, AreParts}
 
 -- values are made of their parts
 values_of-parts : (vs : List Value) → values_of (map (λ v. v.term) vs) (map (λ v. v.sort) vs) (map (λ v. v.height) vs) (map (λ v. v.plain) vs) ≡ vs

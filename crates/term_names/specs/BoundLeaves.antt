@@ -8,7 +8,7 @@ use Rattle.term_pool.specs.Views.{TermsView}
 use Rattle.term_expansion.specs.Free.{AreFreeLeaves}
 use Rattle.term_names.specs.InScope.{IsScope}
 use Rattle.problem_text.specs.Names.{Bound, is_bound, replacement}
-use Rattle.rule_model.specs.Replacement.{Replacement, term_at}
+use Rattle.rule_model.specs.Replacement.{Replacement, replaced_by}
 use Rattle.term_names.specs.Scope.{Scoped}
 use Rattle.term_expansion.specs.Values.{IsReplacement}
 use Rattle.term_expansion.specs.declared.values.Bound as held
@@ -35,4 +35,4 @@ pub record AreBoundLeaves (s : Table) (scope : List Scoped) (leaves : List ℕ) 
 pub record PutsInBound (s : Table) (v : TermsView) (list : List held.Bound) (scope : List Bound) (xs : List Var) : Type 0 where
   pub means : Replacement
   pub is : IsReplacement s v list means
-  pub same : (x : Var) → Contains xs x → term_at means x ≡ term_at (replacement scope) x
+  pub same : (x : Var) → Contains xs x → replaced_by means x ≡ replaced_by (replacement scope) x

@@ -24,7 +24,7 @@ abbrev pub IsMacroMeant : Table → TermsView → Option held.Macro → Meaning 
 IsMacroMeant s v o m = (h : held.Macro) × (d : Macro) × (o ≡ Some h) × IsMacroOf s v h d × (m ≡ macro d)
 
 -- what is applied has this meaning
-abbrev pub IsHeadOf : Table → TermsView → KnownView → Head → Meaning → Type 0
-IsHeadOf s v k (Head.Symbol n) m = IsSymbolOf s n m
-IsHeadOf s v k (Head.Macro w) m = IsMacroMeant s v (macro_of k w) m
-IsHeadOf s v k Head.Fixed m = (t : Typed) × (m ≡ value t)
+abbrev pub HeadMeans : Table → TermsView → KnownView → Head → Meaning → Type 0
+HeadMeans s v k (Head.Symbol n) m = IsSymbolOf s n m
+HeadMeans s v k (Head.Macro w) m = IsMacroMeant s v (macro_of k w) m
+HeadMeans s v k Head.Fixed m = (t : Typed) × (m ≡ value t)

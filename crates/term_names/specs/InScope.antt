@@ -18,16 +18,16 @@ IsScope s v (e ∷ es) [] = ⊥
 IsScope s v (e ∷ es) (b ∷ bs) = (e.name ≡ b.variable.name) × PutsIn s v e.bound b.variable b.stands_for × IsScope s v es bs
 
 -- leaves and values in the same order: the variables of a let and what they are bound to
-abbrev pub AreBound : Table → TermsView → List ℕ → List Value → List Bound → Type 0
-AreBound s v [] [] [] = Unit {0}
-AreBound s v [] [] (b ∷ bs) = ⊥
-AreBound s v [] (c ∷ cs) bs = ⊥
-AreBound s v (k ∷ ks) [] bs = ⊥
-AreBound s v (k ∷ ks) (c ∷ cs) [] = ⊥
-AreBound s v (k ∷ ks) (c ∷ cs) (b ∷ bs) =
+abbrev pub AreValuesBound : Table → TermsView → List ℕ → List Value → List Bound → Type 0
+AreValuesBound s v [] [] [] = Unit {0}
+AreValuesBound s v [] [] (b ∷ bs) = ⊥
+AreValuesBound s v [] (c ∷ cs) bs = ⊥
+AreValuesBound s v (k ∷ ks) [] bs = ⊥
+AreValuesBound s v (k ∷ ks) (c ∷ cs) [] = ⊥
+AreValuesBound s v (k ∷ ks) (c ∷ cs) (b ∷ bs) =
     IsLeaf s k (variable_leaf b.variable)
     × IsValue s v c (record { tree = b.stands_for; sort = b.variable.sort })
-    × AreBound s v ks cs bs
+    × AreValuesBound s v ks cs bs
 
 -- none of the values is too high
 abbrev pub AreLow : List Value → Type 0

@@ -1,4 +1,5 @@
 pub mod Stacks
+pub mod StackParts
 pub mod Entries
 pub mod Known
 pub mod NameNumbers
@@ -10,5 +11,6 @@ pub mod InScope
 pub mod Making
 pub mod Heads
 pub mod LookingUp
+pub mod Lookups
 pub mod BoundLeaves
 pub mod Applying

@@ -13,7 +13,7 @@ use Rattle.term_names.specs.declared.faults.ReadFault.{ReadFault}
 use Rattle.term_expansion.specs.declared.values.Value.{Value}
 
 -- the references a and b are the parts of a cell of a term that is wanted
-pub record IsCellOf (s : Table) (pass : PassView) (IsWanted : Term → Type 0) (a b : ℕ) : Type 0 where
+pub record IsWantedCell (s : Table) (pass : PassView) (IsWanted : Term → Type 0) (a b : ℕ) : Type 0 where
   pub whole : Term
   pub wanted : IsWanted whole
   pub tree : Tree
@@ -22,7 +22,7 @@ pub record IsCellOf (s : Table) (pass : PassView) (IsWanted : Term → Type 0) (
 
 -- what the new pass placed and the old one had not, are cells of terms that are wanted
 abbrev pub PlacesCellsOf : Table → PassView → PassView → (Term → Type 0) → Type 0
-PlacesCellsOf s old new IsWanted = (r a b : ℕ) → IsPlaced new r a b → IsPlaced old r a b ⊎ IsCellOf s new IsWanted a b
+PlacesCellsOf s old new IsWanted = (r a b : ℕ) → IsPlaced new r a b → IsPlaced old r a b ⊎ IsWantedCell s new IsWanted a b
 
 -- the pass has seen all places occupied by other cells than one of a term that is wanted
 pub record LacksCellOf (s : Table) (pass : PassView) (IsWanted : Term → Type 0) : Type 0 where

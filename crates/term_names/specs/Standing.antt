@@ -16,8 +16,8 @@ use Rattle.term_names.specs.declared.entries.Named as named
 use Rattle.term_names.specs.declared.known.KnownEntry.{KnownEntry}
 
 -- the named term, the macro and the declared function of a name
-abbrev pub named_in : Script → List ℕ → Option Named
-named_in sc name = find (λ n. bytes_eq n.name name) sc.named
+abbrev pub named_in_script : Script → List ℕ → Option Named
+named_in_script sc name = find (λ n. bytes_eq n.name name) sc.named
 
 abbrev pub macro_in : Script → List ℕ → Option Macro
 macro_in sc name = find (λ m. bytes_eq m.name name) sc.macros
@@ -60,7 +60,7 @@ pub record IsNoFunction (s : Table) (sc : Script) (name : List ℕ) : Type 0 whe
 
 -- the name is that of neither a macro nor a named term
 pub record HasNoEntry (sc : Script) (name : List ℕ) : Type 0 where
-  pub no_named : named_in sc name ≡ None
+  pub no_named : named_in_script sc name ≡ None
   pub no_macro : macro_in sc name ≡ None
 
 pub record IsFreeName (s : Table) (sc : Script) (name : List ℕ) : Type 0 where
@@ -78,7 +78,7 @@ pub record IsMacroName (s : Table) (v : TermsView) (sc : Script) (name : List �
   pub there : m ≡ Some held
   pub found : macro_in sc name ≡ Some meant
   pub is : IsMacroOf s v held meant
-  pub no_named : named_in sc name ≡ None
+  pub no_named : named_in_script sc name ≡ None
   pub no_function : IsNoFunction s sc name
   pub taken : is_among sc.taken name ≡ true
 
@@ -86,23 +86,23 @@ pub record IsNamedName (s : Table) (v : TermsView) (sc : Script) (name : List �
   pub held : named.Named
   pub meant : Named
   pub there : n ≡ Some held
-  pub found : named_in sc name ≡ Some meant
+  pub found : named_in_script sc name ≡ Some meant
   pub is : IsNamedOf s v held meant
   pub no_macro : macro_in sc name ≡ None
   pub no_function : IsNoFunction s sc name
   pub taken : is_among sc.taken name ≡ true
 
 -- what a name is that of, by the entries and by the script
-abbrev pub IsMeant : Table → TermsView → KnownView → Script → List ℕ → Option KnownEntry → Type 0
-IsMeant s v k sc name None = HasNoEntry sc name × (IsFunctionAt s sc name ⊎ IsFreeName s sc name)
-IsMeant s v k sc name (Some KnownEntry.Reserved) = IsReservedName s sc name
-IsMeant s v k sc name (Some (KnownEntry.Macro w)) = IsMacroName s v sc name (macro_of k w)
-IsMeant s v k sc name (Some (KnownEntry.Named w)) = IsNamedName s v sc name (named_of k w)
+abbrev pub IsNameMeant : Table → TermsView → KnownView → Script → List ℕ → Option KnownEntry → Type 0
+IsNameMeant s v k sc name None = HasNoEntry sc name × (IsFunctionAt s sc name ⊎ IsFreeName s sc name)
+IsNameMeant s v k sc name (Some KnownEntry.Reserved) = IsReservedName s sc name
+IsNameMeant s v k sc name (Some (KnownEntry.Macro w)) = IsMacroName s v sc name (macro_of k w)
+IsNameMeant s v k sc name (Some (KnownEntry.Named w)) = IsNamedName s v sc name (named_of k w)
 
 -- the table, the pool and the entries stand for what the script declares and names
 pub record IsScript (s : Table) (v : TermsView) (k : KnownView) (sc : Script) : Type 0 where
   pub sorts : s.sorts ≡ sc.sorts
-  pub names : (name : List ℕ) → IsMeant s v k sc name (known_entry k name)
+  pub names : (name : List ℕ) → IsNameMeant s v k sc name (known_entry k name)
 
 -- Only numerals and variables are added to the table.
 pub record AddsNoSymbols (old new : Table) : Type 0 where

@@ -3,10 +3,10 @@ ghost use Rattle.std.specs.Prelude.{◌≡◌, ◌≤◌, ◌<◌, List, length,
 ghost use Rattle.term_model.specs.Sorts.{sorts_eq};
 ghost use Rattle.term_pool.specs.Views.{KeepsTerms};
 ghost use Rattle.term_names.specs.Applying.{bounds_of};
-ghost use Rattle.term_names.specs.Heads.{IsHeadOf, IsSymbolOf};
+ghost use Rattle.term_names.specs.Heads.{HeadMeans, IsSymbolOf};
 ghost use Rattle.term_names.specs.InScope.{AreLow};
 ghost use Rattle.term_names.specs.Making.{Makes};
-ghost use Rattle.problem_text.specs.Names.{Meaning, macro, applied};
+ghost use Rattle.problem_text.specs.Names.{Meaning, macro, meaning_applied};
 ghost use Rattle.problem_text.specs.Scripts as spec;
 ghost use Rattle.problem_text.specs.TypedTerms.{Typed};
 ghost use Rattle.term_names.specs.Standing.{IsMacroOf};
@@ -40,8 +40,8 @@ pub fn apply(
 ) -> Result<Option<Value>, ReadFault>
     requires some { from < length values.now }
     requires low { AreLow values.now }
-    requires head { (m : Meaning) × (ts : List Typed) × IsHeadOf symbols.now terms.old known.now head m × AreValues symbols.now terms.old (drop from values.now) ts }
-    ensures makes { (m : Meaning) (ts : List Typed) → IsHeadOf symbols.now terms.old known.now head m → AreValues symbols.now terms.old (drop from values.now) ts → Makes symbols.now terms.old terms.new (applied m ts) result }
+    requires head { (m : Meaning) × (ts : List Typed) × HeadMeans symbols.now terms.old known.now head m × AreValues symbols.now terms.old (drop from values.now) ts }
+    ensures makes { (m : Meaning) (ts : List Typed) → HeadMeans symbols.now terms.old known.now head m → AreValues symbols.now terms.old (drop from values.now) ts → Makes symbols.now terms.old terms.new (meaning_applied m ts) result }
     ensures keeps { KeepsTerms terms.old terms.new }
 {
     match head {
@@ -64,7 +64,7 @@ fn apply_symbol(
     requires some { from < length values.now }
     requires low { AreLow values.now }
     requires symbol { (m : Meaning) × (ts : List Typed) × IsSymbolOf symbols.now leaf m × AreValues symbols.now terms.old (drop from values.now) ts }
-    ensures makes { (m : Meaning) (ts : List Typed) → IsSymbolOf symbols.now leaf m → AreValues symbols.now terms.old (drop from values.now) ts → Makes symbols.now terms.old terms.new (applied m ts) result }
+    ensures makes { (m : Meaning) (ts : List Typed) → IsSymbolOf symbols.now leaf m → AreValues symbols.now terms.old (drop from values.now) ts → Makes symbols.now terms.old terms.new (meaning_applied m ts) result }
     ensures keeps { KeepsTerms terms.old terms.new }
 {
     let _leaves = symbols.count();
@@ -94,7 +94,7 @@ fn apply_macro(
 ) -> Result<Option<Value>, ReadFault>
     requires some { from < length values.now }
     requires defined { (d : spec.Macro) × (ts : List Typed) × IsMacroOf symbols.now terms.old defined.now d × AreValues symbols.now terms.old (drop from values.now) ts }
-    ensures makes { (d : spec.Macro) (ts : List Typed) → IsMacroOf symbols.now terms.old defined.now d → AreValues symbols.now terms.old (drop from values.now) ts → Makes symbols.now terms.old terms.new (applied (macro d) ts) result }
+    ensures makes { (d : spec.Macro) (ts : List Typed) → IsMacroOf symbols.now terms.old defined.now d → AreValues symbols.now terms.old (drop from values.now) ts → Makes symbols.now terms.old terms.new (meaning_applied (macro d) ts) result }
     ensures keeps { KeepsTerms terms.old terms.new }
 {
     if !are_equal(&defined.sorts, values.sorts_from(from)) {

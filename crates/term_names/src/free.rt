@@ -12,7 +12,7 @@ ghost use Rattle.term_model.specs.FreeVariables.{IsFree};
 ghost use Rattle.term_model.specs.Terms.{Term};
 ghost use Rattle.term_pool.specs.Reading.{arguments_of, IsLet, IsLetTerm};
 ghost use Rattle.term_pool.specs.Views.{RefersTo, ReferToAll, KeepsTerms};
-ghost use Rattle.term_expansion.specs.Free.{AreFreeLeaves, ArePartsOfLet, AddsLeaves, IsAtMost, IsFreeInAny, Covers, AreBodies};
+ghost use Rattle.term_expansion.specs.Free.{AreFreeLeaves, ArePartsOfLet, AddsLeaves, IsAtMost, IsFreeInAny, CoversFree, AreBodies};
 ghost use Rattle.term_expansion.specs.Images.{IsSomeValue};
 ghost use Rattle.rule_model.specs.Replacement.{free_variables};
 ghost use Rattle.problem_text.specs.TypedTerms.{Typed};
@@ -116,10 +116,10 @@ fn gather(
     requires table { IsTable symbols.now }
     requires low { IsAtMost symbols.now terms.old most r }
     requires bodies { AreBodies symbols.now terms.old bodies.old }
-    requires covers { Covers symbols.now terms.old region.old.seen.keys region.old.found.keys }
+    requires covers { CoversFree symbols.now terms.old region.old.seen.keys region.old.found.keys }
     requires script { (sc : Script) × IsScript symbols.now terms.old known.now sc }
     ensures adds { OnOk result ((t : Term) → RefersTo symbols.now terms.old r t → AddsLeaves symbols.now region.old.found.keys region.new.found.keys (λ x. IsFree x t)) }
-    ensures covers { OnOk result (Covers symbols.now terms.old region.new.seen.keys region.new.found.keys) }
+    ensures covers { OnOk result (CoversFree symbols.now terms.old region.new.seen.keys region.new.found.keys) }
     ensures bodies { OnOk result (AreBodies symbols.now terms.old bodies.new) }
     ensures same { terms.new ≡ terms.old }
 {
@@ -166,10 +166,10 @@ fn gather_all(
     requires table { IsTable symbols.now }
     requires low { All (IsAtMost symbols.now terms.old most) list.now }
     requires bodies { AreBodies symbols.now terms.old bodies.old }
-    requires covers { Covers symbols.now terms.old region.old.seen.keys region.old.found.keys }
+    requires covers { CoversFree symbols.now terms.old region.old.seen.keys region.old.found.keys }
     requires script { (sc : Script) × IsScript symbols.now terms.old known.now sc }
     ensures adds { OnOk result ((ts : List Term) → ReferToAll symbols.now terms.old list.now ts → AddsLeaves symbols.now region.old.found.keys region.new.found.keys (λ x. IsFreeInAny x ts)) }
-    ensures covers { OnOk result (Covers symbols.now terms.old region.new.seen.keys region.new.found.keys) }
+    ensures covers { OnOk result (CoversFree symbols.now terms.old region.new.seen.keys region.new.found.keys) }
     ensures bodies { OnOk result (AreBodies symbols.now terms.old bodies.new) }
     ensures same { terms.new ≡ terms.old }
 {
@@ -197,10 +197,10 @@ fn gather_let(
     requires low { IsAtMost symbols.now terms.old most r }
     requires is_let { (t : Term) → RefersTo symbols.now terms.old r t → IsLet t }
     requires bodies { AreBodies symbols.now terms.old bodies.old }
-    requires covers { Covers symbols.now terms.old region.old.seen.keys region.old.found.keys }
+    requires covers { CoversFree symbols.now terms.old region.old.seen.keys region.old.found.keys }
     requires script { (sc : Script) × IsScript symbols.now terms.old known.now sc }
     ensures adds { OnOk result ((t : Term) → RefersTo symbols.now terms.old r t → AddsLeaves symbols.now region.old.found.keys region.new.found.keys (λ x. IsFree x t)) }
-    ensures covers { OnOk result (Covers symbols.now terms.old region.new.seen.keys region.new.found.keys) }
+    ensures covers { OnOk result (CoversFree symbols.now terms.old region.new.seen.keys region.new.found.keys) }
     ensures bodies { OnOk result (AreBodies symbols.now terms.old bodies.new) }
     ensures same { terms.new ≡ terms.old }
 {

@@ -5,7 +5,7 @@ ghost use Rattle.term_model.specs.Terms.{Var, variable};
 ghost use Rattle.term_pool.specs.StandsFor.{variable_leaf};
 ghost use Rattle.term_pool.specs.Views.{TermsView, KeepsTerms};
 ghost use Rattle.problem_text.specs.Limits.{most_height};
-ghost use Rattle.term_names.specs.InScope.{IsScope, AreLow, AreBound};
+ghost use Rattle.term_names.specs.InScope.{IsScope, AreLow, AreValuesBound};
 ghost use Rattle.term_names.specs.Making.{Makes};
 ghost use Rattle.problem_text.specs.Names.{Bound, Place, itself, inside, let_term};
 ghost use Rattle.term_names.specs.Scope.{Scoped};
@@ -32,8 +32,8 @@ pub fn bind(
     replaces_lets: bool,
 ) -> Result<(), Memory>
     requires within { from ≤ length values.now }
-    requires bound { (v : TermsView) × (bs : List Bound) × AreBound symbols.now v leaves.now (drop from values.now) bs }
-    ensures bound { (v : TermsView) (bs : List Bound) (p : Place) → AreBound symbols.now v leaves.now (drop from values.now) bs → IsScope symbols.now v scope.old p.scope → p.settings.replaces_lets ≡ replaces_lets → OnOk result (IsScope symbols.now v scope.new (inside bs p).scope) }
+    requires bound { (v : TermsView) × (bs : List Bound) × AreValuesBound symbols.now v leaves.now (drop from values.now) bs }
+    ensures bound { (v : TermsView) (bs : List Bound) (p : Place) → AreValuesBound symbols.now v leaves.now (drop from values.now) bs → IsScope symbols.now v scope.old p.scope → p.settings.replaces_lets ≡ replaces_lets → OnOk result (IsScope symbols.now v scope.new (inside bs p).scope) }
     ensures inner { OnOk result ((inner : List Scoped) × (scope.new ≡ inner ++ scope.old) × (length inner ≡ length leaves.now)) }
 {
     let _values = values.len();
@@ -117,8 +117,8 @@ pub fn close(
     requires within { from ≤ length values.now }
     requires low { AreLow values.now }
     requires body_low { body.height ≤ most_height }
-    requires bound { (bs : List Bound) × (t : Typed) × AreBound symbols.now terms.old leaves.now (drop from values.now) bs × IsValue symbols.now terms.old body t }
-    ensures makes { (p : Place) (bs : List Bound) (t : Typed) → AreBound symbols.now terms.old leaves.now (drop from values.now) bs → IsValue symbols.now terms.old body t → p.settings.replaces_lets ≡ replaces_lets → Makes symbols.now terms.old terms.new (Some (let_term p bs t)) result }
+    requires bound { (bs : List Bound) × (t : Typed) × AreValuesBound symbols.now terms.old leaves.now (drop from values.now) bs × IsValue symbols.now terms.old body t }
+    ensures makes { (p : Place) (bs : List Bound) (t : Typed) → AreValuesBound symbols.now terms.old leaves.now (drop from values.now) bs → IsValue symbols.now terms.old body t → p.settings.replaces_lets ≡ replaces_lets → Makes symbols.now terms.old terms.new (Some (let_term p bs t)) result }
     ensures keeps { KeepsTerms terms.old terms.new }
 {
     if replaces_lets {

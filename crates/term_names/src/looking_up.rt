@@ -5,11 +5,12 @@ ghost use Rattle.sym_table.specs.Table.{Table, IsLeaf};
 ghost use Rattle.term_model.specs.Terms.{Var};
 ghost use Rattle.term_pool.specs.StandsFor.{variable_leaf};
 ghost use Rattle.term_pool.specs.Views.{TermsView};
-ghost use Rattle.term_names.specs.Heads.{IsHeadOf};
+ghost use Rattle.term_names.specs.Heads.{HeadMeans};
 ghost use Rattle.term_expansion.specs.Free.{AreFreeLeaves};
 ghost use Rattle.term_names.specs.InScope.{IsScope};
 ghost use Rattle.term_names.specs.Known.{KnownView};
-ghost use Rattle.term_names.specs.LookingUp.{IsFound, IsEntryMeant, IsSymbolMeant, AgreeOnFunction, meaning_of_symbol};
+ghost use Rattle.term_names.specs.LookingUp.{IsFoundMeaning};
+ghost use Rattle.term_names.specs.Lookups.{IsEntryMeant, IsSymbolMeant, AgreeOnFunction, meaning_of_symbol};
 ghost use Rattle.problem_text.specs.Names.{Place, Meaning, is_bound, meaning_of};
 ghost use Rattle.problem_text.specs.Scripts.{Script};
 ghost use Rattle.term_names.specs.Standing.{IsScript};
@@ -41,7 +42,7 @@ pub enum Found {
 ///
 /// Costs one look-up in each table, and for a named term one for each of its free variables.
 pub fn find(symbols: &Symbols, known: &Known<'_>, scope: &Scope, name: &[u8]) -> Found
-    ensures { (v : TermsView) (sc : Script) (p : Place) → IsScript symbols.now v known.now sc → IsScope symbols.now v scope.now p.scope → IsFound symbols.now v known.now p result (meaning_of p sc name.now) }
+    ensures { (v : TermsView) (sc : Script) (p : Place) → IsScript symbols.now v known.now sc → IsScope symbols.now v scope.now p.scope → IsFoundMeaning symbols.now v known.now p result (meaning_of p sc name.now) }
 {
     if let Some(bound) = scope.find(name) {
         return Found::Term(bound.value);
@@ -111,7 +112,7 @@ fn symbol_named(symbols: &Symbols, name: &[u8]) -> Option<u32>
 
 /// What is found, as the head of an application. A term takes no arguments.
 pub fn head_of(found: Found) -> Option<Head>
-    ensures { (s : Table) (v : TermsView) (k : KnownView) (p : Place) (m : Meaning) → IsFound s v k p found (Some m) → (h : head.Head) × (result ≡ Some h) × IsHeadOf s v k h m }
+    ensures { (s : Table) (v : TermsView) (k : KnownView) (p : Place) (m : Meaning) → IsFoundMeaning s v k p found (Some m) → (h : head.Head) × (result ≡ Some h) × HeadMeans s v k h m }
 {
     match found {
         Found::Term(_) | Found::Named(_) => Some(Head::Fixed),

@@ -1,7 +1,7 @@
 //! The variables in scope.
 ghost use Rattle.std.specs.Prelude.{◌≡◌, ◌<◌, [], ◌∷◌, length, bytes_eq, find, option_map, IfOk, OnOk, OnErr};
 ghost use Rattle.term_names.specs.Scope.{Scoped};
-ghost use Rattle.term_names.specs.Held.{IsNumbered};
+ghost use Rattle.term_names.specs.NameNumbers.{IsNumbered};
 
 use crate::name_numbers::NameNumbers;
 use std::alloc::Global;
@@ -33,15 +33,15 @@ pub struct Scope {
 impl Model for Scope {
     ghost use Rattle.std.specs.Prelude.{List, reverse};
     ghost use Rattle.term_names.specs.Scope.{Scoped};
-    ghost use Rattle.term_names.specs.Held.{IsNumbered};
+    ghost use Rattle.term_names.specs.NameNumbers.{IsNumbered};
 
     ghost Value = { List Scoped };
 
-    ghost use Rattle.term_names.specs.Held.{scoped, IsLinked};
+    ghost use Rattle.term_names.specs.Held.{scoped, IsHeldLinked};
 
     ghost view = { λ s. scoped s.names (reverse s.held.items) };
 
-    ghost invariant = { λ s. IsLinked s.names s.innermost.items (reverse s.held.items) };
+    ghost invariant = { λ s. IsHeldLinked s.names s.innermost.items (reverse s.held.items) };
 }
 
 impl Scope {

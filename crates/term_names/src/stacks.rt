@@ -27,7 +27,7 @@ impl Model for Values {
 
     ghost Value = { List value.Value };
 
-    ghost use Rattle.term_names.specs.Stacks.{values_of, AreParts};
+    ghost use Rattle.term_names.specs.StackParts.{values_of, AreParts};
 
     ghost view = { λ s. values_of s.terms.items s.sorts.items s.heights.items s.plain.items };
 

@@ -9,10 +9,10 @@ ghost use Rattle.term_names.specs.BoundLeaves.{IsBoundLeaf, AreBoundLeaves, Puts
 ghost use Rattle.term_names.specs.Heads.{IsSymbolOf, IsMacroMeant};
 ghost use Rattle.term_expansion.specs.Free.{AreFreeLeaves};
 ghost use Rattle.term_names.specs.InScope.{IsScope};
-ghost use Rattle.term_names.specs.LookingUp.{IsFound, IsNamedMeant};
+ghost use Rattle.term_names.specs.LookingUp.{IsFoundMeaning, IsNamedMeant};
 ghost use Rattle.term_names.specs.Making.{Makes, IsMade};
-ghost use Rattle.problem_text.specs.Names.{Place, Meaning, applied, is_bound, replacement};
-ghost use Rattle.rule_model.specs.Replacement.{term_at};
+ghost use Rattle.problem_text.specs.Names.{Place, Meaning, meaning_applied, is_bound, replacement};
+ghost use Rattle.rule_model.specs.Replacement.{replaced_by};
 ghost use Rattle.term_expansion.specs.Values.{PutsIn};
 
 use crate::entries::{Macro, Named};
@@ -42,8 +42,8 @@ pub fn use_alone(
     replaces_lets: bool,
     found: Found,
 ) -> Result<Option<Value>, ReadFault>
-    requires found { (p : Place) × (m : Meaning) × IsScope symbols.now terms.old scope.now p.scope × (p.settings.replaces_lets ≡ replaces_lets) × IsFound symbols.now terms.old known.now p found (Some m) }
-    ensures makes { (p : Place) (m : Meaning) → IsScope symbols.now terms.old scope.now p.scope → p.settings.replaces_lets ≡ replaces_lets → IsFound symbols.now terms.old known.now p found (Some m) → Makes symbols.now terms.old terms.new (applied m []) result }
+    requires found { (p : Place) × (m : Meaning) × IsScope symbols.now terms.old scope.now p.scope × (p.settings.replaces_lets ≡ replaces_lets) × IsFoundMeaning symbols.now terms.old known.now p found (Some m) }
+    ensures makes { (p : Place) (m : Meaning) → IsScope symbols.now terms.old scope.now p.scope → p.settings.replaces_lets ≡ replaces_lets → IsFoundMeaning symbols.now terms.old known.now p found (Some m) → Makes symbols.now terms.old terms.new (meaning_applied m []) result }
     ensures keeps { KeepsTerms terms.old terms.new }
 {
     match found {
@@ -60,7 +60,7 @@ pub fn use_alone(
 
 /// The body of a macro that has no parameters.
 fn macro_alone(defined: &Macro) -> Option<Value>
-    ensures { (s : Table) (v : TermsView) (m : Meaning) → IsMacroMeant s v (Some defined.now) m → IsMade s v (applied m []) (Ok result) }
+    ensures { (s : Table) (v : TermsView) (m : Meaning) → IsMacroMeant s v (Some defined.now) m → IsMade s v (meaning_applied m []) (Ok result) }
 {
     if defined.parameters.is_empty() {
         Some(defined.body)
@@ -72,7 +72,7 @@ fn macro_alone(defined: &Macro) -> Option<Value>
 /// The term that an operator or a declared function is by itself, where it takes no arguments.
 fn symbol_alone(symbols: &Symbols, leaf: u32) -> Option<Value>
     requires { (m : Meaning) × IsSymbolOf symbols.now leaf m }
-    ensures { (v : TermsView) (m : Meaning) → IsSymbolOf symbols.now leaf m → IsMade symbols.now v (applied m []) (Ok result) }
+    ensures { (v : TermsView) (m : Meaning) → IsSymbolOf symbols.now leaf m → IsMade symbols.now v (meaning_applied m []) (Ok result) }
 {
     let _leaves = symbols.count();
     let sort = check_app(symbols, leaf, &[])?;
@@ -95,7 +95,7 @@ fn use_named(
     named: &Named,
 ) -> Result<Option<Value>, ReadFault>
     requires named { (p : Place) × (m : Meaning) × IsScope symbols.now terms.old scope.now p.scope × (p.settings.replaces_lets ≡ replaces_lets) × IsNamedMeant symbols.now terms.old p (Some named.now) m }
-    ensures makes { (p : Place) (m : Meaning) → IsScope symbols.now terms.old scope.now p.scope → p.settings.replaces_lets ≡ replaces_lets → IsNamedMeant symbols.now terms.old p (Some named.now) m → Makes symbols.now terms.old terms.new (applied m []) result }
+    ensures makes { (p : Place) (m : Meaning) → IsScope symbols.now terms.old scope.now p.scope → p.settings.replaces_lets ≡ replaces_lets → IsNamedMeant symbols.now terms.old p (Some named.now) m → Makes symbols.now terms.old terms.new (meaning_applied m []) result }
     ensures keeps { KeepsTerms terms.old terms.new }
 {
     if !replaces_lets {
@@ -126,7 +126,7 @@ fn bounds_of(
 /// What the variable of this leaf stands for here.
 fn bound_here(symbols: &Symbols, scope: &Scope, leaf: u32) -> Bound
     requires { IsBoundLeaf symbols.now scope.now leaf }
-    ensures { (v : TermsView) (p : Place) (x : Var) → IsScope symbols.now v scope.now p.scope → IsLeaf symbols.now leaf (variable_leaf x) → is_bound p.scope x ≡ true → PutsIn symbols.now v result x (term_at (replacement p.scope) x) }
+    ensures { (v : TermsView) (p : Place) (x : Var) → IsScope symbols.now v scope.now p.scope → IsLeaf symbols.now leaf (variable_leaf x) → is_bound p.scope x ≡ true → PutsIn symbols.now v result x (replaced_by (replacement p.scope) x) }
 {
     scope.find(symbols.name(leaf)).unwrap()
 }

@@ -7,14 +7,14 @@ use Rattle.sym_table.specs.Table.{Table, IsTable, IsLeaf}
 use Rattle.term_model.specs.declared.symbols.Op.{Op}
 use Rattle.term_model.specs.Flips.{equality}
 use Rattle.term_model.specs.Terms.{Term, Terms, numeral, variable, operation, call, let_in, term, no_terms, list_of, not_of}
-use Rattle.term_pool.specs.Building.{IsApplication}
+use Rattle.term_pool.specs.Building.{IsAppliedLeaf}
 use Rattle.term_pool.specs.Reading.{arguments_of, IsLet, HasArgument}
 use Rattle.term_pool.specs.Views.{TermsView, RefersTo, IsTerm}
-use Rattle.rule_model.specs.Clausal.{itself}
+use Rattle.rule_model.specs.Clausal.{as_it_stands}
 use Rattle.term_parts.specs.Parts.{IsOver, StandsUnder, AreSidesOf}
 
 -- a head that is the operator's leaf, with so many arguments
-pub over_is : (s : Table) (k n : ℕ) (op : Op) (t : Term) → IsLeaf s k (operator op) → IsApplication s k (arguments_of t) t → ((IsLet t → ⊥) → n ≡ length (arguments_of t)) → IsOver op n t
+pub over_is : (s : Table) (k n : ℕ) (op : Op) (t : Term) → IsLeaf s k (operator op) → IsAppliedLeaf s k (arguments_of t) t → ((IsLet t → ⊥) → n ≡ length (arguments_of t)) → IsOver op n t
 over_is s k n op (numeral z) leaf app count = absurd (let e = app.0 in cc)
 over_is s k n op (variable x) leaf app count = absurd (let e = app.0 in cc)
 over_is s k n op (operation o ts) leaf app count = (let e = app.0 in cc, sym (count (λ h. h)))
@@ -29,13 +29,13 @@ one_count m n op (variable x) h k = absurd h
 one_count m n op (call f us) h k = absurd h
 one_count m n op (let_in bs u) h k = absurd h
 
-pub over_exactly : (s : Table) (k m n : ℕ) (op : Op) (t : Term) → IsLeaf s k (operator op) → IsApplication s k (arguments_of t) t → ((IsLet t → ⊥) → m ≡ length (arguments_of t)) → IsTrue (nat_eq m n) ↔ IsOver op n t
+pub over_exactly : (s : Table) (k m n : ℕ) (op : Op) (t : Term) → IsLeaf s k (operator op) → IsAppliedLeaf s k (arguments_of t) t → ((IsLet t → ⊥) → m ≡ length (arguments_of t)) → IsTrue (nat_eq m n) ↔ IsOver op n t
 over_exactly s k m n op t leaf app count =
     let is = over_is s k m op t leaf app count in
     (λ e. subst (λ i. IsOver op i t) (eqb-true m n e) is, λ h. eq-eqb m n (one_count m n op t is h))
 
 -- a head that is another leaf
-pub other_head : (s : Table) (j k n : ℕ) (op : Op) (t : Term) → IsTable s → IsLeaf s j (operator op) → k ≢ j → IsApplication s k (arguments_of t) t → ¬ IsOver op n t
+pub other_head : (s : Table) (j k n : ℕ) (op : Op) (t : Term) → IsTable s → IsLeaf s j (operator op) → k ≢ j → IsAppliedLeaf s k (arguments_of t) t → ¬ IsOver op n t
 other_head s j k n op (numeral z) table leaf other app h = h
 other_head s j k n op (variable x) table leaf other app h = h
 other_head s j k n op (operation o ts) table leaf other app h =
@@ -103,7 +103,7 @@ negated_is s v r a t is argument =
     let one = over_one Op.Not t is in
     record { inner = one.0; refers = argument one.0 (ap (λ x. slice_get (arguments_of x) 0) one.1); is = one.1 }
 
-pub sides_are : (s : Table) (v : TermsView) (a b : ℕ) (t : Term) → IsOver Op.Equal 2 t → ((x : Term) → slice_get (arguments_of t) 0 ≡ Some x → RefersTo s v a x) → ((x : Term) → slice_get (arguments_of t) 1 ≡ Some x → RefersTo s v b x) → AreSidesOf s v itself (a, b) t
+pub sides_are : (s : Table) (v : TermsView) (a b : ℕ) (t : Term) → IsOver Op.Equal 2 t → ((x : Term) → slice_get (arguments_of t) 0 ≡ Some x → RefersTo s v a x) → ((x : Term) → slice_get (arguments_of t) 1 ≡ Some x → RefersTo s v b x) → AreSidesOf s v as_it_stands (a, b) t
 sides_are s v a b t is first second =
     let two = over_two Op.Equal t is in
     record {
@@ -119,7 +119,7 @@ under_is_term s v r a is under =
     let inner = under is.means is.refers in record { means = inner.inner; refers = inner.refers }
 
 -- an equality under a negation
-pub denied_are : (s : Table) (v : TermsView) (a : ℕ) (p : ℕ × ℕ) (t : Term) → StandsUnder s v a t → ((u : Term) → RefersTo s v a u → AreSidesOf s v itself p u) → AreSidesOf s v not_of p t
+pub denied_are : (s : Table) (v : TermsView) (a : ℕ) (p : ℕ × ℕ) (t : Term) → StandsUnder s v a t → ((u : Term) → RefersTo s v a u → AreSidesOf s v as_it_stands p u) → AreSidesOf s v not_of p t
 denied_are s v a p t under sides =
     let inner = sides under.inner under.refers in
     record {

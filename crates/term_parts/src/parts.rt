@@ -1,7 +1,7 @@
 //! Terms taken apart: equalities of two terms, and negations.
 
 ghost use Rattle.std.specs.Prelude.{◌≡◌, ◌≢◌, ◌<◌, ◌^◌, ◌↔◌, IsTrue, IfSome, IfNone};
-ghost use Rattle.rule_model.specs.Clausal.{itself};
+ghost use Rattle.rule_model.specs.Clausal.{as_it_stands};
 ghost use Rattle.term_model.specs.Flips.{equality};
 ghost use Rattle.term_model.specs.Terms.{Term, not_of};
 ghost use Rattle.term_pool.specs.Views.{IsTerm, RefersTo};
@@ -44,7 +44,7 @@ pub fn under_not(symbols: &Symbols, terms: &mut Terms<'_>, r: Ref) -> Option<Ref
 /// The two sides of an equality of two terms.
 pub fn sides_of(symbols: &Symbols, terms: &mut Terms<'_>, r: Ref) -> Option<(Ref, Ref)>
     requires { IsTerm symbols.now terms.old r }
-    ensures sides { IfSome result (λ p. (t : Term) → RefersTo symbols.now terms.old r t → AreSidesOf symbols.now terms.old itself p t) }
+    ensures sides { IfSome result (λ p. (t : Term) → RefersTo symbols.now terms.old r t → AreSidesOf symbols.now terms.old as_it_stands p t) }
     ensures other { IfNone result ((t u w : Term) → RefersTo symbols.now terms.old r t → t ≢ equality u w) }
     ensures same { terms.new ≡ terms.old }
 {

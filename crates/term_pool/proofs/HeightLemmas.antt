@@ -17,7 +17,8 @@ use Rattle.term_pool.specs.Views.{IsKnownCell, TermsView, RefersTo}
 use Rattle.term_pool.specs.declared.heights.Memo.{Memo}
 use Rattle.term_pool.specs.CellCounts.{Has}
 use Rattle.term_pool.specs.Meetings.{IsNumberingOf}
-use Rattle.term_pool.specs.Heights.{height_of, highest_of, highest_value, is_let_head, leaf_heights, cell_heights, heights_of}
+use Rattle.term_pool.specs.Heights.{height_of, highest_of, highest_value, is_let_head}
+use Rattle.term_pool.specs.HeightTables.{leaf_heights, cell_heights, heights_of}
 use Rattle.term_pool.specs.Memos.{HasHeights, HasRoomFor, IsMemo, IsNoted, IsBelow}
 use Rattle.term_pool.proofs.Members.{has_split}
 use Rattle.term_pool.proofs.Depth.{depth-bound}

@@ -2,7 +2,7 @@
 use Rattle.std.proofs.Common.{◌≡◌, ℕ, ◌+◌, ◌<◌, ◌≤◌, ◌^◌, refl, sym, ◌∙◌, ap, arith, List, [], ◌∷◌, ◌++◌, length, append_assoc, length-append}
 use Rattle.pair_pool.specs.Trees.{Tree, leaf, cell}
 use Rattle.pair_pool.specs.Views.{PassView, Knows, IsKnown, IsOneToOne, HasPartsOfTrees, HasListsInOrder}
-use Rattle.term_pool.specs.Trees.{list_length, items_of, ArePairs, pair_leaves, pair_trees, depth}
+use Rattle.term_pool.specs.Trees.{list_length, tree_items, AreLeafPairs, pair_leaves, pair_trees, depth}
 use Rattle.term_pool.specs.Views.{KnowsAll, IsKnownCell, AddsItems, IsPairList, AddsPairs}
 use Rattle.term_pool.proofs.Depth.{depth-bound, list_length-depth, is_cell}
 
@@ -22,7 +22,7 @@ same_lengths p [] (u ∷ ts) h = absurd h
 same_lengths p (q ∷ rs) [] h = absurd h
 same_lengths p (q ∷ rs) (u ∷ ts) h = let e = same_lengths p rs ts h.1 in omega arith
 
-items-length : (t : Tree) → length (items_of t) ≡ list_length t
+items-length : (t : Tree) → length (tree_items t) ≡ list_length t
 items-length (leaf k) = refl
 items-length (cell a b) = let e = items-length b in omega arith
 
@@ -35,7 +35,7 @@ pub record IsCollected (p : PassView) (list rest : ℕ) (old new : List ℕ) : T
   front : List Tree
   left : Tree
   left_known : Knows p rest left
-  split : items_of tree ≡ front ++ items_of left
+  split : tree_items tree ≡ front ++ tree_items left
   front_known : KnowsAll p items front
 
 pub collect_start : (p : PassView) (list : ℕ) (old : List ℕ) → IsKnown p list → IsCollected p list list old old
@@ -65,14 +65,14 @@ collected_below p list rest old new one parts order h =
     let s = order.size in
     let e = same_lengths p h.items h.front h.front_known in
     let i = items-length h.tree in
-    let f = ap length h.split ∙ length-append h.front (items_of h.left) in
+    let f = ap length h.split ∙ length-append h.front (tree_items h.left) in
     let g = ap length h.added ∙ length-append old h.items in
     omega arith
 
 pub collected_next : (p : PassView) (list rest first next : ℕ) (old new more : List ℕ) → HasPartsOfTrees p → 2 ^ 30 ≤ rest → IsCollected p list rest old new → ((s t : Tree) → Knows p rest (cell s t) → Knows p first s) → ((s t : Tree) → Knows p rest (cell s t) → Knows p next t) → more ≡ new ++ first ∷ [] → IsCollected p list next old more
 collected_next p list rest first next old new more parts above h is_first is_next pushed = go h.left h.left_known h.split
   where
-    go : (left : Tree) → Knows p rest left → items_of h.tree ≡ h.front ++ items_of left → IsCollected p list next old more
+    go : (left : Tree) → Knows p rest left → tree_items h.tree ≡ h.front ++ tree_items left → IsCollected p list next old more
     go (leaf k) known e = let n = parts.leaf_number rest k known in absurd (omega (arith, n.0, n.1))
     go (cell a b) known e = record {
       items = h.items ++ first ∷ [];
@@ -82,7 +82,7 @@ collected_next p list rest first next old new more parts above h is_first is_nex
       front = h.front ++ a ∷ [];
       left = b;
       left_known = is_next a b known;
-      split = e ∙ sym (append_assoc h.front (a ∷ []) (items_of b));
+      split = e ∙ sym (append_assoc h.front (a ∷ []) (tree_items b));
       front_known = all_behind p h.items h.front first a h.front_known (is_first a b known);
     }
 
@@ -99,7 +99,7 @@ collected_all p list rest old new one low h = record {
       rw (same, whole h.left h.left_known h.split) h.front_known;
 }
   where
-    whole : (left : Tree) → Knows p rest left → items_of h.tree ≡ h.front ++ items_of left → items_of h.tree ≡ h.front
+    whole : (left : Tree) → Knows p rest left → tree_items h.tree ≡ h.front ++ tree_items left → tree_items h.tree ≡ h.front
     whole (leaf k) known e = e ∙ no_more h.front
     whole (cell a b) known e = let high = one.high rest a b known in absurd (omega arith)
 
@@ -114,7 +114,7 @@ pub record ArePairsCollected (p : PassView) (list rest : ℕ) (old_leaves new_le
   front : List Tree
   left : Tree
   left_known : Knows p rest left
-  left_pairs : ArePairs left
+  left_pairs : AreLeafPairs left
   leaves_split : pair_leaves tree ≡ leaves ++ pair_leaves left
   split : pair_trees tree ≡ front ++ pair_trees left
   front_known : KnowsAll p items front
@@ -146,7 +146,7 @@ pairs_cell p list rest old_leaves new_leaves old new parts above h = is_cell p p
 pub pair_cell : (p : PassView) (list rest first : ℕ) (old_leaves new_leaves old new : List ℕ) → HasPartsOfTrees p → 2 ^ 30 ≤ rest → ArePairsCollected p list rest old_leaves new_leaves old new → ((s t : Tree) → Knows p rest (cell s t) → Knows p first s) → IsKnownCell p first
 pair_cell p list rest first old_leaves new_leaves old new parts above h is_first = go h.left h.left_known h.left_pairs
   where
-    go : (left : Tree) → Knows p rest left → ArePairs left → IsKnownCell p first
+    go : (left : Tree) → Knows p rest left → AreLeafPairs left → IsKnownCell p first
     go (leaf k) known e = let n = parts.leaf_number rest k known in absurd (omega (arith, n.0, n.1))
     go (cell (leaf j) b) known e = absurd e
     go (cell (cell (leaf k) t) b) known e = record { first = leaf k; second = t; stands = is_first (cell (leaf k) t) b known }
@@ -172,7 +172,7 @@ pub pairs_next : (p : PassView) (list rest first next name number second : ℕ) 
 pairs_next p list rest first next name number second old_leaves new_leaves more_leaves old new more parts above h is_first is_next is_name is_second is_number leaves_pushed pushed =
     go h.left h.left_known h.left_pairs h.leaves_split h.split
   where
-    go : (left : Tree) → Knows p rest left → ArePairs left → pair_leaves h.tree ≡ h.leaves ++ pair_leaves left → pair_trees h.tree ≡ h.front ++ pair_trees left → ArePairsCollected p list next old_leaves more_leaves old more
+    go : (left : Tree) → Knows p rest left → AreLeafPairs left → pair_leaves h.tree ≡ h.leaves ++ pair_leaves left → pair_trees h.tree ≡ h.front ++ pair_trees left → ArePairsCollected p list next old_leaves more_leaves old more
     go (leaf k) known e f g = let n = parts.leaf_number rest k known in absurd (omega (arith, n.0, n.1))
     go (cell (leaf j) b) known e f g = absurd e
     go (cell (cell (cell c d) t) b) known e f g = absurd e

@@ -8,7 +8,7 @@ use Rattle.std.proofs.lemmas.Map.{update_here, update_apart}
 use Rattle.std.proofs.lemmas.Map.Steps.{length-le_from_distinct_below}
 use Rattle.term_pool.specs.declared.numbering.Numbering.{Numbering}
 use Rattle.term_pool.specs.CellCounts.{Has, AreApart}
-use Rattle.term_pool.specs.Numbering.{number_of, number_in, HasNumber, HasRoom, IsPlace, IsNumbering, IsFilled}
+use Rattle.term_pool.specs.Numbering.{number_or_zero, number_in, HasNumber, HasNumberRoom, IsPlace, IsNumbering, IsFilled}
 use Rattle.term_pool.proofs.Members.{AreDistinct, has_number, number_has, apart_from_distinct, any_has, distinct_from_apart}
 
 same_some : {X : Type 0} {a b : X} → Some a ≡ Some b → a ≡ b
@@ -37,7 +37,7 @@ few_cells n h =
     let size = h.size in
     omega arith
 
-pub no_cells : (n : Numbering) → n.places ≤ 2 ^ 26 → n.cells.items ≡ [] → ((r : ℕ) → number_in n.index r ≡ None) → ((r : ℕ) → HasRoom n.index r) → IsNumbering n
+pub no_cells : (n : Numbering) → n.places ≤ 2 ^ 26 → n.cells.items ≡ [] → ((r : ℕ) → number_in n.index r ≡ None) → ((r : ℕ) → HasNumberRoom n.index r) → IsNumbering n
 no_cells n size empty none room = record {
   size = size;
   inside = λ k less. absurd (nothing k less);
@@ -125,21 +125,21 @@ fill_step places cells inside distinct k less numbers h = record {
         (omega (arith, before.0), before.1)
 
 -- numbers by place number the cells as the index did
-pub numbers_by_place : (n m : Numbering) → IsNumbering n → m.places ≡ n.places → m.cells.items ≡ n.cells.items → (numbers : List ℕ) → ((r : ℕ) → number_in m.index r ≡ number_of (get_or numbers (r - 2 ^ 30) 0)) → ((r : ℕ) → r < 2 ^ 30 + length numbers → HasRoom m.index r) → IsFilled n.places n.cells.items (length n.cells.items) numbers → IsNumbering m
+pub numbers_by_place : (n m : Numbering) → IsNumbering n → m.places ≡ n.places → m.cells.items ≡ n.cells.items → (numbers : List ℕ) → ((r : ℕ) → number_in m.index r ≡ number_or_zero (get_or numbers (r - 2 ^ 30) 0)) → ((r : ℕ) → r < 2 ^ 30 + length numbers → HasNumberRoom m.index r) → IsFilled n.places n.cells.items (length n.cells.items) numbers → IsNumbering m
 numbers_by_place n m h places cells numbers by room f = record {
   size = rw places h.size;
   inside = rw (places, cells) h.inside;
   room = λ r place. room r (let top = place.inside in let long = f.long in omega arith);
-  told = rw cells (λ k less. by (get_or n.cells.items k 0) ∙ ap number_of (f.told k less));
+  told = rw cells (λ k less. by (get_or n.cells.items k 0) ∙ ap number_or_zero (f.told k less));
   only = rw cells (λ r k high e. f.only r k high (next _ k (sym (by r) ∙ e)));
 }
   where
-    next : (x k : ℕ) → number_of x ≡ Some k → x ≡ suc k
+    next : (x k : ℕ) → number_or_zero x ≡ Some k → x ≡ suc k
     next zero k e = absurd (cc)
     next (suc x) k e = ap suc (same_some e)
 
 -- one cell more, with the next number
-pub next_cell : (n m : Numbering) → IsNumbering n → (r : ℕ) → IsPlace n.places r → (Has n.cells.items r → ⊥) → m.places ≡ n.places → m.cells.items ≡ n.cells.items ++ r ∷ [] → ((q : ℕ) → 2 ^ 30 ≤ q → number_in m.index q ≡ update nat_eq (number_in n.index) r (Some (length n.cells.items)) q) → ((q : ℕ) → HasRoom n.index q → HasRoom m.index q) → IsNumbering m
+pub next_cell : (n m : Numbering) → IsNumbering n → (r : ℕ) → IsPlace n.places r → (Has n.cells.items r → ⊥) → m.places ≡ n.places → m.cells.items ≡ n.cells.items ++ r ∷ [] → ((q : ℕ) → 2 ^ 30 ≤ q → number_in m.index q ≡ update nat_eq (number_in n.index) r (Some (length n.cells.items)) q) → ((q : ℕ) → HasNumberRoom n.index q → HasNumberRoom m.index q) → IsNumbering m
 next_cell n m h r place new places cells found room = record {
   size = rw places h.size;
   inside = rw (places, cells) (λ k less. inside k less (old_or_last k less));

@@ -6,7 +6,7 @@ use Rattle.pair_pool.specs.Decoding.{HasTreesWithin}
 use Rattle.sym_table.specs.Leaf.{Leaf, operator, function, let_head, nil}
 use Rattle.sym_table.specs.Table.{Table, IsLeaf, IsTable}
 use Rattle.term_model.specs.Terms.{Term, Terms, Bindings, numeral, variable, operation, call, let_in, no_terms, term, no_bindings, binding}
-use Rattle.term_pool.specs.Decoding.{leaf_term, applied, cell_term, leaf_at, decode, decode_list, decode_bindings, HasTermsAt}
+use Rattle.term_pool.specs.Decoding.{leaf_term, applied_where, cell_term, leaf_at, decode, decode_list, decode_bindings, HasTermsAt}
 use Rattle.term_pool.specs.StandsFor.{variable_leaf, function_leaf, IsLeafOf, StandsFor, StandsForList, StandsForBindings}
 use Rattle.term_pool.specs.Views.{TermsView}
 use Rattle.term_pool.proofs.Depth.{depth-bound}
@@ -19,7 +19,7 @@ decode-leaf : (s : Table) (a : Tree) (l : Leaf) → IsLeafOf s a l → decode s 
 decode-leaf s (leaf k) l p = ap leaf_term p
 decode-leaf s (cell a b) l p = absurd p
 
-applied-leaf : (s : Table) (k : ℕ) (l : Leaf) (f : Terms → Term) → leaf_at s (leaf k) ≡ Some l → (ts : Option Terms) (u : Option Term) → cell_term (Some l) ts u ≡ applied f ts → cell_term (leaf_at s (leaf k)) ts u ≡ applied f ts
+applied-leaf : (s : Table) (k : ℕ) (l : Leaf) (f : Terms → Term) → leaf_at s (leaf k) ≡ Some l → (ts : Option Terms) (u : Option Term) → cell_term (Some l) ts u ≡ applied_where f ts → cell_term (leaf_at s (leaf k)) ts u ≡ applied_where f ts
 applied-leaf s k l f e ts u p = rw e p
 
 mutual

@@ -13,7 +13,7 @@ use Rattle.term_pool.specs.StandsFor.{nil_tree}
 use Rattle.term_pool.specs.Trees.{depth}
 use Rattle.term_pool.specs.Views.{IsKnownCell}
 use Rattle.term_pool.specs.Heights.{is_let_head}
-use Rattle.term_pool.specs.Pairs.{same_tree, same_terms, same_lists, crossed, same_as, as_terms, as_lists, Answers, answer_of, IsAnswer, AreAnswers, looked, both_of, AreCells, IsBelow, IsJudged, IsCrossed, AreItems, Remembers}
+use Rattle.term_pool.specs.Pairs.{same_tree, same_terms, same_lists, crossed, same_as, as_terms, as_lists, Answers, answer_of, IsAnswer, AreAnswers, looked, both_of, AreCells, IsPairBelow, IsJudged, IsCrossed, AreTwoItems, RemembersPair}
 use Rattle.term_pool.proofs.Depth.{is_cell}
 use Rattle.term_pool.proofs.HeightLemmas.{head_is_let}
 use Rattle.term_pool.proofs.ReadingLemmas.{leaf_of}
@@ -174,7 +174,7 @@ second_deeper p one r a b h s u k l =
     let f : u ≡ h.list = one.one_tree b _ _ l h.second in
     rw (e, f) (omega arith)
 
-below_pair : (p : PassView) (x z : Pair) → Deeper p x.left z.left → Deeper p x.right z.right → AreCells p z → IsBelow p x z
+below_pair : (p : PassView) (x z : Pair) → Deeper p x.left z.left → Deeper p x.right z.right → AreCells p z → IsPairBelow p x z
 unfolding Deeper
 below_pair p x z left right cells = record {
   cells = cells;
@@ -182,7 +182,7 @@ below_pair p x z left right cells = record {
 }
 
 -- the pairs of the walk
-pub below_further : (p : PassView) (x y z : Pair) → IsBelow p x y → IsBelow p y z → IsBelow p x z
+pub below_further : (p : PassView) (x y z : Pair) → IsPairBelow p x y → IsPairBelow p y z → IsPairBelow p x z
 below_further p x y z h k = record {
   cells = k.cells;
   less = λ s t u v a b c d.
@@ -193,7 +193,7 @@ below_further p x y z h k = record {
       omega arith;
 }
 
-pub below_never : (p : PassView) (x : Pair) → IsBelow p x x → ⊥
+pub below_never : (p : PassView) (x : Pair) → IsPairBelow p x x → ⊥
 below_never p x h =
     let c = h.cells.one in
     let d = h.cells.other in
@@ -207,10 +207,10 @@ lists_judged p one parts equal memo right r a b q c d h k =
     (look_is p one parts equal memo right (as_terms a c) (first_known p r a b h) (first_known p q c d k))
     (look_is p one parts equal memo right (as_lists b d) (rest_known p r a b h) (rest_known p q c d k)))
   where
-    firsts : AreCells p (as_terms a c) → IsBelow p (as_lists r q) (as_terms a c)
+    firsts : AreCells p (as_terms a c) → IsPairBelow p (as_lists r q) (as_terms a c)
     firsts cells = below_pair p (as_lists r q) (as_terms a c) (first_deeper p one r a b h) (first_deeper p one q c d k) cells
 
-    rests : AreCells p (as_lists b d) → IsBelow p (as_lists r q) (as_lists b d)
+    rests : AreCells p (as_lists b d) → IsPairBelow p (as_lists r q) (as_lists b d)
     rests cells = below_pair p (as_lists r q) (as_lists b d) (second_deeper p one r a b h) (second_deeper p one q c d k) cells
 
     go : (v : Visit) → AreBoth p equal memo (as_terms a c) (as_lists b d) v → IsJudged p equal memo (as_lists r q) v
@@ -226,7 +226,7 @@ second_false : (x y : Bool) → ((x && false) && y) ≡ false
 second_false true y = refl
 second_false false y = refl
 
-pub crossed_left : (p : PassView) (equal : ℕ) (memo : Answers) (list others : ℕ) → AreItems p list None → IsCrossed p equal memo list others (Done false)
+pub crossed_left : (p : PassView) (equal : ℕ) (memo : Answers) (list others : ℕ) → AreTwoItems p list None → IsCrossed p equal memo list others (Done false)
 crossed_left p equal memo list others none (leaf j) t k l = refl
 crossed_left p equal memo list others none (cell a (leaf j)) t k l = refl
 crossed_left p equal memo list others none (cell a (cell b end)) (leaf j) k l = refl
@@ -235,7 +235,7 @@ crossed_left p equal memo list others none (cell a (cell b end)) (cell c (cell d
     let no : same_tree end nil_tree ≡ false = tree_other end nil_tree (λ e. none a b (rw e at k)) in
     sym (ap (λ (x : Bool). (x && same_tree rest nil_tree) && (same_terms equal a d && same_terms equal b c)) no)
 
-pub crossed_right : (p : PassView) (equal : ℕ) (memo : Answers) (list others : ℕ) → AreItems p others None → IsCrossed p equal memo list others (Done false)
+pub crossed_right : (p : PassView) (equal : ℕ) (memo : Answers) (list others : ℕ) → AreTwoItems p others None → IsCrossed p equal memo list others (Done false)
 crossed_right p equal memo list others none (leaf j) t k l = refl
 crossed_right p equal memo list others none (cell a (leaf j)) t k l = refl
 crossed_right p equal memo list others none (cell a (cell b end)) (leaf j) k l = refl
@@ -245,10 +245,10 @@ crossed_right p equal memo list others none (cell a (cell b end)) (cell c (cell 
     sym (ap (λ (x : Bool). (same_tree end nil_tree && x) && (same_terms equal a d && same_terms equal b c)) no ∙ second_false (same_tree end nil_tree) (same_terms equal a d && same_terms equal b c))
 
 -- the items of a list that has two, as those of a cell and of the cell behind it
-pub items_of_two : (p : PassView) → IsOneToOne p → HasPartsOfTrees p → (r a b c d : ℕ) → IsSplit p r a b → IsSplit p b c d → d ≡ 0 → AreItems p r (Some (a, c))
+pub items_of_two : (p : PassView) → IsOneToOne p → HasPartsOfTrees p → (r a b c d : ℕ) → IsSplit p r a b → IsSplit p b c d → d ≡ 0 → AreTwoItems p r (Some (a, c))
 items_of_two p one parts r a b c d h k e = go k.list k.second refl
   where
-    go : (end : Tree) → Knows p d end → end ≡ k.list → AreItems p r (Some (a, c))
+    go : (end : Tree) → Knows p d end → end ≡ k.list → AreTwoItems p r (Some (a, c))
     go (leaf n) known f =
         let zero : d ≡ n = (parts.leaf_number d n known).0 in
         let nil : leaf n ≡ nil_tree = ap (λ (m : ℕ). leaf m) (sym zero ∙ e) in
@@ -268,20 +268,20 @@ item_deeper p one r m a b end whole (inr known) s u k l =
     let f : u ≡ b = one.one_tree m _ _ l known in
     rw (e, f) (omega arith)
 
-pub crossed_judged : (p : PassView) → IsOneToOne p → HasPartsOfTrees p → (equal : ℕ) (memo : Answers) → AreAnswers p equal memo → (list others : ℕ) (m n : ℕ × ℕ) → AreItems p list (Some m) → AreItems p others (Some n) → IsCrossed p equal memo list others (both_of (as_terms m.0 n.1) (looked memo (as_terms m.0 n.1)) (as_terms m.1 n.0) (looked memo (as_terms m.1 n.0)))
+pub crossed_judged : (p : PassView) → IsOneToOne p → HasPartsOfTrees p → (equal : ℕ) (memo : Answers) → AreAnswers p equal memo → (list others : ℕ) (m n : ℕ × ℕ) → AreTwoItems p list (Some m) → AreTwoItems p others (Some n) → IsCrossed p equal memo list others (both_of (as_terms m.0 n.1) (looked memo (as_terms m.0 n.1)) (as_terms m.1 n.0) (looked memo (as_terms m.1 n.0)))
 crossed_judged p one parts equal memo right list others m n (a, b, whole, am, bm) (c, d, others_whole, cn, dn) =
     go _
     (both_are p equal memo (as_terms m.0 n.1) (as_terms m.1 n.0) _ _
     (look_is p one parts equal memo right (as_terms m.0 n.1) (record { tree = a; stands = am }) (record { tree = d; stands = dn }))
     (look_is p one parts equal memo right (as_terms m.1 n.0) (record { tree = b; stands = bm }) (record { tree = c; stands = cn })))
   where
-    outer : AreCells p (as_terms m.0 n.1) → IsBelow p (as_lists list others) (as_terms m.0 n.1)
+    outer : AreCells p (as_terms m.0 n.1) → IsPairBelow p (as_lists list others) (as_terms m.0 n.1)
     outer cells =
         below_pair p (as_lists list others) (as_terms m.0 n.1)
         (item_deeper p one list m.0 a b nil_tree whole (inl am))
         (item_deeper p one others n.1 c d nil_tree others_whole (inr dn)) cells
 
-    inner : AreCells p (as_terms m.1 n.0) → IsBelow p (as_lists list others) (as_terms m.1 n.0)
+    inner : AreCells p (as_terms m.1 n.0) → IsPairBelow p (as_lists list others) (as_terms m.1 n.0)
     inner cells =
         below_pair p (as_lists list others) (as_terms m.1 n.0)
         (item_deeper p one list m.1 a b nil_tree whole (inr bm))
@@ -295,7 +295,7 @@ crossed_judged p one parts equal memo right list others m n (a, b, whole, am, bm
         let f : t ≡ cell c (cell d nil_tree) = one.one_tree others _ _ l others_whole in
         rw (e, f) (both a d b c am dn bm cn)
 
-deeper_pair : (p : PassView) → IsOneToOne p → (r a b q c d : ℕ) → IsSplit p r a b → IsSplit p q c d → (z : Pair) → IsBelow p (as_lists b d) z → IsBelow p (as_terms r q) z
+deeper_pair : (p : PassView) → IsOneToOne p → (r a b q c d : ℕ) → IsSplit p r a b → IsSplit p q c d → (z : Pair) → IsPairBelow p (as_lists b d) z → IsPairBelow p (as_terms r q) z
 unfolding Deeper
 deeper_pair p one r a b q c d h k z v = record {
   cells = v.cells;
@@ -373,7 +373,7 @@ equal_lists p one parts equal memo r a b q c d h k head answer =
     with_head p one parts equal r a b q c d h k head true
     (let lists = answer h.list k.list h.second k.second in rw (← lists) refl)
 
-pub open_lists : (p : PassView) → IsOneToOne p → (memo : Answers) (r a b q c d : ℕ) → IsSplit p r a b → IsSplit p q c d → IsOpen p memo (as_lists b d) → IsBelow p (as_terms r q) (as_lists b d) × (answer_of memo (as_lists b d) ≡ None)
+pub open_lists : (p : PassView) → IsOneToOne p → (memo : Answers) (r a b q c d : ℕ) → IsSplit p r a b → IsSplit p q c d → IsOpen p memo (as_lists b d) → IsPairBelow p (as_terms r q) (as_lists b d) × (answer_of memo (as_lists b d) ≡ None)
 open_lists p one memo r a b q c d h k o =
     (below_pair p (as_terms r q) (as_lists b d) (second_deeper p one r a b h) (second_deeper p one q c d k) o.cells, o.unmet)
 
@@ -438,7 +438,7 @@ unmet_none memo x h = go (answer_of memo x) refl
     go None e = e
     go (Some b) e = absurd (h (b, e))
 
-met_more : (old new : Answers) (at : Pair) (b : Bool) → Remembers old new at b → (x : Pair) → IsMet new x → IsMet old x ⊎ (x ≡ at)
+met_more : (old new : Answers) (at : Pair) (b : Bool) → RemembersPair old new at b → (x : Pair) → IsMet new x → IsMet old x ⊎ (x ≡ at)
 unfolding IsMet
 met_more old new at b h x (c, e) = go (same_pair x at)
   where
@@ -446,7 +446,7 @@ met_more old new at b h x (c, e) = go (same_pair x at)
     go (inl same) = inr same
     go (inr other) = inl (c, sym (h.others x other) ∙ e)
 
-answers_more : (p : PassView) (equal : ℕ) (old new : Answers) (at : Pair) (b : Bool) → AreAnswers p equal old → Remembers old new at b → IsAnswer p equal at b → AreAnswers p equal new
+answers_more : (p : PassView) (equal : ℕ) (old new : Answers) (at : Pair) (b : Bool) → AreAnswers p equal old → RemembersPair old new at b → IsAnswer p equal at b → AreAnswers p equal new
 answers_more p equal old new at b right h answer x c e = go (same_pair x at)
   where
     go : (x ≡ at) ⊎ (x ≢ at) → IsAnswer p equal x c
@@ -461,17 +461,17 @@ answers_more p equal old new at b right h answer x c e = go (same_pair x at)
 pub record IsWalk (p : PassView) (equal : ℕ) (memo : Answers) (root : Pair) (items : List Pair) : Type 0 where
   right : AreAnswers p equal memo
   cells : AreCells p root
-  way : IsWay (IsBelow p) (IsMet memo) root items
+  way : IsWay (IsPairBelow p) (IsMet memo) root items
 
 pub walk_answers : (p : PassView) (equal : ℕ) (memo : Answers) (root : Pair) (items : List Pair) → IsWalk p equal memo root items → AreAnswers p equal memo
 walk_answers p equal memo root items h = h.right
 
 pub walk_cells : (p : PassView) (equal : ℕ) (memo : Answers) (root at : Pair) (way : List Pair) → IsWalk p equal memo root (way ++ at ∷ []) → AreCells p at
 walk_cells p equal memo root at way h =
-    way_here (IsBelow p) (AreCells p) (λ x y b. b.cells) (IsMet memo) root at way h.cells h.way
+    way_here (IsPairBelow p) (AreCells p) (λ x y b. b.cells) (IsMet memo) root at way h.cells h.way
 
 pub walk_new : (p : PassView) (equal : ℕ) (memo : Answers) (root at : Pair) (way : List Pair) → IsWalk p equal memo root (way ++ at ∷ []) → answer_of memo at ≡ None
-walk_new p equal memo root at way h = unmet_none memo at (way_unmet (IsBelow p) (IsMet memo) root at way h.way)
+walk_new p equal memo root at way h = unmet_none memo at (way_unmet (IsPairBelow p) (IsMet memo) root at way h.way)
 
 no_answers : (p : PassView) (equal : ℕ) (memo : Answers) → memo.entries ≡ [] → AreAnswers p equal memo
 no_answers p equal memo e x b f = let g : None ≡ Some b = sym (nothing x) ∙ f in absurd (cc)
@@ -487,22 +487,22 @@ pub walk_start : (p : PassView) (equal : ℕ) (memo : Answers) → memo.entries 
 walk_start p equal memo e root h = record {
   right = no_answers p equal memo e;
   cells = h.cells;
-  way = way_start (IsBelow p) (IsMet memo) root (none_unmet memo root h.unmet);
+  way = way_start (IsPairBelow p) (IsMet memo) root (none_unmet memo root h.unmet);
 }
 
-pub walk_down : (p : PassView) (equal : ℕ) (memo : Answers) (root at part : Pair) (way : List Pair) → IsWalk p equal memo root (way ++ at ∷ []) → IsBelow p at part → answer_of memo part ≡ None → IsWalk p equal memo root ((way ++ at ∷ []) ++ part ∷ [])
+pub walk_down : (p : PassView) (equal : ℕ) (memo : Answers) (root at part : Pair) (way : List Pair) → IsWalk p equal memo root (way ++ at ∷ []) → IsPairBelow p at part → answer_of memo part ≡ None → IsWalk p equal memo root ((way ++ at ∷ []) ++ part ∷ [])
 walk_down p equal memo root at part way h k e = record {
   right = h.right;
   cells = h.cells;
-  way = way_down (IsBelow p) (below_further p) (IsMet memo) root at part way h.way k (none_unmet memo part e);
+  way = way_down (IsPairBelow p) (below_further p) (IsMet memo) root at part way h.way k (none_unmet memo part e);
 }
 
-pub walk_up : (p : PassView) (equal : ℕ) (old new : Answers) (root at above : Pair) (b : Bool) (way : List Pair) → IsWalk p equal old root ((way ++ above ∷ []) ++ at ∷ []) → Remembers old new at b → IsAnswer p equal at b → IsWalk p equal new root (way ++ above ∷ [])
+pub walk_up : (p : PassView) (equal : ℕ) (old new : Answers) (root at above : Pair) (b : Bool) (way : List Pair) → IsWalk p equal old root ((way ++ above ∷ []) ++ at ∷ []) → RemembersPair old new at b → IsAnswer p equal at b → IsWalk p equal new root (way ++ above ∷ [])
 walk_up p equal old new root at above b way h more answer = record {
   right = answers_more p equal old new at b h.right more answer;
   cells = h.cells;
-  way = way_up (IsBelow p) (below_never p) (IsMet old) (IsMet new) root above at way (met_more old new at b more) h.way;
+  way = way_up (IsPairBelow p) (below_never p) (IsMet old) (IsMet new) root above at way (met_more old new at b more) h.way;
 }
 
 pub walk_end : (p : PassView) (equal : ℕ) (memo : Answers) (root at : Pair) (way : List Pair) → way ≡ [] → IsWalk p equal memo root (way ++ at ∷ []) → at ≡ root
-walk_end p equal memo root at way e h = way_end (IsBelow p) (IsMet memo) root at way e h.way
+walk_end p equal memo root at way e h = way_end (IsPairBelow p) (IsMet memo) root at way e h.way

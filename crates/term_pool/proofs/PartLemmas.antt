@@ -9,16 +9,16 @@ use Rattle.sym_table.specs.Leaf.{Leaf, operator, let_head}
 use Rattle.sym_table.specs.Table.{Table, IsLeaf, IsTable}
 use Rattle.term_model.specs.Terms.{Var, Term, Terms, Bindings, numeral, variable, operation, call, let_in, no_terms, term, list_of, no_bindings, binding}
 use Rattle.term_pool.specs.StandsFor.{nil_tree, let_tree, function_leaf, StandsFor, StandsForApplication, StandsForList, StandsForBindings}
-use Rattle.term_pool.specs.Trees.{items_of, ArePairs, pair_leaves, pair_trees}
+use Rattle.term_pool.specs.Trees.{tree_items, AreLeafPairs, pair_leaves, pair_trees}
 use Rattle.term_pool.specs.Views.{TermsView, RefersTo, ReferToAll, KnowsAll, IsKnownCell, AddsItems, IsPairList, AddsPairs}
-use Rattle.term_pool.specs.Building.{IsApplication, AreBindings}
+use Rattle.term_pool.specs.Building.{IsAppliedLeaf, AreBindings}
 use Rattle.term_pool.specs.Reading.{arguments_of, IsLet, IsLetTerm}
 use Rattle.term_pool.specs.StandsFor.{StandForAll}
 use Rattle.term_pool.proofs.ReadingLemmas.{leaf_of, reference_cell, let_trees}
 use Rattle.term_pool.proofs.ShapeLemmas.{not_let}
 
 -- heads
-leaf_application : (s : Table) (t : Term) (k : ℕ) → StandsFor s (leaf k) t → IsApplication s k (arguments_of t) t
+leaf_application : (s : Table) (t : Term) (k : ℕ) → StandsFor s (leaf k) t → IsAppliedLeaf s k (arguments_of t) t
 leaf_application s (numeral n) k h = (h, refl)
 leaf_application s (variable x) k h = (h, refl)
 leaf_application s (operation op no_terms) k h = (h, refl)
@@ -27,13 +27,13 @@ leaf_application s (call f no_terms) k h = (h, refl)
 leaf_application s (call f (term t ts)) k h = absurd h
 leaf_application s (let_in bs u) k h = absurd h
 
-pub leaf_head : (s : Table) (v : TermsView) → IsOneToOne v.pass → HasPartsOfTrees v.pass → (r n : ℕ) → n ≡ r → r < 2 ^ 30 → (t : Term) → RefersTo s v r t → IsApplication s n (arguments_of t) t
+pub leaf_head : (s : Table) (v : TermsView) → IsOneToOne v.pass → HasPartsOfTrees v.pass → (r n : ℕ) → n ≡ r → r < 2 ^ 30 → (t : Term) → RefersTo s v r t → IsAppliedLeaf s n (arguments_of t) t
 leaf_head s v one parts r n e low t h =
     let is : h.tree ≡ leaf r = leaf_of v.pass one parts r h.tree h.known low in
     rw e (leaf_application s t r (rw is at h.stands))
 
 -- the head of a term that is a cell is a leaf
-cell_application : (s : Table) (t : Term) (k : ℕ) (rest : Tree) → StandsFor s (cell (leaf k) rest) t → k ≢ 1 → IsApplication s k (arguments_of t) t
+cell_application : (s : Table) (t : Term) (k : ℕ) (rest : Tree) → StandsFor s (cell (leaf k) rest) t → k ≢ 1 → IsAppliedLeaf s k (arguments_of t) t
 cell_application s (numeral n) k rest h other = absurd h
 cell_application s (variable x) k rest h other = absurd h
 cell_application s (operation op no_terms) k rest h other = absurd h
@@ -56,7 +56,7 @@ head_leaf s (call f (term t ts)) (leaf k) b h = (k, refl)
 head_leaf s (call f (term t ts)) (cell c d) b h = absurd h.0
 head_leaf s (let_in bs u) a b h = (1, h.0)
 
-pub cell_head : (s : Table) (v : TermsView) → IsOneToOne v.pass → HasPartsOfTrees v.pass → (r head n : ℕ) → IsKnownCell v.pass r → ((s t : Tree) → Knows v.pass r (cell s t) → Knows v.pass head s) → n ≡ head → n ≢ 1 → (t : Term) → RefersTo s v r t → IsApplication s n (arguments_of t) t
+pub cell_head : (s : Table) (v : TermsView) → IsOneToOne v.pass → HasPartsOfTrees v.pass → (r head n : ℕ) → IsKnownCell v.pass r → ((s t : Tree) → Knows v.pass r (cell s t) → Knows v.pass head s) → n ≡ head → n ≢ 1 → (t : Term) → RefersTo s v r t → IsAppliedLeaf s n (arguments_of t) t
 cell_head s v one parts r head n c first e other t h =
     let same : h.tree ≡ cell c.first c.second = one.one_tree r h.tree _ h.known c.stands in
     let stands = rw same at h.stands in
@@ -84,12 +84,12 @@ let_head_is s v table one parts r head n c first e is_one t h =
     is_let s t k c.second (table.begins 1 let_head refl) (rw is at stands) k_is
 
 -- arguments
-items_stand : (s : Table) (ts : Terms) (b : Tree) → StandsForList s b ts → StandForAll s (items_of b) (list_of ts)
+items_stand : (s : Table) (ts : Terms) (b : Tree) → StandsForList s b ts → StandForAll s (tree_items b) (list_of ts)
 items_stand s no_terms b h = rw h tt
 items_stand s (term t ts) (leaf k) h = absurd h
 items_stand s (term t ts) (cell a b) h = (h.0, items_stand s ts b h.1)
 
-arguments_stand : (s : Table) (t : Term) (a b : Tree) → StandsFor s (cell a b) t → (IsLet t → ⊥) → StandForAll s (items_of b) (arguments_of t)
+arguments_stand : (s : Table) (t : Term) (a b : Tree) → StandsFor s (cell a b) t → (IsLet t → ⊥) → StandForAll s (tree_items b) (arguments_of t)
 arguments_stand s (numeral n) a b h never = absurd h
 arguments_stand s (variable x) a b h never = absurd h
 arguments_stand s (operation op no_terms) a b h never = absurd h
@@ -136,19 +136,19 @@ added_arguments s v one r list old new c second adds t h never =
     let same : h.tree ≡ cell c.first c.second = one.one_tree r h.tree _ h.known c.stands in
     let known = adds.known c.second (second c.first c.second c.stands) in
     let behind : drop (length old) new ≡ adds.items = ap (drop (length old)) adds.added ∙ drop-append_seam old adds.items in
-    rw behind (refer_all s v adds.items (items_of c.second) (arguments_of t) known (arguments_stand s t c.first c.second (rw same at h.stands) never))
+    rw behind (refer_all s v adds.items (tree_items c.second) (arguments_of t) known (arguments_stand s t c.first c.second (rw same at h.stands) never))
 
 pub added_known : (p : PassView) (r list : ℕ) (old new : List ℕ) → IsKnownCell p r → ((s t : Tree) → Knows p r (cell s t) → Knows p list t) → AddsItems p list old new → All (IsKnown p) (drop (length old) new)
 added_known p r list old new c second adds =
     let known = adds.known c.second (second c.first c.second c.stands) in
     let behind : drop (length old) new ≡ adds.items = ap (drop (length old)) adds.added ∙ drop-append_seam old adds.items in
-    rw behind (all_known p adds.items (items_of c.second) known)
+    rw behind (all_known p adds.items (tree_items c.second) known)
 
 pub added_kept : (p : PassView) (list : ℕ) (old new : List ℕ) → AddsItems p list old new → take (length old) new ≡ old
 added_kept p list old new adds = ap (take (length old)) adds.added ∙ take-append_seam old adds.items
 
 -- bindings
-pairs_of_bindings : (s : Table) (bs : Bindings) (b : Tree) → StandsForBindings s b bs → ArePairs b
+pairs_of_bindings : (s : Table) (bs : Bindings) (b : Tree) → StandsForBindings s b bs → AreLeafPairs b
 pairs_of_bindings s no_bindings b h = rw h tt
 pairs_of_bindings s (binding x t bs) (leaf k) h = absurd h
 pairs_of_bindings s (binding x t bs) (cell (leaf k) b) h = absurd h.0

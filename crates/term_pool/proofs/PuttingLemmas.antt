@@ -9,29 +9,30 @@ use Rattle.term_pool.specs.declared.putting.Image.{Image}
 use Rattle.term_pool.specs.Trees.{IsPartOf, depth}
 use Rattle.term_pool.specs.Views.{IsKnownCell, KeepsPass}
 use Rattle.term_pool.specs.Building.{IsCellIn, PlacesOnlyIn, IsFullIn, Interns, Refuses, Builds, LacksRoom}
-use Rattle.term_pool.specs.Putting.{Piece, itself, joined, put, Images, IsImage, IsWithin, IsImageOf, AreImages, HasImages, HasBecome, IsMemory, IsReady, image_of_leaf, joined_image, Remembers, IsUnder, PlacesImage, LacksRoomForImage}
+use Rattle.term_pool.specs.Putting.{Piece, staying, joined_pieces, put, CellImages, IsImageOfPiece, IsLowPiece, IsImageOf, ArePiecesOfLeaves, HasPieceImages, HasBecomeImage, IsImageMemory, IsPuttingReady, image_of_leaf_or_itself, IsCellUnder, PlacesPiece, LacksRoomForPiece}
+use Rattle.term_pool.specs.PuttingVisits.{joined_image, RemembersImage}
 use Rattle.term_pool.proofs.Depth.{depth-bound, is_cell}
 use Rattle.term_pool.proofs.BuildingLemmas.{keeps-refl, keeps-trans, part-refl, first-larger, second-larger, in_larger, placed-larger, placed-trans, placed-none, interned, refused}
 use Rattle.term_pool.proofs.ReadingLemmas.{reference_cell, part_known, second_known, leaf_of}
 
 -- what is known stays known
-pub image_later : (p q : PassView) → KeepsPass p q → (d : Image) (x : Piece) → IsImage p d x → IsImage q d x
+pub image_later : (p q : PassView) → KeepsPass p q → (d : Image) (x : Piece) → IsImageOfPiece p d x → IsImageOfPiece q d x
 image_later p q k d x h = record { known = k.grows _ _ h.known; height = h.height; highest = h.highest; plain = h.plain }
 
-pub images_later : (p q : PassView) → KeepsPass p q → (images : Images) (f : ℕ → Piece) → AreImages p images f → AreImages q images f
+pub images_later : (p q : PassView) → KeepsPass p q → (images : CellImages) (f : ℕ → Piece) → ArePiecesOfLeaves p images f → ArePiecesOfLeaves q images f
 images_later p q k images f h n = go (get nat_eq images n) (h n)
   where
     go : (found : Option Image) → IsImageOf p found n (f n) → IsImageOf q found n (f n)
     go None e = e
     go (Some d) e = (image_later p q k d (f n) e.0, e.1)
 
-pub memory_later : (p q : PassView) → KeepsPass p q → (f : ℕ → Piece) (memo : Images) → IsMemory p f memo → IsMemory q f memo
+pub memory_later : (p q : PassView) → KeepsPass p q → (f : ℕ → Piece) (memo : CellImages) → IsImageMemory p f memo → IsImageMemory q f memo
 memory_later p q k f memo h r d e =
     let b = h r d e in
     record { tree = b.tree; known = k.grows _ _ b.known; image = image_later p q k d (put f b.tree) b.image }
 
 -- heights are bounded by depths
-pub put-within : (f : ℕ → Piece) → ((k : ℕ) → IsWithin (f k)) → (t : Tree) → IsWithin (put f t)
+pub put-within : (f : ℕ → Piece) → ((k : ℕ) → IsLowPiece (f k)) → (t : Tree) → IsLowPiece (put f t)
 put-within f h (leaf k) = h k
 put-within f h (cell a b) =
     let x = put-within f h a in
@@ -40,14 +41,14 @@ put-within f h (cell a b) =
     let yh = y.highest in
     record { height = omega arith; highest = omega arith }
 
-pieces_within : (p : PassView) (images : Images) (f : ℕ → Piece) → AreImages p images f → (k : ℕ) → IsWithin (f k)
+pieces_within : (p : PassView) (images : CellImages) (f : ℕ → Piece) → ArePiecesOfLeaves p images f → (k : ℕ) → IsLowPiece (f k)
 pieces_within p images f h k = go (get nat_eq images k) (h k)
   where
-    go : (found : Option Image) → IsImageOf p found k (f k) → IsWithin (f k)
+    go : (found : Option Image) → IsImageOf p found k (f k) → IsLowPiece (f k)
     go None e = rw e (record { height = omega arith; highest = omega arith })
     go (Some d) e = e.1
 
-pub image_below : (p : PassView) → IsOneToOne p → HasPartsOfTrees p → HasListsInOrder p → (images : Images) (f : ℕ → Piece) → AreImages p images f → (t : Tree) (d : Image) → IsImage p d (put f t) → d.highest < 2 ^ 31
+pub image_below : (p : PassView) → IsOneToOne p → HasPartsOfTrees p → HasListsInOrder p → (images : CellImages) (f : ℕ → Piece) → ArePiecesOfLeaves p images f → (t : Tree) (d : Image) → IsImageOfPiece p d (put f t) → d.highest < 2 ^ 31
 image_below p one parts order images f h t d i =
     let b = depth-bound p one parts d.term (put f t).tree i.known in
     let w = put-within f (pieces_within p images f h) t in
@@ -70,17 +71,17 @@ part-trans s t (cell a b) h (inr (inl e)) = inr (inl (part-trans s t a h e))
 part-trans s t (cell a b) h (inr (inr e)) = inr (inr (part-trans s t b h e))
 
 -- what a look finds
-pub looked : (p : PassView) → IsOneToOne p → HasPartsOfTrees p → (images memo : Images) (f : ℕ → Piece) → AreImages p images f → IsMemory p f memo → (r : ℕ) (found : Option Image) (d : Image) → (r < 2 ^ 30 → found ≡ Some (image_of_leaf (get nat_eq images r) r)) → (2 ^ 30 ≤ r → found ≡ get nat_eq memo r) → found ≡ Some d → (t : Tree) → Knows p r t → IsImage p d (put f t)
+pub looked : (p : PassView) → IsOneToOne p → HasPartsOfTrees p → (images memo : CellImages) (f : ℕ → Piece) → ArePiecesOfLeaves p images f → IsImageMemory p f memo → (r : ℕ) (found : Option Image) (d : Image) → (r < 2 ^ 30 → found ≡ Some (image_of_leaf_or_itself (get nat_eq images r) r)) → (2 ^ 30 ≤ r → found ≡ get nat_eq memo r) → found ≡ Some d → (t : Tree) → Knows p r t → IsImageOfPiece p d (put f t)
 looked p one parts images memo f are right r found d low high e (leaf k) known =
     let n = parts.leaf_number r k known in
     let less : r < 2 ^ 30 = omega (arith, n.0, n.1) in
-    let is : image_of_leaf (get nat_eq images r) r ≡ d = same_some (sym (low less) ∙ e) in
+    let is : image_of_leaf_or_itself (get nat_eq images r) r ≡ d = same_some (sym (low less) ∙ e) in
     rw (← n.0, ← is) (go (get nat_eq images r) (are r))
   where
     same_some : {X : Type 0} {a b : X} → Some a ≡ Some b → a ≡ b
     same_some g = cc
 
-    go : (at : Option Image) → IsImageOf p at r (f r) → IsImage p (image_of_leaf at r) (f r)
+    go : (at : Option Image) → IsImageOf p at r (f r) → IsImageOfPiece p (image_of_leaf_or_itself at r) (f r)
     go None g =
         let n = parts.leaf_number r k known in
         rw g (record { known = rw (← n.0) at known; height = refl; highest = refl; plain = refl })
@@ -89,14 +90,14 @@ looked p one parts images memo f are right r found d low high e (cell a b) known
     let above : 2 ^ 30 ≤ r = one.high r a b known in
     let m = right r d (sym (high above) ∙ e) in
     let same : cell a b ≡ m.tree = one.one_tree r (cell a b) m.tree known m.known in
-    subst (λ (x : Tree). IsImage p d (put f x)) (sym same) m.image
+    subst (λ (x : Tree). IsImageOfPiece p d (put f x)) (sym same) m.image
 
-pub leaf_image : (p : PassView) → IsOneToOne p → HasPartsOfTrees p → (images : Images) (f : ℕ → Piece) → AreImages p images f → (r : ℕ) (d : Image) → r < 2 ^ 30 → d ≡ image_of_leaf (get nat_eq images r) r → (t : Tree) → Knows p r t → IsImage p d (put f t)
+pub leaf_image : (p : PassView) → IsOneToOne p → HasPartsOfTrees p → (images : CellImages) (f : ℕ → Piece) → ArePiecesOfLeaves p images f → (r : ℕ) (d : Image) → r < 2 ^ 30 → d ≡ image_of_leaf_or_itself (get nat_eq images r) r → (t : Tree) → Knows p r t → IsImageOfPiece p d (put f t)
 leaf_image p one parts images f are r d low e (cell a b) known = let high = one.high r a b known in absurd (omega arith)
 leaf_image p one parts images f are r d low e (leaf k) known =
     let n = parts.leaf_number r k known in rw (← n.0, e) (go (get nat_eq images r) (are r))
   where
-    go : (at : Option Image) → IsImageOf p at r (f r) → IsImage p (image_of_leaf at r) (f r)
+    go : (at : Option Image) → IsImageOf p at r (f r) → IsImageOfPiece p (image_of_leaf_or_itself at r) (f r)
     go None g =
         let n = parts.leaf_number r k known in
         rw g (record { known = rw (← n.0) at known; height = refl; highest = refl; plain = refl })
@@ -113,10 +114,10 @@ unseen_high r found d low e = go (low_or_high r)
     go (inl h) = let f = low h in absurd (cc)
     go (inr h) = h
 
-pub first_under : (p : PassView) → HasPartsOfTrees p → (r a : ℕ) → IsKnownCell p r → ((s t : Tree) → Knows p r (cell s t) → Knows p a s) → 2 ^ 30 ≤ a → IsUnder p r a
+pub first_under : (p : PassView) → HasPartsOfTrees p → (r a : ℕ) → IsKnownCell p r → ((s t : Tree) → Knows p r (cell s t) → Knows p a s) → 2 ^ 30 ≤ a → IsCellUnder p r a
 first_under p parts r a h first above = go h.first (first h.first h.second h.stands) refl
   where
-    go : (t : Tree) → Knows p a t → t ≡ h.first → IsUnder p r a
+    go : (t : Tree) → Knows p a t → t ≡ h.first → IsCellUnder p r a
     go (leaf k) known e = let n = parts.leaf_number a k known in absurd (omega (arith, n.0, n.1))
     go (cell c d) known e = record {
       upper = cell h.first h.second;
@@ -128,10 +129,10 @@ first_under p parts r a h first above = go h.first (first h.first h.second h.sta
       less = rw (← e) (omega arith);
     }
 
-pub second_under : (p : PassView) → HasPartsOfTrees p → (r b : ℕ) → IsKnownCell p r → ((s t : Tree) → Knows p r (cell s t) → Knows p b t) → 2 ^ 30 ≤ b → IsUnder p r b
+pub second_under : (p : PassView) → HasPartsOfTrees p → (r b : ℕ) → IsKnownCell p r → ((s t : Tree) → Knows p r (cell s t) → Knows p b t) → 2 ^ 30 ≤ b → IsCellUnder p r b
 second_under p parts r b h second above = go h.second (second h.first h.second h.stands) refl
   where
-    go : (t : Tree) → Knows p b t → t ≡ h.second → IsUnder p r b
+    go : (t : Tree) → Knows p b t → t ≡ h.second → IsCellUnder p r b
     go (leaf k) known e = let n = parts.leaf_number b k known in absurd (omega (arith, n.0, n.1))
     go (cell c d) known e = record {
       upper = cell h.first h.second;
@@ -144,7 +145,7 @@ second_under p parts r b h second above = go h.second (second h.first h.second h
     }
 
 -- joining what the parts have become
-pub join_is : (p q : PassView) (f : ℕ → Piece) (s t : Tree) (a b d : Image) → IsImage p a (put f s) → IsImage p b (put f t) → Interns p q a.term b.term d.term → d ≡ joined_image d.term a b → IsImage q d (put f (cell s t))
+pub join_is : (p q : PassView) (f : ℕ → Piece) (s t : Tree) (a b d : Image) → IsImageOfPiece p a (put f s) → IsImageOfPiece p b (put f t) → Interns p q a.term b.term d.term → d ≡ joined_image d.term a b → IsImageOfPiece q d (put f (cell s t))
 join_is p q f s t a b d x y i e = record {
   known = i.stands (put f s).tree (put f t).tree x.known y.known;
   height = ap (λ (z : Image). z.height) e ∙ ap (λ (n : ℕ). n + 1) y.highest;
@@ -161,56 +162,56 @@ join_lacks p q f s t a b x y i =
     refused p p q a b (put f s).tree (put f t).tree (keeps-refl p) (placed-none p p (put f (cell s t)).tree refl) x y i
 
 -- the images of the parts of a cell
-pub record HasParts (p : PassView) (images memo : Images) (r : ℕ) (a b : Image) : Type 0 where
+pub record HasParts (p : PassView) (images memo : CellImages) (r : ℕ) (a b : Image) : Type 0 where
   cell_known : IsKnownCell p r
-  first_is : (f : ℕ → Piece) → AreImages p images f → IsMemory p f memo → IsImage p a (put f cell_known.first)
-  second_is : (f : ℕ → Piece) → AreImages p images f → IsMemory p f memo → IsImage p b (put f cell_known.second)
+  first_is : (f : ℕ → Piece) → ArePiecesOfLeaves p images f → IsImageMemory p f memo → IsImageOfPiece p a (put f cell_known.first)
+  second_is : (f : ℕ → Piece) → ArePiecesOfLeaves p images f → IsImageMemory p f memo → IsImageOfPiece p b (put f cell_known.second)
 
-pub has_parts : (p : PassView) → IsOneToOne p → HasPartsOfTrees p → (images memo : Images) (r m n : ℕ) (a b : Image) (found_first found_second : Option Image) → IsKnownCell p r → ((s t : Tree) → Knows p r (cell s t) → Knows p m s) → ((s t : Tree) → Knows p r (cell s t) → Knows p n t) → (m < 2 ^ 30 → found_first ≡ Some (image_of_leaf (get nat_eq images m) m)) → (2 ^ 30 ≤ m → found_first ≡ get nat_eq memo m) → found_first ≡ Some a → (n < 2 ^ 30 → found_second ≡ Some (image_of_leaf (get nat_eq images n) n)) → (2 ^ 30 ≤ n → found_second ≡ get nat_eq memo n) → found_second ≡ Some b → HasParts p images memo r a b
+pub has_parts : (p : PassView) → IsOneToOne p → HasPartsOfTrees p → (images memo : CellImages) (r m n : ℕ) (a b : Image) (found_first found_second : Option Image) → IsKnownCell p r → ((s t : Tree) → Knows p r (cell s t) → Knows p m s) → ((s t : Tree) → Knows p r (cell s t) → Knows p n t) → (m < 2 ^ 30 → found_first ≡ Some (image_of_leaf_or_itself (get nat_eq images m) m)) → (2 ^ 30 ≤ m → found_first ≡ get nat_eq memo m) → found_first ≡ Some a → (n < 2 ^ 30 → found_second ≡ Some (image_of_leaf_or_itself (get nat_eq images n) n)) → (2 ^ 30 ≤ n → found_second ≡ get nat_eq memo n) → found_second ≡ Some b → HasParts p images memo r a b
 has_parts p one parts images memo r m n a b found_first found_second c first second low high e low2 high2 e2 = record {
   cell_known = c;
   first_is = λ f are right. looked p one parts images memo f are right m found_first a low high e c.first (first c.first c.second c.stands);
   second_is = λ f are right. looked p one parts images memo f are right n found_second b low2 high2 e2 c.second (second c.first c.second c.stands);
 }
 
-pub first_image_known : (p : PassView) (images memo : Images) (r : ℕ) (a b : Image) → IsReady p images memo → HasParts p images memo r a b → IsKnown p a.term
+pub first_image_known : (p : PassView) (images memo : CellImages) (r : ℕ) (a b : Image) → IsPuttingReady p images memo → HasParts p images memo r a b → IsKnown p a.term
 first_image_known p images memo r a b ready h =
     record { tree = (put ready.pieces h.cell_known.first).tree; stands = (h.first_is ready.pieces ready.are ready.right).known }
 
-pub second_image_known : (p : PassView) (images memo : Images) (r : ℕ) (a b : Image) → IsReady p images memo → HasParts p images memo r a b → IsKnown p b.term
+pub second_image_known : (p : PassView) (images memo : CellImages) (r : ℕ) (a b : Image) → IsPuttingReady p images memo → HasParts p images memo r a b → IsKnown p b.term
 second_image_known p images memo r a b ready h =
     record { tree = (put ready.pieces h.cell_known.second).tree; stands = (h.second_is ready.pieces ready.are ready.right).known }
 
-pub second_image_below : (p : PassView) → IsOneToOne p → HasPartsOfTrees p → HasListsInOrder p → (images memo : Images) (r : ℕ) (a b : Image) → IsReady p images memo → HasParts p images memo r a b → b.highest < 2 ^ 31
+pub second_image_below : (p : PassView) → IsOneToOne p → HasPartsOfTrees p → HasListsInOrder p → (images memo : CellImages) (r : ℕ) (a b : Image) → IsPuttingReady p images memo → HasParts p images memo r a b → b.highest < 2 ^ 31
 second_image_below p one parts order images memo r a b ready h =
     image_below p one parts order images ready.pieces ready.are h.cell_known.second b (h.second_is ready.pieces ready.are ready.right)
 
 whole_is : (p : PassView) → IsOneToOne p → (r : ℕ) (c : IsKnownCell p r) (t : Tree) → Knows p r t → t ≡ cell c.first c.second
 whole_is p one r c t known = one.one_tree r t (cell c.first c.second) known c.stands
 
-pub parts_image : (p q : PassView) → IsOneToOne p → (images memo : Images) (r : ℕ) (a b d : Image) → HasParts p images memo r a b → Interns p q a.term b.term d.term → d ≡ joined_image d.term a b → (f : ℕ → Piece) → AreImages p images f → IsMemory p f memo → (t : Tree) → Knows p r t → IsImage q d (put f t)
+pub parts_image : (p q : PassView) → IsOneToOne p → (images memo : CellImages) (r : ℕ) (a b d : Image) → HasParts p images memo r a b → Interns p q a.term b.term d.term → d ≡ joined_image d.term a b → (f : ℕ → Piece) → ArePiecesOfLeaves p images f → IsImageMemory p f memo → (t : Tree) → Knows p r t → IsImageOfPiece q d (put f t)
 parts_image p q one images memo r a b d h i e f are right t known =
-    subst (λ (x : Tree). IsImage q d (put f x)) (sym (whole_is p one r h.cell_known t known))
+    subst (λ (x : Tree). IsImageOfPiece q d (put f x)) (sym (whole_is p one r h.cell_known t known))
     (join_is p q f h.cell_known.first h.cell_known.second a b d (h.first_is f are right) (h.second_is f are right) i e)
 
-pub parts_place : (p q : PassView) → IsOneToOne p → (images memo : Images) (r n : ℕ) (a b : Image) → HasParts p images memo r a b → Interns p q a.term b.term n → (f : ℕ → Piece) → AreImages p images f → IsMemory p f memo → PlacesImage p q f r
+pub parts_place : (p q : PassView) → IsOneToOne p → (images memo : CellImages) (r n : ℕ) (a b : Image) → HasParts p images memo r a b → Interns p q a.term b.term n → (f : ℕ → Piece) → ArePiecesOfLeaves p images f → IsImageMemory p f memo → PlacesPiece p q f r
 parts_place p q one images memo r n a b h i f are right t known =
     subst (λ (x : Tree). PlacesOnlyIn p q (put f x).tree) (sym (whole_is p one r h.cell_known t known))
     (join_places p q f h.cell_known.first h.cell_known.second a.term b.term n (h.first_is f are right).known (h.second_is f are right).known i)
 
-pub parts_lack : (p q : PassView) → IsOneToOne p → (images memo : Images) (r : ℕ) (a b : Image) → HasParts p images memo r a b → Refuses p q a.term b.term → (f : ℕ → Piece) → AreImages p images f → IsMemory p f memo → LacksRoomForImage p q f r
+pub parts_lack : (p q : PassView) → IsOneToOne p → (images memo : CellImages) (r : ℕ) (a b : Image) → HasParts p images memo r a b → Refuses p q a.term b.term → (f : ℕ → Piece) → ArePiecesOfLeaves p images f → IsImageMemory p f memo → LacksRoomForPiece p q f r
 parts_lack p q one images memo r a b h i f are right t known =
     subst (λ (x : Tree). IsFullIn q (put f x).tree) (sym (whole_is p one r h.cell_known t known))
     (join_lacks p q f h.cell_known.first h.cell_known.second a.term b.term (h.first_is f are right).known (h.second_is f are right).known i).full
 
 -- a memory with one cell more
-pub memory_more : (p q : PassView) → KeepsPass p q → (f : ℕ → Piece) (old new : Images) (r : ℕ) (d : Image) (t : Tree) → IsMemory p f old → Remembers old new r d → Knows p r t → IsImage q d (put f t) → IsMemory q f new
+pub memory_more : (p q : PassView) → KeepsPass p q → (f : ℕ → Piece) (old new : CellImages) (r : ℕ) (d : Image) (t : Tree) → IsImageMemory p f old → RemembersImage old new r d → Knows p r t → IsImageOfPiece q d (put f t) → IsImageMemory q f new
 memory_more p q k f old new r d t right noted known image n e found = go (eqb_tells n r)
   where
     same_some : {X : Type 0} {a b : X} → Some a ≡ Some b → a ≡ b
     same_some g = cc
 
-    go : ((eqb n r ≡ true) × (n ≡ r)) ⊎ ((eqb n r ≡ false) × (n ≢ r)) → HasBecome q f n e
+    go : ((eqb n r ≡ true) × (n ≡ r)) ⊎ ((eqb n r ≡ false) × (n ≢ r)) → HasBecomeImage q f n e
     go (inl c) =
         let here : get nat_eq new n ≡ Some d = rw c.1 noted.here in
         let same : d ≡ e = same_some (sym here ∙ found) in
@@ -222,25 +223,25 @@ memory_more p q k f old new r d t right noted known image n e found = go (eqb_te
 -- the cells on the way down, each above those after it
 abbrev Descends : PassView → List ℕ → Type 0
 Descends p [] = Unit {0}
-Descends p (x ∷ xs) = AllByRecursion (IsUnder p x) xs × Descends p xs
+Descends p (x ∷ xs) = AllByRecursion (IsCellUnder p x) xs × Descends p xs
 
 abbrev Starts : ℕ → List ℕ → Type 0
 Starts r [] = ⊥
 Starts r (x ∷ xs) = x ≡ r
 
 -- where the walk is: the cells on the way down are not remembered
-pub record IsPutting (p : PassView) (memo : Images) (r at : ℕ) (cells : List ℕ) : Type 0 where
+pub record IsPutting (p : PassView) (memo : CellImages) (r at : ℕ) (cells : List ℕ) : Type 0 where
   here : IsKnownCell p at
   descends : Descends p cells
   unmet : AllByRecursion (λ x. get nat_eq memo x ≡ None) cells
   starts : Starts r cells
 
 -- what is remembered is right, and nothing is placed but cells of what r becomes
-pub record GoesRight (old new : PassView) (f : ℕ → Piece) (memo : Images) (r : ℕ) : Type 0 where
-  pub right : IsMemory new f memo
-  pub placed : PlacesImage old new f r
+pub record GoesRight (old new : PassView) (f : ℕ → Piece) (memo : CellImages) (r : ℕ) : Type 0 where
+  pub right : IsImageMemory new f memo
+  pub placed : PlacesPiece old new f r
 
-pub putting_here : (p : PassView) (memo : Images) (r at : ℕ) (cells : List ℕ) → IsPutting p memo r at cells → IsKnownCell p at
+pub putting_here : (p : PassView) (memo : CellImages) (r at : ℕ) (cells : List ℕ) → IsPutting p memo r at cells → IsKnownCell p at
 putting_here p memo r at cells h = h.here
 
 last_of : (P : ℕ → Type 0) → (xs : List ℕ) (at : ℕ) → AllByRecursion P (xs ++ at ∷ []) → P at
@@ -255,10 +256,10 @@ push_all : (P : ℕ → Type 0) → (xs : List ℕ) (at : ℕ) → AllByRecursio
 push_all P [] at h e = (e, tt)
 push_all P (x ∷ xs) at h e = (h.0, push_all _ xs at h.1 e)
 
-pub putting_unmet : (p : PassView) (memo : Images) (r at : ℕ) (way : List ℕ) → IsPutting p memo r at (way ++ at ∷ []) → get nat_eq memo at ≡ None
+pub putting_unmet : (p : PassView) (memo : CellImages) (r at : ℕ) (way : List ℕ) → IsPutting p memo r at (way ++ at ∷ []) → get nat_eq memo at ≡ None
 putting_unmet p memo r at way h = last_of _ way at h.unmet
 
-further : (p : PassView) → IsOneToOne p → (x y z : ℕ) → IsUnder p x y → IsUnder p y z → IsUnder p x z
+further : (p : PassView) → IsOneToOne p → (x y z : ℕ) → IsCellUnder p x y → IsCellUnder p y z → IsCellUnder p x z
 further p one x y z h k =
     let same : k.upper ≡ cell h.first h.second = one.one_tree y _ _ k.upper_known h.known in
     let part : IsPartOf (cell k.first k.second) (cell h.first h.second) = rw same at k.part in
@@ -274,12 +275,12 @@ further p one x y z h k =
       less = omega arith;
     }
 
-below_all : (p : PassView) → IsOneToOne p → (xs : List ℕ) (at part : ℕ) → Descends p (xs ++ at ∷ []) → IsUnder p at part → AllByRecursion (λ x. IsUnder p x part) (xs ++ at ∷ [])
+below_all : (p : PassView) → IsOneToOne p → (xs : List ℕ) (at part : ℕ) → Descends p (xs ++ at ∷ []) → IsCellUnder p at part → AllByRecursion (λ x. IsCellUnder p x part) (xs ++ at ∷ [])
 below_all p one [] at part h k = (k, tt)
 below_all p one (x ∷ xs) at part h k =
     (further p one x at part (last_of _ xs at h.0) k, below_all p one xs at part h.1 k)
 
-descends_push : (p : PassView) (xs : List ℕ) (part : ℕ) → Descends p xs → AllByRecursion (λ x. IsUnder p x part) xs → Descends p (xs ++ part ∷ [])
+descends_push : (p : PassView) (xs : List ℕ) (part : ℕ) → Descends p xs → AllByRecursion (λ x. IsCellUnder p x part) xs → Descends p (xs ++ part ∷ [])
 descends_push p [] part h k = (tt, tt)
 descends_push p (x ∷ xs) part h k = (push_all _ xs part h.0 k.0, descends_push p xs part h.1 k.1)
 
@@ -295,18 +296,18 @@ starts_front : (r : ℕ) (xs : List ℕ) (y at : ℕ) → Starts r ((xs ++ y ∷
 starts_front r [] y at h = h
 starts_front r (x ∷ xs) y at h = h
 
-apart_from : (p : PassView) → IsOneToOne p → (x at : ℕ) → IsUnder p x at → x ≢ at
+apart_from : (p : PassView) → IsOneToOne p → (x at : ℕ) → IsCellUnder p x at → x ≢ at
 apart_from p one x at h e =
     let same : h.upper ≡ cell h.first h.second = one.one_tree at _ _ (rw e at h.upper_known) h.known in
     let less : depth (cell h.first h.second) < depth (cell h.first h.second) = rw same at h.less in
     omega arith
 
-unmet_after : (p : PassView) → IsOneToOne p → (old new : Images) (at : ℕ) → ((q : ℕ) → q ≢ at → get nat_eq new q ≡ get nat_eq old q) → (xs : List ℕ) → Descends p (xs ++ at ∷ []) → AllByRecursion (λ x. get nat_eq old x ≡ None) (xs ++ at ∷ []) → AllByRecursion (λ x. get nat_eq new x ≡ None) xs
+unmet_after : (p : PassView) → IsOneToOne p → (old new : CellImages) (at : ℕ) → ((q : ℕ) → q ≢ at → get nat_eq new q ≡ get nat_eq old q) → (xs : List ℕ) → Descends p (xs ++ at ∷ []) → AllByRecursion (λ x. get nat_eq old x ≡ None) (xs ++ at ∷ []) → AllByRecursion (λ x. get nat_eq new x ≡ None) xs
 unmet_after p one old new at others [] h k = tt
 unmet_after p one old new at others (x ∷ xs) h k =
     (others x (apart_from p one x at (last_of _ xs at h.0)) ∙ k.0, unmet_after p one old new at others xs h.1 k.1)
 
-under_later : (p q : PassView) → KeepsPass p q → (x y : ℕ) → IsUnder p x y → IsUnder q x y
+under_later : (p q : PassView) → KeepsPass p q → (x y : ℕ) → IsCellUnder p x y → IsCellUnder q x y
 under_later p q k x y h = record {
   upper = h.upper;
   upper_known = k.grows _ _ h.upper_known;
@@ -317,7 +318,7 @@ under_later p q k x y h = record {
   less = h.less;
 }
 
-all_under_later : (p q : PassView) → KeepsPass p q → (x : ℕ) (xs : List ℕ) → AllByRecursion (IsUnder p x) xs → AllByRecursion (IsUnder q x) xs
+all_under_later : (p q : PassView) → KeepsPass p q → (x : ℕ) (xs : List ℕ) → AllByRecursion (IsCellUnder p x) xs → AllByRecursion (IsCellUnder q x) xs
 all_under_later p q k x [] h = tt
 all_under_later p q k x (y ∷ ys) h = (under_later p q k x y h.0, all_under_later p q k x ys h.1)
 
@@ -325,19 +326,19 @@ descends_later : (p q : PassView) → KeepsPass p q → (xs : List ℕ) → Desc
 descends_later p q k [] h = tt
 descends_later p q k (x ∷ xs) h = (all_under_later p q k x xs h.0, descends_later p q k xs h.1)
 
-pub nothing_met : (memo : Images) (q : ℕ) → memo.entries ≡ [] → get nat_eq memo q ≡ None
+pub nothing_met : (memo : CellImages) (q : ℕ) → memo.entries ≡ [] → get nat_eq memo q ≡ None
 nothing_met memo q e = rw e
 
-pub putting_start : (p : PassView) (memo : Images) (r : ℕ) → memo.entries ≡ [] → IsKnownCell p r → IsPutting p memo r r (r ∷ [])
+pub putting_start : (p : PassView) (memo : CellImages) (r : ℕ) → memo.entries ≡ [] → IsKnownCell p r → IsPutting p memo r r (r ∷ [])
 putting_start p memo r e c = record { here = c; descends = (tt, tt); unmet = (nothing_met memo r e, tt); starts = refl }
 
-pub right_start : (p : PassView) (f : ℕ → Piece) (memo : Images) (r : ℕ) → memo.entries ≡ [] → GoesRight p p f memo r
+pub right_start : (p : PassView) (f : ℕ → Piece) (memo : CellImages) (r : ℕ) → memo.entries ≡ [] → GoesRight p p f memo r
 right_start p f memo r e = record {
   right = λ q d found. let none = nothing_met memo q e in absurd (cc);
   placed = λ t known. placed-none p p (put f t).tree refl;
 }
 
-pub putting_down : (p q : PassView) → KeepsPass p q → IsOneToOne p → (old new : Images) (r at part : ℕ) (way : List ℕ) → IsPutting p old r at (way ++ at ∷ []) → new ≡ old → IsUnder p at part → get nat_eq old part ≡ None → IsPutting q new r part ((way ++ at ∷ []) ++ part ∷ [])
+pub putting_down : (p q : PassView) → KeepsPass p q → IsOneToOne p → (old new : CellImages) (r at part : ℕ) (way : List ℕ) → IsPutting p old r at (way ++ at ∷ []) → new ≡ old → IsCellUnder p at part → get nat_eq old part ≡ None → IsPutting q new r part ((way ++ at ∷ []) ++ part ∷ [])
 putting_down p q k one old new r at part way h same under e = rw same (record {
   here = record { first = under.first; second = under.second; stands = k.grows _ _ under.known };
   descends = descends_later p q k ((way ++ at ∷ []) ++ part ∷ [])
@@ -352,7 +353,7 @@ cell_of_last p (x ∷ xs) y at h =
     let u = last_of _ xs y (front_of _ (xs ++ y ∷ []) at h.0) in
     inl (record { first = u.first; second = u.second; stands = u.known })
 
-pub putting_up : (p q : PassView) → KeepsPass p q → IsOneToOne p → (old new : Images) (r at above : ℕ) (d : Image) (way : List ℕ) → IsKnownCell p r → IsPutting p old r at ((way ++ above ∷ []) ++ at ∷ []) → Remembers old new at d → IsPutting q new r above (way ++ above ∷ [])
+pub putting_up : (p q : PassView) → KeepsPass p q → IsOneToOne p → (old new : CellImages) (r at above : ℕ) (d : Image) (way : List ℕ) → IsKnownCell p r → IsPutting p old r at ((way ++ above ∷ []) ++ at ∷ []) → RemembersImage old new at d → IsPutting q new r above (way ++ above ∷ [])
 putting_up p q k one old new r at above d way root w noted = record {
   here = later (go (cell_of_last p way above at w.descends) w.starts);
   descends = descends_later p q k (way ++ above ∷ []) (descends_front p (way ++ above ∷ []) at w.descends);
@@ -371,7 +372,7 @@ putting_up p q k one old new r at above d way root w noted = record {
     go (inl c) s = c
     go (inr e) s = rw (only way e s) root
 
-pub at_root : (p : PassView) (memo : Images) (r at : ℕ) (way : List ℕ) → way ≡ [] → IsPutting p memo r at (way ++ at ∷ []) → at ≡ r
+pub at_root : (p : PassView) (memo : CellImages) (r at : ℕ) (way : List ℕ) → way ≡ [] → IsPutting p memo r at (way ++ at ∷ []) → at ≡ r
 at_root p memo r at way e w = only way e w.starts
   where
     only : (xs : List ℕ) → xs ≡ [] → Starts r (xs ++ at ∷ []) → at ≡ r
@@ -382,7 +383,7 @@ moved : (p : PassView) (x r : ℕ) (t : Tree) → x ≡ r → Knows p x t → Kn
 moved p x r t e k = rw e at k
 
 -- what the walk is at is a part of what it began at
-pub inside : (p : PassView) → IsOneToOne p → (memo : Images) (r at : ℕ) (way : List ℕ) → IsPutting p memo r at (way ++ at ∷ []) → (whole t : Tree) → Knows p r whole → Knows p at t → IsPartOf t whole
+pub inside : (p : PassView) → IsOneToOne p → (memo : CellImages) (r at : ℕ) (way : List ℕ) → IsPutting p memo r at (way ++ at ∷ []) → (whole t : Tree) → Knows p r whole → Knows p at t → IsPartOf t whole
 inside p one memo r at way w whole t h k = go way w.descends w.starts
   where
     go : (xs : List ℕ) → Descends p (xs ++ at ∷ []) → Starts r (xs ++ at ∷ []) → IsPartOf t whole
@@ -395,7 +396,7 @@ inside p one memo r at way w whole t h k = go way w.descends w.starts
         rw (low, ← top) u.part
 
 -- a visit goes on placing only what belongs to the whole
-pub places_more : (o p q : PassView) → KeepsPass o p → KeepsPass p q → IsOneToOne p → (f : ℕ → Piece) (memo : Images) (r at : ℕ) (way : List ℕ) → IsPutting p memo r at (way ++ at ∷ []) → PlacesImage o p f r → PlacesImage p q f at → PlacesImage o q f r
+pub places_more : (o p q : PassView) → KeepsPass o p → KeepsPass p q → IsOneToOne p → (f : ℕ → Piece) (memo : CellImages) (r at : ℕ) (way : List ℕ) → IsPutting p memo r at (way ++ at ∷ []) → PlacesPiece o p f r → PlacesPiece p q f at → PlacesPiece o q f r
 places_more o p q k l one f memo r at way w before visit whole known =
     let c = w.here in
     let t : Tree = cell c.first c.second in
@@ -403,7 +404,7 @@ places_more o p q k l one f memo r at way w before visit whole known =
     placed-trans o p q (put f whole).tree l (before whole known)
     (placed-larger p q (put f t).tree (put f whole).tree (λ u h. part-trans u (put f t).tree (put f whole).tree h part) (visit t c.stands))
 
-pub lacks_more : (o p q : PassView) → KeepsPass o p → IsOneToOne p → (f : ℕ → Piece) (memo : Images) (r at : ℕ) (way : List ℕ) → IsPutting p memo r at (way ++ at ∷ []) → LacksRoomForImage p q f at → LacksRoomForImage o q f r
+pub lacks_more : (o p q : PassView) → KeepsPass o p → IsOneToOne p → (f : ℕ → Piece) (memo : CellImages) (r at : ℕ) (way : List ℕ) → IsPutting p memo r at (way ++ at ∷ []) → LacksRoomForPiece p q f at → LacksRoomForPiece o q f r
 lacks_more o p q k one f memo r at way w visit whole known =
     let c = w.here in
     let t : Tree = cell c.first c.second in
@@ -419,12 +420,12 @@ lacks_more o p q k one f memo r at way w visit whole known =
 pub none_left : (xs ys : List ℕ) (n : ℕ) → n ≡ 0 → ys ≡ take (n - 1) xs → xs ≡ ys ++ [] → xs ≡ []
 none_left xs ys n z rest whole = whole ∙ rw (rest, z)
 
-pub parts_memory : (p q : PassView) → IsOneToOne p → (images old new : Images) (r : ℕ) (a b d : Image) → HasParts p images old r a b → Interns p q a.term b.term d.term → d ≡ joined_image d.term a b → Remembers old new r d → (f : ℕ → Piece) → AreImages p images f → IsMemory p f old → IsMemory q f new
+pub parts_memory : (p q : PassView) → IsOneToOne p → (images old new : CellImages) (r : ℕ) (a b d : Image) → HasParts p images old r a b → Interns p q a.term b.term d.term → d ≡ joined_image d.term a b → RemembersImage old new r d → (f : ℕ → Piece) → ArePiecesOfLeaves p images f → IsImageMemory p f old → IsImageMemory q f new
 parts_memory p q one images old new r a b d h i e noted f are right =
     memory_more p q i.keeps f old new r d (cell h.cell_known.first h.cell_known.second) right noted h.cell_known.stands
     (parts_image p q one images old r a b d h i e f are right (cell h.cell_known.first h.cell_known.second) h.cell_known.stands)
 
-pub ready_later : (o p : PassView) → KeepsPass o p → (images memo : Images) (r : ℕ) → HasImages o images → ((f : ℕ → Piece) → AreImages o images f → GoesRight o p f memo r) → IsReady p images memo
+pub ready_later : (o p : PassView) → KeepsPass o p → (images memo : CellImages) (r : ℕ) → HasPieceImages o images → ((f : ℕ → Piece) → ArePiecesOfLeaves o images f → GoesRight o p f memo r) → IsPuttingReady p images memo
 ready_later o p k images memo r has right = record {
   pieces = has.pieces;
   are = images_later o p k images has.pieces has.are;

@@ -8,7 +8,8 @@ use Rattle.term_model.specs.Terms.{Var, Term, Terms, Bindings, numeral, variable
 use Rattle.term_pool.specs.StandsFor.{let_tree, variable_leaf, function_leaf, StandsFor, StandsForApplication, StandsForList, StandsForBindings}
 use Rattle.term_pool.specs.Trees.{list_length, list_item, IsCellTree}
 use Rattle.term_pool.specs.Views.{TermsView, RefersTo, KeepsTerms, IsKnownCell, HasItem}
-use Rattle.term_pool.specs.Reading.{arguments_of, list_of_bindings, bindings_of, IsLet, HasArgument, HasBinding, IsLetTerm, IsTermCell}
+use Rattle.term_pool.specs.Reading.{arguments_of, list_of_bindings, bindings_of, IsLet, HasArgument, HasBinding, IsLetTerm}
+use Rattle.term_pool.specs.CellShapes.{IsTermCell}
 use Rattle.term_pool.proofs.BuildingLemmas.{keeps-refl}
 use Rattle.term_pool.proofs.Depth.{is_cell}
 

@@ -9,7 +9,8 @@ use Rattle.term_model.specs.Terms.{Term, Bindings, numeral, variable, operation,
 use Rattle.term_pool.specs.StandsFor.{let_tree, variable_leaf, function_leaf, StandsFor, StandsForBindings}
 use Rattle.term_pool.specs.Trees.{list_length, IsCellTree}
 use Rattle.term_pool.specs.Views.{TermsView, RefersTo, IsTerm}
-use Rattle.term_pool.specs.Reading.{list_of_bindings, IsShapeOf, leaf_shape, cell_shape, IsTermCell}
+use Rattle.term_pool.specs.Reading.{list_of_bindings, IsShapeOf}
+use Rattle.term_pool.specs.CellShapes.{leaf_shape, cell_shape, IsTermCell}
 use Rattle.term_pool.specs.declared.shape.Shape.{Shape}
 use Rattle.term_pool.proofs.ReadingLemmas.{leaf_of, list_count}
 

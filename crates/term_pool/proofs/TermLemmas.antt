@@ -8,7 +8,7 @@ use Rattle.term_model.specs.Terms.{Term, Terms, Bindings, numeral, variable, ope
 use Rattle.term_pool.specs.StandsFor.{function_leaf, StandsFor, StandsForApplication, StandsForList, StandsForBindings, StandForAll, StandForValues}
 use Rattle.term_pool.specs.Trees.{list_tree, app_tree, binding_trees, let_term_tree}
 use Rattle.term_pool.specs.Views.{TermsView, RefersTo, ReferToAll, KnowsAll}
-use Rattle.term_pool.specs.Building.{IsApplication, AreBindings, Builds}
+use Rattle.term_pool.specs.Building.{IsAppliedLeaf, AreBindings, Builds}
 use Rattle.term_pool.proofs.OneTree.{one_tree}
 use Rattle.term_pool.proofs.OneTerm.{one_term}
 
@@ -42,7 +42,7 @@ alone s [] ts e h = refl
 alone s (a ∷ trees) [] e h = absurd h
 alone s (a ∷ trees) (t ∷ ts) e h = cc
 
-pub app_stands : (s : Table) (head : ℕ) (ts : List Term) (t : Term) (trees : List Tree) → IsApplication s head ts t → StandForAll s trees ts → StandsFor s (app_tree head trees) t
+pub app_stands : (s : Table) (head : ℕ) (ts : List Term) (t : Term) (trees : List Tree) → IsAppliedLeaf s head ts t → StandForAll s trees ts → StandsFor s (app_tree head trees) t
 app_stands s head ts (numeral n) trees p h = let e = alone s trees ts p.1 h in rw e p.0
 app_stands s head ts (variable x) trees p h = let e = alone s trees ts p.1 h in rw e p.0
 app_stands s head ts (operation op us) trees p h =
@@ -51,7 +51,7 @@ app_stands s head ts (call f us) trees p h =
     application_stands s head (function_leaf f) us trees p.0 (rw p.1 h)
 app_stands s head ts (let_in bs u) trees p h = absurd p
 
-pub app_refers : (s : Table) (v w : TermsView) (head r : ℕ) (rs : List ℕ) → ((ts : List Tree) → KnowsAll v.pass rs ts → Builds v.pass w.pass r (app_tree head ts)) → (ts : List Term) (t : Term) → ReferToAll s v rs ts → IsApplication s head ts t → RefersTo s w r t
+pub app_refers : (s : Table) (v w : TermsView) (head r : ℕ) (rs : List ℕ) → ((ts : List Tree) → KnowsAll v.pass rs ts → Builds v.pass w.pass r (app_tree head ts)) → (ts : List Term) (t : Term) → ReferToAll s v rs ts → IsAppliedLeaf s head ts t → RefersTo s w r t
 app_refers s v w head r rs built ts t h p =
     let all = trees_of s v rs ts h in
     record {

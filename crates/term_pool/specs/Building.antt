@@ -11,12 +11,12 @@ use Rattle.term_pool.specs.Trees.{IsPartOf}
 use Rattle.term_pool.specs.Views.{TermsView, RefersTo, KeepsPass}
 
 -- t is the application of the symbol of leaf `head` to the terms ts, and that symbol itself where there are none
-abbrev pub IsApplication : Table → ℕ → List Term → Term → Type 0
-IsApplication s head ts (numeral n) = IsLeaf s head (Leaf.numeral (pos n)) × (ts ≡ [])
-IsApplication s head ts (variable x) = IsLeaf s head (variable_leaf x) × (ts ≡ [])
-IsApplication s head ts (operation op us) = IsLeaf s head (operator op) × (list_of us ≡ ts)
-IsApplication s head ts (call f us) = IsLeaf s head (function_leaf f) × (list_of us ≡ ts)
-IsApplication s head ts (let_in bs u) = ⊥
+abbrev pub IsAppliedLeaf : Table → ℕ → List Term → Term → Type 0
+IsAppliedLeaf s head ts (numeral n) = IsLeaf s head (Leaf.numeral (pos n)) × (ts ≡ [])
+IsAppliedLeaf s head ts (variable x) = IsLeaf s head (variable_leaf x) × (ts ≡ [])
+IsAppliedLeaf s head ts (operation op us) = IsLeaf s head (operator op) × (list_of us ≡ ts)
+IsAppliedLeaf s head ts (call f us) = IsLeaf s head (function_leaf f) × (list_of us ≡ ts)
+IsAppliedLeaf s head ts (let_in bs u) = ⊥
 
 -- the bindings are those of the variables' leaves to the values, in order
 abbrev pub AreBindings : Table → TermsView → List ℕ → List ℕ → Bindings → Type 0

@@ -1,13 +1,11 @@
 -- Public. The term at a reference as a function of what contracts see, for measures, which see no tree and no term.
 use Rattle.std.specs.Prelude.{◌≡◌, ℕ, ◌+◌, ◌^◌, pos, negsuc, ℤ, Option, Some, None, slice_get}
-use Rattle.std.specs.Option.{option_map_or}
 use Rattle.pair_pool.specs.Trees.{Tree, leaf, cell}
 use Rattle.pair_pool.specs.Views.{PassView}
 use Rattle.pair_pool.specs.Decoding.{tree_within}
 use Rattle.sym_table.specs.Leaf.{Leaf, operator, function, let_head, nil}
 use Rattle.sym_table.specs.Table.{Table, IsTable}
 use Rattle.term_model.specs.Terms.{Term, Terms, Bindings, numeral, variable, operation, call, let_in, no_terms, term, no_bindings, binding}
-use Rattle.term_pool.specs.Heights.{height_of}
 use Rattle.term_pool.specs.Views.{TermsView, RefersTo}
 
 -- the numeral of a whole number
@@ -26,17 +24,17 @@ leaf_term (Some (Leaf.variable n s)) = Some (variable (record { name = n; sort =
 leaf_term (Some (Leaf.numeral z)) = numeral_of z
 
 -- a head with arguments
-abbrev pub applied : (Terms → Term) → Option Terms → Option Term
-applied f None = None
-applied f (Some ts) = Some (f ts)
+abbrev pub applied_where : (Terms → Term) → Option Terms → Option Term
+applied_where f None = None
+applied_where f (Some ts) = Some (f ts)
 
 -- the term of a cell, by its first part, and what its second part is as a list and as the rest of a let
 abbrev pub cell_term : Option Leaf → Option Terms → Option Term → Option Term
 cell_term None ts u = None
 cell_term (Some nil) ts u = None
 cell_term (Some let_head) ts u = u
-cell_term (Some (operator op)) ts u = applied (operation op) ts
-cell_term (Some (function n ss t)) ts u = applied (call (record { name = n; arguments = ss; target = t })) ts
+cell_term (Some (operator op)) ts u = applied_where (operation op) ts
+cell_term (Some (function n ss t)) ts u = applied_where (call (record { name = n; arguments = ss; target = t })) ts
 cell_term (Some (Leaf.variable n s)) ts u = None
 cell_term (Some (Leaf.numeral z)) ts u = None
 
@@ -46,10 +44,10 @@ both_terms None ts = None
 both_terms (Some t) None = None
 both_terms (Some t) (Some ts) = Some (term t ts)
 
-abbrev pub let_term : Option Bindings → Option Term → Option Term
-let_term None t = None
-let_term (Some bs) None = None
-let_term (Some bs) (Some t) = Some (let_in bs t)
+abbrev pub let_where : Option Bindings → Option Term → Option Term
+let_where None t = None
+let_where (Some bs) None = None
+let_where (Some bs) (Some t) = Some (let_in bs t)
 
 abbrev pub both_bindings : Option Leaf → Option Term → Option Bindings → Option Bindings
 both_bindings None t bs = None
@@ -79,7 +77,7 @@ abbrev mutual
 
   pub decode_let : Table → Tree → Option Term
   decode_let s (leaf k) = None
-  decode_let s (cell a b) = let_term (decode_bindings s a) (decode s b)
+  decode_let s (cell a b) = let_where (decode_bindings s a) (decode s b)
 
   pub decode_bindings : Table → Tree → Option Bindings
   decode_bindings s (leaf k) = Some no_bindings
@@ -100,10 +98,6 @@ tree_at pass r = tree_within pass (2 ^ 30 + pass.places) r
 -- the term that r stands for by the table; of a reference that stands for none it says nothing
 abbrev pub term_at : Table → TermsView → ℕ → Option Term
 term_at s v r = decode s (tree_at v.pass r)
-
--- its height, and 0 where there is none
-abbrev pub height_at : Table → TermsView → ℕ → ℕ
-height_at s v r = option_map_or height_of (term_at s v r) 0
 
 -- by each table, it is the term that a reference stands for
 abbrev pub HasTermsAt : TermsView → Type 0

@@ -1,12 +1,16 @@
 pub mod StandsFor
 pub mod Trees
 pub mod Views
+pub mod ReadingOnly
 pub mod Building
 pub mod Reading
+pub mod CellShapes
 pub mod Nots
 pub mod Heights
+pub mod HeightTables
 pub mod CellCounts
 pub mod Putting
+pub mod PuttingVisits
 pub mod Numbering
 pub mod Meetings
 pub mod Memos

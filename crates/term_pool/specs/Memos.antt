@@ -9,7 +9,7 @@ use Rattle.term_pool.specs.declared.heights.Visit.TheVariants.{Part, Done}
 use Rattle.term_pool.specs.Views.{IsKnownCell}
 use Rattle.term_pool.specs.Trees.{depth}
 use Rattle.term_pool.specs.CellCounts.{Has}
-use Rattle.term_pool.specs.Heights.{leaf_heights, heights_of}
+use Rattle.term_pool.specs.HeightTables.{leaf_heights, heights_of}
 use Rattle.term_pool.specs.Numbering.{HasNumber, IsPlace, IsNumbering, IsNext}
 use Rattle.term_pool.specs.Meetings.{IsNumberingOf}
 
@@ -42,6 +42,6 @@ pub record IsBelow (pass : PassView) (x y : ℕ) : Type 0 where
   pub below : (s t : Tree) → Knows pass x s → Knows pass y t → depth t < depth s
 
 -- a visit of the cell r has noted its heights, or found a part of it that is yet to be visited
-abbrev pub IsVisit : PassView → Memo → Memo → ℕ → Visit → Type 0
-IsVisit pass old new r (Done h) = IsNoted old new r h × IsMemo pass new
-IsVisit pass old new r (Part y) = (new ≡ old) × IsBelow pass r y × (Has old.cells.cells.items y → ⊥)
+abbrev pub IsHeightVisit : PassView → Memo → Memo → ℕ → Visit → Type 0
+IsHeightVisit pass old new r (Done h) = IsNoted old new r h × IsMemo pass new
+IsHeightVisit pass old new r (Part y) = (new ≡ old) × IsBelow pass r y × (Has old.cells.cells.items y → ⊥)

@@ -15,19 +15,19 @@ abbrev pub HasNumber : List ℕ → ℕ → ℕ → Type 0
 HasNumber cells k r = (k < length cells) × (slice_index cells k ≡ r)
 
 -- what a vector by place says: 0 where the place has no number, and else the number and one
-abbrev pub number_of : ℕ → Option ℕ
-number_of zero = None
-number_of (suc k) = Some k
+abbrev pub number_or_zero : ℕ → Option ℕ
+number_or_zero zero = None
+number_or_zero (suc k) = Some k
 
 -- the number that the index has for the cell r
 abbrev pub number_in : Index → ℕ → Option ℕ
 number_in (Few numbers) r = get nat_eq numbers r
-number_in (Many numbers) r = number_of (slice_index numbers.items (r - 2 ^ 30))
+number_in (Many numbers) r = number_or_zero (slice_index numbers.items (r - 2 ^ 30))
 
 -- the index can have a number for the cell r
-abbrev pub HasRoom : Index → ℕ → Type 0
-HasRoom (Few numbers) r = Unit {0}
-HasRoom (Many numbers) r = r < 2 ^ 30 + length numbers.items
+abbrev pub HasNumberRoom : Index → ℕ → Type 0
+HasNumberRoom (Few numbers) r = Unit {0}
+HasNumberRoom (Many numbers) r = r < 2 ^ 30 + length numbers.items
 
 -- the vector by place has the numbers of the first n cells, and no others
 pub record IsFilled (places : ℕ) (cells : List ℕ) (n : ℕ) (numbers : List ℕ) : Type 0 where
@@ -41,7 +41,7 @@ pub record IsFilled (places : ℕ) (cells : List ℕ) (n : ℕ) (numbers : List 
 pub record IsNumbering (n : Numbering) : Type 0 where
   pub size : n.places ≤ 2 ^ 26
   pub inside : (k : ℕ) → k < length n.cells.items → IsPlace n.places (slice_index n.cells.items k)
-  pub room : (r : ℕ) → IsPlace n.places r → HasRoom n.index r
+  pub room : (r : ℕ) → IsPlace n.places r → HasNumberRoom n.index r
   pub told : (k : ℕ) → k < length n.cells.items → number_in n.index (slice_index n.cells.items k) ≡ Some k
   pub only : (r k : ℕ) → 2 ^ 30 ≤ r → number_in n.index r ≡ Some k → HasNumber n.cells.items k r
 

@@ -93,7 +93,7 @@ pub record AreCells (pass : PassView) (x : Pair) : Type 0 where
   pub apart : x.left ≢ x.right
 
 -- y is a pair of different cells below the pair x
-pub record IsBelow (pass : PassView) (x y : Pair) : Type 0 where
+pub record IsPairBelow (pass : PassView) (x y : Pair) : Type 0 where
   pub cells : AreCells pass y
   pub less :
       (s t u v : Tree) → Knows pass x.left s → Knows pass x.right t → Knows pass y.left u →
@@ -102,27 +102,27 @@ pub record IsBelow (pass : PassView) (x y : Pair) : Type 0 where
 -- the answer for x, or a pair below it that was not judged
 abbrev pub IsJudged : PassView → ℕ → Answers → Pair → Visit → Type 0
 IsJudged pass equal memo x (Done b) = IsAnswer pass equal x b
-IsJudged pass equal memo x (Part y) = IsBelow pass x y × (answer_of memo y ≡ None)
+IsJudged pass equal memo x (Part y) = IsPairBelow pass x y × (answer_of memo y ≡ None)
 
 -- whether the lists are equal crosswise, or a pair below them that was not judged
 abbrev pub IsCrossed : PassView → ℕ → Answers → ℕ → ℕ → Visit → Type 0
 IsCrossed pass equal memo p q (Done b) = (s t : Tree) → Knows pass p s → Knows pass q t → b ≡ crossed equal s t
-IsCrossed pass equal memo p q (Part y) = IsBelow pass (as_lists p q) y × (answer_of memo y ≡ None)
+IsCrossed pass equal memo p q (Part y) = IsPairBelow pass (as_lists p q) y × (answer_of memo y ≡ None)
 
 -- one answer more, and what there was
-pub record Remembers (old new : Answers) (x : Pair) (b : Bool) : Type 0 where
+pub record RemembersPair (old new : Answers) (x : Pair) (b : Bool) : Type 0 where
   pub here : answer_of new x ≡ Some b
   pub others : (y : Pair) → y ≢ x → answer_of new y ≡ answer_of old y
   pub size : hash_map_len new ≡ hash_map_len old + 1
   pub few : hash_map_len old < 2 ^ 64
 
 -- a visit of x has come to its answer, or found a pair that is yet to be visited
-abbrev pub IsVisit : PassView → ℕ → Answers → Answers → Pair → Visit → Type 0
-IsVisit pass equal old new x (Done b) = Remembers old new x b × IsAnswer pass equal x b
-IsVisit pass equal old new x (Part y) = (new ≡ old) × IsBelow pass x y × (answer_of old y ≡ None)
+abbrev pub IsPairVisit : PassView → ℕ → Answers → Answers → Pair → Visit → Type 0
+IsPairVisit pass equal old new x (Done b) = RemembersPair old new x b × IsAnswer pass equal x b
+IsPairVisit pass equal old new x (Part y) = (new ≡ old) × IsPairBelow pass x y × (answer_of old y ≡ None)
 
 -- the two items of a list that has two
-abbrev pub AreItems : PassView → ℕ → Option (ℕ × ℕ) → Type 0
-AreItems pass list None = (a b : Tree) → Knows pass list (cell a (cell b nil_tree)) → ⊥
-AreItems pass list (Some items) =
+abbrev pub AreTwoItems : PassView → ℕ → Option (ℕ × ℕ) → Type 0
+AreTwoItems pass list None = (a b : Tree) → Knows pass list (cell a (cell b nil_tree)) → ⊥
+AreTwoItems pass list (Some items) =
     (a : Tree) × (b : Tree) × Knows pass list (cell a (cell b nil_tree)) × Knows pass items.0 a × Knows pass items.1 b

@@ -1,16 +1,13 @@
 -- Public. Putting trees in for the leaves of a tree.
-use Rattle.std.specs.Prelude.{◌≡◌, ℕ, ◌+◌, ◌≤◌, ◌<◌, ◌^◌, ◌≢◌, ◌⊎◌, max, Bool, true, ◌&&◌, Option, Some, None, nat_eq}
+use Rattle.std.specs.Prelude.{◌≡◌, ℕ, ◌+◌, ◌≤◌, ◌<◌, max, Bool, true, ◌&&◌, Option, Some, None, nat_eq}
 use Rattle.std.specs.declared.hash.FoldHasher.{FoldHasher}
 use Rattle.std.specs.declared.hash.BuildHasherDefault.{BuildHasherDefault}
-use Rattle.std.specs.HashMap.{get, HashMap, hash_map_len}
+use Rattle.std.specs.HashMap.{get, HashMap}
 use Rattle.pair_pool.specs.Trees.{Tree, leaf, cell}
-use Rattle.pair_pool.specs.Views.{PassView, Knows, IsKnown}
+use Rattle.pair_pool.specs.Views.{PassView, Knows}
 use Rattle.term_pool.specs.declared.putting.Image.{Image}
-use Rattle.term_pool.specs.declared.putting.Visit.{Visit}
-use Rattle.term_pool.specs.declared.putting.Visit.TheVariants.{Part, Done}
 use Rattle.term_pool.specs.Trees.{IsPartOf, depth}
-use Rattle.term_pool.specs.Views.{KeepsPass}
-use Rattle.term_pool.specs.Building.{IsCellIn, PlacesOnlyIn, IsFullIn}
+use Rattle.term_pool.specs.Building.{PlacesOnlyIn, IsFullIn}
 
 -- A tree, its height as a term, that of its highest item as a list of arguments, and whether a term that stands there
 -- is marked as plain, which it is where all that is put in is.
@@ -21,77 +18,67 @@ pub record Piece : Type 0 where
   pub plain : Bool
 
 -- a leaf that stays
-abbrev pub itself : ℕ → Piece
-itself k = record { tree = leaf k; height = 1; highest = 0; plain = true }
+abbrev pub staying : ℕ → Piece
+staying k = record { tree = leaf k; height = 1; highest = 0; plain = true }
 
-abbrev pub joined : Piece → Piece → Piece
-joined a b = record { tree = cell a.tree b.tree; height = b.highest + 1; highest = max a.height b.highest; plain = a.plain && b.plain }
+abbrev pub joined_pieces : Piece → Piece → Piece
+joined_pieces a b = record { tree = cell a.tree b.tree; height = b.highest + 1; highest = max a.height b.highest; plain = a.plain && b.plain }
 
 -- the tree with these in the places of its leaves
 abbrev pub put : (ℕ → Piece) → Tree → Piece
 put f (leaf k) = f k
-put f (cell a b) = joined (put f a) (put f b)
+put f (cell a b) = joined_pieces (put f a) (put f b)
 
 -- by references: what is put in for leaves, and what has become of cells
-abbrev pub Images : Type 0
-Images = HashMap ℕ Image (BuildHasherDefault FoldHasher)
+abbrev pub CellImages : Type 0
+CellImages = HashMap ℕ Image (BuildHasherDefault FoldHasher)
 
 -- the image is the piece, whose tree the pass knows
-pub record IsImage (pass : PassView) (d : Image) (p : Piece) : Type 0 where
+pub record IsImageOfPiece (pass : PassView) (d : Image) (p : Piece) : Type 0 where
   pub known : Knows pass d.term p.tree
   pub height : d.height ≡ p.height
   pub highest : d.highest ≡ p.highest
   pub plain : d.plain ≡ p.plain
 
 -- the piece is no higher than its tree allows
-pub record IsWithin (p : Piece) : Type 0 where
+pub record IsLowPiece (p : Piece) : Type 0 where
   pub height : p.height ≤ depth p.tree + 1
   pub highest : p.highest ≤ depth p.tree
 
 -- what is put in for leaf k
 abbrev pub IsImageOf : PassView → Option Image → ℕ → Piece → Type 0
-IsImageOf pass None k p = p ≡ itself k
-IsImageOf pass (Some d) k p = IsImage pass d p × IsWithin p
+IsImageOf pass None k p = p ≡ staying k
+IsImageOf pass (Some d) k p = IsImageOfPiece pass d p × IsLowPiece p
 
-abbrev pub AreImages : PassView → Images → (ℕ → Piece) → Type 0
-AreImages pass images f = (k : ℕ) → IsImageOf pass (get nat_eq images k) k (f k)
+abbrev pub ArePiecesOfLeaves : PassView → CellImages → (ℕ → Piece) → Type 0
+ArePiecesOfLeaves pass images f = (k : ℕ) → IsImageOf pass (get nat_eq images k) k (f k)
 
 -- the images are those of some pieces
-pub record HasImages (pass : PassView) (images : Images) : Type 0 where
+pub record HasPieceImages (pass : PassView) (images : CellImages) : Type 0 where
   pub pieces : ℕ → Piece
-  pub are : AreImages pass images pieces
+  pub are : ArePiecesOfLeaves pass images pieces
 
 -- what a cell has become
-pub record HasBecome (pass : PassView) (f : ℕ → Piece) (r : ℕ) (d : Image) : Type 0 where
+pub record HasBecomeImage (pass : PassView) (f : ℕ → Piece) (r : ℕ) (d : Image) : Type 0 where
   pub tree : Tree
   pub known : Knows pass r tree
-  pub image : IsImage pass d (put f tree)
+  pub image : IsImageOfPiece pass d (put f tree)
 
-abbrev pub IsMemory : PassView → (ℕ → Piece) → Images → Type 0
-IsMemory pass f memo = (r : ℕ) (d : Image) → get nat_eq memo r ≡ Some d → HasBecome pass f r d
+abbrev pub IsImageMemory : PassView → (ℕ → Piece) → CellImages → Type 0
+IsImageMemory pass f memo = (r : ℕ) (d : Image) → get nat_eq memo r ≡ Some d → HasBecomeImage pass f r d
 
 -- the images are those of some pieces, and what is remembered has become of them
-pub record IsReady (pass : PassView) (images memo : Images) : Type 0 where
+pub record IsPuttingReady (pass : PassView) (images memo : CellImages) : Type 0 where
   pub pieces : ℕ → Piece
-  pub are : AreImages pass images pieces
-  pub right : IsMemory pass pieces memo
+  pub are : ArePiecesOfLeaves pass images pieces
+  pub right : IsImageMemory pass pieces memo
 
-abbrev pub image_of_leaf : Option Image → ℕ → Image
-image_of_leaf None k = record { term = k; height = 1; highest = 0; plain = true }
-image_of_leaf (Some d) k = d
-
--- The images of the parts of a cell have been joined to the cell (a, b), which is r.
-abbrev pub joined_image : ℕ → Image → Image → Image
-joined_image r a b = record { term = r; height = b.highest + 1; highest = max a.height b.highest; plain = a.plain && b.plain }
-
--- one cell more is remembered, and what there was
-pub record Remembers (old new : Images) (r : ℕ) (d : Image) : Type 0 where
-  pub here : get nat_eq new r ≡ Some d
-  pub others : (q : ℕ) → q ≢ r → get nat_eq new q ≡ get nat_eq old q
-  pub size : hash_map_len new ≡ hash_map_len old + 1
+abbrev pub image_of_leaf_or_itself : Option Image → ℕ → Image
+image_of_leaf_or_itself None k = record { term = k; height = 1; highest = 0; plain = true }
+image_of_leaf_or_itself (Some d) k = d
 
 -- y is a cell that is a part of what x is known to be, and not all of it
-pub record IsUnder (pass : PassView) (x y : ℕ) : Type 0 where
+pub record IsCellUnder (pass : PassView) (x y : ℕ) : Type 0 where
   pub upper : Tree
   pub upper_known : Knows pass x upper
   pub first : Tree
@@ -100,19 +87,9 @@ pub record IsUnder (pass : PassView) (x y : ℕ) : Type 0 where
   pub part : IsPartOf (cell first second) upper
   pub less : depth (cell first second) < depth upper
 
--- a visit of the cell r has come to its image, or found a part of it that is yet to be visited
-abbrev pub IsVisit : PassView → Images → Images → ℕ → Visit → Type 0
-IsVisit pass old new r (Done d) = Remembers old new r d × (hash_map_len old < 2 ^ 64)
-IsVisit pass old new r (Part y) = (new ≡ old) × IsUnder pass r y × (get nat_eq old y ≡ None)
-
--- where the visit of r is done, its image is what r has become
-abbrev pub HasDone : PassView → PassView → (ℕ → Piece) → ℕ → Visit → Type 0
-HasDone old new f r (Done d) = (t : Tree) → Knows old r t → IsImage new d (put f t)
-HasDone old new f r (Part y) = Unit {0}
-
 -- nothing is placed but cells of what the known reference becomes
-abbrev pub PlacesImage : PassView → PassView → (ℕ → Piece) → ℕ → Type 0
-PlacesImage old new f r = (t : Tree) → Knows old r t → PlacesOnlyIn old new (put f t).tree
+abbrev pub PlacesPiece : PassView → PassView → (ℕ → Piece) → ℕ → Type 0
+PlacesPiece old new f r = (t : Tree) → Knows old r t → PlacesOnlyIn old new (put f t).tree
 
-abbrev pub LacksRoomForImage : PassView → PassView → (ℕ → Piece) → ℕ → Type 0
-LacksRoomForImage old new f r = (t : Tree) → Knows old r t → IsFullIn new (put f t).tree
+abbrev pub LacksRoomForPiece : PassView → PassView → (ℕ → Piece) → ℕ → Type 0
+LacksRoomForPiece old new f r = (t : Tree) → Knows old r t → IsFullIn new (put f t).tree

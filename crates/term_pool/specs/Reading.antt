@@ -1,13 +1,11 @@
 -- Public. What the calls that read terms answer.
-use Rattle.std.specs.Prelude.{◌≡◌, ℕ, ◌<◌, pos, List, [], ◌∷◌, length, ◌==◌, if◌then◌else◌}
-use Rattle.pair_pool.specs.Trees.{Tree, leaf, cell}
-use Rattle.pair_pool.specs.Views.{PassView, Knows}
-use Rattle.sym_table.specs.Leaf.{Leaf, operator, function}
+use Rattle.std.specs.Prelude.{◌≡◌, ℕ, ◌<◌, pos, List, [], ◌∷◌, length}
+use Rattle.pair_pool.specs.Trees.{leaf}
+use Rattle.sym_table.specs.Leaf.{operator}
 use Rattle.sym_table.specs.Table.{Table, IsLeaf}
 use Rattle.term_model.specs.Terms.{Var, Term, Bindings, numeral, variable, operation, call, let_in, list_of, no_bindings, binding}
 use Rattle.term_pool.specs.declared.shape.Shape.{Shape}
-use Rattle.term_pool.specs.StandsFor.{let_tree, variable_leaf, function_leaf}
-use Rattle.term_pool.specs.Trees.{IsCellTree, list_length}
+use Rattle.term_pool.specs.StandsFor.{variable_leaf, function_leaf}
 use Rattle.term_pool.specs.Views.{TermsView, RefersTo}
 
 -- the arguments of an application, and of any other term none
@@ -47,32 +45,6 @@ IsShapeOf s (operation op ts) shape =
 IsShapeOf s (call f ts) shape =
     (k : ℕ) × IsLeaf s k (function_leaf f) × (shape ≡ Shape.App k (length (list_of ts)))
 IsShapeOf s (let_in bs u) shape = shape ≡ Shape.LetTerm (length (list_of_bindings bs))
-
--- the shape of a term that is leaf k and stands for the symbol l
-abbrev pub leaf_shape : ℕ → Leaf → Shape
-leaf_shape k Leaf.nil = Shape.App k 0
-leaf_shape k Leaf.let_head = Shape.App k 0
-leaf_shape k (operator op) = Shape.App k 0
-leaf_shape k (function name arguments target) = Shape.App k 0
-leaf_shape k (Leaf.variable name sort) = Shape.Var k
-leaf_shape k (Leaf.numeral n) = Shape.Num n
-
--- the first part of a cell
-abbrev pub first_part : Tree → Tree
-first_part (leaf k) = leaf k
-first_part (cell a b) = a
-
--- the shape of a term that is the cell of leaf k and a rest
-abbrev pub cell_shape : ℕ → Tree → Shape
-cell_shape k rest =
-    if k == 1 then Shape.LetTerm (list_length (first_part rest)) else Shape.App k (list_length rest)
-
--- r is known as a cell, and where its first part is the head of a let, its second part is a cell
-pub record IsTermCell (pass : PassView) (r : ℕ) : Type 0 where
-  pub head : Tree
-  pub rest : Tree
-  pub stands : Knows pass r (cell head rest)
-  pub let_rest : head ≡ let_tree → IsCellTree rest
 
 -- by some table, r stands for an application with an argument at place i, counted from 0
 pub record HasArgument (v : TermsView) (r i : ℕ) : Type 0 where

@@ -39,9 +39,9 @@ list_length (leaf k) = 0
 list_length (cell a b) = suc (list_length b)
 
 -- the items of the tree as a list
-abbrev pub items_of : Tree → List Tree
-items_of (leaf k) = []
-items_of (cell a b) = a ∷ items_of b
+abbrev pub tree_items : Tree → List Tree
+tree_items (leaf k) = []
+tree_items (cell a b) = a ∷ tree_items b
 
 -- the item of the tree as a list at place i, counted from 0
 abbrev pub list_item : Tree → ℕ → Tree
@@ -50,11 +50,11 @@ list_item (cell a b) zero = a
 list_item (cell a b) (suc i) = list_item b i
 
 -- each item of the tree as a list is the cell of a leaf and a tree
-abbrev pub ArePairs : Tree → Type 0
-ArePairs (leaf k) = Unit {0}
-ArePairs (cell (leaf j) b) = ⊥
-ArePairs (cell (cell (leaf k) t) b) = ArePairs b
-ArePairs (cell (cell (cell c d) t) b) = ⊥
+abbrev pub AreLeafPairs : Tree → Type 0
+AreLeafPairs (leaf k) = Unit {0}
+AreLeafPairs (cell (leaf j) b) = ⊥
+AreLeafPairs (cell (cell (leaf k) t) b) = AreLeafPairs b
+AreLeafPairs (cell (cell (cell c d) t) b) = ⊥
 
 -- the leaves of these cells, and the trees
 abbrev pub pair_leaves : Tree → List ℕ

@@ -1,11 +1,11 @@
 -- Public. What contracts see of a `Terms`, and when a reference in it stands for a term.
 use Rattle.std.specs.Prelude.{◌≡◌, ℕ, ◌<◌, List, [], ◌∷◌, ◌++◌}
 use Rattle.pair_pool.specs.Trees.{Tree, cell}
-use Rattle.pair_pool.specs.Views.{PoolView, PassView, Knows, Grows, SeesMore, IsUnchanged}
+use Rattle.pair_pool.specs.Views.{PoolView, PassView, Knows, Grows, SeesMore}
 use Rattle.sym_table.specs.Table.{Table}
 use Rattle.term_model.specs.Terms.{Term}
 use Rattle.term_pool.specs.StandsFor.{StandsFor}
-use Rattle.term_pool.specs.Trees.{list_length, items_of, ArePairs, pair_leaves, pair_trees}
+use Rattle.term_pool.specs.Trees.{list_length, tree_items, AreLeafPairs, pair_leaves, pair_trees}
 
 -- a pool, and a pass on it
 pub record TermsView : Type 0 where
@@ -61,22 +61,17 @@ pub record HasItem (pass : PassView) (r i : ℕ) : Type 0 where
   pub stands : Knows pass r tree
   pub there : i < list_length tree
 
--- the pass has kept what it had, and neither placed nor learnt anything
-pub record ReadsOnly (old new : PassView) : Type 0 where
-  pub keeps : KeepsPass old new
-  pub unchanged : IsUnchanged old new
-
 -- behind the old references stand those of the items of the list, in order
 pub record AddsItems (pass : PassView) (list : ℕ) (old new : List ℕ) : Type 0 where
   pub items : List ℕ
   pub added : new ≡ old ++ items
-  pub known : (t : Tree) → Knows pass list t → KnowsAll pass items (items_of t)
+  pub known : (t : Tree) → Knows pass list t → KnowsAll pass items (tree_items t)
 
 -- r is known to be a list of pairs of a leaf and a tree
 pub record IsPairList (pass : PassView) (r : ℕ) : Type 0 where
   pub tree : Tree
   pub stands : Knows pass r tree
-  pub pairs : ArePairs tree
+  pub pairs : AreLeafPairs tree
 
 -- behind the old leaves and references stand those of the pairs of the list, in order
 pub record AddsPairs (pass : PassView) (list : ℕ) (old_leaves new_leaves old new : List ℕ) : Type 0 where

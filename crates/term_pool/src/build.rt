@@ -2,7 +2,7 @@
 
 ghost use Rattle.std.specs.Prelude.{◌≡◌, ℕ, ◌<◌, ◌^◌, List, All, length, IfOk, OnErr};
 ghost use Rattle.pair_pool.specs.Trees.{Tree, leaf, cell};
-ghost use Rattle.pair_pool.specs.Views.{IsOf, IsKnown, Knows};
+ghost use Rattle.pair_pool.specs.Views.{IsPassOf, IsKnown, Knows};
 ghost use Rattle.term_pool.specs.Trees.{list_tree, app_tree, binding_trees, let_term_tree};
 ghost use Rattle.term_pool.specs.Views.{KnowsAll};
 ghost use Rattle.term_pool.specs.Building.{Builds, LacksRoom};
@@ -20,12 +20,12 @@ pub(crate) fn application(
     head: u32,
     args: &[Ref],
 ) -> Result<Ref, PoolFull>
-    requires of_pool { IsOf pool.now pass.old }
+    requires of_pool { IsPassOf pool.now pass.old }
     requires head { head < 2 ^ 30 }
     requires known { All (IsKnown pass.old) args.now }
     ensures built { IfOk result (λ r. (ts : List Tree) → KnowsAll pass.old args.now ts → Builds pass.old pass.new r (app_tree head ts)) }
     ensures full { OnErr result ((ts : List Tree) → KnowsAll pass.old args.now ts → LacksRoom pass.old pass.new (app_tree head ts)) }
-    ensures of_pool { IsOf pool.now pass.new }
+    ensures of_pool { IsPassOf pool.now pass.new }
 {
     let head = Ref::leaf(head);
     if args.is_empty() {
@@ -43,14 +43,14 @@ pub(crate) fn let_term(
     values: &[Ref],
     body: Ref,
 ) -> Result<Ref, PoolFull>
-    requires of_pool { IsOf pool.now pass.old }
+    requires of_pool { IsPassOf pool.now pass.old }
     requires one_each { length vars.now ≡ length values.now }
     requires vars { All (λ k. k < 2 ^ 30) vars.now }
     requires values { All (IsKnown pass.old) values.now }
     requires body { IsKnown pass.old body }
     ensures built { IfOk result (λ r. (ts : List Tree) (u : Tree) → KnowsAll pass.old values.now ts → Knows pass.old body u → Builds pass.old pass.new r (let_term_tree vars.now ts u)) }
     ensures full { OnErr result ((ts : List Tree) (u : Tree) → KnowsAll pass.old values.now ts → Knows pass.old body u → LacksRoom pass.old pass.new (let_term_tree vars.now ts u)) }
-    ensures of_pool { IsOf pool.now pass.new }
+    ensures of_pool { IsPassOf pool.now pass.new }
 {
     let list = bindings(pool, pass, vars, values)?;
     let rest = pair(pool, pass, list, body)?;
@@ -59,13 +59,13 @@ pub(crate) fn let_term(
 
 /// The list of the bindings of variables to values, built from its end.
 fn bindings(pool: &Pool, pass: &mut Pass, vars: &[u32], values: &[Ref]) -> Result<Ref, PoolFull>
-    requires of_pool { IsOf pool.now pass.old }
+    requires of_pool { IsPassOf pool.now pass.old }
     requires one_each { length vars.now ≡ length values.now }
     requires vars { All (λ k. k < 2 ^ 30) vars.now }
     requires values { All (IsKnown pass.old) values.now }
     ensures built { IfOk result (λ r. (ts : List Tree) → KnowsAll pass.old values.now ts → Builds pass.old pass.new r (list_tree (binding_trees vars.now ts))) }
     ensures full { OnErr result ((ts : List Tree) → KnowsAll pass.old values.now ts → LacksRoom pass.old pass.new (list_tree (binding_trees vars.now ts))) }
-    ensures of_pool { IsOf pool.now pass.new }
+    ensures of_pool { IsPassOf pool.now pass.new }
 {
     let mut list = Ref::leaf(NIL);
     let mut at = vars.len();
@@ -78,13 +78,13 @@ fn bindings(pool: &Pool, pass: &mut Pass, vars: &[u32], values: &[Ref]) -> Resul
 
 /// The list whose first item binds a variable to a value.
 fn binding(pool: &Pool, pass: &mut Pass, var: u32, value: Ref, rest: Ref) -> Result<Ref, PoolFull>
-    requires of_pool { IsOf pool.now pass.old }
+    requires of_pool { IsPassOf pool.now pass.old }
     requires var { var < 2 ^ 30 }
     requires value { IsKnown pass.old value }
     requires rest { IsKnown pass.old rest }
     ensures built { IfOk result (λ r. (t u : Tree) → Knows pass.old value t → Knows pass.old rest u → Builds pass.old pass.new r (cell (cell (leaf var) t) u)) }
     ensures full { OnErr result ((t u : Tree) → Knows pass.old value t → Knows pass.old rest u → LacksRoom pass.old pass.new (cell (cell (leaf var) t) u)) }
-    ensures of_pool { IsOf pool.now pass.new }
+    ensures of_pool { IsPassOf pool.now pass.new }
 {
     let first = pair(pool, pass, Ref::leaf(var), value)?;
     pair(pool, pass, first, rest)

@@ -2,7 +2,7 @@
 
 ghost use Rattle.std.specs.Prelude.{◌≡◌, ℕ, ◌<◌, List, All, IfOk, OnOk};
 ghost use Rattle.pair_pool.specs.Trees.{Tree};
-ghost use Rattle.pair_pool.specs.Views.{IsOf, IsKnown};
+ghost use Rattle.pair_pool.specs.Views.{IsPassOf, IsKnown};
 ghost use Rattle.term_pool.specs.Views.{KnowsAll};
 ghost use Rattle.term_pool.specs.CellCounts.{CountsCells};
 ghost use Rattle.term_pool.specs.Meetings.{IsNumberingOf, IsMeeting};
@@ -21,7 +21,7 @@ fn meet(
     left: &mut Vec<Ref>,
     r: Ref,
 ) -> Result<(), Memory>
-    requires of_pool { IsOf pool.now pass.old }
+    requires of_pool { IsPassOf pool.now pass.old }
     requires known { IsKnown pass.old r }
     requires seen { IsNumberingOf pass.old seen.old }
     ensures meets { OnOk result (IsMeeting pass.old seen.old seen.new left.old.items left.new.items r) }
@@ -49,7 +49,7 @@ pub(crate) fn count(
     pass: &mut Pass,
     list: &[Ref],
 ) -> Result<u64, Memory>
-    requires of_pool { IsOf pool.now pass.old }
+    requires of_pool { IsPassOf pool.now pass.old }
     requires known { All (IsKnown pass.old) list.now }
     ensures count { IfOk result (λ n. (trees : List Tree) → KnowsAll pass.old list.now trees → CountsCells trees n) }
     ensures same { pass.new ≡ pass.old }

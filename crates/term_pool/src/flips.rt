@@ -3,8 +3,8 @@
 ghost use Rattle.std.specs.Prelude.{◌≡◌, ℕ, ◌<◌, ◌^◌, None, IfOk, OnOk};
 ghost use Rattle.std.specs.HashMap.{hash_map_len};
 ghost use Rattle.pair_pool.specs.Trees.{Tree};
-ghost use Rattle.pair_pool.specs.Views.{IsOf, IsKnown, Knows};
-ghost use Rattle.term_pool.specs.Pairs.{same_terms, as_terms, as_lists, answer_of, AreAnswers, looked, both_of, AreCells, AreItems, IsJudged, IsCrossed, Remembers, IsVisit};
+ghost use Rattle.pair_pool.specs.Views.{IsPassOf, IsKnown, Knows};
+ghost use Rattle.term_pool.specs.Pairs.{same_terms, as_terms, as_lists, answer_of, AreAnswers, looked, both_of, AreCells, AreTwoItems, IsJudged, IsCrossed, RemembersPair, IsPairVisit};
 
 use crate::build::LET;
 use crate::lists::{NIL, parts};
@@ -87,9 +87,9 @@ fn both(memo: &HashMap<Pair, bool>, first: Pair, second: Pair) -> Visit
 
 /// The two items of a list that has two.
 fn two_items(pool: &Pool, pass: &mut Pass, list: Ref) -> Option<(Ref, Ref)>
-    requires of_pool { IsOf pool.now pass.old }
+    requires of_pool { IsPassOf pool.now pass.old }
     requires known { IsKnown pass.old list }
-    ensures items { AreItems pass.old list result }
+    ensures items { AreTwoItems pass.old list result }
     ensures same { pass.new ≡ pass.old }
 {
     pass.one_to_one();
@@ -116,7 +116,7 @@ fn judge_lists(
     one: Ref,
     other: Ref,
 ) -> Visit
-    requires of_pool { IsOf pool.now pass.old }
+    requires of_pool { IsPassOf pool.now pass.old }
     requires cells { AreCells pass.old (as_lists one other) }
     ensures judged { (equal : ℕ) → AreAnswers pass.old equal memo.now → IsJudged pass.old equal memo.now (as_lists one other) result }
     ensures same { pass.new ≡ pass.old }
@@ -136,7 +136,7 @@ fn judge_crossed(
     one: Ref,
     other: Ref,
 ) -> Visit
-    requires of_pool { IsOf pool.now pass.old }
+    requires of_pool { IsPassOf pool.now pass.old }
     requires one { IsKnown pass.old one }
     requires other { IsKnown pass.old other }
     ensures crossed { (equal : ℕ) → AreAnswers pass.old equal memo.now → IsCrossed pass.old equal memo.now one other result }
@@ -162,7 +162,7 @@ fn judge_terms(
     one: Ref,
     other: Ref,
 ) -> Visit
-    requires of_pool { IsOf pool.now pass.old }
+    requires of_pool { IsPassOf pool.now pass.old }
     requires equal { equal < 2 ^ 30 }
     requires cells { AreCells pass.old (as_terms one other) }
     requires answers { AreAnswers pass.old equal memo.now }
@@ -192,10 +192,10 @@ fn judge_terms(
     }
 }
 
-/// Remembers the answer for a pair.
+/// RemembersPair the answer for a pair.
 fn note(memo: &mut HashMap<Pair, bool>, pair: Pair, same: bool) -> Result<(), Memory>
     requires { answer_of memo.old pair ≡ None }
-    ensures { OnOk result (Remembers memo.old memo.new pair same) }
+    ensures { OnOk result (RemembersPair memo.old memo.new pair same) }
 {
     let _count = memo.len();
     let _ = memo.insert(pair, same)?;
@@ -204,7 +204,7 @@ fn note(memo: &mut HashMap<Pair, bool>, pair: Pair, same: bool) -> Result<(), Me
 
 /// Judges a pair of different cells.
 fn judge(pool: &Pool, pass: &mut Pass, equal: u32, memo: &HashMap<Pair, bool>, pair: &Pair) -> Visit
-    requires of_pool { IsOf pool.now pass.old }
+    requires of_pool { IsPassOf pool.now pass.old }
     requires equal { equal < 2 ^ 30 }
     requires cells { AreCells pass.old pair.now }
     requires answers { AreAnswers pass.old equal memo.now }
@@ -225,12 +225,12 @@ fn visit_pair(
     memo: &mut HashMap<Pair, bool>,
     pair: &Pair,
 ) -> Result<Visit, Memory>
-    requires of_pool { IsOf pool.now pass.old }
+    requires of_pool { IsPassOf pool.now pass.old }
     requires equal { equal < 2 ^ 30 }
     requires cells { AreCells pass.old pair.now }
     requires answers { AreAnswers pass.old equal memo.old }
     requires new { answer_of memo.old pair.now ≡ None }
-    ensures visit { IfOk result (IsVisit pass.old equal memo.old memo.new pair.now) }
+    ensures visit { IfOk result (IsPairVisit pass.old equal memo.old memo.new pair.now) }
     ensures same { pass.new ≡ pass.old }
 {
     match judge(pool, pass, equal, memo, pair) {
@@ -253,7 +253,7 @@ pub(crate) fn same(
     one: Ref,
     other: Ref,
 ) -> Result<bool, Memory>
-    requires of_pool { IsOf pool.now pass.old }
+    requires of_pool { IsPassOf pool.now pass.old }
     requires equal { equal < 2 ^ 30 }
     requires one { IsKnown pass.old one }
     requires other { IsKnown pass.old other }

@@ -2,12 +2,12 @@
 
 ghost use Rattle.std.specs.Prelude.{◌≡◌, ℕ, ◌<◌, ◌≤◌, ◌^◌, length, Some, IfOk, OnOk, MatchOption};
 ghost use Rattle.pair_pool.specs.Trees.{Tree};
-ghost use Rattle.pair_pool.specs.Views.{IsOf, IsKnown, Knows};
+ghost use Rattle.pair_pool.specs.Views.{IsPassOf, IsKnown, Knows};
 ghost use Rattle.term_pool.specs.Views.{IsKnownCell};
 ghost use Rattle.term_pool.specs.CellCounts.{Has};
 ghost use Rattle.term_pool.specs.Numbering.{IsPlace};
-ghost use Rattle.term_pool.specs.Heights.{leaf_heights, cell_heights, heights_of};
-ghost use Rattle.term_pool.specs.Memos.{HasHeights, HasRoomFor, IsMemo, IsNoted, IsVisit};
+ghost use Rattle.term_pool.specs.HeightTables.{leaf_heights, cell_heights, heights_of};
+ghost use Rattle.term_pool.specs.Memos.{HasHeights, HasRoomFor, IsMemo, IsNoted, IsHeightVisit};
 
 use crate::build::LET;
 use crate::lists::parts;
@@ -103,11 +103,11 @@ fn visit_cell(
     memo: &mut Memo,
     r: Ref,
 ) -> Result<Visit, Memory>
-    requires of_pool { IsOf pool.now pass.old }
+    requires of_pool { IsPassOf pool.now pass.old }
     requires cell { IsKnownCell pass.old r }
     requires right { IsMemo pass.old memo.old }
     requires new { Has memo.old.cells.cells.items r → ⊥ }
-    ensures visit { IfOk result (IsVisit pass.old memo.old memo.new r) }
+    ensures visit { IfOk result (IsHeightVisit pass.old memo.old memo.new r) }
     ensures same { pass.new ≡ pass.old }
 {
     pass.one_to_one();
@@ -128,7 +128,7 @@ fn visit_cell(
 /// The heights of what is known: each cell below it is noted once, the parts before the cell. The cells on the way
 /// down to where the walk is stand in a list, so the walk takes no stack.
 pub(crate) fn walk(alloc: Global, pool: &Pool, pass: &mut Pass, r: Ref) -> Result<Heights, Memory>
-    requires of_pool { IsOf pool.now pass.old }
+    requires of_pool { IsPassOf pool.now pass.old }
     requires known { IsKnown pass.old r }
     ensures heights { IfOk result (λ h. (t : Tree) → Knows pass.old r t → h ≡ heights_of t) }
     ensures same { pass.new ≡ pass.old }

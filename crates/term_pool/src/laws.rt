@@ -4,7 +4,7 @@ ghost use Rattle.std.specs.Prelude.{◌≡◌, ℕ, ◌<◌, List, slice_get, So
 ghost use Rattle.pair_pool.specs.Trees.{Tree};
 ghost use Rattle.sym_table.specs.Table.{Table, IsTable, Keeps};
 ghost use Rattle.term_model.specs.Terms.{Var, Term, Bindings, let_in};
-ghost use Rattle.term_pool.specs.Building.{IsApplication};
+ghost use Rattle.term_pool.specs.Building.{IsAppliedLeaf};
 ghost use Rattle.term_pool.specs.Heights.{height_of};
 ghost use Rattle.term_pool.specs.Reading.{arguments_of, bindings_of};
 ghost use Rattle.term_pool.specs.StandsFor.{StandsFor, StandForAll, StandForValues};
@@ -28,7 +28,7 @@ pub fn references_stay()
 /// A law: the tree of a leaf and of arguments stands for the application of its symbol to what they stand for, and the
 /// tree of variables, values and a body for the let of these. The call does nothing; its contract is the law.
 pub fn trees_are_built_of_parts()
-    ensures application { (s : Table) (head : ℕ) (trees : List Tree) (ts : List Term) (t : Term) → StandForAll s trees ts → IsApplication s head ts t → StandsFor s (app_tree head trees) t }
+    ensures application { (s : Table) (head : ℕ) (trees : List Tree) (ts : List Term) (t : Term) → StandForAll s trees ts → IsAppliedLeaf s head ts t → StandsFor s (app_tree head trees) t }
     ensures let_term { (s : Table) (vars : List ℕ) (trees : List Tree) (body : Tree) (bs : Bindings) (u : Term) → StandForValues s vars trees bs → StandsFor s body u → StandsFor s (let_term_tree vars trees body) (let_in bs u) }
 {}
 

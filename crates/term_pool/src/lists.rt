@@ -2,7 +2,7 @@
 
 ghost use Rattle.std.specs.Prelude.{◌≡◌, ℕ, ◌<◌, ◌^◌, List, All, IfOk, OnOk, OnErr};
 ghost use Rattle.pair_pool.specs.Trees.{Tree, cell};
-ghost use Rattle.pair_pool.specs.Views.{IsOf, IsKnown, Knows};
+ghost use Rattle.pair_pool.specs.Views.{IsPassOf, IsKnown, Knows};
 ghost use Rattle.term_pool.specs.Trees.{list_tree, list_length, list_item};
 ghost use Rattle.term_pool.specs.Views.{KnowsAll, IsKnownCell, HasItem, AddsItems, IsPairList, AddsPairs};
 ghost use Rattle.term_pool.specs.Building.{Builds, LacksRoom, Interns, Refuses};
@@ -14,23 +14,23 @@ pub(crate) const NIL: u32 = 0;
 
 /// The cell (`first`, `second`).
 pub(crate) fn pair(pool: &Pool, pass: &mut Pass, first: Ref, second: Ref) -> Result<Ref, PoolFull>
-    requires of_pool { IsOf pool.now pass.old }
+    requires of_pool { IsPassOf pool.now pass.old }
     requires first { IsKnown pass.old first }
     requires second { IsKnown pass.old second }
     ensures made { IfOk result (λ r. Interns pass.old pass.new first second r) }
     ensures refused { OnErr result (Refuses pass.old pass.new first second) }
-    ensures of_pool { IsOf pool.now pass.new }
+    ensures of_pool { IsPassOf pool.now pass.new }
 {
     pool.intern(pass, first, second)
 }
 
 /// The list of the items, built from its end.
 pub(crate) fn list_of(pool: &Pool, pass: &mut Pass, items: &[Ref]) -> Result<Ref, PoolFull>
-    requires of_pool { IsOf pool.now pass.old }
+    requires of_pool { IsPassOf pool.now pass.old }
     requires known { All (IsKnown pass.old) items.now }
     ensures built { IfOk result (λ r. (ts : List Tree) → KnowsAll pass.old items.now ts → Builds pass.old pass.new r (list_tree ts)) }
     ensures full { OnErr result ((ts : List Tree) → KnowsAll pass.old items.now ts → LacksRoom pass.old pass.new (list_tree ts)) }
-    ensures of_pool { IsOf pool.now pass.new }
+    ensures of_pool { IsPassOf pool.now pass.new }
 {
     let mut list = Ref::leaf(NIL);
     let mut at = items.len();
@@ -44,7 +44,7 @@ pub(crate) fn list_of(pool: &Pool, pass: &mut Pass, items: &[Ref]) -> Result<Ref
 /// The parts of a cell.
 #[tactic(auto, using(crate::proofs::PassLemmas::same_pass))]
 pub(crate) fn parts(pool: &Pool, pass: &mut Pass, r: Ref) -> (Ref, Ref)
-    requires of_pool { IsOf pool.now pass.old }
+    requires of_pool { IsPassOf pool.now pass.old }
     requires tree { IsKnownCell pass.old r }
     ensures first { (s t : Tree) → Knows pass.old r (cell s t) → Knows pass.old result.0 s }
     ensures second { (s t : Tree) → Knows pass.old r (cell s t) → Knows pass.old result.1 t }
@@ -56,7 +56,7 @@ pub(crate) fn parts(pool: &Pool, pass: &mut Pass, r: Ref) -> (Ref, Ref)
 
 /// How many items a list has.
 pub(crate) fn length(pool: &Pool, pass: &mut Pass, list: Ref) -> u32
-    requires of_pool { IsOf pool.now pass.old }
+    requires of_pool { IsPassOf pool.now pass.old }
     requires known { IsKnown pass.old list }
     ensures length { (t : Tree) → Knows pass.old list t → result ≡ list_length t }
     ensures same { pass.new ≡ pass.old }
@@ -75,7 +75,7 @@ pub(crate) fn length(pool: &Pool, pass: &mut Pass, list: Ref) -> u32
 
 /// The item of a list at place `i`, counted from 0.
 pub(crate) fn item(pool: &Pool, pass: &mut Pass, list: Ref, i: u32) -> Ref
-    requires of_pool { IsOf pool.now pass.old }
+    requires of_pool { IsPassOf pool.now pass.old }
     requires there { HasItem pass.old list i }
     ensures item { (t : Tree) → Knows pass.old list t → Knows pass.old result (list_item t i) }
     ensures same { pass.new ≡ pass.old }
@@ -95,7 +95,7 @@ pub(crate) fn items(
     list: Ref,
     into: &mut Vec<Ref>,
 ) -> Result<(), Memory>
-    requires of_pool { IsOf pool.now pass.old }
+    requires of_pool { IsPassOf pool.now pass.old }
     requires known { IsKnown pass.old list }
     ensures added { OnOk result (AddsItems pass.old list into.old.items into.new.items) }
     ensures same { pass.new ≡ pass.old }
@@ -120,7 +120,7 @@ pub(crate) fn pairs(
     leaves: &mut Vec<u32>,
     into: &mut Vec<Ref>,
 ) -> Result<(), Memory>
-    requires of_pool { IsOf pool.now pass.old }
+    requires of_pool { IsPassOf pool.now pass.old }
     requires list { IsPairList pass.old list }
     ensures added { OnOk result (AddsPairs pass.old list leaves.old.items leaves.new.items into.old.items into.new.items) }
     ensures same { pass.new ≡ pass.old }

@@ -2,7 +2,7 @@
 
 ghost use Rattle.std.specs.Prelude.{◌≡◌, ◌<◌, ◌^◌, IfSome, IfNone};
 ghost use Rattle.pair_pool.specs.Trees.{Tree};
-ghost use Rattle.pair_pool.specs.Views.{IsOf, IsKnown, Knows};
+ghost use Rattle.pair_pool.specs.Views.{IsPassOf, IsKnown, Knows};
 ghost use Rattle.term_pool.specs.Nots.{not_tree, IsNotOf, IsUnderNots};
 
 use crate::lists::{NIL, parts};
@@ -10,7 +10,7 @@ use pair_pool::{Pass, Pool, Ref};
 
 /// What the leaf `not` is applied to, where the term is such an application to one argument.
 fn under_not(pool: &Pool, pass: &mut Pass, not: u32, r: Ref) -> Option<Ref>
-    requires of_pool { IsOf pool.now pass.old }
+    requires of_pool { IsPassOf pool.now pass.old }
     requires leaf { not < 2 ^ 30 }
     requires known { IsKnown pass.old r }
     ensures under { IfSome result (IsNotOf pass.old not r) }
@@ -35,7 +35,7 @@ fn under_not(pool: &Pool, pass: &mut Pass, not: u32, r: Ref) -> Option<Ref>
 
 /// What is below all leading applications of the leaf `not`, and how many there are.
 pub(crate) fn strip(pool: &Pool, pass: &mut Pass, not: u32, r: Ref) -> (Ref, u32)
-    requires of_pool { IsOf pool.now pass.old }
+    requires of_pool { IsPassOf pool.now pass.old }
     requires leaf { not < 2 ^ 30 }
     requires known { IsKnown pass.old r }
     ensures stripped { IsUnderNots pass.old not r result.1 result.0 }

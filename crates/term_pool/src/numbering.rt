@@ -2,9 +2,9 @@
 
 ghost use Rattle.std.specs.Prelude.{◌≡◌, ◌≢◌, ℕ, ◌+◌, ◌-◌, ◌<◌, ◌≤◌, ◌^◌, nat_eq, length, slice_index, Some, [], IfOk, OnOk, MatchOption};
 ghost use Rattle.std.specs.Map.{update};
-ghost use Rattle.pair_pool.specs.Views.{PassView, IsOf};
+ghost use Rattle.pair_pool.specs.Views.{PassView, IsPassOf};
 ghost use Rattle.term_pool.specs.CellCounts.{Has};
-ghost use Rattle.term_pool.specs.Numbering.{number_of, number_in, HasNumber, HasRoom, IsPlace, IsNumbering, IsFilled, IsNext};
+ghost use Rattle.term_pool.specs.Numbering.{number_or_zero, number_in, HasNumber, HasNumberRoom, IsPlace, IsNumbering, IsFilled, IsNext};
 
 use pair_pool::{Memory, Pool, Ref};
 use std::alloc::Global;
@@ -41,7 +41,7 @@ pub(crate) struct Numbering {
 /// The number of a cell.
 fn find(index: &Index, r: u32) -> Option<u32>
     requires cell { 2 ^ 30 ≤ r }
-    requires room { HasRoom index.now r }
+    requires room { HasNumberRoom index.now r }
     ensures { result ≡ number_in index.now r }
 {
     match index {
@@ -52,7 +52,7 @@ fn find(index: &Index, r: u32) -> Option<u32>
 
 /// The number that a vector by place has.
 fn number_at(next: u32) -> Option<u32>
-    ensures { result ≡ number_of next }
+    ensures { result ≡ number_or_zero next }
 {
     if next == 0 { None } else { Some(next - 1) }
 }
@@ -60,10 +60,10 @@ fn number_at(next: u32) -> Option<u32>
 /// Gives a cell a number.
 fn put(index: &mut Index, r: u32, number: u32) -> Result<(), Memory>
     requires cell { 2 ^ 30 ≤ r }
-    requires room { HasRoom index.old r }
+    requires room { HasNumberRoom index.old r }
     requires fits { number < 2 ^ 31 }
     ensures found { OnOk result ((q : ℕ) → 2 ^ 30 ≤ q → number_in index.new q ≡ update nat_eq (number_in index.old) r (Some number) q) }
-    ensures room { (q : ℕ) → HasRoom index.old q → HasRoom index.new q }
+    ensures room { (q : ℕ) → HasNumberRoom index.old q → HasNumberRoom index.new q }
 {
     match index {
         Index::Few(numbers) => {
@@ -93,7 +93,7 @@ impl Numbering {
     /// No cell of a pool.
     pub(crate) fn new(alloc: Global, pool: &Pool) -> Numbering
         ensures numbering { IsNumbering result }
-        ensures places { (pass : PassView) → IsOf pool.now pass → result.places ≡ pass.places }
+        ensures places { (pass : PassView) → IsPassOf pool.now pass → result.places ≡ pass.places }
         ensures cells { result.cells.items ≡ [] }
     {
         Numbering {

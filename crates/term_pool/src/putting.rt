@@ -3,9 +3,10 @@
 ghost use Rattle.std.specs.Prelude.{◌≡◌, ℕ, ◌<◌, ◌≤◌, ◌^◌, nat_eq, Some, None, IfOk, IfErr, OnOk, OnErr};
 ghost use Rattle.std.specs.HashMap.{get, hash_map_len};
 ghost use Rattle.pair_pool.specs.Trees.{Tree};
-ghost use Rattle.pair_pool.specs.Views.{IsOf, IsKnown, Knows};
+ghost use Rattle.pair_pool.specs.Views.{IsPassOf, IsKnown, Knows};
 ghost use Rattle.term_pool.specs.Building.{Interns, Refuses};
-ghost use Rattle.term_pool.specs.Putting.{Piece, put, IsImage, AreImages, HasImages, IsMemory, IsReady, image_of_leaf, joined_image, Remembers, IsVisit, HasDone, PlacesImage, LacksRoomForImage};
+ghost use Rattle.term_pool.specs.Putting.{Piece, put, IsImageOfPiece, ArePiecesOfLeaves, HasPieceImages, IsImageMemory, IsPuttingReady, image_of_leaf_or_itself, PlacesPiece, LacksRoomForPiece};
+ghost use Rattle.term_pool.specs.PuttingVisits.{joined_image, RemembersImage, IsImageVisit, HasDoneImage};
 ghost use Rattle.term_pool.specs.Views.{IsKnownCell, KeepsPass};
 ghost use Rattle.term_pool.specs.declared.stop.TermStop.TheVariants as TermStop;
 
@@ -49,7 +50,7 @@ enum Visit {
 
 /// What is put in for a leaf: itself where there is nothing else.
 fn of_leaf(images: &HashMap<u32, Image>, r: Ref) -> Image
-    ensures { result ≡ image_of_leaf (get nat_eq images.now r) r }
+    ensures { result ≡ image_of_leaf_or_itself (get nat_eq images.now r) r }
 {
     match images.get(&r.number()) {
         Some(image) => *image,
@@ -59,7 +60,7 @@ fn of_leaf(images: &HashMap<u32, Image>, r: Ref) -> Image
 
 /// What a leaf or a remembered cell has become.
 fn look(images: &HashMap<u32, Image>, memo: &HashMap<u32, Image>, r: Ref) -> Option<Image>
-    ensures leaf { r < 2 ^ 30 → result ≡ Some (image_of_leaf (get nat_eq images.now r) r) }
+    ensures leaf { r < 2 ^ 30 → result ≡ Some (image_of_leaf_or_itself (get nat_eq images.now r) r) }
     ensures cell { 2 ^ 30 ≤ r → result ≡ get nat_eq memo.now r }
 {
     if r.is_leaf() {
@@ -68,10 +69,10 @@ fn look(images: &HashMap<u32, Image>, memo: &HashMap<u32, Image>, r: Ref) -> Opt
     memo.get(&r.number()).copied()
 }
 
-/// Remembers what a cell has become.
+/// RemembersImage what a cell has become.
 fn note(memo: &mut HashMap<u32, Image>, r: Ref, image: &Image) -> Result<(), Memory>
     requires { get nat_eq memo.old r ≡ None }
-    ensures noted { OnOk result (Remembers memo.old memo.new r image.now) }
+    ensures noted { OnOk result (RemembersImage memo.old memo.new r image.now) }
     ensures few { hash_map_len memo.old < 2 ^ 64 }
 {
     let _count = memo.len();
@@ -81,14 +82,14 @@ fn note(memo: &mut HashMap<u32, Image>, r: Ref, image: &Image) -> Result<(), Mem
 
 /// The cell of what its parts have become.
 fn join(pool: &Pool, pass: &mut Pass, first: Image, second: Image) -> Result<Image, PoolFull>
-    requires of_pool { IsOf pool.now pass.old }
+    requires of_pool { IsPassOf pool.now pass.old }
     requires first { IsKnown pass.old first.term }
     requires second { IsKnown pass.old second.term }
     requires high { second.highest < 2 ^ 31 }
     ensures made { IfOk result (λ d. Interns pass.old pass.new first.term second.term d.term) }
     ensures is { IfOk result (λ d. d ≡ joined_image d.term first second) }
     ensures refused { OnErr result (Refuses pass.old pass.new first.term second.term) }
-    ensures of_pool { IsOf pool.now pass.new }
+    ensures of_pool { IsPassOf pool.now pass.new }
 {
     let term = pair(pool, pass, first.term, second.term)?;
     Ok(Image {
@@ -99,7 +100,7 @@ fn join(pool: &Pool, pass: &mut Pass, first: Image, second: Image) -> Result<Ima
     })
 }
 
-/// Remembers what a cell has become, where it is known what its parts have.
+/// RemembersImage what a cell has become, where it is known what its parts have.
 fn visit_cell(
     pool: &Pool,
     pass: &mut Pass,
@@ -107,17 +108,17 @@ fn visit_cell(
     memo: &mut HashMap<u32, Image>,
     r: Ref,
 ) -> Result<Visit, TermStop>
-    requires of_pool { IsOf pool.now pass.old }
+    requires of_pool { IsPassOf pool.now pass.old }
     requires cell { IsKnownCell pass.old r }
-    requires ready { IsReady pass.old images.now memo.old }
+    requires ready { IsPuttingReady pass.old images.now memo.old }
     requires new { get nat_eq memo.old r ≡ None }
-    ensures visit { IfOk result (IsVisit pass.old memo.old memo.new r) }
-    ensures image { IfOk result (λ visit. (f : ℕ → Piece) → AreImages pass.old images.now f → IsMemory pass.old f memo.old → HasDone pass.old pass.new f r visit) }
-    ensures right { OnOk result ((f : ℕ → Piece) → AreImages pass.old images.now f → IsMemory pass.old f memo.old → IsMemory pass.new f memo.new) }
-    ensures placed { (f : ℕ → Piece) → AreImages pass.old images.now f → IsMemory pass.old f memo.old → PlacesImage pass.old pass.new f r }
-    ensures full { IfErr result (λ e. e ≡ TermStop.PoolFull → (f : ℕ → Piece) → AreImages pass.old images.now f → IsMemory pass.old f memo.old → LacksRoomForImage pass.old pass.new f r) }
+    ensures visit { IfOk result (IsImageVisit pass.old memo.old memo.new r) }
+    ensures image { IfOk result (λ visit. (f : ℕ → Piece) → ArePiecesOfLeaves pass.old images.now f → IsImageMemory pass.old f memo.old → HasDoneImage pass.old pass.new f r visit) }
+    ensures right { OnOk result ((f : ℕ → Piece) → ArePiecesOfLeaves pass.old images.now f → IsImageMemory pass.old f memo.old → IsImageMemory pass.new f memo.new) }
+    ensures placed { (f : ℕ → Piece) → ArePiecesOfLeaves pass.old images.now f → IsImageMemory pass.old f memo.old → PlacesPiece pass.old pass.new f r }
+    ensures full { IfErr result (λ e. e ≡ TermStop.PoolFull → (f : ℕ → Piece) → ArePiecesOfLeaves pass.old images.now f → IsImageMemory pass.old f memo.old → LacksRoomForPiece pass.old pass.new f r) }
     ensures keeps { KeepsPass pass.old pass.new }
-    ensures of_pool { IsOf pool.now pass.new }
+    ensures of_pool { IsPassOf pool.now pass.new }
 {
     pass.one_to_one();
     pass.parts_of_trees();
@@ -143,14 +144,14 @@ pub(crate) fn put(
     images: &HashMap<u32, Image>,
     r: Ref,
 ) -> Result<Image, TermStop>
-    requires of_pool { IsOf pool.now pass.old }
+    requires of_pool { IsPassOf pool.now pass.old }
     requires known { IsKnown pass.old r }
-    requires images { HasImages pass.old images.now }
-    ensures image { IfOk result (λ d. (f : ℕ → Piece) (t : Tree) → AreImages pass.old images.now f → Knows pass.old r t → IsImage pass.new d (put f t)) }
-    ensures placed { (f : ℕ → Piece) → AreImages pass.old images.now f → PlacesImage pass.old pass.new f r }
-    ensures full { IfErr result (λ e. e ≡ TermStop.PoolFull → (f : ℕ → Piece) → AreImages pass.old images.now f → LacksRoomForImage pass.old pass.new f r) }
+    requires images { HasPieceImages pass.old images.now }
+    ensures image { IfOk result (λ d. (f : ℕ → Piece) (t : Tree) → ArePiecesOfLeaves pass.old images.now f → Knows pass.old r t → IsImageOfPiece pass.new d (put f t)) }
+    ensures placed { (f : ℕ → Piece) → ArePiecesOfLeaves pass.old images.now f → PlacesPiece pass.old pass.new f r }
+    ensures full { IfErr result (λ e. e ≡ TermStop.PoolFull → (f : ℕ → Piece) → ArePiecesOfLeaves pass.old images.now f → LacksRoomForPiece pass.old pass.new f r) }
     ensures keeps { KeepsPass pass.old pass.new }
-    ensures of_pool { IsOf pool.now pass.new }
+    ensures of_pool { IsPassOf pool.now pass.new }
 {
     pass.one_to_one();
     pass.parts_of_trees();

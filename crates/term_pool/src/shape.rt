@@ -2,10 +2,10 @@
 
 ghost use Rattle.std.specs.Prelude.{◌≡◌, ℕ, ◌<◌, length};
 ghost use Rattle.pair_pool.specs.Trees.{Tree, leaf, cell};
-ghost use Rattle.pair_pool.specs.Views.{IsOf, Knows};
+ghost use Rattle.pair_pool.specs.Views.{IsPassOf, Knows};
 ghost use Rattle.sym_table.specs.Leaf.{Leaf};
 ghost use Rattle.sym_table.specs.Table.{IsLeaf};
-ghost use Rattle.term_pool.specs.Reading.{leaf_shape, cell_shape, IsTermCell};
+ghost use Rattle.term_pool.specs.CellShapes.{leaf_shape, cell_shape, IsTermCell};
 
 use crate::build::LET;
 use crate::lists::{length, parts};
@@ -42,7 +42,7 @@ pub(crate) fn shape_of_leaf(symbols: &Symbols, leaf: u32) -> Shape
 
 /// The shape of the term that is a cell.
 pub(crate) fn shape_of_cell(pool: &Pool, pass: &mut Pass, r: Ref) -> Shape
-    requires of_pool { IsOf pool.now pass.old }
+    requires of_pool { IsPassOf pool.now pass.old }
     requires tree { IsTermCell pass.old r }
     ensures shape { (k : ℕ) (t : Tree) → Knows pass.old r (cell (leaf k) t) → result ≡ cell_shape k t }
     ensures same { pass.new ≡ pass.old }

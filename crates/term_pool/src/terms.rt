@@ -1,7 +1,7 @@
 //! A pool with one pass on it.
 
 ghost use Rattle.std.specs.Prelude.{◌≡◌, ◌↔◌, ℕ};
-ghost use Rattle.pair_pool.specs.Views.{IsOf, IsOneToOne, HasPartsOfTrees, HasListsInOrder};
+ghost use Rattle.pair_pool.specs.Views.{IsPassOf, IsOneToOne, HasPartsOfTrees, HasListsInOrder};
 ghost use Rattle.sym_table.specs.Table.{Table, IsTable};
 ghost use Rattle.term_model.specs.Terms.{Term};
 ghost use Rattle.term_pool.specs.Decoding.{HasTermsAt};
@@ -26,20 +26,20 @@ pub struct Terms<'a> {
 }
 
 impl<'a> Model for Terms<'a> {
-    ghost use Rattle.pair_pool.specs.Views.{IsOf};
+    ghost use Rattle.pair_pool.specs.Views.{IsPassOf};
     ghost use Rattle.term_pool.specs.Views.{TermsView};
 
     ghost Value = { TermsView };
 
     ghost view = { λ t. record { pool = t.pool.now; pass = t.pass } };
 
-    ghost invariant = { λ t. IsOf t.pool.now t.pass };
+    ghost invariant = { λ t. IsPassOf t.pool.now t.pass };
 }
 
 impl<'a> Terms<'a> {
     /// The terms of a pool, by a pass on it.
     pub fn new(pool: &'a Pool, pass: Pass) -> Terms<'a>
-        requires { IsOf pool.now pass }
+        requires { IsPassOf pool.now pass }
         ensures pool { result.pool ≡ pool.now }
         ensures pass { result.pass ≡ pass }
     {
@@ -49,7 +49,7 @@ impl<'a> Terms<'a> {
     /// The pass, with all that it knows.
     pub fn into_pass(self) -> Pass
         ensures pass { result ≡ self.entry.pass }
-        ensures of_pool { IsOf self.entry.pool result }
+        ensures of_pool { IsPassOf self.entry.pool result }
     {
         self.pass
     }

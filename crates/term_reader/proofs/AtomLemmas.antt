@@ -13,14 +13,14 @@ use Rattle.term_pool.specs.Views.{TermsView}
 use Rattle.term_reader.specs.Entering.{IsNumber, is_none_found, IsHeadFound, IsReadAlone, ReadsAlone}
 use Rattle.text_items.specs.ItemShapes.{Name}
 use Rattle.problem_text.specs.Forms.{symbol}
-use Rattle.term_names.specs.Heads.{IsHeadOf}
+use Rattle.term_names.specs.Heads.{HeadMeans}
 use Rattle.rule_model.specs.Heights.{height}
 use Rattle.term_names.specs.Known.{KnownView}
 use Rattle.text_items.specs.NameNodes.{BeginsAt, IsNameNode}
-use Rattle.term_names.specs.LookingUp.{IsFound}
+use Rattle.term_names.specs.LookingUp.{IsFoundMeaning}
 use Rattle.term_names.specs.Making.{PlacesCellsOf, IsExpected, IsMade, Makes}
 use Rattle.problem_text.specs.Limits.{most_height}
-use Rattle.problem_text.specs.Names.{Place, Meaning, meaning_of, applied}
+use Rattle.problem_text.specs.Names.{Place, Meaning, meaning_of, meaning_applied}
 use Rattle.term_reader.specs.Reading.{IsReadTerm}
 use Rattle.problem_text.specs.TypedTerms.{Typed}
 use Rattle.problem_text.specs.Outcomes.{Outcome}
@@ -56,14 +56,14 @@ number_low old new k l (inl (here, same)) room = omega (arith, slice_get_within 
 number_low old new k l (inr (lacks, last, more)) room = omega arith
 
 -- what is found has a meaning, unless nothing is
-pub found_means : (s : Table) (v : TermsView) (k : KnownView) (p : Place) (found : Found) (o : Option Meaning) → is_none_found found ≡ false → IsFound s v k p found o → (m : Meaning) × (o ≡ Some m)
+pub found_means : (s : Table) (v : TermsView) (k : KnownView) (p : Place) (found : Found) (o : Option Meaning) → is_none_found found ≡ false → IsFoundMeaning s v k p found o → (m : Meaning) × (o ≡ Some m)
 found_means s v k p (Found.Term c) o e (t, is, rest) = (_, is)
 found_means s v k p (Found.Named w) o e (m, is, rest) = (m, is)
 found_means s v k p (Found.Macro w) o e (m, is, rest) = (m, is)
 found_means s v k p (Found.Symbol n) o e (m, is, rest) = (m, is)
 found_means s v k p Found.Unknown o e h = absurd cc
 
-pub none_means : (s : Table) (v : TermsView) (k : KnownView) (p : Place) (found : Found) (o : Option Meaning) → is_none_found found ≡ true → IsFound s v k p found o → o ≡ None
+pub none_means : (s : Table) (v : TermsView) (k : KnownView) (p : Place) (found : Found) (o : Option Meaning) → is_none_found found ≡ true → IsFoundMeaning s v k p found o → o ≡ None
 none_means s v k p (Found.Term c) o e h = absurd cc
 none_means s v k p (Found.Named w) o e h = absurd cc
 none_means s v k p (Found.Macro w) o e h = absurd cc
@@ -71,11 +71,11 @@ none_means s v k p (Found.Symbol n) o e h = absurd cc
 none_means s v k p Found.Unknown o e h = h
 
 -- what is applied, where something is found
-pub head_found : (s : Table) (v : TermsView) (k : KnownView) (p : Place) (found : Found) (o : Option Meaning) (head : Option Head) → is_none_found found ≡ false → IsFound s v k p found o
-    → ((m : Meaning) → IsFound s v k p found (Some m) → (h : Head) × (head ≡ Some h) × IsHeadOf s v k h m) → IsHeadFound s v k head o
+pub head_found : (s : Table) (v : TermsView) (k : KnownView) (p : Place) (found : Found) (o : Option Meaning) (head : Option Head) → is_none_found found ≡ false → IsFoundMeaning s v k p found o
+    → ((m : Meaning) → IsFoundMeaning s v k p found (Some m) → (h : Head) × (head ≡ Some h) × HeadMeans s v k h m) → IsHeadFound s v k head o
 head_found s v k p found o head known is applies =
     let (m, e) = found_means s v k p found o known is in
-    let (h, same, of) = applies m (subst (IsFound s v k p found) e is) in
+    let (h, same, of) = applies m (subst (IsFoundMeaning s v k p found) e is) in
     subst (λ a. IsHeadFound s v k a o) (sym same) (m, e, of)
 
 -- a term that is expected is read, whether it is settled or too high
@@ -97,22 +97,22 @@ made_fault s v place o sc ReadFault.Memory h = tt
 
 -- a symbol of this meaning stands alone
 module _ (s : Table) (old new : TermsView) (x : Name) (p : Place) (sc : Script) (m : Meaning) (known : meaning_of p sc x.name ≡ Some m) (limited : p.settings.limit ≡ Some most_height) where
-  as_settled : (result : Result Value ReadFault) → IsReadAlone s new (settled (Some most_height) x.place (applied m []) sc) sc result → PlacesCellsOf s old.pass new.pass (IsExpected (applied m [])) → ReadsAlone s old new (term_from (symbol x) p sc) sc result
+  as_settled : (result : Result Value ReadFault) → IsReadAlone s new (settled (Some most_height) x.place (meaning_applied m []) sc) sc result → PlacesCellsOf s old.pass new.pass (IsExpected (meaning_applied m [])) → ReadsAlone s old new (term_from (symbol x) p sc) sc result
   as_settled result answer placed =
-      subst (λ (o : Outcome Script Typed). ReadsAlone s old new o sc result) (sym (known_symbol x m p sc known ∙ ap (λ (limit : Option ℕ). settled limit x.place (applied m []) sc) limited))
+      subst (λ (o : Outcome Script Typed). ReadsAlone s old new o sc result) (sym (known_symbol x m p sc known ∙ ap (λ (limit : Option ℕ). settled limit x.place (meaning_applied m []) sc) limited))
       (record {
         answer = answer;
-        placed = places_more s old.pass new.pass (IsExpected (applied m [])) (IsReadTerm (settled (Some most_height) x.place (applied m []) sc)) (expected_read x.place (applied m []) sc) placed;
+        placed = places_more s old.pass new.pass (IsExpected (meaning_applied m [])) (IsReadTerm (settled (Some most_height) x.place (meaning_applied m []) sc)) (expected_read x.place (meaning_applied m []) sc) placed;
       })
 
-  pub symbol_settles : (place : ℕ) (made : Option Value) (result : Result Value ReadFault) → place ≡ x.place → Makes s old new (applied m []) (Ok made)
+  pub symbol_settles : (place : ℕ) (made : Option Value) (result : Result Value ReadFault) → place ≡ x.place → Makes s old new (meaning_applied m []) (Ok made)
       → ((o : Option Typed) → IsMade s new o (Ok made) → SettlesTerm s new place o sc result) → ReadsAlone s old new (term_from (symbol x) p sc) sc result
   symbol_settles place made result same makes settles =
       as_settled result
-      (settled_alone s new x.place (applied m []) sc result (subst (λ (n : ℕ). SettlesTerm s new n (applied m []) sc result) same (settles (applied m []) makes.answer))) makes.placed
+      (settled_alone s new x.place (meaning_applied m []) sc result (subst (λ (n : ℕ). SettlesTerm s new n (meaning_applied m []) sc result) same (settles (meaning_applied m []) makes.answer))) makes.placed
 
-  pub symbol_fails : (f : ReadFault) → Makes s old new (applied m []) (Err f) → ReadsAlone s old new (term_from (symbol x) p sc) sc (Err f)
-  symbol_fails f makes = as_settled (Err f) (made_fault s new x.place (applied m []) sc f makes.answer) makes.placed
+  pub symbol_fails : (f : ReadFault) → Makes s old new (meaning_applied m []) (Err f) → ReadsAlone s old new (term_from (symbol x) p sc) sc (Err f)
+  symbol_fails f makes = as_settled (Err f) (made_fault s new x.place (meaning_applied m []) sc f makes.answer) makes.placed
 
 pub symbol_unknown : (s : Table) (v : TermsView) (x : Name) (p : Place) (sc : Script) (r : Refusal) (place : ℕ) → meaning_of p sc x.name ≡ None → r ≡ record { cause = UnknownName; at = place } → place ≡ x.place
     → ReadsAlone s v v (term_from (symbol x) p sc) sc (Err (ReadFault.Text r))
@@ -124,9 +124,9 @@ symbol_unknown s v x p sc r place none is same =
     })
 
 -- what is found by the name of a symbol
-pub found_named : (s : Table) (v : TermsView) (k : KnownView) (p : Place) (sc : Script) (x : Name) (found : Found) (name : List ℕ) → name ≡ x.name → IsFound s v k p found (meaning_of p sc name)
-    → IsFound s v k p found (meaning_of p sc x.name)
-found_named s v k p sc x found name same is = subst (λ (n : List ℕ). IsFound s v k p found (meaning_of p sc n)) same is
+pub found_named : (s : Table) (v : TermsView) (k : KnownView) (p : Place) (sc : Script) (x : Name) (found : Found) (name : List ℕ) → name ≡ x.name → IsFoundMeaning s v k p found (meaning_of p sc name)
+    → IsFoundMeaning s v k p found (meaning_of p sc x.name)
+found_named s v k p sc x found name same is = subst (λ (n : List ℕ). IsFoundMeaning s v k p found (meaning_of p sc n)) same is
 
 -- a symbol begins at its place
 pub name_begins : (source : List ℕ) (nodes : List Node) (k : ℕ) (x : Name) → IsNameNode source nodes k x → BeginsAt nodes k x.place

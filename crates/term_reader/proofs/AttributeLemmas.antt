@@ -6,7 +6,7 @@ use Rattle.problem_text.specs.Forms.{names_after}
 use Rattle.problem_text.specs.NamedItems.{is_named_item}
 use Rattle.text_items.specs.declared.nodes.Node.{Node}
 use Rattle.text_items.specs.Nodes.{IsNode, AreNodes}
-use Rattle.term_reader.specs.Layers.{NamesAreSymbols, AreAttributes}
+use Rattle.term_reader.specs.Layers.{NamesAreSymbols, AreTermAttributes}
 use Rattle.term_reader.specs.Shapes.{IsFirstName}
 use Rattle.text_items.specs.Stepping.{IsItemAt, AreSomeFrom, IsItemNode}
 use Rattle.text_items.proofs.NodeSteps.{AreMore, more_nodes, no_nodes, node_behind, nodes_ordered, name_node}
@@ -36,10 +36,10 @@ goes_up s ns k m node (i, others, (n, is, are)) read =
     let e = (read i n is).next in (omega (arith, node_behind s ns k i n is), omega (arith, nodes_ordered s ns n others m are))
 
 -- names that attributes give
-pub attributes_some : (s : List ℕ) (ns : List Node) (k : ℕ) (names : List Name) (m : ℕ) → AreAttributes s ns k names m → AreSomeFrom s ns k m
+pub attributes_some : (s : List ℕ) (ns : List Node) (k : ℕ) (names : List Name) (m : ℕ) → AreTermAttributes s ns k names m → AreSomeFrom s ns k m
 attributes_some s ns k names m a = (a.first, a.others, a.there)
 
-pub names_end : (s : List ℕ) (ns : List Node) (k : ℕ) (names : List Name) (m : ℕ) (node : Node) → AreAttributes s ns k names m → IsReadAt s ns k node → node.next ≡ m → names ≡ []
+pub names_end : (s : List ℕ) (ns : List Node) (k : ℕ) (names : List Name) (m : ℕ) (node : Node) → AreTermAttributes s ns k names m → IsReadAt s ns k node → node.next ≡ m → names ≡ []
 names_end s ns k names m node a read last =
     sym a.give ∙ ap (names_after a.first) (last_there s ns k a.first a.others m node a.there read last)
 
@@ -47,7 +47,7 @@ names_end s ns k names m node a read last =
 abbrev pub IsNamedAt : List ℕ → List Node → ℕ → Bool → Type 0
 IsNamedAt s ns k named = (i : Item) (n : ℕ) → IsNode s ns k i n → named ≡ is_named_item i
 
-pub names_stop : (s : List ℕ) (ns : List Node) (k : ℕ) (names : List Name) (m : ℕ) (node : Node) (named : Bool) → AreAttributes s ns k names m → IsReadAt s ns k node → node.next ≢ m
+pub names_stop : (s : List ℕ) (ns : List Node) (k : ℕ) (names : List Name) (m : ℕ) (node : Node) (named : Bool) → AreTermAttributes s ns k names m → IsReadAt s ns k node → node.next ≢ m
     → IsNamedAt s ns k named → named ≡ true → IsFirstName s ns node.next names m
 names_stop s ns k names m node named a read differs judged holds =
     let b = more_there s ns k a.first a.others m node a.there read differs in
@@ -63,8 +63,8 @@ names_stop s ns k names m node named a read differs judged holds =
       there = record { first = b.first; others = b.others; there = (b.behind, b.here, b.there); give = refl; named = named.1 };
     }
 
-pub names_on : (s : List ℕ) (ns : List Node) (k : ℕ) (names : List Name) (m : ℕ) (node : Node) (named : Bool) → AreAttributes s ns k names m → IsReadAt s ns k node → node.next ≢ m
-    → IsNamedAt s ns k named → named ≡ false → AreAttributes s ns node.next names m
+pub names_on : (s : List ℕ) (ns : List Node) (k : ℕ) (names : List Name) (m : ℕ) (node : Node) (named : Bool) → AreTermAttributes s ns k names m → IsReadAt s ns k node → node.next ≢ m
+    → IsNamedAt s ns k named → named ≡ false → AreTermAttributes s ns node.next names m
 names_on s ns k names m node named a read differs judged fails =
     let b = more_there s ns k a.first a.others m node a.there read differs in
     let is : is_named_item a.first ≡ false = sym (judged a.first a.there.0 a.there.1) ∙ fails in

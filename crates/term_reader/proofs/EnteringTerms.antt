@@ -12,25 +12,26 @@ use Rattle.term_pool.specs.Views.{TermsView, KeepsTerms}
 use Rattle.term_reader.specs.Entering.{HasTop, IsNumber, IsHeadFound, ReadsAlone}
 use Rattle.term_reader.specs.Leaving.{with_open}
 use Rattle.text_items.specs.ItemShapes.{Name}
-use Rattle.problem_text.specs.Forms.{Form, number, symbol, application, let_form, form, Binds, bind, form_of}
-use Rattle.term_reader.specs.Frames.{Reading, AreFrames}
+use Rattle.problem_text.specs.Forms.{Form, number, symbol, application, let_form, form, LetBinds, bind, form_of}
+use Rattle.term_reader.specs.Frames.{WholeReading, AreFrames}
 use Rattle.rule_model.specs.Heights.{height}
 use Rattle.problem_text.specs.Limits.{most_height}
 use Rattle.term_names.specs.Known.{KnownView, known_entry}
 use Rattle.text_items.specs.NameNodes.{BeginsAt, IsNameNode}
-use Rattle.term_reader.specs.Layers.{AreBinds, IsLayer}
+use Rattle.term_reader.specs.Layers.{AreBinds}
+use Rattle.term_reader.specs.ShapeFaults.{IsLayer}
 use Rattle.term_names.specs.Making.{PlacesCellsOf}
 use Rattle.problem_text.specs.Names.{Place, meaning_of}
 use Rattle.text_items.specs.Nodes.{IsNode}
-use Rattle.term_reader.specs.Reading.{Stands, IsAt, IsReadTerm, EndsWith, Goes}
+use Rattle.term_reader.specs.Reading.{ReaderStands, IsAt, IsReadTerm, EndsWith, Goes}
 use Rattle.term_reader.specs.Resuming.{Waiting, arguments, bindings, naming, resumed}
 use Rattle.problem_text.specs.TypedTerms.{Typed}
 use Rattle.problem_text.specs.Outcomes.{Outcome, done}
 use Rattle.problem_text.specs.Scripts.{Script, with_term, with_let_name}
 use Rattle.term_reader.specs.Shapes.{IsFirstRepeat}
-use Rattle.term_names.specs.Standing.{HasNoEntry, IsNoFunction, IsMeant, AddsNoSymbols}
+use Rattle.term_names.specs.Standing.{HasNoEntry, IsNoFunction, IsNameMeant, AddsNoSymbols}
 use Rattle.problem_text.specs.Terms.{settled, term_from}
-use Rattle.term_names.specs.InScope.{AreBound}
+use Rattle.term_names.specs.InScope.{AreValuesBound}
 use Rattle.term_expansion.specs.Values.{IsValue, AreValues}
 use Rattle.term_names.specs.declared.faults.ReadFault.{ReadFault}
 use Rattle.term_reader.specs.declared.frames.Frame.{Frame}
@@ -60,7 +61,7 @@ module _ (s : Table) (v : TermsView) (sc : Script) (terms : List Term) (names : 
   no_function_alike : (name : List ℕ) → IsNoFunction s sc name → IsNoFunction s (alike sc terms names) name
   no_function_alike name h = record { table = h.table; script = h.script }
 
-  meant_alike : (k : KnownView) (name : List ℕ) (o : Option KnownEntry) → IsMeant s v k sc name o → IsMeant s v k (alike sc terms names) name o
+  meant_alike : (k : KnownView) (name : List ℕ) (o : Option KnownEntry) → IsNameMeant s v k sc name o → IsNameMeant s v k (alike sc terms names) name o
   meant_alike k name None (none, inl h) =
       (no_entry_alike name none, inl (record { leaf = h.leaf; meant = h.meant; here = h.here; same_name = h.same_name; found = h.found; taken = h.taken }))
   meant_alike k name None (none, inr h) = (no_entry_alike name none, inr (record { no_function = no_function_alike name h.no_function; free = h.free }))
@@ -87,7 +88,7 @@ module _ (s : Table) (v : TermsView) (sc : Script) (terms : List Term) (names : 
     taken = h.taken;
   }
 
-  pub stands_alike : (r : Reader) (p : Place) → Stands s v r sc p → Stands s v r (alike sc terms names) p
+  pub stands_alike : (r : Reader) (p : Place) → ReaderStands s v r sc p → ReaderStands s v r (alike sc terms names) p
   stands_alike r p h = record {
     script = record { sorts = h.script.sorts; names = λ name. meant_alike r.known name (known_entry r.known name) (h.script.names name) };
     scope = h.scope;
@@ -96,7 +97,7 @@ module _ (s : Table) (v : TermsView) (sc : Script) (terms : List Term) (names : 
   }
 
 -- one form more that is open changes nothing of what the tables stand for
-stands_opened : (s : Table) (v : TermsView) (r : Reader) (f : Frame) (sc : Script) (p : Place) → Stands s v r sc p → Stands s v (with_open r f) sc p
+stands_opened : (s : Table) (v : TermsView) (r : Reader) (f : Frame) (sc : Script) (p : Place) → ReaderStands s v r sc p → ReaderStands s v (with_open r f) sc p
 stands_opened s v r f sc p h = record { script = h.script; scope = h.scope; settings = h.settings; low = h.low }
 
 -- a fault is that of the whole, and a term that is read is read by the end
@@ -111,7 +112,7 @@ module _ (s : Table) (pass : PassView) (ws : List Waiting) (o whole : Outcome Sc
   ends_whole ReadFault.PoolFull h = lacks_more s pass (IsReadTerm o) (IsReadTerm whole) read_by_end h
   ends_whole ReadFault.Memory h = tt
 
-module _ (source : List ℕ) (nodes : List Node) (g : Reading) (s : Table) (v : TermsView) (r : Reader) (k : ℕ) where
+module _ (source : List ℕ) (nodes : List Node) (g : WholeReading) (s : Table) (v : TermsView) (r : Reader) (k : ℕ) where
   abbrev Top : Layer → Type 0
   Top layer = HasTop source nodes g s v r k layer
 
@@ -178,7 +179,7 @@ module _ (source : List ℕ) (nodes : List Node) (g : Reading) (s : Table) (v : 
 
   -- what a call says that reads a symbol alone
   abbrev IsSymbolRead : TermsView → Result Value ReadFault → Type 0
-  IsSymbolRead w result = (sc : Script) (p : Place) (x : Name) → Stands s v r sc p → IsNameNode source nodes k x → ReadsAlone s v w (term_from (symbol x) p sc) sc result
+  IsSymbolRead w result = (sc : Script) (p : Place) (x : Name) → ReaderStands s v r sc p → IsNameNode source nodes k x → ReadsAlone s v w (term_from (symbol x) p sc) sc result
 
   symbol_read : (w : TermsView) (result : Result Value ReadFault) (h : Top Layer.Symbol) → IsSymbolRead w result → ReadsAlone s v w (comes_of h.at) h.at.script result
   symbol_read w result h reads =
@@ -204,7 +205,7 @@ module _ (source : List ℕ) (nodes : List Node) (g : Reading) (s : Table) (v : 
 
   -- an argument is read, or the first one
   pub application_goes : (head first end place : ℕ) (applied : Head) → Top (Layer.Application head first end) → IsStart k place
-      → ((w : TermsView) (sc : Script) (p : Place) (x : Name) → Stands s w r sc p → IsNameNode source nodes head x → IsHeadFound s w r.known (Some applied) (meaning_of p sc x.name))
+      → ((w : TermsView) (sc : Script) (p : Place) (x : Name) → ReaderStands s w r sc p → IsNameNode source nodes head x → IsHeadFound s w r.known (Some applied) (meaning_of p sc x.name))
       → Goes source nodes g s v v (with_open r (Frame.Arguments place applied (length r.values) end)) (Ok (Turn.Read first))
   application_goes head first end place applied h starts found =
       let a = h.at in
@@ -243,7 +244,7 @@ module _ (source : List ℕ) (nodes : List Node) (g : Reading) (s : Table) (v : 
       }
 
   pub application_unknown : (head first end place : ℕ) (refusal : Refusal) → Top (Layer.Application head first end) → IsStart head place → refusal ≡ record { cause = UnknownName; at = place }
-      → ((w : TermsView) (sc : Script) (p : Place) (x : Name) → Stands s w r sc p → IsNameNode source nodes head x → IsHeadFound s w r.known None (meaning_of p sc x.name))
+      → ((w : TermsView) (sc : Script) (p : Place) (x : Name) → ReaderStands s w r sc p → IsNameNode source nodes head x → IsHeadFound s w r.known None (meaning_of p sc x.name))
       → Goes source nodes g s v v r (Err (ReadFault.Text refusal))
   application_unknown head first end place refusal h starts is found =
       let a = h.at in
@@ -255,13 +256,13 @@ module _ (source : List ℕ) (nodes : List Node) (g : Reading) (s : Table) (v : 
 
   -- the term of a let's first binding is read, or its variable may not be bound
   pub let_goes : (first body repeat place from leaf : ℕ) → Top (Layer.Let first body) → IsStart k place → from ≡ length r.values → leaf ≡ length r.leaves.items → repeat ≢ first
-      → ((bs : Binds) → AreBinds source nodes first bs body → IsFirstRepeat source nodes first [] bs repeat body)
+      → ((bs : LetBinds) → AreBinds source nodes first bs body → IsFirstRepeat source nodes first [] bs repeat body)
       → Goes source nodes g s v v (with_open r (Frame.Bindings place from leaf (first + 1) repeat body)) (Ok (Turn.Read (first + 2)))
   let_goes first body repeat place from leaf h starts from_is leaf_is differs repeats =
       let a = h.at in
       let (at, bs, f, e, begins, are, some, body_here, later) = h.top in
       let b = binds_more source nodes first bs body are (λ same. absurd (omega arith)) in
-      let (free, further) = repeat_on source nodes first b.next [] b.name b.first b.others repeat body b.here (subst (λ (q : Binds). IsFirstRepeat source nodes first [] q repeat body) b.split (repeats bs are)) (λ same. differs (sym same)) in
+      let (free, further) = repeat_on source nodes first b.next [] b.name b.first b.others repeat body b.here (subst (λ (q : LetBinds). IsFirstRepeat source nodes first [] q repeat body) b.split (repeats bs are)) (λ same. differs (sym same)) in
       record {
         step = record {
           script = with_let_name b.name.name a.script;
@@ -284,8 +285,8 @@ module _ (source : List ℕ) (nodes : List Node) (g : Reading) (s : Table) (v : 
               within = omega arith;
               leaves_within = omega arith;
               read_bound =
-                  subst (λ (values : List Value). AreBound s v (drop leaf r.leaves.items) values []) (sym (ap (λ (n : ℕ). drop n r.values) from_is ∙ drop-length r.values))
-                  (subst (λ (ks : List ℕ). AreBound s v ks [] []) (sym (ap (λ (n : ℕ). drop n r.leaves.items) leaf_is ∙ drop-length r.leaves.items)) tt);
+                  subst (λ (values : List Value). AreValuesBound s v (drop leaf r.leaves.items) values []) (sym (ap (λ (n : ℕ). drop n r.values) from_is ∙ drop-length r.values))
+                  (subst (λ (ks : List ℕ). AreValuesBound s v ks [] []) (sym (ap (λ (n : ℕ). drop n r.leaves.items) leaf_is ∙ drop-length r.leaves.items)) tt);
               variable = b.named;
               left_here = b.there;
               first_faulty = further;
@@ -299,14 +300,14 @@ module _ (source : List ℕ) (nodes : List Node) (g : Reading) (s : Table) (v : 
           comes =
               sym (first_binding a.waiting place b.name b.first b.others f a.place a.script free)
               ∙ ap (λ (n : ℕ). resumed a.waiting (term_from (let_form n (bind b.name b.first b.others) f) a.place a.script)) (starts at begins)
-              ∙ ap (λ (q : Binds). resumed a.waiting (term_from (let_form at q f) a.place a.script)) (sym b.split)
+              ∙ ap (λ (q : LetBinds). resumed a.waiting (term_from (let_form at q f) a.place a.script)) (sym b.split)
               ∙ ap (λ (q : Form). resumed a.waiting (term_from q a.place a.script)) (sym e) ∙ a.comes;
         };
         placed = places_none s v.pass v.pass (IsReadTerm g.whole) refl;
       }
 
   pub let_repeated : (first body repeat place : ℕ) (refusal : Refusal) → Top (Layer.Let first body) → IsStart (first + 1) place → refusal ≡ record { cause = Repeated; at = place } → repeat ≡ first
-      → ((bs : Binds) → AreBinds source nodes first bs body → IsFirstRepeat source nodes first [] bs repeat body) → Goes source nodes g s v v r (Err (ReadFault.Text refusal))
+      → ((bs : LetBinds) → AreBinds source nodes first bs body → IsFirstRepeat source nodes first [] bs repeat body) → Goes source nodes g s v v r (Err (ReadFault.Text refusal))
   let_repeated first body repeat place refusal h starts is here repeats =
       let a = h.at in
       let (at, bs, f, e, begins, are, some, body_here, later) = h.top in
@@ -317,7 +318,7 @@ module _ (source : List ℕ) (nodes : List Node) (g : Reading) (s : Table) (v : 
       is ∙ ap (λ (n : ℕ). record { cause = Repeated; at = n }) (starts b.name.place (name_begins source nodes (first + 1) b.name b.named)) in
       refusal_goes r refusal a
       (ap (λ (q : Form). (term_from q a.place a.script).result) e
-      ∙ ap (λ (q : Binds). (term_from (let_form at q f) a.place a.script).result) b.split
+      ∙ ap (λ (q : LetBinds). (term_from (let_form at q f) a.place a.script).result) b.split
       ∙ ap (λ (o : Outcome Script Typed). o.result) (first_binding_refused [] at b.name b.first b.others f a.place a.script taken) ∙ ap Err (sym same))
 
   -- the term of an annotation is read
@@ -383,7 +384,7 @@ module _ (r new : Reader) (frame : Frame) (next : ℕ) (result : Result Turn Rea
       go (Ok t) (e, same) = subst (λ (q : Reader). P q t) (sym same) (subst (P (with_open r frame)) (sym e) h)
       go (Err f) e = tt
 
-  pub opened_goes : (source : List ℕ) (nodes : List Node) (g : Reading) (s : Table) (v : TermsView) → IfErr result (λ (f : ReadFault). f ≡ ReadFault.Memory)
+  pub opened_goes : (source : List ℕ) (nodes : List Node) (g : WholeReading) (s : Table) (v : TermsView) → IfErr result (λ (f : ReadFault). f ≡ ReadFault.Memory)
       → Goes source nodes g s v v (with_open r frame) (Ok (Turn.Read next)) → Goes source nodes g s v v new result
   opened_goes source nodes g s v fault h = go result is fault
     where

@@ -5,12 +5,13 @@ use Rattle.sexpr.specs.declared.lexing.TokenKind.TheVariants.{Open, Text, Quoted
 use Rattle.sexpr.specs.Tokens.{token_text}
 use Rattle.sexpr.specs.Items.{Item, word, quoted, string, list, Items, no_items, item, name_spelled}
 use Rattle.text_items.specs.ItemShapes.{Name}
-use Rattle.problem_text.specs.Forms.{Form, Forms, no_forms, form, Binds, no_binds, bind, form_of, forms_of, names_after}
+use Rattle.problem_text.specs.Forms.{Form, Forms, no_forms, form, LetBinds, no_binds, bind, form_of, forms_of, names_after}
 use Rattle.term_reader.specs.declared.layers.Layer.{Layer}
 use Rattle.text_items.specs.declared.nodes.Node.{Node}
 use Rattle.text_items.specs.Nodes.{IsNode, AreNodes}
 use Rattle.text_items.specs.NameNodes.{IsNameNode}
-use Rattle.term_reader.specs.Layers.{IsForm, AreForms, AreBinds, AreAttributes, IsLayer}
+use Rattle.term_reader.specs.Layers.{IsForm, AreForms, AreBinds, AreTermAttributes}
+use Rattle.term_reader.specs.ShapeFaults.{IsLayer}
 use Rattle.text_items.specs.Stepping.{IsItemAt, IsItemNode}
 use Rattle.text_items.proofs.NodeSteps.{node_behind, node_inside, nodes_ordered, nodes_inside, no_nodes, more_nodes, node_read}
 
@@ -78,24 +79,24 @@ pub no_forms_here : (s : List ℕ) (ns : List Node) (k : ℕ) → AreForms s ns 
 unfolding form_of
 no_forms_here s ns k = record { what = no_items; there = refl; spell = refl }
 
-pub binds_ordered : (s : List ℕ) (ns : List Node) (k : ℕ) (bs : Binds) (m : ℕ) → AreBinds s ns k bs m → k ≤ m
+pub binds_ordered : (s : List ℕ) (ns : List Node) (k : ℕ) (bs : LetBinds) (m : ℕ) → AreBinds s ns k bs m → k ≤ m
 binds_ordered s ns k no_binds m e = omega arith
 binds_ordered s ns k (bind x f bs) m (n, later, named, here, rest) = omega (arith, later, binds_ordered s ns n bs m rest)
 
-pub binds_inside : (s : List ℕ) (ns : List Node) (k : ℕ) (bs : Binds) (m : ℕ) → AreBinds s ns k bs m → k ≤ length ns → m ≤ length ns
+pub binds_inside : (s : List ℕ) (ns : List Node) (k : ℕ) (bs : LetBinds) (m : ℕ) → AreBinds s ns k bs m → k ≤ length ns → m ≤ length ns
 binds_inside s ns k no_binds m e h = omega arith
 binds_inside s ns k (bind x f bs) m (n, later, named, here, rest) h = binds_inside s ns n bs m rest (form_inside s ns (k + 2) f n here)
 
 -- no more bindings
-pub binds_done : (s : List ℕ) (ns : List Node) (k : ℕ) (bs : Binds) (m : ℕ) → AreBinds s ns k bs m → k ≡ m → bs ≡ no_binds
+pub binds_done : (s : List ℕ) (ns : List Node) (k : ℕ) (bs : LetBinds) (m : ℕ) → AreBinds s ns k bs m → k ≡ m → bs ≡ no_binds
 binds_done s ns k no_binds m are e = refl
 binds_done s ns k (bind x f bs) m (n, later, named, here, rest) e = absurd (omega (arith, later, binds_ordered s ns n bs m rest))
 
 -- one binding, and the others
-pub record AreMoreBinds (s : List ℕ) (ns : List Node) (k : ℕ) (bs : Binds) (m : ℕ) : Type 0 where
+pub record AreMoreBinds (s : List ℕ) (ns : List Node) (k : ℕ) (bs : LetBinds) (m : ℕ) : Type 0 where
   pub name : Name
   pub first : Form
-  pub others : Binds
+  pub others : LetBinds
   pub next : ℕ
   pub split : bs ≡ bind name first others
   pub later : k < next
@@ -103,12 +104,12 @@ pub record AreMoreBinds (s : List ℕ) (ns : List Node) (k : ℕ) (bs : Binds) (
   pub here : IsForm s ns (k + 2) first next
   pub there : AreBinds s ns next others m
 
-pub binds_more : (s : List ℕ) (ns : List Node) (k : ℕ) (bs : Binds) (m : ℕ) → AreBinds s ns k bs m → k ≢ m → AreMoreBinds s ns k bs m
+pub binds_more : (s : List ℕ) (ns : List Node) (k : ℕ) (bs : LetBinds) (m : ℕ) → AreBinds s ns k bs m → k ≢ m → AreMoreBinds s ns k bs m
 binds_more s ns k no_binds m are differs = absurd (differs are)
 binds_more s ns k (bind x f bs) m (n, later, named, here, rest) differs =
     record { name = x; first = f; others = bs; next = n; split = refl; later = later; named = named; here = here; there = rest }
 
-pub attributes_ordered : (s : List ℕ) (ns : List Node) (k : ℕ) (names : List Name) (m : ℕ) → AreAttributes s ns k names m → k < m
+pub attributes_ordered : (s : List ℕ) (ns : List Node) (k : ℕ) (names : List Name) (m : ℕ) → AreTermAttributes s ns k names m → k < m
 attributes_ordered s ns k names m a = go a.there
   where
     go : AreNodes s ns k (item a.first a.others) m → k < m
@@ -213,17 +214,17 @@ name_one s ns k a b is js =
     names_same a b (sym is.same_place ∙ ap (λ n. n.token.start) same ∙ js.same_place)
     (some_one a.name b.name (sym is.same_name ∙ ap (λ n. name_spelled n.token.kind (token_text s n.token)) same ∙ js.same_name))
 
-pub binds_one : (s : List ℕ) (ns : List Node) (k : ℕ) (as_read others : Binds) (m : ℕ) → AreBinds s ns k as_read m → AreBinds s ns k others m → as_read ≡ others
+pub binds_one : (s : List ℕ) (ns : List Node) (k : ℕ) (as_read others : LetBinds) (m : ℕ) → AreBinds s ns k as_read m → AreBinds s ns k others m → as_read ≡ others
 binds_one s ns k no_binds others m e are = sym (binds_done s ns k others m are e)
 binds_one s ns k (bind x f bs) no_binds m (n, later, named, here, rest) e = absurd (omega (arith, later, binds_ordered s ns n bs m rest))
 binds_one s ns k (bind x f bs) (bind y g cs) m (n, later, named, here, rest) (v, also, called, there, more) =
     both x y f g bs cs (name_one s ns (k + 1) x y named called) (form_one s ns (k + 2) f g n v here there)
     (binds_one s ns n bs cs m rest (subst (λ (w : ℕ). AreBinds s ns w cs m) (form_ends s ns (k + 2) g f v n there here) more))
   where
-    both : (x y : Name) (f g : Form) (bs cs : Binds) → x ≡ y → f ≡ g → bs ≡ cs → bind x f bs ≡ bind y g cs
+    both : (x y : Name) (f g : Form) (bs cs : LetBinds) → x ≡ y → f ≡ g → bs ≡ cs → bind x f bs ≡ bind y g cs
     both x y f g bs cs d e h = cc
 
-pub attributes_one : (s : List ℕ) (ns : List Node) (k : ℕ) (as_read others : List Name) (m : ℕ) → AreAttributes s ns k as_read m → AreAttributes s ns k others m → as_read ≡ others
+pub attributes_one : (s : List ℕ) (ns : List Node) (k : ℕ) (as_read others : List Name) (m : ℕ) → AreTermAttributes s ns k as_read m → AreTermAttributes s ns k others m → as_read ≡ others
 attributes_one s ns k as_read others m a b =
     sym a.give ∙ same a.first b.first a.others b.others (nodes_one s ns k (item a.first a.others) (item b.first b.others) m a.there b.there) ∙ b.give
   where

@@ -14,7 +14,7 @@ use Rattle.text_items.specs.NameNodes.{IsNameNode}
 use Rattle.problem_text.specs.TypedTerms.{Typed}
 use Rattle.problem_text.specs.Outcomes.{Outcome, done, refuse}
 use Rattle.problem_text.specs.Scripts.{Named, Script, is_taken, with_named}
-use Rattle.term_names.specs.Standing.{IsScript, IsMeant, IsNamedOf, HasNoEntry, IsFunctionAt, IsFreeName, IsNoFunction, named_in}
+use Rattle.term_names.specs.Standing.{IsScript, IsNameMeant, IsNamedOf, HasNoEntry, IsFunctionAt, IsFreeName, IsNoFunction, named_in_script}
 use Rattle.problem_text.specs.Terms.{with_names}
 use Rattle.problem_text.specs.Words.{is_among, is_built_in}
 use Rattle.term_names.specs.declared.entries.Macro as macro
@@ -63,11 +63,11 @@ or_false false = refl
 
 -- what the script says of a name that is not the new one
 module _ (sc : Script) (d : Named) (other : List ℕ) (differs : bytes_eq other d.name ≡ false) where
-  pub named_before : named_in (with_named d sc) other ≡ named_in sc other
+  pub named_before : named_in_script (with_named d sc) other ≡ named_in_script sc other
   named_before =
       find-append (λ n. bytes_eq n.name other) sc.named (d ∷ [])
-      ∙ ap (λ b. option_or (named_in sc other) (cond b (Some d) None)) (apart other d.name differs)
-      ∙ or_none (named_in sc other)
+      ∙ ap (λ b. option_or (named_in_script sc other) (cond b (Some d) None)) (apart other d.name differs)
+      ∙ or_none (named_in_script sc other)
 
   pub taken_before : is_among (with_named d sc).taken other ≡ is_among sc.taken other
   taken_before =
@@ -76,7 +76,7 @@ module _ (sc : Script) (d : Named) (other : List ℕ) (differs : bytes_eq other 
       ∙ or_false (is_among sc.taken other)
 
 -- what the script says of the new name
-named_now : (sc : Script) (d : Named) → named_in sc d.name ≡ None → named_in (with_named d sc) d.name ≡ Some d
+named_now : (sc : Script) (d : Named) → named_in_script sc d.name ≡ None → named_in_script (with_named d sc) d.name ≡ Some d
 named_now sc d none =
     find-append (λ n. bytes_eq n.name d.name) sc.named (d ∷ [])
     ∙ ap (λ o. option_or o (cond (bytes_eq d.name d.name) (Some d) None)) none
@@ -93,7 +93,7 @@ taken_now sc d =
     last false = refl
 
 module _ (s : Table) (v : TermsView) (old new : KnownView) (sc : Script) (d : Named) (held : named.Named) (names : Names old new d.name held) where
-  meant_before : (other : List ℕ) → bytes_eq other d.name ≡ false → (e : Option KnownEntry) → IsMeant s v old sc other e → IsMeant s v new (with_named d sc) other e
+  meant_before : (other : List ℕ) → bytes_eq other d.name ≡ false → (e : Option KnownEntry) → IsNameMeant s v old sc other e → IsNameMeant s v new (with_named d sc) other e
   meant_before other differs None (none, inl f) = (
     record { no_named = named_before sc d other differs ∙ none.no_named; no_macro = none.no_macro },
     inl (record { leaf = f.leaf; meant = f.meant; here = f.here; same_name = f.same_name; found = f.found; taken = taken_before sc d other differs ∙ f.taken }),
@@ -128,7 +128,7 @@ module _ (s : Table) (v : TermsView) (old new : KnownView) (sc : Script) (d : Na
     taken = taken_before sc d other differs ∙ n.taken;
   }
 
-  meant_now : IsNamedOf s v held d → HasNoEntry sc d.name → IsNoFunction s sc d.name → IsMeant s v new (with_named d sc) d.name (Some (KnownEntry.Named (Own (length old.own.named))))
+  meant_now : IsNamedOf s v held d → HasNoEntry sc d.name → IsNoFunction s sc d.name → IsNameMeant s v new (with_named d sc) d.name (Some (KnownEntry.Named (Own (length old.own.named))))
   meant_now is none no_function = record {
     held = held;
     meant = d;
@@ -143,21 +143,21 @@ module _ (s : Table) (v : TermsView) (old new : KnownView) (sc : Script) (d : Na
   named_script : IsScript s v old sc → is_among sc.taken d.name ≡ false → known_entry old d.name ≡ None → IsNamedOf s v held d → IsScript s v new (with_named d sc)
   named_script is free none held_is = record {
     sorts = is.sorts;
-    names = λ other. subst (IsMeant s v new (with_named d sc) other) (sym (names.entry other)) (go other (bytes_eq other d.name) refl);
+    names = λ other. subst (IsNameMeant s v new (with_named d sc) other) (sym (names.entry other)) (go other (bytes_eq other d.name) refl);
   }
     where
       entry : KnownEntry
       entry = KnownEntry.Named (Own (length old.own.named))
 
-      here : HasNoEntry sc d.name × (IsFunctionAt s sc d.name ⊎ IsFreeName s sc d.name) → IsMeant s v new (with_named d sc) d.name (Some entry)
+      here : HasNoEntry sc d.name × (IsFunctionAt s sc d.name ⊎ IsFreeName s sc d.name) → IsNameMeant s v new (with_named d sc) d.name (Some entry)
       here (nothing, inl f) = let is_taken = f.taken in cc
       here (nothing, inr f) = meant_now held_is nothing f.no_function
 
-      go : (other : List ℕ) (b : Bool) → bytes_eq other d.name ≡ b → IsMeant s v new (with_named d sc) other (cond b (Some entry) (known_entry old other))
+      go : (other : List ℕ) (b : Bool) → bytes_eq other d.name ≡ b → IsNameMeant s v new (with_named d sc) other (cond b (Some entry) (known_entry old other))
       go other false e = meant_before other e (known_entry old other) (is.names other)
       go other true e =
-          subst (λ (n : List ℕ). IsMeant s v new (with_named d sc) n (Some entry)) (sym ((bytes_eq-Decides other d.name).0 e))
-          (here (subst (IsMeant s v old sc d.name) none (is.names d.name)))
+          subst (λ (n : List ℕ). IsNameMeant s v new (with_named d sc) n (Some entry)) (sym ((bytes_eq-Decides other d.name).0 e))
+          (here (subst (IsNameMeant s v old sc d.name) none (is.names d.name)))
 
 pub either_false : (a b : Bool) → (a || b) ≡ false → b ≡ false
 either_false true b e = cc
@@ -173,7 +173,7 @@ no_entry s v k sc name is untaken = go (known_entry k name) (is.names name)
     both : is_among sc.taken name ≡ true → ⊥
     both taken = let untaken = free in cc
 
-    go : (e : Option KnownEntry) → IsMeant s v k sc name e → e ≡ None
+    go : (e : Option KnownEntry) → IsNameMeant s v k sc name e → e ≡ None
     go None m = refl
     go (Some KnownEntry.Reserved) r = absurd (both r.taken)
     go (Some (KnownEntry.Macro w)) m = absurd (both m.taken)

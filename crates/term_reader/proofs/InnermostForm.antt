@@ -2,9 +2,10 @@
 use Rattle.std.proofs.Common.{◌≡◌, ◌≤◌, ◌<◌, ap, sym, subst, ℕ, List, ◌∷◌, length, Result, Ok, Err, IfOk}
 use Rattle.sym_table.specs.Table.{Table}
 use Rattle.term_pool.specs.Views.{TermsView}
-use Rattle.term_reader.specs.Frames.{Reading}
+use Rattle.term_reader.specs.Frames.{WholeReading}
 use Rattle.term_reader.specs.Leaving.{with_open, Spends, Leaves}
-use Rattle.term_reader.specs.Reading.{HasRead, Goes, node_of, bound_of, effort}
+use Rattle.term_reader.specs.Reading.{HasRead, Goes}
+use Rattle.term_reader.specs.Credits.{node_of, bound_of, effort}
 use Rattle.term_names.specs.declared.faults.ReadFault.{ReadFault}
 use Rattle.term_reader.specs.declared.frames.Frame.{Frame}
 use Rattle.text_items.specs.declared.nodes.Node.{Node}
@@ -24,13 +25,13 @@ module _ (source : List ℕ) (nodes : List Node) (s : Table) (v : TermsView) (r 
     -- what is done with the form
     abbrev pub Done : Type 0
     Done =
-        (g : Reading) → HasRead source nodes g s v (with_open (around r frames) frame) c n
+        (g : WholeReading) → HasRead source nodes g s v (with_open (around r frames) frame) c n
         → Leaves source nodes g s v (with_open (around r frames) frame) c n t w q result
 
-    pub done_goes : Done → (g : Reading) → HasRead source nodes g s v r c n → Goes source nodes g t v w q result
+    pub done_goes : Done → (g : WholeReading) → HasRead source nodes g s v r c n → Goes source nodes g t v w q result
     done_goes leaves g h = (leaves g (subst (λ (x : Reader). HasRead source nodes g s v x c n) same_reader h)).goes
 
-    pub done_spends : Done → (g : Reading) × HasRead source nodes g s v r c n → n ≤ length nodes → IfOk result (λ (x : Turn). Spends nodes s r (Turn.Use c n) t q x)
+    pub done_spends : Done → (g : WholeReading) × HasRead source nodes g s v r c n → n ≤ length nodes → IfOk result (λ (x : Turn). Spends nodes s r (Turn.Use c n) t q x)
     done_spends leaves (g, h) within =
         subst (λ (x : Reader). IfOk result (λ (y : Turn). Spends nodes s x (Turn.Use c n) t q y)) (sym same_reader)
         ((leaves g (subst (λ (x : Reader). HasRead source nodes g s v x c n) same_reader h)).spends within)

@@ -10,7 +10,7 @@ use Rattle.sexpr.specs.declared.lexing.TokenKind.TheVariants.{Word}
 use Rattle.sexpr.specs.Words.{is_symbol, is_keyword, between_bars}
 use Rattle.sexpr.specs.Items.{Item, word, quoted, string, list, Items, no_items, item, place_of, name_spelled, symbol_name}
 use Rattle.text_items.specs.ItemShapes.{Name, name_at, symbol_fault, pairs_fault}
-use Rattle.problem_text.specs.Forms.{Form, faulty, application, let_form, annotated, Forms, form, first_form, Binds, form_of, forms_of, binds_of, binds_in, word_form, number_form, symbol_form, list_form, symbol_list_form, unless_faulty, bindings_fault, let_fault, naming_keyword, annotation_fault, names_given}
+use Rattle.problem_text.specs.Forms.{Form, faulty, application, let_form, annotated, Forms, form, first_form, LetBinds, form_of, forms_of, binds_of, binds_in, word_form, number_form, symbol_form, list_form, symbol_list_form, unless_faulty, bindings_fault, let_fault, naming_keyword, annotation_fault, names_given}
 use Rattle.text_items.specs.Keywords.{Known, after_item, after_keyword, next_fault, misplaced, at_end, is_value, lacks_keyword, earlier, repeated, word_next, attributes_fault}
 use Rattle.text_items.specs.declared.keywords.Next.{Next}
 use Rattle.text_items.specs.declared.keywords.Wanted.TheVariants as Wanted
@@ -21,9 +21,11 @@ use Rattle.term_reader.specs.declared.layers.Layer.{Layer}
 use Rattle.text_items.specs.declared.nodes.Node.{Node}
 use Rattle.text_items.specs.Nodes.{IsNode, AreNodes}
 use Rattle.text_items.specs.NameNodes.{BeginsAt, IsNameNode}
-use Rattle.term_reader.specs.Layers.{IsForm, AreBinds, NamesAreSymbols, AreAttributes, IsLayer}
-use Rattle.term_reader.specs.Shapes.{IsSymbolLayer, IsTokenLayer, IsApplied}
-use Rattle.text_items.specs.Stepping.{Begins, has_two, HasSecond}
+use Rattle.term_reader.specs.Layers.{IsForm, AreBinds, NamesAreSymbols, AreTermAttributes}
+use Rattle.term_reader.specs.ShapeFaults.{IsLayer}
+use Rattle.term_reader.specs.Shapes.{IsApplied}
+use Rattle.term_reader.specs.ShapeFaults.{IsSymbolLayer, IsTokenLayer}
+use Rattle.text_items.specs.Stepping.{BeginsItem, has_two, HasSecond}
 use Rattle.text_items.proofs.NodeSteps.{node_behind, nodes_ordered, name_node, name_next}
 use Rattle.text_items.proofs.ShapeLemmas.{IsListAt}
 
@@ -113,14 +115,14 @@ symbol_spelled (string place spelling) name e = absurd cc
 symbol_spelled (list place items) name e = absurd cc
 
 -- a token that is no symbol: a word or a string
-pub word_spelled : (kind : TokenKind) (spelling : List ℕ) (i : Item) (top : Layer) (place : ℕ) → kind ≡ Word → Begins kind spelling i → place ≡ place_of i → IsTokenLayer place top (word_form place spelling) → IsTokenLayer (place_of i) top (form_of i)
+pub word_spelled : (kind : TokenKind) (spelling : List ℕ) (i : Item) (top : Layer) (place : ℕ) → kind ≡ Word → BeginsItem kind spelling i → place ≡ place_of i → IsTokenLayer place top (word_form place spelling) → IsTokenLayer (place_of i) top (form_of i)
 unfolding form_of
 word_spelled kind spelling (word at own) top place is begins same h = rw (← same, ← begins.1) h
 word_spelled kind spelling (quoted at own) top place is begins same h = absurd (cc (begins.0, is))
 word_spelled kind spelling (string at own) top place is begins same h = absurd (cc (begins.0, is))
 word_spelled kind spelling (list at items) top place is begins same h = absurd (cc (begins, is))
 
-pub string_spelled : (kind : TokenKind) (spelling : List ℕ) (i : Item) (place : ℕ) → kind ≢ Word → Begins kind spelling i → place ≡ place_of i → is_list_item i ≡ false → symbol_name i ≡ None → form_of i ≡ faulty LeftOut place
+pub string_spelled : (kind : TokenKind) (spelling : List ℕ) (i : Item) (place : ℕ) → kind ≢ Word → BeginsItem kind spelling i → place ≡ place_of i → is_list_item i ≡ false → symbol_name i ≡ None → form_of i ≡ faulty LeftOut place
 unfolding form_of
 string_spelled kind spelling (word at own) place other begins same e none = absurd (other begins.0)
 string_spelled kind spelling (quoted at own) place other begins same e none = absurd cc
@@ -138,7 +140,7 @@ pub headed_list : (place : ℕ) (head first : Item) (rest : Items) → form_of (
 unfolding form_of
 headed_list place head first rest = refl
 
-pub unnamed_head : (place : ℕ) (head : Item) (items : Items) (f : Form) (fs : Forms) (bs : Binds) → symbol_name head ≡ None
+pub unnamed_head : (place : ℕ) (head : Item) (items : Items) (f : Form) (fs : Forms) (bs : LetBinds) → symbol_name head ≡ None
     → list_form place head items f fs bs ≡ faulty (cond (is_list_item head) LeftOut BadCommand) (place_of head)
 unnamed_head place head items f fs bs e =
     ap (λ b. cond b (symbol_list_form place (name_at head) items f fs bs) (cond (is_list_item head) (faulty LeftOut (place_of head)) (faulty BadCommand (place_of head)))) (ap is_some e)
@@ -148,7 +150,7 @@ unnamed_head place head items f fs bs e =
     either true = refl
     either false = refl
 
-pub named_head : (place : ℕ) (head : Item) (items : Items) (f : Form) (fs : Forms) (bs : Binds) (name : List ℕ) → symbol_name head ≡ Some name
+pub named_head : (place : ℕ) (head : Item) (items : Items) (f : Form) (fs : Forms) (bs : LetBinds) (name : List ℕ) → symbol_name head ≡ Some name
     → list_form place head items f fs bs ≡ symbol_list_form place (name_at head) items f fs bs
 named_head place head items f fs bs name e =
     ap (λ b. cond b (symbol_list_form place (name_at head) items f fs bs) (cond (is_list_item head) (faulty LeftOut (place_of head)) (faulty BadCommand (place_of head)))) (ap is_some e)
@@ -332,7 +334,7 @@ attributes_fit place first rest e =
     go false f = earliest (misplaced naming word_next (item first rest)) (repeated naming (item first rest)) f
 
 attributes_there : (s : List ℕ) (ns : List Node) (place behind end m : ℕ) (arg : Item) (rest : Items) → AreNodes s ns behind rest m → annotation_fault place (item arg rest) ≡ None → end ≡ m
-    → AreAttributes s ns behind (names_given (item arg rest)) end
+    → AreTermAttributes s ns behind (names_given (item arg rest)) end
 attributes_there s ns place behind end m arg no_items are e same = absurd cc
 attributes_there s ns place behind end m arg (item first others) are e same = record {
   first = first;
@@ -351,7 +353,7 @@ annotation_top s ns k first m behind end a none same last = (
   ap (λ o. unless_faulty o (annotated a.place (form_of a.arg) (names_given (item a.arg a.rest)))) none,
   begins_at s ns k (list a.place (item a.head (item a.arg a.rest))) m a.here,
   record { what = a.arg; there = subst (λ (v : ℕ). IsNode s ns first a.arg v) (sym same) a.arg_there; spells = refl },
-  subst (λ (v : ℕ). AreAttributes s ns v (names_given (item a.arg a.rest)) end) (sym same) (attributes_there s ns a.place a.behind end m a.arg a.rest a.rest_there none last),
+  subst (λ (v : ℕ). AreTermAttributes s ns v (names_given (item a.arg a.rest)) end) (sym same) (attributes_there s ns a.place a.behind end m a.arg a.rest a.rest_there none last),
   last,
   after_head s ns k first m a,
 )

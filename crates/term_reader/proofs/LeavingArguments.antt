@@ -4,12 +4,12 @@ use Rattle.std.proofs.lemmas.List.{take-append-le, length-append}
 use Rattle.sym_table.specs.Table.{Table}
 use Rattle.term_pool.specs.Views.{TermsView, KeepsTerms}
 use Rattle.problem_text.specs.Forms.{Forms, no_forms}
-use Rattle.term_names.specs.Heads.{IsHeadOf}
-use Rattle.term_reader.specs.Frames.{Reading, AreFrames}
+use Rattle.term_names.specs.Heads.{HeadMeans}
+use Rattle.term_reader.specs.Frames.{WholeReading, AreFrames}
 use Rattle.term_reader.specs.Leaving.{with_open, Spends, Leaves}
 use Rattle.term_names.specs.InScope.{AreLow}
 use Rattle.term_names.specs.Making.{IsMade, Makes}
-use Rattle.problem_text.specs.Names.{Meaning, applied}
+use Rattle.problem_text.specs.Names.{Meaning, meaning_applied}
 use Rattle.term_reader.specs.Reading.{HasRead, IsAt, Goes}
 use Rattle.term_reader.specs.Resuming.{Waiting, arguments, resumed}
 use Rattle.problem_text.specs.TypedTerms.{Typed}
@@ -36,7 +36,7 @@ use Rattle.term_reader.proofs.Staying.{table_keeps_none, adds_none, script_stays
 abbrev pub pushed : Reader → Value → List Value
 pushed r c = r.values ++ c ∷ []
 
-module _ (source : List ℕ) (nodes : List Node) (g : Reading) (s : Table) (v : TermsView) (r : Reader) (c : Value) (n place : ℕ) (head : Head) (from end : ℕ) (h : HasRead source nodes g s v (with_open r (Frame.Arguments place head from end)) c n) where
+module _ (source : List ℕ) (nodes : List Node) (g : WholeReading) (s : Table) (v : TermsView) (r : Reader) (c : Value) (n place : ℕ) (head : Head) (from end : ℕ) (h : HasRead source nodes g s v (with_open r (Frame.Arguments place head from end)) c n) where
   -- the frames around it stay, over what is left of the stack
   take_pushed : take from (pushed r c) ≡ take from r.values
   take_pushed = let (m, read, left, rest, is, here, outer) = h.frames in take-append-le from r.values (c ∷ []) here.within
@@ -45,7 +45,7 @@ module _ (source : List ℕ) (nodes : List Node) (g : Reading) (s : Table) (v : 
   low_pushed = all_at_end _ r.values c h.stands.low h.low
 
   -- what is applied to the arguments
-  pub applied_here : (m : Meaning) × (ts : List Typed) × IsHeadOf s v r.known head m × AreValues s v (drop from (pushed r c)) ts
+  pub applied_here : (m : Meaning) × (ts : List Typed) × HeadMeans s v r.known head m × AreValues s v (drop from (pushed r c)) ts
   applied_here =
       let (m, read, left, rest, is, here, outer) = h.frames in
       (m, read ++ h.term ∷ [], here.applies, values_pushed s v from r.values read c h.term here.within here.read_values h.is)
@@ -57,16 +57,16 @@ module _ (source : List ℕ) (nodes : List Node) (g : Reading) (s : Table) (v : 
 
   -- it was the last one
   arguments_whole : n ≡ end → (w : TermsView) (made : Result (Option Value) ReadFault)
-      → ((m : Meaning) (ts : List Typed) → IsHeadOf s v r.known head m → AreValues s v (drop from (pushed r c)) ts → Makes s v w (applied m ts) made)
+      → ((m : Meaning) (ts : List Typed) → HeadMeans s v r.known head m → AreValues s v (drop from (pushed r c)) ts → Makes s v w (meaning_applied m ts) made)
       → IsWhole g s v w place made
   arguments_whole last w made makes =
       let (m, read, left, rest, is, here, outer) = h.frames in
       let none : left ≡ no_forms = forms_done source nodes n left end here.left_here last in
       record {
         script = h.script;
-        expected = applied m (read ++ h.term ∷ []);
+        expected = meaning_applied m (read ++ h.term ∷ []);
         waiting = rest;
-        comes = ap (λ (limit : Option ℕ). resumed rest (settled limit place (applied m (read ++ h.term ∷ [])) h.script)) (sym (limit_so h.place.settings r.replaces_lets h.stands.settings))
+        comes = ap (λ (limit : Option ℕ). resumed rest (settled limit place (meaning_applied m (read ++ h.term ∷ [])) h.script)) (sym (limit_so h.place.settings r.replaces_lets h.stands.settings))
             ∙ sym (last_argument_read rest place m read h.term h.place h.script)
             ∙ ap (λ (fs : Forms). resumed (arguments place m read fs h.place ∷ rest) (done h.term h.script)) (sym none)
             ∙ ap (λ (ws : List Waiting). resumed ws (done h.term h.script)) (sym is) ∙ h.comes;
@@ -74,7 +74,7 @@ module _ (source : List ℕ) (nodes : List Node) (g : Reading) (s : Table) (v : 
       }
 
   arguments_close : n ≡ end → (w : TermsView) → KeepsTerms v w → (made : Result (Option Value) ReadFault)
-      → ((m : Meaning) (ts : List Typed) → IsHeadOf s v r.known head m → AreValues s v (drop from (pushed r c)) ts → Makes s v w (applied m ts) made)
+      → ((m : Meaning) (ts : List Typed) → HeadMeans s v r.known head m → AreValues s v (drop from (pushed r c)) ts → Makes s v w (meaning_applied m ts) made)
       → Closes source nodes g s v w (record r { values = take from (pushed r c) }) place end made
   unfolding arguments_whole
   arguments_close last w keeps made makes =
@@ -140,7 +140,7 @@ module _ (source : List ℕ) (nodes : List Node) (g : Reading) (s : Table) (v : 
 
   -- What is done, by the stacks as the code has them.
   pub arguments_fault : n ≡ end → (w : TermsView) → (values : List Value) → values ≡ pushed r c → (fault : ReadFault)
-      → ((m : Meaning) (ts : List Typed) → IsHeadOf s v r.known head m → AreValues s v (drop from values) ts → Makes s v w (applied m ts) (Err fault)) → (q : Reader)
+      → ((m : Meaning) (ts : List Typed) → HeadMeans s v r.known head m → AreValues s v (drop from values) ts → Makes s v w (meaning_applied m ts) (Err fault)) → (q : Reader)
       → Leaves source nodes g s v (with_open r (Frame.Arguments place head from end)) c n s w q (Err fault)
   arguments_fault last w values are fault makes q = record {
     goes = unmade_ends source nodes g s v w place fault q (arguments_whole last w (Err fault) (rw are at makes));
@@ -148,7 +148,7 @@ module _ (source : List ℕ) (nodes : List Node) (g : Reading) (s : Table) (v : 
   }
 
   pub arguments_refused : n ≡ end → (w : TermsView) → (values : List Value) → values ≡ pushed r c → (made : Option Value)
-      → ((m : Meaning) (ts : List Typed) → IsHeadOf s v r.known head m → AreValues s v (drop from values) ts → Makes s v w (applied m ts) (Ok made)) → (fault : ReadFault)
+      → ((m : Meaning) (ts : List Typed) → HeadMeans s v r.known head m → AreValues s v (drop from values) ts → Makes s v w (meaning_applied m ts) (Ok made)) → (fault : ReadFault)
       → ((s : Table) (v : TermsView) (o : Option Typed) (sc : Script) → IsMade s v o (Ok made) → SettlesTerm s v place o sc (Err fault)) → (q : Reader)
       → Leaves source nodes g s v (with_open r (Frame.Arguments place head from end)) c n s w q (Err fault)
   arguments_refused last w values are made makes fault settles q = record {
@@ -157,7 +157,7 @@ module _ (source : List ℕ) (nodes : List Node) (g : Reading) (s : Table) (v : 
   }
 
   pub arguments_settled : n ≡ end → (w : TermsView) → KeepsTerms v w → (values : List Value) → values ≡ pushed r c → (made : Option Value)
-      → ((m : Meaning) (ts : List Typed) → IsHeadOf s v r.known head m → AreValues s v (drop from values) ts → Makes s v w (applied m ts) (Ok made)) → (t : Value)
+      → ((m : Meaning) (ts : List Typed) → HeadMeans s v r.known head m → AreValues s v (drop from values) ts → Makes s v w (meaning_applied m ts) (Ok made)) → (t : Value)
       → ((s : Table) (v : TermsView) (o : Option Typed) (sc : Script) → IsMade s v o (Ok made) → SettlesTerm s v place o sc (Ok t)) → (kept : List Value) → kept ≡ take from values
       → Leaves source nodes g s v (with_open r (Frame.Arguments place head from end)) c n s w (record r { values = kept }) (Ok (Turn.Use t end))
   arguments_settled last w keeps values are made makes t settles kept take_is = record {

@@ -8,9 +8,9 @@ use Rattle.sym_table.specs.Table.{Table, IsLeaf}
 use Rattle.term_model.specs.declared.symbols.Sort.{Sort}
 use Rattle.term_pool.specs.Views.{TermsView}
 use Rattle.text_items.specs.ItemShapes.{Name}
-use Rattle.problem_text.specs.Forms.{Binds, no_binds, bind}
-use Rattle.term_reader.specs.Frames.{Reading, AreFrames}
-use Rattle.term_names.specs.InScope.{IsScope, AreLow, AreBound}
+use Rattle.problem_text.specs.Forms.{LetBinds, no_binds, bind}
+use Rattle.term_reader.specs.Frames.{WholeReading, AreFrames}
+use Rattle.term_names.specs.InScope.{IsScope, AreLow, AreValuesBound}
 use Rattle.text_items.specs.NameNodes.{IsNameNode}
 use Rattle.term_reader.specs.Layers.{AreBinds}
 use Rattle.term_reader.specs.Leaving.{with_open, Leaves}
@@ -38,7 +38,7 @@ use Rattle.term_reader.proofs.Resuming.{next_binding_read, next_binding_refused,
 use Rattle.term_reader.proofs.Settled.{nothing_made}
 use Rattle.term_reader.proofs.Staying.{keeps_none, value_stays, bound_stays, script_stays, scope_stays, frames_stay}
 
-module _ (source : List ℕ) (nodes : List Node) (g : Reading) (s : Table) (v : TermsView) (r : Reader) (c : Value) (n place from first name repeat body : ℕ) (h : HasRead source nodes g s v (with_open r (Frame.Bindings place from first name repeat body)) c n) where
+module _ (source : List ℕ) (nodes : List Node) (g : WholeReading) (s : Table) (v : TermsView) (r : Reader) (c : Value) (n place from first name repeat body : ℕ) (h : HasRead source nodes g s v (with_open r (Frame.Bindings place from first name repeat body)) c n) where
   -- the binding has its leaf and its value on the stacks
   pub record IsAdded (t : Table) (leaves : List ℕ) (values : List Value) : Type 0 where
     pub adds : AddsNoSymbols s t
@@ -56,7 +56,7 @@ module _ (source : List ℕ) (nodes : List Node) (g : Reading) (s : Table) (v : 
     low_now : AreLow values
     low_now = rw added.values_are (all_at_end _ r.values c h.stands.low h.low)
 
-    bound_now : AreBound t v (drop first leaves) (drop from values) all_read
+    bound_now : AreValuesBound t v (drop first leaves) (drop from values) all_read
     bound_now =
         let (read, x, earlier, left, f, m, rest, is, here, outer) = h.frames in
         let (k, leaf_is, leaves_are) = added.leaf x here.variable in
@@ -85,12 +85,12 @@ module _ (source : List ℕ) (nodes : List Node) (g : Reading) (s : Table) (v : 
         rw (values_same, leaves_same)
         (frames_stay s t v v added.adds.keeps (keeps_none v) source nodes g r.known r.known (λ _. refl) r.frames (take from r.values) (take first r.leaves.items) r.scope h.place m rest outer)
 
-    pub bindings_bound : (w : TermsView) × (bs : List Bound) × AreBound t w (drop first leaves) (drop from values) bs
+    pub bindings_bound : (w : TermsView) × (bs : List Bound) × AreValuesBound t w (drop first leaves) (drop from values) bs
     bindings_bound = (v, all_read, bound_now)
 
     -- The last one was read: the body comes.
     pub body_begins : n ≡ body → (scope inner : List Scoped) (ks : List ℕ) → ks ≡ drop first leaves
-        → ((w : TermsView) (bs : List Bound) (p : Place) → AreBound t w ks (drop from values) bs → IsScope t w r.scope p.scope → p.settings.replaces_lets ≡ r.replaces_lets → IsScope t w scope (inside bs p).scope)
+        → ((w : TermsView) (bs : List Bound) (p : Place) → AreValuesBound t w ks (drop from values) bs → IsScope t w r.scope p.scope → p.settings.replaces_lets ≡ r.replaces_lets → IsScope t w scope (inside bs p).scope)
         → scope ≡ inner ++ r.scope → length inner ≡ length ks → (q : Reader) → q.leaves.items ≡ leaves
         → IsAt source nodes g t v (record r { scope = scope; values = values; leaves = q.leaves; frames = Frame.Body place from first ∷ r.frames }) body
     body_begins last scope inner ks are binds split each q leaves_are =
@@ -130,7 +130,7 @@ module _ (source : List ℕ) (nodes : List Node) (g : Reading) (s : Table) (v : 
             frames_now,
           );
           comes = sym (last_binding_read rest place read x earlier f h.place h.term h.script)
-              ∙ ap (λ (bs : Binds). resumed (bindings place read x earlier bs f h.place ∷ rest) (done h.term h.script)) (sym none)
+              ∙ ap (λ (bs : LetBinds). resumed (bindings place read x earlier bs f h.place ∷ rest) (done h.term h.script)) (sym none)
               ∙ ap (λ (ws : List Waiting). resumed ws (done h.term h.script)) (sym is) ∙ h.comes;
         }
 
@@ -140,7 +140,7 @@ module _ (source : List ℕ) (nodes : List Node) (g : Reading) (s : Table) (v : 
     binding_goes_on more free q leaves_are =
         let (read, x, earlier, left, f, m, rest, is, here, outer) = h.frames in
         let a = binds_more source nodes n left body here.left_here more in
-        let faulty : IsFirstRepeat source nodes n (x.name ∷ earlier) (bind a.name a.first a.others) repeat body = subst (λ (bs : Binds). IsFirstRepeat source nodes n (x.name ∷ earlier) bs repeat body) a.split here.first_faulty in
+        let faulty : IsFirstRepeat source nodes n (x.name ∷ earlier) (bind a.name a.first a.others) repeat body = subst (λ (bs : LetBinds). IsFirstRepeat source nodes n (x.name ∷ earlier) bs repeat body) a.split here.first_faulty in
         let next = repeat_on source nodes n a.next (x.name ∷ earlier) a.name a.first a.others repeat body a.here faulty free in
         record {
           script = with_let_name a.name.name h.script;
@@ -176,7 +176,7 @@ module _ (source : List ℕ) (nodes : List Node) (g : Reading) (s : Table) (v : 
             frames_now,
           );
           comes = sym (next_binding_read rest place read x earlier a.name a.first a.others f h.place h.term h.script next.0)
-              ∙ ap (λ (bs : Binds). resumed (bindings place read x earlier bs f h.place ∷ rest) (done h.term h.script)) (sym a.split)
+              ∙ ap (λ (bs : LetBinds). resumed (bindings place read x earlier bs f h.place ∷ rest) (done h.term h.script)) (sym a.split)
               ∙ ap (λ (ws : List Waiting). resumed ws (done h.term h.script)) (sym is) ∙ h.comes;
         }
 
@@ -196,11 +196,11 @@ module _ (source : List ℕ) (nodes : List Node) (g : Reading) (s : Table) (v : 
       let a = binds_more source nodes n left body here.left_here more in
       let first_one : IsFirstRepeat source nodes n (x.name ∷ earlier) (bind a.name a.first a.others) n body =
       subst (λ (k : ℕ). IsFirstRepeat source nodes n (x.name ∷ earlier) (bind a.name a.first a.others) k body) (sym faulty)
-      (subst (λ (bs : Binds). IsFirstRepeat source nodes n (x.name ∷ earlier) bs repeat body) a.split here.first_faulty) in
-      let taken = repeat_here source nodes n (x.name ∷ earlier) a.name a.first a.others body (subst (λ (bs : Binds). AreBinds source nodes n bs body) a.split here.left_here) first_one in
+      (subst (λ (bs : LetBinds). IsFirstRepeat source nodes n (x.name ∷ earlier) bs repeat body) a.split here.first_faulty) in
+      let taken = repeat_here source nodes n (x.name ∷ earlier) a.name a.first a.others body (subst (λ (bs : LetBinds). AreBinds source nodes n bs body) a.split here.left_here) first_one in
       let whole : g.whole ≡ refuse Repeated a.name.place h.script =
       sym h.comes ∙ ap (λ (ws : List Waiting). resumed ws (done h.term h.script)) is
-      ∙ ap (λ (bs : Binds). resumed (bindings place read x earlier bs f h.place ∷ rest) (done h.term h.script)) a.split
+      ∙ ap (λ (bs : LetBinds). resumed (bindings place read x earlier bs f h.place ∷ rest) (done h.term h.script)) a.split
       ∙ next_binding_refused rest place read x earlier a.name a.first a.others f h.place h.term h.script taken in
       let same_node : a.named.node ≡ node = cc (a.named.here, there) in
       let at : a.name.place ≡ node.token.start = sym a.named.same_place ∙ ap (λ (k : Node). k.token.start) same_node in
@@ -208,7 +208,7 @@ module _ (source : List ℕ) (nodes : List Node) (g : Reading) (s : Table) (v : 
 
   -- What is done, by the stacks as the code has them.
   pub body_next : (t : Table) (q : Reader) → IsAdded t q.leaves.items q.values → length t.leaves ≤ length s.leaves + 1 → n ≡ body → (inner : List Scoped) (ks : List ℕ) → ks ≡ drop first q.leaves.items
-      → ((w : TermsView) (bs : List Bound) (p : Place) → AreBound t w ks (drop from q.values) bs → IsScope t w r.scope p.scope → p.settings.replaces_lets ≡ r.replaces_lets → IsScope t w q.scope (inside bs p).scope)
+      → ((w : TermsView) (bs : List Bound) (p : Place) → AreValuesBound t w ks (drop from q.values) bs → IsScope t w r.scope p.scope → p.settings.replaces_lets ≡ r.replaces_lets → IsScope t w q.scope (inside bs p).scope)
       → q.scope ≡ inner ++ r.scope → length inner ≡ length ks → q.frames ≡ Frame.Body place from first ∷ r.frames
       → Leaves source nodes g s v (with_open r (Frame.Bindings place from first name repeat body)) c n t v (record r { scope = q.scope; values = q.values; leaves = q.leaves; frames = q.frames }) (Ok (Turn.Read body))
   body_next t q added one_more last inner ks are binds split each frames_are = record {

@@ -3,8 +3,8 @@ use Rattle.std.proofs.Common.{◌≡◌, ◌∙◌, ◌+◌, ◌-◌, arith, ref
 use Rattle.std.proofs.Math.Seq.{drop-append_seam}
 use Rattle.sym_table.specs.Table.{Table}
 use Rattle.term_pool.specs.Views.{TermsView, KeepsTerms}
-use Rattle.term_reader.specs.Frames.{Reading}
-use Rattle.term_names.specs.InScope.{IsScope, AreBound}
+use Rattle.term_reader.specs.Frames.{WholeReading}
+use Rattle.term_names.specs.InScope.{IsScope, AreValuesBound}
 use Rattle.term_reader.specs.Leaving.{with_open, Leaves}
 use Rattle.term_names.specs.Making.{IsMade, Makes}
 use Rattle.problem_text.specs.Names.{Bound, Place, inside, let_term}
@@ -36,7 +36,7 @@ scope_around scope inner around first count split each =
     let k : count - first ≡ length inner = omega (arith, each) in
     rw (k, split) (drop-append_seam inner around)
 
-module _ (source : List ℕ) (nodes : List Node) (g : Reading) (s : Table) (v : TermsView) (r : Reader) (c : Value) (n place from first : ℕ) (h : HasRead source nodes g s v (with_open r (Frame.Body place from first)) c n) where
+module _ (source : List ℕ) (nodes : List Node) (g : WholeReading) (s : Table) (v : TermsView) (r : Reader) (c : Value) (n place from first : ℕ) (h : HasRead source nodes g s v (with_open r (Frame.Body place from first)) c n) where
   -- the reader without what the let owned
   abbrev pub Without : Reader → Type 0
   Without q = (q.scope ≡ drop (length r.leaves.items - first) r.scope) × (q.values ≡ take from r.values) × (q.leaves.items ≡ take first r.leaves.items)
@@ -47,7 +47,7 @@ module _ (source : List ℕ) (nodes : List Node) (g : Reading) (s : Table) (v : 
   abbrev pub Closed : TermsView → Result (Option Value) ReadFault → Type 0
   Closed w made =
       (ks : List ℕ) × (ks ≡ drop first r.leaves.items)
-      × ((p : Place) (bs : List Bound) (t : Typed) → AreBound s v ks (drop from r.values) bs → IsValue s v c t → p.settings.replaces_lets ≡ r.replaces_lets → Makes s v w (Some (let_term p bs t)) made)
+      × ((p : Place) (bs : List Bound) (t : Typed) → AreValuesBound s v ks (drop from r.values) bs → IsValue s v c t → p.settings.replaces_lets ≡ r.replaces_lets → Makes s v w (Some (let_term p bs t)) made)
 
   outer_settings : (outer : Place) (bound : List Bound) → h.place ≡ inside bound outer → outer.settings ≡ limited r.replaces_lets
   outer_settings outer bound same = sym (ap (λ (p : Place). p.settings) same) ∙ h.stands.settings

@@ -5,12 +5,12 @@ use Rattle.sym_table.specs.Table.{Table, IsLeaf}
 use Rattle.term_model.specs.Terms.{Term}
 use Rattle.term_pool.specs.StandsFor.{variable_leaf}
 use Rattle.term_pool.specs.Views.{TermsView}
-use Rattle.term_names.specs.InScope.{AreBound, AreLow}
+use Rattle.term_names.specs.InScope.{AreValuesBound, AreLow}
 use Rattle.term_names.specs.Known.{KnownView, known_entry}
 use Rattle.problem_text.specs.Names.{Bound}
 use Rattle.problem_text.specs.TypedTerms.{Typed}
 use Rattle.problem_text.specs.Scripts.{Script}
-use Rattle.term_names.specs.Standing.{IsFunctionAt, IsNoFunction, HasNoEntry, IsMeant, IsScript}
+use Rattle.term_names.specs.Standing.{IsFunctionAt, IsNoFunction, HasNoEntry, IsNameMeant, IsScript}
 use Rattle.term_expansion.specs.Values.{AreValues, IsValue}
 use Rattle.term_names.specs.declared.known.KnownEntry.{KnownEntry}
 use Rattle.term_expansion.specs.declared.values.Value.{Value}
@@ -37,8 +37,8 @@ module _ (s : Table) (v : TermsView) where
   values_pushed from values ts c t within h is =
       subst (λ cs. AreValues s v cs (ts ++ t ∷ [])) (sym (drop-append-le from values (c ∷ []) within)) (values_at_end (drop from values) ts c t h is)
 
-  bound_at_end : (ks : List ℕ) (cs : List Value) (bs : List Bound) (k : ℕ) (c : Value) (b : Bound) → AreBound s v ks cs bs → IsLeaf s k (variable_leaf b.variable)
-      → IsValue s v c (record { tree = b.stands_for; sort = b.variable.sort }) → AreBound s v (ks ++ k ∷ []) (cs ++ c ∷ []) (bs ++ b ∷ [])
+  bound_at_end : (ks : List ℕ) (cs : List Value) (bs : List Bound) (k : ℕ) (c : Value) (b : Bound) → AreValuesBound s v ks cs bs → IsLeaf s k (variable_leaf b.variable)
+      → IsValue s v c (record { tree = b.stands_for; sort = b.variable.sort }) → AreValuesBound s v (ks ++ k ∷ []) (cs ++ c ∷ []) (bs ++ b ∷ [])
   bound_at_end [] [] [] k c b h leaf is = (leaf, is, tt)
   bound_at_end [] [] (e ∷ bs) k c b h leaf is = absurd h
   bound_at_end [] (d ∷ cs) bs k c b h leaf is = absurd h
@@ -47,11 +47,11 @@ module _ (s : Table) (v : TermsView) where
   bound_at_end (j ∷ ks) (d ∷ cs) (e ∷ bs) k c b h leaf is = (h.0, h.1, bound_at_end ks cs bs k c b h.2 leaf is)
 
   pub bound_pushed : (first from : ℕ) (leaves : List ℕ) (values : List Value) (bs : List Bound) (k : ℕ) (c : Value) (b : Bound) → first ≤ length leaves → from ≤ length values
-      → AreBound s v (drop first leaves) (drop from values) bs → IsLeaf s k (variable_leaf b.variable) → IsValue s v c (record { tree = b.stands_for; sort = b.variable.sort })
-      → AreBound s v (drop first (leaves ++ k ∷ [])) (drop from (values ++ c ∷ [])) (bs ++ b ∷ [])
+      → AreValuesBound s v (drop first leaves) (drop from values) bs → IsLeaf s k (variable_leaf b.variable) → IsValue s v c (record { tree = b.stands_for; sort = b.variable.sort })
+      → AreValuesBound s v (drop first (leaves ++ k ∷ [])) (drop from (values ++ c ∷ [])) (bs ++ b ∷ [])
   bound_pushed first from leaves values bs k c b leaves_within within h leaf is =
-      subst (λ ks. AreBound s v ks (drop from (values ++ c ∷ [])) (bs ++ b ∷ [])) (sym (drop-append-le first leaves (k ∷ []) leaves_within))
-      (subst (λ cs. AreBound s v (drop first leaves ++ k ∷ []) cs (bs ++ b ∷ [])) (sym (drop-append-le from values (c ∷ []) within))
+      subst (λ ks. AreValuesBound s v ks (drop from (values ++ c ∷ [])) (bs ++ b ∷ [])) (sym (drop-append-le first leaves (k ∷ []) leaves_within))
+      (subst (λ cs. AreValuesBound s v (drop first leaves ++ k ∷ []) cs (bs ++ b ∷ [])) (sym (drop-append-le from values (c ∷ []) within))
       (bound_at_end (drop first leaves) (drop from values) bs k c b h leaf is))
 
 -- The script: what its names are does not change with the terms that were read and the names that lets bound.
@@ -68,7 +68,7 @@ module _ (s : Table) (v : TermsView) (k : KnownView) (ts : List Term) (lets : Li
   same_function : (name : List ℕ) → IsFunctionAt s sc name → IsFunctionAt s (with_read ts lets sc) name
   same_function name h = record { leaf = h.leaf; meant = h.meant; here = h.here; same_name = h.same_name; found = h.found; taken = h.taken }
 
-  same_meant : (name : List ℕ) (o : Option KnownEntry) → IsMeant s v k sc name o → IsMeant s v k (with_read ts lets sc) name o
+  same_meant : (name : List ℕ) (o : Option KnownEntry) → IsNameMeant s v k sc name o → IsNameMeant s v k (with_read ts lets sc) name o
   same_meant name None (none, inl h) = (same_no_entry name none, inl (same_function name h))
   same_meant name None (none, inr h) = (same_no_entry name none, inr (record { no_function = same_no_function name h.no_function; free = h.free }))
   same_meant name (Some KnownEntry.Reserved) h =

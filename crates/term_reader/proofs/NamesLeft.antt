@@ -5,7 +5,7 @@ use Rattle.term_pool.specs.Views.{TermsView}
 use Rattle.text_items.specs.ItemShapes.{Name}
 use Rattle.term_names.specs.Known.{KnownView}
 use Rattle.text_items.specs.NameNodes.{IsNameNode}
-use Rattle.term_reader.specs.Layers.{AreAttributes}
+use Rattle.term_reader.specs.Layers.{AreTermAttributes}
 use Rattle.term_reader.specs.Naming.{GivesNames, IsFreeIn}
 use Rattle.problem_text.specs.TypedTerms.{Typed}
 use Rattle.problem_text.specs.Outcomes.{Outcome, done}
@@ -23,17 +23,17 @@ use Rattle.text_items.proofs.NodeSteps.{node_behind, nodes_ordered}
 pub record IsLeft (s : Table) (v : TermsView) (text : List ℕ) (ns : List Node) (k m : ℕ) (known : KnownView) (t : Typed) (whole : Outcome Script Typed) : Type 0 where
   pub names : List Name
   pub script : Script
-  pub there : AreAttributes text ns k names m
+  pub there : AreTermAttributes text ns k names m
   pub is : IsScript s v known script
   pub same : whole ≡ with_names t names script
 
 -- whatever the names from the first node on are
 abbrev pub AreLeft : Table → List ℕ → List Node → Value → List ℕ → ℕ → ℕ → ℕ → KnownView → KnownView → Type 0
 AreLeft s text ns c free first k m start now =
-    (v : TermsView) (names : List Name) (t : Typed) (sc : Script) → AreAttributes text ns first names m → IsFreeIn s v c free t → IsScript s v start sc
+    (v : TermsView) (names : List Name) (t : Typed) (sc : Script) → AreTermAttributes text ns first names m → IsFreeIn s v c free t → IsScript s v start sc
     → IsLeft s v text ns k m now t (with_names t names sc)
 
-pub attributes_before : (text : List ℕ) (ns : List Node) (k : ℕ) (names : List Name) (m : ℕ) → AreAttributes text ns k names m → k < m
+pub attributes_before : (text : List ℕ) (ns : List Node) (k : ℕ) (names : List Name) (m : ℕ) → AreTermAttributes text ns k names m → k < m
 attributes_before text ns k names m a =
     let (n, is, are) = a.there in omega (arith, node_behind text ns k a.first n is, nodes_ordered text ns n a.others m are)
 
@@ -41,11 +41,11 @@ pub left_start : (s : Table) (text : List ℕ) (ns : List Node) (c : Value) (fre
 left_start s text ns c free first m known = λ v names t sc are has is. record { names = names; script = sc; there = are; is = is; same = refl }
 
 module _ (s : Table) (v : TermsView) (text : List ℕ) (ns : List Node) (k m : ℕ) (known : KnownView) (t : Typed) (whole : Outcome Script Typed) (left : IsLeft s v text ns k m known t whole) where
-  pub left_end : ((names : List Name) → AreAttributes text ns k names m → names ≡ []) → GivesNames s v known t whole (Ok tt)
+  pub left_end : ((names : List Name) → AreTermAttributes text ns k names m → names ≡ []) → GivesNames s v known t whole (Ok tt)
   left_end none = (left.script, left.same ∙ ap (λ names. with_names t names left.script) (none left.names left.there), left.is)
 
   -- the next name
-  module _ (at : ℕ) (new : KnownView) (first : (names : List Name) → AreAttributes text ns k names m → IsFirstName text ns at names m) where
+  module _ (at : ℕ) (new : KnownView) (first : (names : List Name) → AreTermAttributes text ns k names m → IsFirstName text ns at names m) where
     next : IsFirstName text ns at left.names m
     next = first left.names left.there
 

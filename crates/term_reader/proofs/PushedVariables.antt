@@ -8,7 +8,7 @@ use Rattle.term_pool.specs.Views.{TermsView}
 use Rattle.term_names.specs.InScope.{IsScope}
 use Rattle.problem_text.specs.Names.{Bound, Place, itself}
 use Rattle.term_reader.specs.ProblemViews.{ReaderView, IsReaderOf, ReadsTerm, IsValueRead, ReadsValue}
-use Rattle.term_reader.specs.Reading.{IsIdle, IsOutcome, Reads}
+use Rattle.term_reader.specs.Reading.{IsReaderIdle, IsOutcome, ComesToTerm}
 use Rattle.term_names.specs.Scope.{Scoped}
 use Rattle.problem_text.specs.TypedTerms.{Typed}
 use Rattle.problem_text.specs.Outcomes.{Outcome}
@@ -56,12 +56,12 @@ reader_pushed s v r k sc p x e h = record {
   idle = h.idle;
 }
 
-pub reader_settled : (s : Table) (v : TermsView) (r : Reader) (pushed : List ℕ) (sc : Script) (p : Place) → pushed ≡ [] → IsIdle s v r sc p → IsReaderOf s v (record { reader = r; pushed = pushed }) sc p
+pub reader_settled : (s : Table) (v : TermsView) (r : Reader) (pushed : List ℕ) (sc : Script) (p : Place) → pushed ≡ [] → IsReaderIdle s v r sc p → IsReaderOf s v (record { reader = r; pushed = pushed }) sc p
 reader_settled s v r pushed sc p e h = rw e (record { variables = []; around = p.scope; scope = refl; pushed = tt; idle = h })
 
 -- the reader once all that were pushed are in scope
 pub all_entered : (s : Table) (v : TermsView) (r : ReaderView) (ks : List ℕ) (scope : List Scoped) (sc : Script) (p : Place) → reverse ks ≡ r.pushed → AreEntered s v ks r.reader.scope scope → IsReaderOf s v r sc p
-    → IsIdle s v (record r.reader { scope = scope }) sc p
+    → IsReaderIdle s v (record r.reader { scope = scope }) sc p
 all_entered s v r ks scope sc p e entered h = record {
   script = h.idle.script;
   scope = subst (IsScope s v scope) (sym h.scope) (entered h.variables h.around (subst (λ js. AreLeavesOf s js h.variables) (sym e) h.pushed) h.idle.scope);
@@ -72,17 +72,17 @@ all_entered s v r ks scope sc p e entered h = record {
 }
 
 -- the term of a value that was read, or the fault that none was read for
-pub term_read : (s : Table) (old new : TermsView) (r : Reader) (pushed : List ℕ) (p : Place) (whole : Outcome Script Typed) (c : Value) → pushed ≡ [] → Reads s old new r p whole (Ok c)
+pub term_read : (s : Table) (old new : TermsView) (r : Reader) (pushed : List ℕ) (p : Place) (whole : Outcome Script Typed) (c : Value) → pushed ≡ [] → ComesToTerm s old new r p whole (Ok c)
     → ReadsTerm s old new (record { reader = r; pushed = pushed }) p whole (Ok c.term)
 term_read s old new r pushed p whole c e h =
     let (t, sc, is, value, low, idle) = h.outcome in
     record { outcome = (t, sc, is, value.refers, reader_settled s new r pushed sc p e idle); placed = h.placed }
 
-pub term_refused : (s : Table) (old new : TermsView) (r : Reader) (view : ReaderView) (p : Place) (whole : Outcome Script Typed) (fault : ReadFault) → Reads s old new r p whole (Err fault) → ReadsTerm s old new view p whole (Err fault)
+pub term_refused : (s : Table) (old new : TermsView) (r : Reader) (view : ReaderView) (p : Place) (whole : Outcome Script Typed) (fault : ReadFault) → ComesToTerm s old new r p whole (Err fault) → ReadsTerm s old new view p whole (Err fault)
 term_refused s old new r view p whole fault h = record { outcome = h.outcome; placed = h.placed }
 
 -- the value that was read, or the fault that none was read for
-pub value_read : (s : Table) (old new : TermsView) (r : Reader) (pushed : List ℕ) (p : Place) (whole : Outcome Script Typed) (result : Result Value ReadFault) → pushed ≡ [] → Reads s old new r p whole result
+pub value_read : (s : Table) (old new : TermsView) (r : Reader) (pushed : List ℕ) (p : Place) (whole : Outcome Script Typed) (result : Result Value ReadFault) → pushed ≡ [] → ComesToTerm s old new r p whole result
     → ReadsValue s old new (record { reader = r; pushed = pushed }) p whole result
 value_read s old new r pushed p whole result e h = record { outcome = go result h.outcome; placed = h.placed }
   where

@@ -4,12 +4,14 @@ use Rattle.sexpr.specs.Items.{Item}
 use Rattle.sym_table.specs.Table.{Table}
 use Rattle.term_pool.specs.Views.{TermsView, KeepsTerms}
 use Rattle.problem_text.specs.Forms.{form_of}
-use Rattle.term_reader.specs.Frames.{Reading, AreFrames, credit}
+use Rattle.term_reader.specs.Frames.{WholeReading, AreFrames}
+use Rattle.term_reader.specs.Credits.{credit}
 use Rattle.term_names.specs.InScope.{IsScope, AreLow}
 use Rattle.term_names.specs.Making.{PlacesCellsOf}
 use Rattle.problem_text.specs.Names.{Place}
 use Rattle.text_items.specs.Nodes.{IsNode}
-use Rattle.term_reader.specs.Reading.{IsAt, HasRead, IsTurn, IsReadTerm, Goes, node_of, bound_of, IsIdle, IsOutcome, Reads}
+use Rattle.term_reader.specs.Reading.{IsAt, HasRead, IsTurn, IsReadTerm, Goes, IsReaderIdle, IsOutcome, ComesToTerm}
+use Rattle.term_reader.specs.Credits.{node_of, bound_of}
 use Rattle.term_reader.specs.Resuming.{resumed}
 use Rattle.term_names.specs.Scope.{Scoped}
 use Rattle.problem_text.specs.Outcomes.{done}
@@ -26,13 +28,13 @@ use Rattle.text_items.proofs.NodeSteps.{node_behind, node_inside}
 use Rattle.term_reader.proofs.Staying.{adds_none, adds_then, keeps_none, keeps_then, places_none, places_then}
 
 -- the reading of an item that ends before node m
-abbrev pub reading : List Scoped → Item → ℕ → Script → Place → Reading
+abbrev pub reading : List Scoped → Item → ℕ → Script → Place → WholeReading
 reading around i m sc p = record { last = m; around = around; place = p; whole = read_term i p sc }
 
 -- The reader began at node k with these tables, and is at this turn now.
 pub record IsUnderWay (source : List ℕ) (nodes : List Node) (k : ℕ) (s : Table) (v : TermsView) (r : Reader) (z : Table) (w : TermsView) (q : Reader) (turn : Turn) : Type 0 where
-  pub at : (i : Item) (m : ℕ) (sc : Script) (p : Place) → IsNode source nodes k i m → IsIdle s v r sc p → IsTurn source nodes (reading r.scope i m sc p) z w q turn
-  pub placed : (i : Item) (m : ℕ) (sc : Script) (p : Place) → IsNode source nodes k i m → IsIdle s v r sc p → PlacesCellsOf z v.pass w.pass (IsReadTerm (read_term i p sc))
+  pub at : (i : Item) (m : ℕ) (sc : Script) (p : Place) → IsNode source nodes k i m → IsReaderIdle s v r sc p → IsTurn source nodes (reading r.scope i m sc p) z w q turn
+  pub placed : (i : Item) (m : ℕ) (sc : Script) (p : Place) → IsNode source nodes k i m → IsReaderIdle s v r sc p → PlacesCellsOf z v.pass w.pass (IsReadTerm (read_term i p sc))
   pub symbols : AddsNoSymbols s z
   pub keeps : KeepsTerms v w
   pub inside : node_of turn ≤ length nodes
@@ -48,7 +50,7 @@ pub record Turns (z : Table) (w : TermsView) (q : Reader) (y : Table) (x : Terms
   pub base : o.known.base ≡ q.known.base
 
 at_start : (source : List ℕ) (nodes : List Node) (k : ℕ) (s : Table) (v : TermsView) (r : Reader) (i : Item) (m : ℕ) (sc : Script) (p : Place)
-    → IsNode source nodes k i m → IsIdle s v r sc p → IsAt source nodes (reading r.scope i m sc p) s v r k
+    → IsNode source nodes k i m → IsReaderIdle s v r sc p → IsAt source nodes (reading r.scope i m sc p) s v r k
 at_start source nodes k s v r i m sc p node idle = record {
   script = sc;
   place = p;
@@ -67,7 +69,7 @@ at_start source nodes k s v r i m sc p node idle = record {
 }
 
 pub begins : (source : List ℕ) (nodes : List Node) (k : ℕ) (s : Table) (v : TermsView) (r : Reader)
-    → (i : Item) × (m : ℕ) × IsNode source nodes k i m → (sc : Script) × (p : Place) × IsIdle s v r sc p
+    → (i : Item) × (m : ℕ) × IsNode source nodes k i m → (sc : Script) × (p : Place) × IsReaderIdle s v r sc p
     → IsUnderWay source nodes k s v r s v r (Turn.Read k)
 begins source nodes k s v r (j, n, node) (sc, p, idle) = record {
   at = λ i m sc2 p2 h e. at_start source nodes k s v r i m sc2 p2 h e;
@@ -82,14 +84,14 @@ begins source nodes k s v r (j, n, node) (sc, p, idle) = record {
 
 -- the turn is one of some reading
 pub some_turn : (source : List ℕ) (nodes : List Node) (k : ℕ) (s : Table) (v : TermsView) (r : Reader) (z : Table) (w : TermsView) (q : Reader) (turn : Turn)
-    → (i : Item) × (m : ℕ) × IsNode source nodes k i m → (sc : Script) × (p : Place) × IsIdle s v r sc p
-    → IsUnderWay source nodes k s v r z w q turn → (g : Reading) × IsTurn source nodes g z w q turn
+    → (i : Item) × (m : ℕ) × IsNode source nodes k i m → (sc : Script) × (p : Place) × IsReaderIdle s v r sc p
+    → IsUnderWay source nodes k s v r z w q turn → (g : WholeReading) × IsTurn source nodes g z w q turn
 some_turn source nodes k s v r z w q turn (i, m, node) (sc, p, idle) h = (reading r.scope i m sc p, h.at i m sc p node idle)
 
 -- one turn more
 pub goes_on : (source : List ℕ) (nodes : List Node) (k : ℕ) (s : Table) (v : TermsView) (r : Reader) (z : Table) (w : TermsView) (q : Reader) (turn : Turn) (y : Table) (x : TermsView) (o : Reader) (next : Turn)
     → IsUnderWay source nodes k s v r z w q turn
-    → ((g : Reading) → IsTurn source nodes g z w q turn → Goes source nodes g y w x o (Ok next))
+    → ((g : WholeReading) → IsTurn source nodes g z w q turn → Goes source nodes g y w x o (Ok next))
     → Turns z w q y x o
     → node_of next ≤ length nodes → bound_of y nodes o (node_of next) ≤ bound_of z nodes q (node_of turn)
     → IsUnderWay source nodes k s v r y x o next
@@ -109,9 +111,9 @@ goes_on source nodes k s v r z w q turn y x o next h goes kept inside few = reco
 -- a turn ends in a fault
 pub fails : (source : List ℕ) (nodes : List Node) (k : ℕ) (s : Table) (v : TermsView) (r : Reader) (z : Table) (w : TermsView) (q : Reader) (turn : Turn) (y : Table) (x : TermsView) (o : Reader) (fault : ReadFault)
     → IsUnderWay source nodes k s v r z w q turn
-    → ((g : Reading) → IsTurn source nodes g z w q turn → Goes source nodes g y w x o (Err fault))
+    → ((g : WholeReading) → IsTurn source nodes g z w q turn → Goes source nodes g y w x o (Err fault))
     → Turns z w q y x o
-    → (i : Item) (m : ℕ) (sc : Script) (p : Place) → IsNode source nodes k i m → IsIdle s v r sc p → Reads y v x o p (read_term i p sc) (Err fault)
+    → (i : Item) (m : ℕ) (sc : Script) (p : Place) → IsNode source nodes k i m → IsReaderIdle s v r sc p → ComesToTerm y v x o p (read_term i p sc) (Err fault)
 fails source nodes k s v r z w q turn y x o fault h goes kept i m sc p node idle =
     let step = goes (reading r.scope i m sc p) (h.at i m sc p node idle) in
     record {
@@ -120,7 +122,7 @@ fails source nodes k s v r z w q turn y x o fault h goes kept i m sc p node idle
     }
 
 -- a term was read and no form is open
-came_to : (source : List ℕ) (nodes : List Node) (g : Reading) (z : Table) (w : TermsView) (q : Reader) (c : Value) (n : ℕ)
+came_to : (source : List ℕ) (nodes : List Node) (g : WholeReading) (z : Table) (w : TermsView) (q : Reader) (c : Value) (n : ℕ)
     → q.frames ≡ [] → HasRead source nodes g z w q c n → IsOutcome z w q g.place g.whole (Ok c)
 came_to source nodes g z w q c n none h =
     let closed : AreFrames source nodes g z w q.known [] q.values q.leaves.items q.scope h.place n h.waiting = rw none at h.frames in
@@ -143,7 +145,7 @@ came_to source nodes g z w q c n none h =
 
 pub ends : (source : List ℕ) (nodes : List Node) (k : ℕ) (s : Table) (v : TermsView) (r : Reader) (z : Table) (w : TermsView) (q : Reader) (c : Value) (n : ℕ)
     → q.frames ≡ [] → IsUnderWay source nodes k s v r z w q (Turn.Use c n)
-    → (i : Item) (m : ℕ) (sc : Script) (p : Place) → IsNode source nodes k i m → IsIdle s v r sc p → Reads z v w q p (read_term i p sc) (Ok c)
+    → (i : Item) (m : ℕ) (sc : Script) (p : Place) → IsNode source nodes k i m → IsReaderIdle s v r sc p → ComesToTerm z v w q p (read_term i p sc) (Ok c)
 ends source nodes k s v r z w q c n none h i m sc p node idle = record {
   outcome = came_to source nodes (reading r.scope i m sc p) z w q c n none (h.at i m sc p node idle);
   placed = h.placed i m sc p node idle;
@@ -151,7 +153,7 @@ ends source nodes k s v r z w q c n none h i m sc p node idle = record {
 
 -- each leaf that was added has a node of the item
 pub spent : (source : List ℕ) (nodes : List Node) (k : ℕ) (s : Table) (v : TermsView) (r : Reader) (z : Table) (w : TermsView) (q : Reader) (c : Value) (n : ℕ)
-    → q.frames ≡ [] → IsUnderWay source nodes k s v r z w q (Turn.Use c n) → (sc : Script) × (p : Place) × IsIdle s v r sc p
+    → q.frames ≡ [] → IsUnderWay source nodes k s v r z w q (Turn.Use c n) → (sc : Script) × (p : Place) × IsReaderIdle s v r sc p
     → (i : Item) (m : ℕ) → IsNode source nodes k i m → length z.leaves ≤ length s.leaves + (m - k)
 spent source nodes k s v r z w q c n none h (sc, p, idle) i m node =
     let read = h.at i m sc p node idle in

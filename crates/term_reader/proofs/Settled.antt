@@ -4,10 +4,10 @@ use Rattle.sexpr.specs.declared.causes.Refusal.{Refusal}
 use Rattle.sym_table.specs.Table.{Table}
 use Rattle.term_model.specs.Terms.{Term}
 use Rattle.term_pool.specs.Views.{TermsView}
-use Rattle.term_reader.specs.Frames.{Reading, AreFrames}
+use Rattle.term_reader.specs.Frames.{WholeReading, AreFrames}
 use Rattle.term_names.specs.Making.{IsExpected, IsMade, Makes, PlacesCellsOf}
 use Rattle.problem_text.specs.Names.{Place}
-use Rattle.term_reader.specs.Reading.{Stands, HasRead, EndsWith, IsReadTerm, GoesOn, Goes}
+use Rattle.term_reader.specs.Reading.{ReaderStands, HasRead, EndsWith, IsReadTerm, GoesOnReading, Goes}
 use Rattle.term_reader.specs.Resuming.{Waiting, resumed}
 use Rattle.problem_text.specs.Limits.{most_height}
 use Rattle.problem_text.specs.TypedTerms.{Typed}
@@ -26,7 +26,7 @@ use Rattle.term_reader.proofs.Resuming.{refused_whole}
 use Rattle.term_reader.proofs.Staying.{places_more, places_none, lacks_more}
 
 -- What is made of the innermost form, which begins at this place, is `expected`, for what waits around it.
-pub record IsWhole (g : Reading) (s : Table) (v w : TermsView) (place : ℕ) (made : Result (Option Value) ReadFault) : Type 0 where
+pub record IsWhole (g : WholeReading) (s : Table) (v w : TermsView) (place : ℕ) (made : Result (Option Value) ReadFault) : Type 0 where
   pub script : Script
   pub expected : Option Typed
   pub waiting : List Waiting
@@ -34,10 +34,10 @@ pub record IsWhole (g : Reading) (s : Table) (v w : TermsView) (place : ℕ) (ma
   pub makes : Makes s v w expected made
 
 -- and the reader is at what waits
-pub record Closes (source : List ℕ) (nodes : List Node) (g : Reading) (s : Table) (v w : TermsView) (r : Reader) (place n : ℕ) (made : Result (Option Value) ReadFault) : Type 0 where
+pub record Closes (source : List ℕ) (nodes : List Node) (g : WholeReading) (s : Table) (v w : TermsView) (r : Reader) (place n : ℕ) (made : Result (Option Value) ReadFault) : Type 0 where
   pub whole : IsWhole g s v w place made
   pub around : Place
-  pub stands : Stands s w r whole.script around
+  pub stands : ReaderStands s w r whole.script around
   pub frames : AreFrames source nodes g s w r.known r.frames r.values r.leaves.items r.scope around n whole.waiting
 
 -- a fault of what is read now is the fault of the whole
@@ -46,10 +46,10 @@ fault_of_whole ws o r whole fails comes =
     ap (λ (x : Outcome Script Typed). x.result) (sym comes ∙ ap (λ x. resumed ws (record { result = x; state = o.state })) fails ∙ refused_whole ws r o.state)
 
 -- memory ran out, or nothing was placed
-pub nothing_made : (source : List ℕ) (nodes : List Node) (g : Reading) (s : Table) (v : TermsView) (r : Reader) (result : Result Turn ReadFault) → GoesOn source nodes g s v r result → Goes source nodes g s v v r result
+pub nothing_made : (source : List ℕ) (nodes : List Node) (g : WholeReading) (s : Table) (v : TermsView) (r : Reader) (result : Result Turn ReadFault) → GoesOnReading source nodes g s v r result → Goes source nodes g s v v r result
 nothing_made source nodes g s v r result step = record { step = step; placed = places_none s v.pass v.pass (IsReadTerm g.whole) refl }
 
-module _ (source : List ℕ) (nodes : List Node) (g : Reading) (s : Table) (v w : TermsView) (place : ℕ) where
+module _ (source : List ℕ) (nodes : List Node) (g : WholeReading) (s : Table) (v w : TermsView) (place : ℕ) where
   expected_read : (made : Result (Option Value) ReadFault) (h : IsWhole g s v w place made) (t : Term) → IsExpected h.expected t → IsReadTerm g.whole t
   expected_read made h t (d, is, same) =
       subst (IsReadTerm g.whole) same

@@ -11,22 +11,22 @@ use Rattle.term_pool.specs.Building.{IsCellIn, IsFullIn, PlacesOnlyIn}
 use Rattle.term_pool.specs.StandsFor.{variable_leaf, function_leaf, IsLeafOf, StandsFor, StandsForApplication, StandsForList, StandsForBindings}
 use Rattle.term_pool.specs.Views.{TermsView, RefersTo, KeepsPass, KeepsTerms}
 use Rattle.text_items.specs.ItemShapes.{Name}
-use Rattle.problem_text.specs.Forms.{Form, Forms, Binds}
-use Rattle.term_names.specs.Heads.{IsSymbolOf, IsMacroMeant, IsHeadOf}
-use Rattle.term_reader.specs.Frames.{HasArguments, HasBindings, HasBody, Reading, AreFrames}
+use Rattle.problem_text.specs.Forms.{Form, Forms, LetBinds}
+use Rattle.term_names.specs.Heads.{IsSymbolOf, IsMacroMeant, HeadMeans}
+use Rattle.term_reader.specs.Frames.{HasArgumentsSoFar, HasBindings, HasBody, WholeReading, AreFrames}
 use Rattle.term_expansion.specs.Free.{AreFreeLeaves}
 use Rattle.term_expansion.specs.Images.{PlacesTerm, LacksRoomFor}
-use Rattle.term_names.specs.InScope.{IsScope, AreBound}
+use Rattle.term_names.specs.InScope.{IsScope, AreValuesBound}
 use Rattle.term_names.specs.Known.{KnownView, known_entry, macro_of}
-use Rattle.term_names.specs.Making.{IsCellOf, PlacesCellsOf, LacksCellOf}
+use Rattle.term_names.specs.Making.{IsWantedCell, PlacesCellsOf, LacksCellOf}
 use Rattle.problem_text.specs.Names.{Bound, Place, Meaning}
-use Rattle.term_reader.specs.Reading.{Stands}
+use Rattle.term_reader.specs.Reading.{ReaderStands}
 use Rattle.rule_model.specs.Replacement.{Replacement}
 use Rattle.term_reader.specs.Resuming.{Waiting}
 use Rattle.term_names.specs.Scope.{Scoped}
 use Rattle.problem_text.specs.TypedTerms.{Typed}
 use Rattle.problem_text.specs.Scripts.{Macro, Named, Script}
-use Rattle.term_names.specs.Standing.{AreLeavesOf, IsMacroOf, IsNamedOf, IsFunctionAt, IsNoFunction, IsFreeName, IsMeant, IsScript, AddsNoSymbols}
+use Rattle.term_names.specs.Standing.{AreLeavesOf, IsMacroOf, IsNamedOf, IsFunctionAt, IsNoFunction, IsFreeName, IsNameMeant, IsScript, AddsNoSymbols}
 use Rattle.term_expansion.specs.Values.{IsValue, AreValues, PutsIn, IsReplacement}
 use Rattle.term_names.specs.declared.entries.Macro as held_macro
 use Rattle.term_names.specs.declared.entries.Named as held_named
@@ -188,7 +188,7 @@ module _ (s z : Table) (v w : TermsView) (keeps : Keeps s z) (terms : KeepsTerms
   scope_stays (e ∷ es) [] h = absurd h
   scope_stays (e ∷ es) (b ∷ bs) h = (h.0, puts_in_stays e.bound b.variable b.stands_for h.1, scope_stays es bs h.2)
 
-  pub bound_stays : (ks : List ℕ) (cs : List Value) (bs : List Bound) → AreBound s v ks cs bs → AreBound z w ks cs bs
+  pub bound_stays : (ks : List ℕ) (cs : List Value) (bs : List Bound) → AreValuesBound s v ks cs bs → AreValuesBound z w ks cs bs
   bound_stays [] [] [] h = h
   bound_stays [] [] (b ∷ bs) h = absurd h
   bound_stays [] (c ∷ cs) bs h = absurd h
@@ -216,14 +216,14 @@ module _ (s z : Table) (v w : TermsView) (keeps : Keeps s z) (terms : KeepsTerms
   pub macro_meant_stays : (o : Option held_macro.Macro) (m : Meaning) → IsMacroMeant s v o m → IsMacroMeant z w o m
   macro_meant_stays o m h = (h.0, h.1, h.2, macro_stays h.0 h.1 h.3, h.4)
 
-  pub head_stays : (k l : KnownView) → ((w : Which) → macro_of l w ≡ macro_of k w) → (head : Head) (m : Meaning) → IsHeadOf s v k head m → IsHeadOf z w l head m
+  pub head_stays : (k l : KnownView) → ((w : Which) → macro_of l w ≡ macro_of k w) → (head : Head) (m : Meaning) → HeadMeans s v k head m → HeadMeans z w l head m
   head_stays k l same (Head.Symbol n) m h = symbol_stays s z keeps n m h
   head_stays k l same (Head.Macro n) m h = rw (same n) (macro_meant_stays (macro_of k n) m h)
   head_stays k l same Head.Fixed m h = h
 
   -- open forms
   arguments_stay : (source : List ℕ) (nodes : List Node) (k l : KnownView) → ((w : Which) → macro_of l w ≡ macro_of k w) → (head : Head) (from end n : ℕ) (values : List Value) (m : Meaning) (read : List Typed) (left : Forms)
-      → HasArguments source nodes s v k head from end n values m read left → HasArguments source nodes z w l head from end n values m read left
+      → HasArgumentsSoFar source nodes s v k head from end n values m read left → HasArgumentsSoFar source nodes z w l head from end n values m read left
   arguments_stay source nodes k l same head from end n values m read left h = record {
     applies = head_stays k l same head m h.applies;
     within = h.within;
@@ -231,7 +231,7 @@ module _ (s z : Table) (v w : TermsView) (keeps : Keeps s z) (terms : KeepsTerms
     left_here = h.left_here;
   }
 
-  bindings_stay_open : (source : List ℕ) (nodes : List Node) (from first name repeat body n : ℕ) (values : List Value) (leaves : List ℕ) (read : List Bound) (x : Name) (earlier : List (List ℕ)) (left : Binds) (f : Form) (m : ℕ)
+  bindings_stay_open : (source : List ℕ) (nodes : List Node) (from first name repeat body n : ℕ) (values : List Value) (leaves : List ℕ) (read : List Bound) (x : Name) (earlier : List (List ℕ)) (left : LetBinds) (f : Form) (m : ℕ)
       → HasBindings source nodes s v from first name repeat body n values leaves read x earlier left f m → HasBindings source nodes z w from first name repeat body n values leaves read x earlier left f m
   bindings_stay_open source nodes from first name repeat body n values leaves read x earlier left f m h = record {
     within = h.within;
@@ -256,7 +256,7 @@ module _ (s z : Table) (v w : TermsView) (keeps : Keeps s z) (terms : KeepsTerms
     around_here = scope_stays around outer.scope h.around_here;
   }
 
-  pub frames_stay : (source : List ℕ) (nodes : List Node) (g : Reading) (k l : KnownView) → ((w : Which) → macro_of l w ≡ macro_of k w)
+  pub frames_stay : (source : List ℕ) (nodes : List Node) (g : WholeReading) (k l : KnownView) → ((w : Which) → macro_of l w ≡ macro_of k w)
       → (fs : List Frame) (values : List Value) (leaves : List ℕ) (scope : List Scoped) (p : Place) (n : ℕ) (ws : List Waiting)
       → AreFrames source nodes g s v k fs values leaves scope p n ws → AreFrames source nodes g z w l fs values leaves scope p n ws
   frames_stay source nodes g k l same [] values leaves scope p n ws h = h
@@ -322,7 +322,7 @@ module _ (s z : Table) (v w : TermsView) (adds : AddsNoSymbols s z) (terms : Kee
   free_name_stays : (sc : Script) (name : List ℕ) → IsFreeName s sc name → IsFreeName z sc name
   free_name_stays sc name h = record { no_function = no_function_stays sc name h.no_function; free = h.free }
 
-  pub meant_stays : (k : KnownView) (sc : Script) (name : List ℕ) (o : Option KnownEntry) → IsMeant s v k sc name o → IsMeant z w k sc name o
+  pub meant_stays : (k : KnownView) (sc : Script) (name : List ℕ) (o : Option KnownEntry) → IsNameMeant s v k sc name o → IsNameMeant z w k sc name o
   meant_stays k sc name None (none, inl h) = (none, inl (function_at_stays sc name h))
   meant_stays k sc name None (none, inr h) = (none, inr (free_name_stays sc name h))
   meant_stays k sc name (Some KnownEntry.Reserved) h = record {
@@ -354,7 +354,7 @@ module _ (s z : Table) (v w : TermsView) (adds : AddsNoSymbols s z) (terms : Kee
   pub script_stays : (k : KnownView) (sc : Script) → IsScript s v k sc → IsScript z w k sc
   script_stays k sc h = record { sorts = adds.sorts ∙ h.sorts; names = λ name. meant_stays k sc name (known_entry k name) (h.names name) }
 
-  pub stands_stays : (r : Reader) (sc : Script) (p : Place) → Stands s v r sc p → Stands z w r sc p
+  pub stands_stays : (r : Reader) (sc : Script) (p : Place) → ReaderStands s v r sc p → ReaderStands z w r sc p
   stands_stays r sc p h = record {
     script = script_stays r.known sc h.script;
     scope = scope_stays s z v w adds.keeps terms r.scope p.scope h.scope;
@@ -377,7 +377,7 @@ cell_in_stays p q keeps a b t h = record {
   part = h.part;
 }
 
-pub cell_stays : (s z : Table) (p q : PassView) (P : Term → Type 0) → Keeps s z → KeepsPass p q → (a b : ℕ) → IsCellOf s p P a b → IsCellOf z q P a b
+pub cell_stays : (s z : Table) (p q : PassView) (P : Term → Type 0) → Keeps s z → KeepsPass p q → (a b : ℕ) → IsWantedCell s p P a b → IsWantedCell z q P a b
 cell_stays s z p q P table keeps a b h = record {
   whole = h.whole;
   wanted = h.wanted;
@@ -386,25 +386,25 @@ cell_stays s z p q P table keeps a b h = record {
   cell = cell_in_stays p q keeps a b h.tree h.cell;
 }
 
-pub cell_more : (s : Table) (p : PassView) (P Q : Term → Type 0) → ((t : Term) → P t → Q t) → (a b : ℕ) → IsCellOf s p P a b → IsCellOf s p Q a b
+pub cell_more : (s : Table) (p : PassView) (P Q : Term → Type 0) → ((t : Term) → P t → Q t) → (a b : ℕ) → IsWantedCell s p P a b → IsWantedCell s p Q a b
 cell_more s p P Q more a b h = record { whole = h.whole; wanted = more h.whole h.wanted; tree = h.tree; stands = h.stands; cell = h.cell }
 
 -- one call and then another
 pub places_then : (s z : Table) (a b c : PassView) (P : Term → Type 0) → Keeps s z → KeepsPass b c → PlacesCellsOf s a b P → PlacesCellsOf z b c P → PlacesCellsOf z a c P
 places_then s z a b c P table keeps h k r m n e = go (k r m n e)
   where
-    earlier : IsPlaced a r m n ⊎ IsCellOf s b P m n → IsPlaced a r m n ⊎ IsCellOf z c P m n
+    earlier : IsPlaced a r m n ⊎ IsWantedCell s b P m n → IsPlaced a r m n ⊎ IsWantedCell z c P m n
     earlier (inl x) = inl x
     earlier (inr y) = inr (cell_stays s z b c P table keeps m n y)
 
-    go : IsPlaced b r m n ⊎ IsCellOf z c P m n → IsPlaced a r m n ⊎ IsCellOf z c P m n
+    go : IsPlaced b r m n ⊎ IsWantedCell z c P m n → IsPlaced a r m n ⊎ IsWantedCell z c P m n
     go (inl x) = earlier (h r m n x)
     go (inr y) = inr y
 
 pub places_more : (s : Table) (a b : PassView) (P Q : Term → Type 0) → ((t : Term) → P t → Q t) → PlacesCellsOf s a b P → PlacesCellsOf s a b Q
 places_more s a b P Q more h r m n e = go (h r m n e)
   where
-    go : IsPlaced a r m n ⊎ IsCellOf s b P m n → IsPlaced a r m n ⊎ IsCellOf s b Q m n
+    go : IsPlaced a r m n ⊎ IsWantedCell s b P m n → IsPlaced a r m n ⊎ IsWantedCell s b Q m n
     go (inl x) = inl x
     go (inr y) = inr (cell_more s b P Q more m n y)
 
@@ -434,7 +434,7 @@ lacks_more s p P Q more h = record { whole = h.whole; wanted = more h.whole h.wa
 pub places_tree : (s : Table) (a b : PassView) (P : Term → Type 0) (t : Term) (tree : Tree) → P t → StandsFor s tree t → PlacesOnlyIn a b tree → PlacesCellsOf s a b P
 places_tree s a b P t tree wanted stands h r m n e = go (h r m n e)
   where
-    go : IsPlaced a r m n ⊎ IsCellIn b m n tree → IsPlaced a r m n ⊎ IsCellOf s b P m n
+    go : IsPlaced a r m n ⊎ IsCellIn b m n tree → IsPlaced a r m n ⊎ IsWantedCell s b P m n
     go (inl x) = inl x
     go (inr y) = inr (record { whole = t; wanted = wanted; tree = tree; stands = stands; cell = y })
 

@@ -8,14 +8,14 @@ use Rattle.problem_text.specs.Limits.{is_low}
 use Rattle.problem_text.specs.TypedTerms.{Typed}
 use Rattle.problem_text.specs.Outcomes.{Outcome, done, refuse, and_then}
 use Rattle.problem_text.specs.Scripts.{Script, with_term}
-use Rattle.problem_text.specs.Names.{applied, inside, let_term}
+use Rattle.problem_text.specs.Names.{meaning_applied, inside, let_term}
 use Rattle.problem_text.specs.Terms.{settled, term_from, terms_from, bounds_from}
 use Rattle.term_reader.specs.Resuming.{Waiting, arguments, bindings, body_of, naming, bound_to, after, resumed}
 use Rattle.problem_text.proofs.Growing.{HasRead, Reads, reads_then, by_settled, by_names, by_term, by_terms, by_bounds}
 
 module _ (x : Term) where
   by_waiting : (w : Waiting) (t : Typed) (s : Script) → HasRead x s → Reads x (after w t s)
-  by_waiting (arguments place m read left p) t s h = reads_then x (terms_from left p s) _ (by_terms x left p s h).0 (λ ts last k. by_settled x p.settings.limit place (applied m (read ++ t ∷ ts)) last k)
+  by_waiting (arguments place m read left p) t s h = reads_then x (terms_from left p s) _ (by_terms x left p s h).0 (λ ts last k. by_settled x p.settings.limit place (meaning_applied m (read ++ t ∷ ts)) last k)
   by_waiting (bindings place read n earlier left body p) t s h =
       reads_then x (bounds_from left (n.name ∷ earlier) p s) _ (by_bounds x left (n.name ∷ earlier) p s h).0
       (λ bound last k. reads_then x (term_from body (inside (read ++ bound_to n t ∷ bound) p) last) _ (by_term x body (inside (read ++ bound_to n t ∷ bound) p) last k).0

@@ -8,7 +8,7 @@ use Rattle.term_names.specs.Entries.{no_entries, lookup}
 use Rattle.term_names.specs.Known.{KnownView, base_entry}
 use Rattle.term_reader.specs.ProblemViews.{ProblemView, IsProblemOf}
 use Rattle.problem_text.specs.Scripts.{Script}
-use Rattle.term_names.specs.Standing.{IsMeant, HasNoEntry, IsFunctionAt, IsFreeName}
+use Rattle.term_names.specs.Standing.{IsNameMeant, HasNoEntry, IsFunctionAt, IsFreeName}
 use Rattle.problem_text.specs.Words.{is_among}
 use Rattle.term_names.specs.declared.entries.Entry.{Entry}
 use Rattle.term_reader.proofs.FunctionNames.{no_position}
@@ -19,10 +19,10 @@ abbrev entries_of : ProblemView → KnownView
 entries_of p = record { base = p.entries; own = no_entries }
 
 module _ (s : Table) (v : TermsView) (p : ProblemView) (sc : Script) (is : IsProblemOf s v p sc) (name : List ℕ) where
-  meant : (o : Option Entry) → lookup p.entries.names name ≡ o → IsMeant s v (entries_of p) sc name (option_map base_entry o)
-  meant o e = subst (λ (x : Option Entry). IsMeant s v (entries_of p) sc name (option_map base_entry x)) e (is.script.names name)
+  meant : (o : Option Entry) → lookup p.entries.names name ≡ o → IsNameMeant s v (entries_of p) sc name (option_map base_entry o)
+  meant o e = subst (λ (x : Option Entry). IsNameMeant s v (entries_of p) sc name (option_map base_entry x)) e (is.script.names name)
 
-  by_entry : (e : Entry) → IsMeant s v (entries_of p) sc name (Some (base_entry e)) → is_among sc.taken name ≡ true
+  by_entry : (e : Entry) → IsNameMeant s v (entries_of p) sc name (Some (base_entry e)) → is_among sc.taken name ≡ true
   by_entry Entry.Reserved h = h.taken
   by_entry (Entry.Macro n) h = h.taken
   by_entry (Entry.Named n) h = h.taken

@@ -6,7 +6,7 @@ use Rattle.term_pool.specs.Views.{TermsView, KeepsTerms, ReferToAll}
 use Rattle.term_names.specs.Entries.{no_entries}
 use Rattle.problem_text.specs.Names.{Place}
 use Rattle.term_reader.specs.ProblemViews.{ProblemView, ReaderView, IsProblemOf, IsReaderOf}
-use Rattle.term_reader.specs.Reading.{IsIdle}
+use Rattle.term_reader.specs.Reading.{IsReaderIdle}
 use Rattle.problem_text.specs.Scripts.{Script}
 use Rattle.term_names.specs.Standing.{AddsNoSymbols}
 use Rattle.term_reader.specs.declared.reader.Reader.{Reader}
@@ -19,7 +19,7 @@ module _ (s z : Table) (v w : TermsView) (adds : AddsNoSymbols s z) (terms : Kee
   refer_stays (r ∷ rs) [] h = absurd h
   refer_stays (r ∷ rs) (t ∷ ts) h = (refers_stays s z v w adds.keeps terms r t h.0, refer_stays rs ts h.1)
 
-  idle_stays : (r : Reader) (sc : Script) (p : Place) → IsIdle s v r sc p → IsIdle z w r sc p
+  idle_stays : (r : Reader) (sc : Script) (p : Place) → IsReaderIdle s v r sc p → IsReaderIdle z w r sc p
   idle_stays r sc p h = record {
     script = script_stays s z v w adds terms r.known sc h.script;
     scope = scope_stays s z v w adds.keeps terms r.scope p.scope h.scope;

@@ -7,7 +7,7 @@ use Rattle.sexpr.specs.declared.words.WordKind.{WordKind}
 use Rattle.sexpr.specs.declared.words.WordKind.TheVariants.{Symbol, Keyword, BitLiteral, Numeral, Decimal, Ratio}
 use Rattle.sexpr.specs.Words.{is_numeral, is_decimal, is_ratio, is_symbol, numeral_value, word_kind}
 use Rattle.problem_text.specs.Forms.{Form, faulty, number, number_form, word_form, symbol_form}
-use Rattle.term_reader.specs.Shapes.{is_numeral_kind, cause_of_kind}
+use Rattle.term_reader.specs.ShapeFaults.{is_numeral_kind, cause_of_kind}
 
 -- what the kind of a word that is no symbol says about its form
 abbrev FitsKind : ℕ → List ℕ → Option WordKind → Type 0

@@ -4,11 +4,11 @@ use Rattle.sym_table.specs.Table.{Table}
 use Rattle.term_model.specs.declared.symbols.Sort.{Sort}
 use Rattle.term_model.specs.Terms.{numeral}
 use Rattle.term_pool.specs.Views.{TermsView}
-use Rattle.term_names.specs.Heads.{IsHeadOf}
-use Rattle.term_reader.specs.Frames.{Reading}
+use Rattle.term_names.specs.Heads.{HeadMeans}
+use Rattle.term_reader.specs.Frames.{WholeReading}
 use Rattle.problem_text.specs.Limits.{most_height}
 use Rattle.term_names.specs.Known.{KnownView}
-use Rattle.term_reader.specs.Layers.{IsLayer}
+use Rattle.term_reader.specs.ShapeFaults.{IsLayer}
 use Rattle.term_names.specs.Making.{PlacesCellsOf}
 use Rattle.problem_text.specs.Names.{Meaning}
 use Rattle.term_reader.specs.Reading.{IsAt, EndsWith, IsReadTerm}
@@ -25,7 +25,7 @@ use Rattle.term_reader.specs.declared.reader.Reader.{Reader}
 use Rattle.term_expansion.specs.declared.values.Value.{Value}
 
 -- the term that is read now has this top
-pub record HasTop (source : List ℕ) (nodes : List Node) (g : Reading) (s : Table) (v : TermsView) (r : Reader) (k : ℕ) (layer : Layer) : Type 0 where
+pub record HasTop (source : List ℕ) (nodes : List Node) (g : WholeReading) (s : Table) (v : TermsView) (r : Reader) (k : ℕ) (layer : Layer) : Type 0 where
   pub at : IsAt source nodes g s v r k
   pub top : IsLayer source nodes k layer at.spelled at.behind
 
@@ -45,7 +45,7 @@ is_none_found (Found.Symbol n) = false
 -- what is applied where a name stands in the head of an application, or none where the name is unknown
 abbrev pub IsHeadFound : Table → TermsView → KnownView → Option Head → Option Meaning → Type 0
 IsHeadFound s v k None o = o ≡ None
-IsHeadFound s v k (Some h) o = (m : Meaning) × (o ≡ Some m) × IsHeadOf s v k h m
+IsHeadFound s v k (Some h) o = (m : Meaning) × (o ≡ Some m) × HeadMeans s v k h m
 
 -- What comes of a term without parts: its value, with no change of the script but that it was read; or a fault.
 abbrev pub IsReadAlone : Table → TermsView → Outcome Script Typed → Script → Result Value ReadFault → Type 0

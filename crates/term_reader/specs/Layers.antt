@@ -1,13 +1,12 @@
 -- Public. Forms as nodes spell them, and the tops of forms.
-use Rattle.std.specs.Prelude.{◌≡◌, ℕ, ◌+◌, ◌<◌, pos, List, true, is_some, IsTrue}
+use Rattle.std.specs.Prelude.{◌≡◌, ℕ, ◌+◌, ◌<◌, List, true, is_some, IsTrue}
 use Rattle.sexpr.specs.Items.{Item, Items, no_items, item, symbol_name}
 use Rattle.text_items.specs.ItemShapes.{Name}
-use Rattle.problem_text.specs.Forms.{Form, faulty, number, symbol, application, let_form, annotated, Forms, form, Binds, no_binds, bind, form_of, forms_of, names_after}
+use Rattle.problem_text.specs.Forms.{Form, symbol, Forms, form, LetBinds, no_binds, bind, form_of, forms_of, names_after}
 use Rattle.problem_text.specs.NamedItems.{is_named_item}
 use Rattle.text_items.specs.declared.nodes.Node.{Node}
-use Rattle.term_reader.specs.declared.layers.Layer.{Layer}
 use Rattle.text_items.specs.Nodes.{IsNode, AreNodes}
-use Rattle.text_items.specs.NameNodes.{BeginsAt, IsNameNode}
+use Rattle.text_items.specs.NameNodes.{IsNameNode}
 
 -- the nodes from k on, up to m, are those of an item that spells the form
 pub record IsForm (source : List ℕ) (nodes : List Node) (k : ℕ) (f : Form) (m : ℕ) : Type 0 where
@@ -22,7 +21,7 @@ pub record AreForms (source : List ℕ) (nodes : List Node) (k : ℕ) (fs : Form
   pub spell : forms_of what ≡ fs
 
 -- The nodes from k on, up to m, are those of pairs that spell the bindings: the bracket, the variable, and the term.
-abbrev pub AreBinds : List ℕ → List Node → ℕ → Binds → ℕ → Type 0
+abbrev pub AreBinds : List ℕ → List Node → ℕ → LetBinds → ℕ → Type 0
 AreBinds source nodes k no_binds m = k ≡ m
 AreBinds source nodes k (bind x f bs) m =
     (n : ℕ) × (k < n) × IsNameNode source nodes (k + 1) x × IsForm source nodes (k + 2) f n × AreBinds source nodes n bs m
@@ -33,24 +32,9 @@ NamesAreSymbols before no_items = Unit {0}
 NamesAreSymbols before (item i rest) = (is_named_item before ≡ true → IsTrue (is_some (symbol_name i))) × NamesAreSymbols i rest
 
 -- The nodes from k on, up to m, are those of one attribute or more, in a shape without fault, which give these names.
-pub record AreAttributes (source : List ℕ) (nodes : List Node) (k : ℕ) (names : List Name) (m : ℕ) : Type 0 where
+pub record AreTermAttributes (source : List ℕ) (nodes : List Node) (k : ℕ) (names : List Name) (m : ℕ) : Type 0 where
   pub first : Item
   pub others : Items
   pub there : AreNodes source nodes k (item first others) m
   pub give : names_after first others ≡ names
   pub named : NamesAreSymbols first others
-
--- The top of the form that begins at node k and ends before node m.
-abbrev pub IsLayer : List ℕ → List Node → ℕ → Layer → Form → ℕ → Type 0
-IsLayer source nodes k (Layer.Faulty r) f m = f ≡ faulty r.cause r.at
-IsLayer source nodes k (Layer.Number v) f m = (place : ℕ) × (n : ℕ) × (f ≡ number place n) × BeginsAt nodes k place × (v ≡ pos n) × (m ≡ k + 1)
-IsLayer source nodes k Layer.Symbol f m = (n : Name) × (f ≡ symbol n) × IsNameNode source nodes k n × (m ≡ k + 1)
-IsLayer source nodes k (Layer.Application head first end) f m =
-    (place : ℕ) × (n : Name) × (g : Form) × (gs : Forms) × (f ≡ application place n (form g gs))
-    × BeginsAt nodes k place × IsNameNode source nodes head n × AreForms source nodes first (form g gs) end × (end ≡ m) × (k < first)
-IsLayer source nodes k (Layer.Let first body) f m =
-    (place : ℕ) × (bs : Binds) × (g : Form) × (f ≡ let_form place bs g)
-    × BeginsAt nodes k place × AreBinds source nodes first bs body × (first < body) × IsForm source nodes body g m × (k < first)
-IsLayer source nodes k (Layer.Annotated t first end) f m =
-    (place : ℕ) × (names : List Name) × (g : Form) × (f ≡ annotated place g names)
-    × BeginsAt nodes k place × IsForm source nodes t g first × AreAttributes source nodes first names end × (end ≡ m) × (k < t)

@@ -2,8 +2,9 @@
 use Rattle.std.specs.Prelude.{◌≤◌, ◌<◌, ℕ, List, ◌∷◌, length, Result, IfOk}
 use Rattle.sym_table.specs.Table.{Table}
 use Rattle.term_pool.specs.Views.{TermsView}
-use Rattle.term_reader.specs.Frames.{Reading}
-use Rattle.term_reader.specs.Reading.{Goes, node_of, bound_of, effort}
+use Rattle.term_reader.specs.Frames.{WholeReading}
+use Rattle.term_reader.specs.Reading.{Goes}
+use Rattle.term_reader.specs.Credits.{node_of, bound_of, effort}
 use Rattle.term_names.specs.declared.faults.ReadFault.{ReadFault}
 use Rattle.term_reader.specs.declared.frames.Frame.{Frame}
 use Rattle.term_reader.specs.declared.leaving_lets.OpenBindings.{OpenBindings}
@@ -28,6 +29,6 @@ pub record Spends (nodes : List Node) (s : Table) (r : Reader) (turn : Turn) (t 
 
 -- The term c was read, and the next item begins at node n. From the table s, the terms v and the reader r it goes on
 -- with t, w and q.
-pub record Leaves (source : List ℕ) (nodes : List Node) (g : Reading) (s : Table) (v : TermsView) (r : Reader) (c : Value) (n : ℕ) (t : Table) (w : TermsView) (q : Reader) (result : Result Turn ReadFault) : Type 0 where
+pub record Leaves (source : List ℕ) (nodes : List Node) (g : WholeReading) (s : Table) (v : TermsView) (r : Reader) (c : Value) (n : ℕ) (t : Table) (w : TermsView) (q : Reader) (result : Result Turn ReadFault) : Type 0 where
   pub goes : Goes source nodes g t v w q result
   pub spends : n ≤ length nodes → IfOk result (λ (next : Turn). Spends nodes s r (Turn.Use c n) t q next)

@@ -1,7 +1,9 @@
 pub mod Layers
+pub mod ShapeFaults
 pub mod Shapes
 pub mod Resuming
 pub mod Frames
+pub mod Credits
 pub mod Reading
 pub mod Settling
 pub mod Naming

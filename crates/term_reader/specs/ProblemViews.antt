@@ -10,7 +10,7 @@ use Rattle.term_names.specs.Making.{PlacesCellsOf}
 use Rattle.problem_text.specs.Limits.{most_height}
 use Rattle.problem_text.specs.Names.{Bound, Place, itself}
 use Rattle.problem_text.specs.Problems.{problem}
-use Rattle.term_reader.specs.Reading.{IsIdle, EndsWith, IsReadTerm}
+use Rattle.term_reader.specs.Reading.{IsReaderIdle, EndsWith, IsReadTerm}
 use Rattle.problem_text.specs.TypedTerms.{Typed}
 use Rattle.problem_text.specs.Outcomes.{Outcome, done}
 use Rattle.problem_text.specs.Scripts.{Script}
@@ -54,7 +54,7 @@ pub record IsReaderOf (s : Table) (v : TermsView) (r : ReaderView) (sc : Script)
   pub around : List Bound
   pub scope : p.scope ≡ map itself variables ++ around
   pub pushed : AreLeavesOf s r.pushed variables
-  pub idle : IsIdle s v r.reader sc (record { scope = around; settings = p.settings })
+  pub idle : IsReaderIdle s v r.reader sc (record { scope = around; settings = p.settings })
 
 -- A term was read, and the reader is ready for the next one; or the reading ended with a fault.
 abbrev pub IsTermRead : Table → TermsView → ReaderView → Place → Outcome Script Typed → Result ℕ ReadFault → Type 0

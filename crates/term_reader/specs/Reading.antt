@@ -1,12 +1,12 @@
 -- Public. A term that is being read: where the reader is, and what comes of it.
-use Rattle.std.specs.Prelude.{◌≡◌, ◌≤◌, ◌+◌, ◌*◌, ◌-◌, ℕ, List, [], length, Contains, Result, Ok, Err}
+use Rattle.std.specs.Prelude.{◌≡◌, ◌≤◌, ◌-◌, ℕ, List, [], Contains, Result, Ok, Err}
 use Rattle.pair_pool.specs.Views.{PassView}
 use Rattle.sexpr.specs.declared.causes.Refusal.{Refusal}
 use Rattle.sym_table.specs.Table.{Table}
 use Rattle.term_model.specs.Terms.{Term}
 use Rattle.term_pool.specs.Views.{TermsView}
 use Rattle.problem_text.specs.Forms.{Form}
-use Rattle.term_reader.specs.Frames.{Reading, AreFrames, credit}
+use Rattle.term_reader.specs.Frames.{WholeReading, AreFrames}
 use Rattle.problem_text.specs.Limits.{limited, most_height}
 use Rattle.term_names.specs.InScope.{IsScope, AreLow}
 use Rattle.term_reader.specs.Layers.{IsForm}
@@ -26,37 +26,37 @@ use Rattle.term_reader.specs.declared.reader.Turn.{Turn}
 use Rattle.term_expansion.specs.declared.values.Value.{Value}
 
 -- the reader's own tables stand for the script and the place
-pub record Stands (s : Table) (v : TermsView) (r : Reader) (sc : Script) (p : Place) : Type 0 where
+pub record ReaderStands (s : Table) (v : TermsView) (r : Reader) (sc : Script) (p : Place) : Type 0 where
   pub script : IsScript s v r.known sc
   pub scope : IsScope s v r.scope p.scope
   pub settings : p.settings ≡ limited r.replaces_lets
   pub low : AreLow r.values
 
 -- The term that is read now is that of node k: what comes of it for all that wait is what comes of the whole term.
-pub record IsAt (source : List ℕ) (nodes : List Node) (g : Reading) (s : Table) (v : TermsView) (r : Reader) (k : ℕ) : Type 0 where
+pub record IsAt (source : List ℕ) (nodes : List Node) (g : WholeReading) (s : Table) (v : TermsView) (r : Reader) (k : ℕ) : Type 0 where
   pub script : Script
   pub place : Place
   pub spelled : Form
   pub behind : ℕ
   pub waiting : List Waiting
-  pub stands : Stands s v r script place
+  pub stands : ReaderStands s v r script place
   pub here : IsForm source nodes k spelled behind
   pub frames : AreFrames source nodes g s v r.known r.frames r.values r.leaves.items r.scope place behind waiting
   pub comes : resumed waiting (term_from spelled place script) ≡ g.whole
 
 -- A term was read, and the next item begins at node n.
-pub record HasRead (source : List ℕ) (nodes : List Node) (g : Reading) (s : Table) (v : TermsView) (r : Reader) (c : Value) (n : ℕ) : Type 0 where
+pub record HasRead (source : List ℕ) (nodes : List Node) (g : WholeReading) (s : Table) (v : TermsView) (r : Reader) (c : Value) (n : ℕ) : Type 0 where
   pub script : Script
   pub place : Place
   pub term : Typed
   pub waiting : List Waiting
-  pub stands : Stands s v r script place
+  pub stands : ReaderStands s v r script place
   pub is : IsValue s v c term
   pub low : c.height ≤ most_height
   pub frames : AreFrames source nodes g s v r.known r.frames r.values r.leaves.items r.scope place n waiting
   pub comes : resumed waiting (done term script) ≡ g.whole
 
-abbrev pub IsTurn : List ℕ → List Node → Reading → Table → TermsView → Reader → Turn → Type 0
+abbrev pub IsTurn : List ℕ → List Node → WholeReading → Table → TermsView → Reader → Turn → Type 0
 IsTurn source nodes g s v r (Turn.Read k) = IsAt source nodes g s v r k
 IsTurn source nodes g s v r (Turn.Use c n) = HasRead source nodes g s v r c n
 
@@ -71,31 +71,16 @@ EndsWith s pass outcome IsWanted ReadFault.PoolFull = LacksCellOf s pass IsWante
 EndsWith s pass outcome IsWanted ReadFault.Memory = Unit {0}
 
 -- It goes on with this turn, or ends with the fault of the whole term.
-abbrev pub GoesOn : List ℕ → List Node → Reading → Table → TermsView → Reader → Result Turn ReadFault → Type 0
-GoesOn source nodes g s v r (Ok turn) = IsTurn source nodes g s v r turn
-GoesOn source nodes g s v r (Err fault) = EndsWith s v.pass g.whole.result (IsReadTerm g.whole) fault
+abbrev pub GoesOnReading : List ℕ → List Node → WholeReading → Table → TermsView → Reader → Result Turn ReadFault → Type 0
+GoesOnReading source nodes g s v r (Ok turn) = IsTurn source nodes g s v r turn
+GoesOnReading source nodes g s v r (Err fault) = EndsWith s v.pass g.whole.result (IsReadTerm g.whole) fault
 
-pub record Goes (source : List ℕ) (nodes : List Node) (g : Reading) (s : Table) (old new : TermsView) (r : Reader) (result : Result Turn ReadFault) : Type 0 where
-  pub step : GoesOn source nodes g s new r result
+pub record Goes (source : List ℕ) (nodes : List Node) (g : WholeReading) (s : Table) (old new : TermsView) (r : Reader) (result : Result Turn ReadFault) : Type 0 where
+  pub step : GoesOnReading source nodes g s new r result
   pub placed : PlacesCellsOf s old.pass new.pass (IsReadTerm g.whole)
 
--- the node that a turn is at
-abbrev pub node_of : Turn → ℕ
-node_of (Turn.Read k) = k
-node_of (Turn.Use c n) = n
-
--- At most so many leaves will be in the table when the term is read: each leaf that is added has a node of its own, and an
--- open let the nodes of its brackets besides.
-abbrev pub bound_of : Table → List Node → Reader → ℕ → ℕ
-bound_of s nodes r k = length s.leaves + (length nodes - k) + credit r.frames
-
--- what is left to be done, by a count that each turn lowers
-abbrev pub effort : List Node → Reader → Turn → ℕ
-effort nodes r (Turn.Read k) = 3 * (length nodes - k) + 2 * length r.frames
-effort nodes r (Turn.Use c n) = 3 * (length nodes - n) + 2 * length r.frames + 1
-
 -- The reader holds nothing of a term, and what it holds stands for the script and the place.
-pub record IsIdle (s : Table) (v : TermsView) (r : Reader) (sc : Script) (p : Place) : Type 0 where
+pub record IsReaderIdle (s : Table) (v : TermsView) (r : Reader) (sc : Script) (p : Place) : Type 0 where
   pub script : IsScript s v r.known sc
   pub scope : IsScope s v r.scope p.scope
   pub settings : p.settings ≡ limited r.replaces_lets
@@ -106,9 +91,9 @@ pub record IsIdle (s : Table) (v : TermsView) (r : Reader) (sc : Script) (p : Pl
 -- What a term came to: its value, and the reader ready for the next one; or a fault.
 abbrev pub IsOutcome : Table → TermsView → Reader → Place → Outcome Script Typed → Result Value ReadFault → Type 0
 IsOutcome s v r p whole (Ok c) =
-    (t : Typed) × (sc : Script) × (whole ≡ done t sc) × IsValue s v c t × (c.height ≤ most_height) × IsIdle s v r sc p
+    (t : Typed) × (sc : Script) × (whole ≡ done t sc) × IsValue s v c t × (c.height ≤ most_height) × IsReaderIdle s v r sc p
 IsOutcome s v r p whole (Err fault) = EndsWith s v.pass whole.result (IsReadTerm whole) fault
 
-pub record Reads (s : Table) (old new : TermsView) (r : Reader) (p : Place) (whole : Outcome Script Typed) (result : Result Value ReadFault) : Type 0 where
+pub record ComesToTerm (s : Table) (old new : TermsView) (r : Reader) (p : Place) (whole : Outcome Script Typed) (result : Result Value ReadFault) : Type 0 where
   pub outcome : IsOutcome s new r p whole result
   pub placed : PlacesCellsOf s old.pass new.pass (IsReadTerm whole)

@@ -1,11 +1,11 @@
 -- Public. A reading of a term that is under way: what is left to be done once the term that is read now is there.
 use Rattle.std.specs.Prelude.{ℕ, List, [], ◌∷◌, ◌++◌, Some}
 use Rattle.text_items.specs.ItemShapes.{Name}
-use Rattle.problem_text.specs.Forms.{Form, Forms, Binds}
+use Rattle.problem_text.specs.Forms.{Form, Forms, LetBinds}
 use Rattle.problem_text.specs.TypedTerms.{Typed}
 use Rattle.problem_text.specs.Outcomes.{Outcome, and_then}
 use Rattle.problem_text.specs.Scripts.{Script}
-use Rattle.problem_text.specs.Names.{Bound, Place, Meaning, applied, inside, let_term}
+use Rattle.problem_text.specs.Names.{Bound, Place, Meaning, meaning_applied, inside, let_term}
 use Rattle.problem_text.specs.Terms.{settled, with_names, term_from, terms_from, bounds_from}
 
 -- The arguments of an application: what it applies, those that were read, and those that are left. The bindings of a
@@ -13,7 +13,7 @@ use Rattle.problem_text.specs.Terms.{settled, with_names, term_from, terms_from,
 -- body. The body of a let with these bindings. The names of an annotated term.
 pub data Waiting : Type 0 where
   arguments : ℕ → Meaning → List Typed → Forms → Place → Waiting
-  bindings : ℕ → List Bound → Name → List (List ℕ) → Binds → Form → Place → Waiting
+  bindings : ℕ → List Bound → Name → List (List ℕ) → LetBinds → Form → Place → Waiting
   body_of : ℕ → List Bound → Place → Waiting
   naming : List Name → Waiting
 
@@ -29,7 +29,7 @@ body_from place body p bound s =
 -- what comes of the term that was waited for
 abbrev pub after : Waiting → Typed → Script → Outcome Script Typed
 after (arguments place m read left p) t s =
-    and_then (terms_from left p s) (λ ts last. settled p.settings.limit place (applied m (read ++ t ∷ ts)) last)
+    and_then (terms_from left p s) (λ ts last. settled p.settings.limit place (meaning_applied m (read ++ t ∷ ts)) last)
 after (bindings place read n earlier left body p) t s =
     and_then (bounds_from left (n.name ∷ earlier) p s) (λ bound last. body_from place body p (read ++ bound_to n t ∷ bound) last)
 after (body_of place bound p) t s = settled p.settings.limit place (Some (let_term p bound t)) s

@@ -7,7 +7,7 @@ ghost use Rattle.text_items.specs.ItemShapes.{Name};
 ghost use Rattle.problem_text.specs.Forms.{symbol};
 ghost use Rattle.text_items.specs.NameNodes.{BeginsAt, IsNameNode};
 ghost use Rattle.problem_text.specs.Names.{Place, meaning_of};
-ghost use Rattle.term_reader.specs.Reading.{Stands};
+ghost use Rattle.term_reader.specs.Reading.{ReaderStands};
 ghost use Rattle.problem_text.specs.Scripts.{Script};
 ghost use Rattle.term_names.specs.Standing.{AddsNoSymbols};
 ghost use Rattle.problem_text.specs.Terms.{term_from};
@@ -57,8 +57,8 @@ pub(crate) fn symbol_value(
     reader: &Reader<'_>,
     k: usize,
 ) -> Result<Value, ReadFault>
-    requires { (sc : Script) × (p : Place) × (x : Name) × Stands symbols.now terms.old reader.now sc p × IsNameNode (source text.now) nodes.now k x }
-    ensures reads { (sc : Script) (p : Place) (x : Name) → Stands symbols.now terms.old reader.now sc p → IsNameNode (source text.now) nodes.now k x → ReadsAlone symbols.now terms.old terms.new (term_from (symbol x) p sc) sc result }
+    requires { (sc : Script) × (p : Place) × (x : Name) × ReaderStands symbols.now terms.old reader.now sc p × IsNameNode (source text.now) nodes.now k x }
+    ensures reads { (sc : Script) (p : Place) (x : Name) → ReaderStands symbols.now terms.old reader.now sc p → IsNameNode (source text.now) nodes.now k x → ReadsAlone symbols.now terms.old terms.new (term_from (symbol x) p sc) sc result }
     ensures keeps { KeepsTerms terms.old terms.new }
 {
     let place = start_at(nodes, k);
@@ -92,7 +92,7 @@ pub(crate) fn head_at(
     k: usize,
 ) -> Option<Head>
     requires { (x : Name) × IsNameNode (source text.now) nodes.now k x }
-    ensures { (v : TermsView) (sc : Script) (p : Place) (x : Name) → Stands symbols.now v reader.now sc p → IsNameNode (source text.now) nodes.now k x → IsHeadFound symbols.now v reader.now.known result (meaning_of p sc x.name) }
+    ensures { (v : TermsView) (sc : Script) (p : Place) (x : Name) → ReaderStands symbols.now v reader.now sc p → IsNameNode (source text.now) nodes.now k x → IsHeadFound symbols.now v reader.now.known result (meaning_of p sc x.name) }
 {
     let found = find(
         symbols,

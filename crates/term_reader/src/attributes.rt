@@ -4,7 +4,7 @@ ghost use Rattle.sexpr.specs.Items.{Item, Items};
 ghost use Rattle.sexpr.specs.Source.{source};
 ghost use Rattle.problem_text.specs.Forms as spec;
 ghost use Rattle.text_items.specs.ItemShapes as shape;
-ghost use Rattle.term_reader.specs.Layers.{AreAttributes};
+ghost use Rattle.term_reader.specs.Layers.{AreTermAttributes};
 ghost use Rattle.problem_text.specs.NamedItems.{is_named_item};
 ghost use Rattle.text_items.specs.Nodes.{IsNode, AreNodes};
 ghost use Rattle.term_reader.specs.Shapes.{IsFirstName};
@@ -46,9 +46,9 @@ const NAMING: Keyword<'static> = Keyword {
 /// The attributes stand from `k` to before `end`, and have no fault of shape. What stands from the answer to before `end`
 /// gives the other names, so they are found from there.
 pub(crate) fn next_name(text: &Lexer<'_>, nodes: &[Node], k: usize, end: usize) -> Option<usize>
-    requires { (names : List shape.Name) × AreAttributes (source text.now) nodes.now k names end }
-    ensures some { IfSome result (λ at. (names : List shape.Name) → AreAttributes (source text.now) nodes.now k names end → IsFirstName (source text.now) nodes.now at names end) }
-    ensures none { IfNone result ((names : List shape.Name) → AreAttributes (source text.now) nodes.now k names end → names ≡ []) }
+    requires { (names : List shape.Name) × AreTermAttributes (source text.now) nodes.now k names end }
+    ensures some { IfSome result (λ at. (names : List shape.Name) → AreTermAttributes (source text.now) nodes.now k names end → IsFirstName (source text.now) nodes.now at names end) }
+    ensures none { IfNone result ((names : List shape.Name) → AreTermAttributes (source text.now) nodes.now k names end → names ≡ []) }
     ensures later { IfSome result (λ at. k < at) }
 {
     let mut before = k;

@@ -1,12 +1,13 @@
-//! Reading a term from its top.
+//! WholeReading a term from its top.
 ghost use Rattle.std.specs.Prelude.{◌≡◌, ◌≤◌, ◌<◌, ◌^◌, ◌+◌, ◌-◌, length, IfOk, IfErr, OnErr};
 ghost use Rattle.sexpr.specs.Source.{source};
 ghost use Rattle.sym_table.specs.Table.{Table};
 ghost use Rattle.term_pool.specs.Views.{TermsView, KeepsTerms};
 ghost use Rattle.term_reader.specs.Entering.{HasTop};
 ghost use Rattle.term_reader.specs.Leaving.{with_open};
-ghost use Rattle.term_reader.specs.Frames.{Reading};
-ghost use Rattle.term_reader.specs.Reading.{IsAt, Goes, node_of, bound_of, effort};
+ghost use Rattle.term_reader.specs.Frames.{WholeReading};
+ghost use Rattle.term_reader.specs.Reading.{IsAt, Goes};
+ghost use Rattle.term_reader.specs.Credits.{node_of, bound_of, effort};
 ghost use Rattle.term_names.specs.Standing.{AddsNoSymbols};
 ghost use Rattle.term_names.specs.declared.faults.ReadFault.TheVariants as fault;
 ghost use Rattle.term_reader.specs.declared.layers.Layer.TheVariants as top;
@@ -33,9 +34,9 @@ pub(crate) fn enter(
     reader: &mut Reader<'_>,
     k: usize,
 ) -> Result<Turn, ReadFault>
-    requires at { (g : Reading) × IsAt (source text.now) nodes.now g symbols.old terms.old reader.old k }
+    requires at { (g : WholeReading) × IsAt (source text.now) nodes.now g symbols.old terms.old reader.old k }
     requires room { bound_of symbols.old nodes.now reader.old k ≤ 2 ^ 30 }
-    ensures goes { (g : Reading) → IsAt (source text.now) nodes.now g symbols.old terms.old reader.old k → Goes (source text.now) nodes.now g symbols.new terms.old terms.new reader.new result }
+    ensures goes { (g : WholeReading) → IsAt (source text.now) nodes.now g symbols.old terms.old reader.old k → Goes (source text.now) nodes.now g symbols.new terms.old terms.new reader.new result }
     ensures symbols { AddsNoSymbols symbols.old symbols.new }
     ensures inside { IfOk result (λ t. node_of t ≤ length nodes.now) }
     ensures few { IfOk result (λ t. bound_of symbols.new nodes.now reader.new (node_of t) ≤ bound_of symbols.old nodes.now reader.old k) }
@@ -72,8 +73,8 @@ fn enter_application(
     first: usize,
     end: usize,
 ) -> Result<Turn, ReadFault>
-    requires { (v : TermsView) × (g : Reading) × HasTop (source text.now) nodes.now g symbols.now v reader.old k (top.Application head first end) }
-    ensures goes { (v : TermsView) (g : Reading) → HasTop (source text.now) nodes.now g symbols.now v reader.old k (top.Application head first end) → Goes (source text.now) nodes.now g symbols.now v v reader.new result }
+    requires { (v : TermsView) × (g : WholeReading) × HasTop (source text.now) nodes.now g symbols.now v reader.old k (top.Application head first end) }
+    ensures goes { (v : TermsView) (g : WholeReading) → HasTop (source text.now) nodes.now g symbols.now v reader.old k (top.Application head first end) → Goes (source text.now) nodes.now g symbols.now v v reader.new result }
     ensures inside { IfOk result (λ t. node_of t ≤ length nodes.now) }
     ensures few { IfOk result (λ t. bound_of symbols.now nodes.now reader.new (node_of t) ≤ bound_of symbols.now nodes.now reader.old k) }
     ensures progress { IfOk result (λ t. effort nodes.now reader.new t < effort nodes.now reader.old (turn.Read k)) }
@@ -102,8 +103,8 @@ fn enter_let(
     first: usize,
     body: usize,
 ) -> Result<Turn, ReadFault>
-    requires { (s : Table) × (v : TermsView) × (g : Reading) × HasTop (source text.now) nodes.now g s v reader.old k (top.Let first body) }
-    ensures goes { (s : Table) (v : TermsView) (g : Reading) → HasTop (source text.now) nodes.now g s v reader.old k (top.Let first body) → Goes (source text.now) nodes.now g s v v reader.new result }
+    requires { (s : Table) × (v : TermsView) × (g : WholeReading) × HasTop (source text.now) nodes.now g s v reader.old k (top.Let first body) }
+    ensures goes { (s : Table) (v : TermsView) (g : WholeReading) → HasTop (source text.now) nodes.now g s v reader.old k (top.Let first body) → Goes (source text.now) nodes.now g s v v reader.new result }
     ensures inside { IfOk result (λ t. node_of t ≤ length nodes.now) }
     ensures few { (s : Table) → IfOk result (λ t. bound_of s nodes.now reader.new (node_of t) ≤ bound_of s nodes.now reader.old k) }
     ensures progress { IfOk result (λ t. effort nodes.now reader.new t < effort nodes.now reader.old (turn.Read k)) }

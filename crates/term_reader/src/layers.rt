@@ -6,9 +6,10 @@ ghost use Rattle.sexpr.specs.Words.{is_symbol, is_numeral};
 ghost use Rattle.problem_text.specs.Forms as spec;
 ghost use Rattle.text_items.specs.ItemShapes as shape;
 ghost use Rattle.problem_text.specs.Forms.{form_of, forms_of, binds_of};
-ghost use Rattle.term_reader.specs.Layers.{IsLayer};
+ghost use Rattle.term_reader.specs.ShapeFaults.{IsLayer};
 ghost use Rattle.text_items.specs.Nodes.{IsNode};
-ghost use Rattle.term_reader.specs.Shapes.{IsSymbolLayer, IsTokenLayer, is_numeral_kind, cause_of_kind, IsApplied, IsHeadFault};
+ghost use Rattle.term_reader.specs.Shapes.{IsApplied};
+ghost use Rattle.term_reader.specs.ShapeFaults.{IsSymbolLayer, IsTokenLayer, is_numeral_kind, cause_of_kind, IsHeadFault};
 ghost use Rattle.text_items.specs.Spelling.{is_list_item};
 ghost use Rattle.text_items.specs.Stepping.{IsItemAt};
 

@@ -2,9 +2,10 @@
 ghost use Rattle.std.specs.Prelude.{◌≡◌, ◌≤◌, ◌<◌, ◌^◌, ◌-◌, ℕ, List, length, IfOk, OnErr};
 ghost use Rattle.sexpr.specs.Source.{source};
 ghost use Rattle.term_pool.specs.Views.{KeepsTerms};
-ghost use Rattle.term_reader.specs.Frames.{Reading};
+ghost use Rattle.term_reader.specs.Frames.{WholeReading};
 ghost use Rattle.term_reader.specs.Leaving.{with_open, Leaves};
-ghost use Rattle.term_reader.specs.Reading.{HasRead, Goes, node_of, bound_of, effort};
+ghost use Rattle.term_reader.specs.Reading.{HasRead, Goes};
+ghost use Rattle.term_reader.specs.Credits.{node_of, bound_of, effort};
 ghost use Rattle.term_names.specs.Standing.{AddsNoSymbols};
 ghost use Rattle.term_reader.specs.declared.frames.Frame.TheVariants as frame;
 ghost use Rattle.text_items.specs.declared.nodes.Node as node;
@@ -34,11 +35,11 @@ pub(crate) fn leave(
     value: Value,
     n: usize,
 ) -> Result<Turn, ReadFault>
-    requires read { (g : Reading) × HasRead (source text.now) nodes.now g symbols.old terms.old reader.old value n }
+    requires read { (g : WholeReading) × HasRead (source text.now) nodes.now g symbols.old terms.old reader.old value n }
     requires open { 0 < length reader.old.frames }
     requires inside { n ≤ length nodes.now }
     requires room { bound_of symbols.old nodes.now reader.old n ≤ 2 ^ 30 }
-    ensures goes { (g : Reading) → HasRead (source text.now) nodes.now g symbols.old terms.old reader.old value n → Goes (source text.now) nodes.now g symbols.new terms.old terms.new reader.new result }
+    ensures goes { (g : WholeReading) → HasRead (source text.now) nodes.now g symbols.old terms.old reader.old value n → Goes (source text.now) nodes.now g symbols.new terms.old terms.new reader.new result }
     ensures symbols { AddsNoSymbols symbols.old symbols.new }
     ensures inside { IfOk result (λ t. node_of t ≤ length nodes.now) }
     ensures few { IfOk result (λ t. bound_of symbols.new nodes.now reader.new (node_of t) ≤ bound_of symbols.old nodes.now reader.old n) }
@@ -99,8 +100,8 @@ fn leave_argument(
     from: usize,
     end: usize,
 ) -> Result<Turn, ReadFault>
-    requires read { (source : List ℕ) × (nodes : List node.Node) × (g : Reading) × HasRead source nodes g symbols.now terms.old (with_open reader.old (frame.Arguments place head from end)) value n }
-    ensures leaves { (source : List ℕ) (nodes : List node.Node) (g : Reading) → HasRead source nodes g symbols.now terms.old (with_open reader.old (frame.Arguments place head from end)) value n → Leaves source nodes g symbols.now terms.old (with_open reader.old (frame.Arguments place head from end)) value n symbols.now terms.new reader.new result }
+    requires read { (source : List ℕ) × (nodes : List node.Node) × (g : WholeReading) × HasRead source nodes g symbols.now terms.old (with_open reader.old (frame.Arguments place head from end)) value n }
+    ensures leaves { (source : List ℕ) (nodes : List node.Node) (g : WholeReading) → HasRead source nodes g symbols.now terms.old (with_open reader.old (frame.Arguments place head from end)) value n → Leaves source nodes g symbols.now terms.old (with_open reader.old (frame.Arguments place head from end)) value n symbols.now terms.new reader.new result }
     ensures replaces { reader.new.replaces_lets ≡ reader.old.replaces_lets }
     ensures base { reader.new.known.base ≡ reader.old.known.base }
     ensures keeps { KeepsTerms terms.old terms.new }
@@ -140,8 +141,8 @@ fn leave_annotated(
     n: usize,
     end: usize,
 ) -> Result<Turn, ReadFault>
-    requires read { (g : Reading) × HasRead (source text.now) nodes.now g symbols.now terms.old (with_open reader.old (frame.Names end)) value n }
-    ensures leaves { (g : Reading) → HasRead (source text.now) nodes.now g symbols.now terms.old (with_open reader.old (frame.Names end)) value n → Leaves (source text.now) nodes.now g symbols.now terms.old (with_open reader.old (frame.Names end)) value n symbols.now terms.new reader.new result }
+    requires read { (g : WholeReading) × HasRead (source text.now) nodes.now g symbols.now terms.old (with_open reader.old (frame.Names end)) value n }
+    ensures leaves { (g : WholeReading) → HasRead (source text.now) nodes.now g symbols.now terms.old (with_open reader.old (frame.Names end)) value n → Leaves (source text.now) nodes.now g symbols.now terms.old (with_open reader.old (frame.Names end)) value n symbols.now terms.new reader.new result }
     ensures replaces { reader.new.replaces_lets ≡ reader.old.replaces_lets }
     ensures base { reader.new.known.base ≡ reader.old.known.base }
     ensures keeps { KeepsTerms terms.old terms.new }

@@ -5,10 +5,11 @@ ghost use Rattle.sym_table.specs.Leaf as leaf;
 ghost use Rattle.sym_table.specs.Table.{IsLeaf};
 ghost use Rattle.term_pool.specs.Views.{TermsView, KeepsTerms};
 ghost use Rattle.text_items.specs.ItemShapes.{Name};
-ghost use Rattle.term_reader.specs.Frames.{Reading};
+ghost use Rattle.term_reader.specs.Frames.{WholeReading};
 ghost use Rattle.text_items.specs.NameNodes.{IsNameNode};
 ghost use Rattle.term_reader.specs.Leaving.{with_open, bindings_frame, Leaves};
-ghost use Rattle.term_reader.specs.Reading.{HasRead, bound_of};
+ghost use Rattle.term_reader.specs.Reading.{HasRead};
+ghost use Rattle.term_reader.specs.Credits.{bound_of};
 ghost use Rattle.term_names.specs.Standing.{AddsNoSymbols};
 ghost use Rattle.term_names.specs.declared.faults.ReadFault.TheVariants as ReadFault;
 ghost use Rattle.term_reader.specs.declared.frames.Frame.TheVariants as frame;
@@ -50,10 +51,10 @@ pub(crate) fn leave_binding(
     n: usize,
     pairs: OpenBindings,
 ) -> Result<Turn, ReadFault>
-    requires read { (v : TermsView) × (g : Reading) × HasRead (source text.now) nodes.now g symbols.old v (with_open reader.old (bindings_frame pairs)) value n }
+    requires read { (v : TermsView) × (g : WholeReading) × HasRead (source text.now) nodes.now g symbols.old v (with_open reader.old (bindings_frame pairs)) value n }
     requires inside { n ≤ length nodes.now }
     requires room { bound_of symbols.old nodes.now (with_open reader.old (bindings_frame pairs)) n ≤ 2 ^ 30 }
-    ensures leaves { (v : TermsView) (g : Reading) → HasRead (source text.now) nodes.now g symbols.old v (with_open reader.old (bindings_frame pairs)) value n → Leaves (source text.now) nodes.now g symbols.old v (with_open reader.old (bindings_frame pairs)) value n symbols.new v reader.new result }
+    ensures leaves { (v : TermsView) (g : WholeReading) → HasRead (source text.now) nodes.now g symbols.old v (with_open reader.old (bindings_frame pairs)) value n → Leaves (source text.now) nodes.now g symbols.old v (with_open reader.old (bindings_frame pairs)) value n symbols.new v reader.new result }
     ensures symbols { AddsNoSymbols symbols.old symbols.new }
     ensures one_more { length symbols.new.leaves ≤ length symbols.old.leaves + 1 }
     ensures replaces { reader.new.replaces_lets ≡ reader.old.replaces_lets }
@@ -132,8 +133,8 @@ pub(crate) fn leave_body(
     from: usize,
     first: usize,
 ) -> Result<Turn, ReadFault>
-    requires read { (source : List ℕ) × (nodes : List node.Node) × (g : Reading) × HasRead source nodes g symbols.now terms.old (with_open reader.old (frame.Body place from first)) value n }
-    ensures leaves { (source : List ℕ) (nodes : List node.Node) (g : Reading) → HasRead source nodes g symbols.now terms.old (with_open reader.old (frame.Body place from first)) value n → Leaves source nodes g symbols.now terms.old (with_open reader.old (frame.Body place from first)) value n symbols.now terms.new reader.new result }
+    requires read { (source : List ℕ) × (nodes : List node.Node) × (g : WholeReading) × HasRead source nodes g symbols.now terms.old (with_open reader.old (frame.Body place from first)) value n }
+    ensures leaves { (source : List ℕ) (nodes : List node.Node) (g : WholeReading) → HasRead source nodes g symbols.now terms.old (with_open reader.old (frame.Body place from first)) value n → Leaves source nodes g symbols.now terms.old (with_open reader.old (frame.Body place from first)) value n symbols.now terms.new reader.new result }
     ensures replaces { reader.new.replaces_lets ≡ reader.old.replaces_lets }
     ensures base { reader.new.known.base ≡ reader.old.known.base }
     ensures keeps { KeepsTerms terms.old terms.new }

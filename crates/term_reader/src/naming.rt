@@ -7,7 +7,7 @@ ghost use Rattle.text_items.specs.ItemShapes.{Name};
 ghost use Rattle.problem_text.specs.Limits.{most_height};
 ghost use Rattle.term_names.specs.Known.{macro_of};
 ghost use Rattle.text_items.specs.NameNodes.{IsNameNode};
-ghost use Rattle.term_reader.specs.Layers.{AreAttributes};
+ghost use Rattle.term_reader.specs.Layers.{AreTermAttributes};
 ghost use Rattle.term_reader.specs.Naming.{GivesNames, IsFreeIn};
 ghost use Rattle.problem_text.specs.TypedTerms.{Typed};
 ghost use Rattle.problem_text.specs.Scripts.{Script};
@@ -46,11 +46,11 @@ pub(crate) fn give_names(
     first: usize,
     end: usize,
 ) -> Result<(), ReadFault>
-    requires attributes { (names : List Name) × AreAttributes (source text.now) nodes.now first names end }
+    requires attributes { (names : List Name) × AreTermAttributes (source text.now) nodes.now first names end }
     requires term { (t : Typed) × IsValue symbols.now terms.old value t }
     requires low { value.height ≤ most_height }
     requires script { (sc : Script) × IsScript symbols.now terms.old known.old sc }
-    ensures given { (names : List Name) (t : Typed) (sc : Script) → AreAttributes (source text.now) nodes.now first names end → IsValue symbols.now terms.old value t → IsScript symbols.now terms.old known.old sc → GivesNames symbols.now terms.new known.new t (with_names t names sc) result }
+    ensures given { (names : List Name) (t : Typed) (sc : Script) → AreTermAttributes (source text.now) nodes.now first names end → IsValue symbols.now terms.old value t → IsScript symbols.now terms.old known.old sc → GivesNames symbols.now terms.new known.new t (with_names t names sc) result }
     ensures macros { (w : Which) → macro_of known.new w ≡ macro_of known.old w }
     ensures base { known.new.base ≡ known.old.base }
     ensures keeps { KeepsTerms terms.old terms.new }
@@ -77,9 +77,9 @@ fn give_each(
     first: usize,
     end: usize,
 ) -> Result<(), ReadFault>
-    requires attributes { (names : List Name) × AreAttributes (source text.now) nodes.now first names end }
+    requires attributes { (names : List Name) × AreTermAttributes (source text.now) nodes.now first names end }
     requires script { (v : TermsView) × (t : Typed) × (sc : Script) × IsFreeIn symbols.now v value.now free.now t × IsScript symbols.now v known.old sc }
-    ensures given { (v : TermsView) (names : List Name) (t : Typed) (sc : Script) → AreAttributes (source text.now) nodes.now first names end → IsFreeIn symbols.now v value.now free.now t → IsScript symbols.now v known.old sc → GivesNames symbols.now v known.new t (with_names t names sc) result }
+    ensures given { (v : TermsView) (names : List Name) (t : Typed) (sc : Script) → AreTermAttributes (source text.now) nodes.now first names end → IsFreeIn symbols.now v value.now free.now t → IsScript symbols.now v known.old sc → GivesNames symbols.now v known.new t (with_names t names sc) result }
     ensures macros { (w : Which) → macro_of known.new w ≡ macro_of known.old w }
     ensures base { known.new.base ≡ known.old.base }
 {

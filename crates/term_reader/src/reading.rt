@@ -5,7 +5,7 @@ ghost use Rattle.sexpr.specs.Source.{source};
 ghost use Rattle.term_pool.specs.Views.{KeepsTerms};
 ghost use Rattle.problem_text.specs.Names.{Place};
 ghost use Rattle.text_items.specs.Nodes.{IsNode};
-ghost use Rattle.term_reader.specs.Reading.{IsIdle, Reads};
+ghost use Rattle.term_reader.specs.Reading.{IsReaderIdle, ComesToTerm};
 ghost use Rattle.problem_text.specs.Scripts.{Script};
 ghost use Rattle.term_names.specs.Standing.{AddsNoSymbols};
 ghost use Rattle.problem_text.specs.Terms.{read_term};
@@ -20,7 +20,7 @@ use term_names::faults::ReadFault;
 use term_pool::Terms;
 use text_items::nodes::Node;
 
-/// Reads the term at node `k` (SMT-LIB 2.6, "Terms and Formulas"): its value, or its first fault.
+/// ComesToTerm the term at node `k` (SMT-LIB 2.6, "Terms and Formulas"): its value, or its first fault.
 ///
 /// Costs as much as its nodes are, and for each use of a macro the distinct cells of its body. Takes no stack, however deep
 /// the term is.
@@ -33,9 +33,9 @@ pub fn read(
     k: usize,
 ) -> Result<Value, ReadFault>
     requires item { (i : Item) × (m : ℕ) × IsNode (source text.now) nodes.now k i m }
-    requires idle { (sc : Script) × (p : Place) × IsIdle symbols.old terms.old reader.old sc p }
+    requires idle { (sc : Script) × (p : Place) × IsReaderIdle symbols.old terms.old reader.old sc p }
     requires room { length symbols.old.leaves + (length nodes.now - k) ≤ 2 ^ 30 }
-    ensures reads { (i : Item) (m : ℕ) (sc : Script) (p : Place) → IsNode (source text.now) nodes.now k i m → IsIdle symbols.old terms.old reader.old sc p → Reads symbols.new terms.old terms.new reader.new p (read_term i p sc) result }
+    ensures reads { (i : Item) (m : ℕ) (sc : Script) (p : Place) → IsNode (source text.now) nodes.now k i m → IsReaderIdle symbols.old terms.old reader.old sc p → ComesToTerm symbols.new terms.old terms.new reader.new p (read_term i p sc) result }
     ensures symbols { AddsNoSymbols symbols.old symbols.new }
     ensures few { length symbols.new.leaves ≤ length symbols.old.leaves + (length nodes.now - k) }
     // Each leaf that is added has a node of the item.

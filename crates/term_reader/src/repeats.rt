@@ -2,10 +2,11 @@
 ghost use Rattle.std.specs.Prelude.{◌≡◌, ◌||◌, ◌<◌, ◌+◌, ℕ, List, [], false, bytes_eq, IfOk, IfErr};
 ghost use Rattle.sexpr.specs.Source.{source};
 ghost use Rattle.text_items.specs.ItemShapes.{Name};
-ghost use Rattle.problem_text.specs.Forms.{Form, Binds, no_binds, bind};
+ghost use Rattle.problem_text.specs.Forms.{Form, LetBinds, no_binds, bind};
 ghost use Rattle.text_items.specs.NameNodes.{IsNameNode};
 ghost use Rattle.term_reader.specs.Layers.{AreBinds};
-ghost use Rattle.term_reader.specs.Shapes.{IsFirstRepeat, has_name, IsPair};
+ghost use Rattle.term_reader.specs.Shapes.{IsFirstRepeat, IsPair};
+ghost use Rattle.term_reader.specs.ShapeFaults.{has_name};
 ghost use Rattle.problem_text.specs.Words as spec;
 ghost use Rattle.term_names.specs.declared.faults.ReadFault.TheVariants as ReadFault;
 
@@ -28,8 +29,8 @@ pub(crate) fn first_repeat(
     first: usize,
     body: usize,
 ) -> Result<usize, ReadFault>
-    requires { (bs : Binds) × AreBinds (source text.now) nodes.now first bs body }
-    ensures place { IfOk result (λ place. (bs : Binds) → AreBinds (source text.now) nodes.now first bs body → IsFirstRepeat (source text.now) nodes.now first [] bs place body) }
+    requires { (bs : LetBinds) × AreBinds (source text.now) nodes.now first bs body }
+    ensures place { IfOk result (λ place. (bs : LetBinds) → AreBinds (source text.now) nodes.now first bs body → IsFirstRepeat (source text.now) nodes.now first [] bs place body) }
     ensures fault { IfErr result (λ fault. fault ≡ ReadFault.Memory) }
 {
     if first == body {
@@ -51,7 +52,7 @@ pub(crate) fn first_repeat(
 
 /// The place of a pair that is the only one, where its variable is a built-in word.
 fn only_pair(text: &Lexer<'_>, nodes: &[Node], k: usize, body: usize) -> usize
-    requires { (bs : Binds) × AreBinds (source text.now) nodes.now k bs body × (k < body) }
+    requires { (bs : LetBinds) × AreBinds (source text.now) nodes.now k bs body × (k < body) }
     ensures { (x : Name) (f : Form) → AreBinds (source text.now) nodes.now k (bind x f no_binds) body → IsFirstRepeat (source text.now) nodes.now k [] (bind x f no_binds) result body }
 {
     if is_built_in(pair_name(text, nodes, k)) {

@@ -16,7 +16,7 @@ ghost use Rattle.text_items.specs.Lexers.{IsFirstOfItem, GoesOnWith};
 ghost use Rattle.problem_text.specs.Limits.{limited};
 ghost use Rattle.problem_text.specs.Names.{Bound, Place, itself};
 ghost use Rattle.term_reader.specs.ProblemViews.{IsProblemOf, IsReaderOf, ReadsTerm, ReadsValue};
-ghost use Rattle.term_reader.specs.Reading.{IsIdle, Reads};
+ghost use Rattle.term_reader.specs.Reading.{IsReaderIdle, ComesToTerm};
 ghost use Rattle.problem_text.specs.Scripts.{Script};
 ghost use Rattle.term_names.specs.Standing.{AddsNoSymbols, AreLeavesOf};
 ghost use Rattle.problem_text.specs.Terms.{read_term};
@@ -100,7 +100,7 @@ impl<'a> TermReader<'a> {
         }
     }
 
-    /// Reads the term that begins with `first`, the token that the lexer gave last (SMT-LIB 2.6, "Terms and Formulas"),
+    /// ComesToTerm the term that begins with `first`, the token that the lexer gave last (SMT-LIB 2.6, "Terms and Formulas"),
     /// and leaves
     /// the lexer behind it.
     ///
@@ -141,7 +141,7 @@ impl<'a> TermReader<'a> {
         Ok(value.term)
     }
 
-    /// Reads the term at node `k`, as `term` does, from an item of the text that was read into nodes already. Refusals and
+    /// ComesToTerm the term at node `k`, as `term` does, from an item of the text that was read into nodes already. Refusals and
     /// what the reader is after them are those of `term`. Costs as much as the term has nodes, and for each use of a macro
     /// the distinct cells of its body.
     pub fn term_at(
@@ -166,7 +166,7 @@ impl<'a> TermReader<'a> {
         Ok(value.term)
     }
 
-    /// Reads the term at node `k`, as `term_at` does, and answers its sort and its height besides.
+    /// ComesToTerm the term at node `k`, as `term_at` does, and answers its sort and its height besides.
     pub fn value_at(
         &mut self,
         text: &Lexer<'_>,
@@ -222,7 +222,7 @@ fn enter_each(symbols: &Symbols, scope: &mut Scope, leaves: &[u32]) -> Result<()
     Ok(())
 }
 
-/// Reads the term that begins with `first`, the token that the lexer gave last, in place of what `nodes` held.
+/// ComesToTerm the term that begins with `first`, the token that the lexer gave last, in place of what `nodes` held.
 fn read_first(
     lexer: &mut Lexer<'_>,
     first: Token,
@@ -233,9 +233,9 @@ fn read_first(
 ) -> Result<Value, ReadFault>
     requires formed { HasForm (at.source lexer.old) }
     requires first { IsFirstOfItem lexer.old first }
-    requires idle { (sc : Script) × (p : Place) × IsIdle symbols.old terms.old reader.old sc p }
+    requires idle { (sc : Script) × (p : Place) × IsReaderIdle symbols.old terms.old reader.old sc p }
     requires room { length symbols.old.leaves + (length (at.source lexer.old) - first.start) ≤ 2 ^ 30 }
-    ensures reads { (i : Item) (rest : List Token) (sc : Script) (p : Place) → GoesOnWith lexer.old first i rest → IsIdle symbols.old terms.old reader.old sc p → Reads symbols.new terms.old terms.new reader.new p (read_term i p sc) result }
+    ensures reads { (i : Item) (rest : List Token) (sc : Script) (p : Place) → GoesOnWith lexer.old first i rest → IsReaderIdle symbols.old terms.old reader.old sc p → ComesToTerm symbols.new terms.old terms.new reader.new p (read_term i p sc) result }
     ensures behind { (i : Item) (rest : List Token) → GoesOnWith lexer.old first i rest → OnOk result (AreTokens (at.source lexer.new) (at.position lexer.new) rest) }
     ensures source { at.source lexer.new ≡ at.source lexer.old }
     ensures few { length symbols.new.leaves ≤ length symbols.old.leaves + (at.position lexer.new - first.start) }

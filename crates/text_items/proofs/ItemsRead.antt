@@ -8,7 +8,8 @@ use Rattle.sexpr.specs.Tokens.{Read, next_token, AreTokens, IsSpanFrom}
 use Rattle.sexpr.specs.Items.{Item}
 use Rattle.text_items.specs.declared.nodes.Node.{Node}
 use Rattle.text_items.specs.Lexers.{GoesOnWith}
-use Rattle.text_items.specs.Nodes.{IsNode, IsAdded}
+use Rattle.text_items.specs.Nodes.{IsNode}
+use Rattle.text_items.specs.Adding.{IsAdded}
 use Rattle.text_items.proofs.OpenLists.{GoesOn, item_begins, goes_on, whole_read, goes_further, inner_there, never_closes, added_few}
 
 -- what the tokens to come make of the nodes

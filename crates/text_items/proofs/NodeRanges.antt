@@ -5,7 +5,8 @@ use Rattle.sexpr.specs.declared.lexing.Token.{Token}
 use Rattle.sexpr.specs.declared.lexing.TokenKind.{TokenKind}
 use Rattle.sexpr.specs.Items.{Item, word, quoted, string, list, Items, no_items, item}
 use Rattle.text_items.specs.declared.nodes.Node.{Node}
-use Rattle.text_items.specs.Nodes.{HasNode, IsTokenNode, IsNode, AreNodes, pushed}
+use Rattle.text_items.specs.Nodes.{HasNode, IsTokenNode, IsNode, AreNodes}
+use Rattle.text_items.specs.Adding.{pushed}
 
 -- these items and then those
 abbrev pub joined : Items → Items → Items

@@ -6,7 +6,8 @@ use Rattle.sexpr.specs.declared.lexing.TokenKind.{TokenKind}
 use Rattle.sexpr.specs.declared.lexing.TokenKind.TheVariants.{Open, Close, Text, Quoted, Word}
 use Rattle.sexpr.specs.Items.{Item, word, quoted, string, list, Items, no_items, item, IsBracket, IsItem, AreItems}
 use Rattle.text_items.specs.declared.nodes.Node.{Node}
-use Rattle.text_items.specs.Nodes.{HasNode, IsTokenNode, IsNode, AreNodes, pushed, IsClosed, IsAdded}
+use Rattle.text_items.specs.Nodes.{HasNode, IsTokenNode, IsNode, AreNodes, IsListClosed}
+use Rattle.text_items.specs.Adding.{pushed, IsAdded}
 use Rattle.text_items.proofs.FirstTokens.{IsThis, is_this, same_front}
 use Rattle.text_items.proofs.NodeRanges.{joined, joined_assoc, joined_none, nodes_order, nodes_more, Kept, nodes_kept, pushed_kept, set_kept}
 
@@ -191,7 +192,7 @@ module _ (source : List ℕ) (whole : Item) (rest : List Token) where
   -- the innermost open list ends
   list_closed : (nodes after : List Node) (l : OpenList) (ls : List OpenList) (now : ℕ) → IsOpenNode source nodes l.node l.place l.around
       → AreNodes source nodes (l.node + 1) l.done (length nodes) → Awaits nodes ls (list l.place l.done) l.node l.around l.behind
-      → IsClosed nodes l.node (length nodes) after now → GoesOn after now l.behind
+      → IsListClosed nodes l.node (length nodes) after now → GoesOn after now l.behind
   list_closed nodes after l ls now is are h closed =
       let k = set_kept nodes after l.node (record { token = closed.node.token; next = length nodes }) closed.node closed.here closed.set in
       let same : closed.node ≡ is.node = some_same closed.node is.node (sym closed.here ∙ is.here) in
@@ -229,7 +230,7 @@ module _ (source : List ℕ) (whole : Item) (rest : List Token) where
           subst (λ ts. GoesOn after now ts) (sym front.rests)
           (list_closed nodes after (record { node = l.node; place = l.place; done = l.done; todo = no_items; around = l.around; behind = behind }) ls now is are
           (subst (λ items. Awaits nodes ls (list l.place items) l.node l.around behind) (joined_none l.done) h)
-          (subst (λ n. IsClosed nodes n (length nodes) after now) place closed))
+          (subst (λ n. IsListClosed nodes n (length nodes) after now) place closed))
       in_list l ls (item x others) behind is same are closes h =
           let nested = closes.nested in
           item_begins nodes after (record { node = l.node; place = l.place; done = l.done; todo = others; around = l.around; behind = behind } ∷ ls) x inner now t tokens nested.0 inside

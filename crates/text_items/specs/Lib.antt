@@ -2,6 +2,7 @@ pub mod Spelling
 pub mod ItemShapes
 pub mod Lexers
 pub mod Nodes
+pub mod Adding
 pub mod Stepping
 pub mod NameNodes
 pub mod Children

@@ -1,9 +1,8 @@
 -- Public. The items of a text as a flat list of nodes. A list stands before what is in it, so an item is a range of nodes, and
 -- each node says where the next item after its own begins.
-use Rattle.std.specs.Prelude.{◌≡◌, ℕ, ◌+◌, ◌-◌, ◌<◌, ◌≤◌, List, [], ◌∷◌, ◌++◌, length, slice_get, slice_set, Some}
-use Rattle.sexpr.specs.declared.lexing.Token.{Token}
+use Rattle.std.specs.Prelude.{◌≡◌, ℕ, ◌+◌, ◌-◌, ◌<◌, ◌≤◌, List, length, slice_get, slice_set, Some}
 use Rattle.sexpr.specs.declared.lexing.TokenKind.{TokenKind}
-use Rattle.sexpr.specs.declared.lexing.TokenKind.TheVariants.{Open, Close, Text, Quoted, Word}
+use Rattle.sexpr.specs.declared.lexing.TokenKind.TheVariants.{Open, Text, Quoted, Word}
 use Rattle.sexpr.specs.Tokens.{token_text}
 use Rattle.sexpr.specs.Items.{Item, word, quoted, string, list, Items, no_items, item}
 use Rattle.text_items.specs.declared.nodes.Node.{Node}
@@ -42,22 +41,9 @@ abbrev mutual
   AreNodes source nodes k (item first others) m =
       (n : ℕ) × IsNode source nodes k first n × AreNodes source nodes n others m
 
--- The nodes with one more behind them.
-abbrev pub pushed : List Node → Token → ℕ → List Node
-pushed nodes t next = nodes ++ record { token = t; next = next } ∷ []
-
 -- An open list ends before node `end`. Until then its node said how many were open around it.
-pub record IsClosed (nodes : List Node) (k end : ℕ) (after : List Node) (around : ℕ) : Type 0 where
+pub record IsListClosed (nodes : List Node) (k end : ℕ) (after : List Node) (around : ℕ) : Type 0 where
   pub node : Node
   pub here : slice_get nodes k ≡ Some node
   pub set : after ≡ slice_set nodes k (record { token = node.token; next = end })
   pub was : node.next ≡ around
-
--- The nodes after one token more of this kind. The opening bracket of the innermost open list is the last of the
--- first `inner` nodes, and of the first `now` nodes afterwards: 0 where no list is open.
-abbrev pub IsAdded : List Node → ℕ → Token → TokenKind → List Node → ℕ → Type 0
-IsAdded nodes inner t Open after now = (after ≡ pushed nodes t inner) × (now ≡ length nodes + 1)
-IsAdded nodes inner t Close after now = IsClosed nodes (inner - 1) (length nodes) after now
-IsAdded nodes inner t Text after now = (after ≡ pushed nodes t (length nodes + 1)) × (now ≡ inner)
-IsAdded nodes inner t Quoted after now = (after ≡ pushed nodes t (length nodes + 1)) × (now ≡ inner)
-IsAdded nodes inner t Word after now = (after ≡ pushed nodes t (length nodes + 1)) × (now ≡ inner)

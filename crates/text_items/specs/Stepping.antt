@@ -16,11 +16,11 @@ abbrev pub AreItemsFrom : List ℕ → List Node → ℕ → ℕ → Type 0
 AreItemsFrom source nodes k m = (items : Items) × AreNodes source nodes k items m
 
 -- a token of this kind and spelling begins the item
-abbrev pub Begins : TokenKind → List ℕ → Item → Type 0
-Begins kind spelling (word place s) = (kind ≡ Word) × (spelling ≡ s)
-Begins kind spelling (quoted place s) = (kind ≡ Quoted) × (spelling ≡ s)
-Begins kind spelling (string place s) = (kind ≡ Text) × (spelling ≡ s)
-Begins kind spelling (list place items) = kind ≡ Open
+abbrev pub BeginsItem : TokenKind → List ℕ → Item → Type 0
+BeginsItem kind spelling (word place s) = (kind ≡ Word) × (spelling ≡ s)
+BeginsItem kind spelling (quoted place s) = (kind ≡ Quoted) × (spelling ≡ s)
+BeginsItem kind spelling (string place s) = (kind ≡ Text) × (spelling ≡ s)
+BeginsItem kind spelling (list place items) = kind ≡ Open
 
 -- the node is the first of the item, which ends before node m
 pub record IsItemNode (source : List ℕ) (i : Item) (m : ℕ) (node : Node) : Type 0 where
@@ -28,7 +28,7 @@ pub record IsItemNode (source : List ℕ) (i : Item) (m : ℕ) (node : Node) : T
   pub start : node.token.start ≡ place_of i
   pub some : node.token.start < node.token.end
   pub within : node.token.end ≤ length source
-  pub begins : Begins node.token.kind (token_text source node.token) i
+  pub begins : BeginsItem node.token.kind (token_text source node.token) i
 
 -- there are two items or more
 abbrev pub has_two : Items → Bool

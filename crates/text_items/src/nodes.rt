@@ -6,7 +6,8 @@ ghost use Rattle.sexpr.specs.Tokens.{AreTokens};
 ghost use Rattle.sexpr.specs.declared.lexing.Token.{Token};
 ghost use Rattle.sexpr.specs.declared.lexing.TokenKind.TheVariants as TokenKind;
 ghost use Rattle.text_items.specs.Lexers.{GoesOnWith};
-ghost use Rattle.text_items.specs.Nodes.{IsNode, IsAdded};
+ghost use Rattle.text_items.specs.Nodes.{IsNode};
+ghost use Rattle.text_items.specs.Adding.{IsAdded};
 
 use sexpr::{Lexer, Token, TokenKind};
 use std::alloc::AllocError;

@@ -9,7 +9,7 @@ ghost use Rattle.term_model.specs.Meaning.{Valuation, value};
 ghost use Rattle.term_model.specs.Terms.{Var, Term, numeral, variable, operation, terms_of};
 ghost use Rattle.term_model.specs.Unsatisfiable.{MakesAllTrue, Unsatisfiable};
 ghost use Rattle.term_model.specs.declared.symbols.Op.{Op};
-ghost use Rattle.rule_model.specs.Contexts.{images, IsBoundBy, IsClosedUnder, AreNested, context_values};
+ghost use Rattle.rule_model.specs.Contexts.{images, IsBoundBy, IsClosedUnder, AreAnchorsNested, context_values};
 ghost use Rattle.rule_model.specs.Clauses.{MakesClauseTrue};
 ghost use Rattle.rule_model.specs.Contexts.{IsTrueInScope};
 ghost use Rattle.rule_model.specs.Replacement.{Replacement, values_put};
@@ -18,7 +18,7 @@ ghost use Rattle.rule_model.specs.Substitution.{put_in, Replaces, AreClosed, Hav
 /// The images of variables have no free variable, where the anchors outside one bind what stands free in its terms; each
 /// has its variable's sort, where the anchors' terms have theirs; and those variables have one that an anchor binds.
 pub fn images_are_closed()
-    ensures closed { (anchors : List Replacement) → AreNested anchors → AreClosed (images anchors) }
+    ensures closed { (anchors : List Replacement) → AreAnchorsNested anchors → AreClosed (images anchors) }
     ensures sorts { (anchors : List Replacement) → AllByRecursion HaveTheirSorts anchors →
         HaveTheirSorts (images anchors) }
     ensures bound { (anchors : List Replacement) (x : Var) → Replaces (images anchors) x ↔ IsBoundBy anchors x }
@@ -26,14 +26,14 @@ pub fn images_are_closed()
 
 /// A term has in its scope the value of what it becomes when the images are put in.
 pub fn terms_mean_what_they_become()
-    ensures { (I : Interpretation) (anchors : List Replacement) (t : Term) → AreNested anchors →
+    ensures { (I : Interpretation) (anchors : List Replacement) (t : Term) → AreAnchorsNested anchors →
         value I (context_values I anchors) t ≡ value I [] (put_in (images anchors) t) }
 {}
 
 /// An anchor gives its variables the values that its terms have outside it, as a let does. A term in which none of its
 /// variables stands free has inside it the value that it has outside.
 pub fn anchors_bind_like_lets()
-    ensures values { (I : Interpretation) (anchor : Replacement) (outer : List Replacement) → AreNested (anchor ∷ outer) →
+    ensures values { (I : Interpretation) (anchor : Replacement) (outer : List Replacement) → AreAnchorsNested (anchor ∷ outer) →
         context_values I (anchor ∷ outer) ≡ values_put I (context_values I outer) anchor ++ context_values I outer }
     ensures others { (I : Interpretation) (anchor : Replacement) (outer : List Replacement) (t : Term) →
         ((x : Var) → IsFree x t → ¬ Replaces anchor x) →

@@ -1,7 +1,7 @@
 //! The declared functions, whose leaves carry a name and sorts.
 ghost use Rattle.std.specs.Prelude.{◌≡◌, ◌+◌, ◌<◌, ◌^◌, ◌↔◌, ◌⊎◌, ◌++◌, [], ◌∷◌, length, slice_get, Some, IsNone, IfSome, IfOk, OnErr, IsErrOf, IsTrue};
 ghost use Rattle.sym_table.specs.Words.{IsBuiltIn};
-ghost use Rattle.sym_table.specs.Leaf.{function, arguments_of, target_of};
+ghost use Rattle.sym_table.specs.Leaf.{function, leaf_arguments, target_of};
 ghost use Rattle.sym_table.specs.Table.{IsFunctionName, IsFunctionNamed, IsFunctionLeaf, LeafMeets, Keeps, with_leaf};
 
 use super::{FIRST_LEAVES, Symbols};
@@ -59,7 +59,7 @@ impl Symbols {
     /// How many arguments a function takes.
     pub fn arity(&self, leaf: u32) -> usize
         requires { IsFunctionLeaf self.now leaf }
-        ensures { LeafMeets self.now leaf (λ l. result ≡ length (arguments_of l)) }
+        ensures { LeafMeets self.now leaf (λ l. result ≡ length (leaf_arguments l)) }
     {
         self.function(leaf).arguments.len()
     }
@@ -67,8 +67,8 @@ impl Symbols {
     /// The sort of the argument at place `i`, from 0, of a function.
     pub fn arg_sort(&self, leaf: u32, i: usize) -> Sort
         requires function { IsFunctionLeaf self.now leaf }
-        requires below_arity { LeafMeets self.now leaf (λ l. i < length (arguments_of l)) }
-        ensures { LeafMeets self.now leaf (λ l. slice_get (arguments_of l) i ≡ Some result) }
+        requires below_arity { LeafMeets self.now leaf (λ l. i < length (leaf_arguments l)) }
+        ensures { LeafMeets self.now leaf (λ l. slice_get (leaf_arguments l) i ≡ Some result) }
     {
         self.function(leaf).arguments[i]
     }
@@ -91,7 +91,7 @@ impl Symbols {
     // The function that a leaf stands for.
     fn function(&self, leaf: u32) -> &Function
         requires { IsFunctionLeaf self.now leaf }
-        ensures { LeafMeets self.now leaf (λ l. (arguments_of l ≡ result.now.arguments.items)
+        ensures { LeafMeets self.now leaf (λ l. (leaf_arguments l ≡ result.now.arguments.items)
             × (target_of l ≡ Some result.now.target)) }
     {
         match self.leaves.as_slice()[(leaf - FIRST_LEAVES) as usize] {

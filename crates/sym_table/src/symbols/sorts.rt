@@ -1,7 +1,7 @@
 //! The declared sorts, which have numbers and a name space of their own.
 ghost use Rattle.std.specs.Prelude.{◌≡◌, ◌<◌, ◌^◌, ◌↔◌, ◌⊎◌, length, IsNone, IfSome, IfOk, OnErr, IsErrOf};
 ghost use Rattle.sym_table.specs.Words.{IsBuiltIn};
-ghost use Rattle.sym_table.specs.Table.{IsSort, IsSortName, IsDeclaredSort, Keeps, with_sort};
+ghost use Rattle.sym_table.specs.Table.{IsSort, IsSortName, IsDeclaredSort, Keeps, with_sort_name};
 
 use super::Symbols;
 use crate::faults::NameFault;
@@ -16,7 +16,7 @@ impl Symbols {
     pub fn declare_sort(&mut self, name: &[u8]) -> Result<u32, NameFault>
         requires { length self.old.sorts < 2 ^ 30 }
         ensures declared { IfOk result (λ sort. (sort ≡ length self.old.sorts)
-            × (self.new ≡ with_sort self.old name.now)) }
+            × (self.new ≡ with_sort_name self.old name.now)) }
         ensures repeated { IsErrOf result NameFault.Repeated ↔ (IsBuiltIn name.now ⊎ IsSortName self.old name.now) }
         ensures refused { OnErr result (self.new ≡ self.old) }
         ensures keeps { Keeps self.old self.new }

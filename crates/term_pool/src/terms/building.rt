@@ -7,7 +7,7 @@ ghost use Rattle.sym_table.specs.Table.{Table};
 ghost use Rattle.term_model.specs.Terms.{Term, Bindings, let_in};
 ghost use Rattle.term_pool.specs.Trees.{app_tree, let_term_tree};
 ghost use Rattle.term_pool.specs.Views.{RefersTo, ReferToAll, KnowsAll, KeepsTerms};
-ghost use Rattle.term_pool.specs.Building.{IsApplication, AreBindings, Builds, LacksRoom};
+ghost use Rattle.term_pool.specs.Building.{IsAppliedLeaf, AreBindings, Builds, LacksRoom};
 
 use super::Terms;
 use crate::build;
@@ -21,7 +21,7 @@ impl<'a> Terms<'a> {
     pub fn app(&mut self, head: u32, args: &[Ref]) -> Result<Ref, PoolFull>
         requires head { head < 2 ^ 30 }
         requires args { All (IsKnown self.old.pass) args.now }
-        ensures term { IfOk result (λ r. (s : Table) (ts : List Term) (t : Term) → ReferToAll s self.old args.now ts → IsApplication s head ts t → RefersTo s self.new r t) }
+        ensures term { IfOk result (λ r. (s : Table) (ts : List Term) (t : Term) → ReferToAll s self.old args.now ts → IsAppliedLeaf s head ts t → RefersTo s self.new r t) }
 
         // It places only cells of its answer's tree, and is refused for want of room for one.
         ensures built { IfOk result (λ r. (ts : List Tree) → KnowsAll self.old.pass args.now ts → Builds self.old.pass self.new.pass r (app_tree head ts)) }

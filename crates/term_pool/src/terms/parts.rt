@@ -4,7 +4,7 @@ ghost use Rattle.std.specs.Prelude.{◌≡◌, ℕ, ◌<◌, List, All, length, 
 ghost use Rattle.pair_pool.specs.Views.{IsKnown, IsUnchanged};
 ghost use Rattle.sym_table.specs.Table.{Table, IsTable};
 ghost use Rattle.term_model.specs.Terms.{Var, Term, Bindings, variable, let_in};
-ghost use Rattle.term_pool.specs.Building.{IsApplication, AreBindings};
+ghost use Rattle.term_pool.specs.Building.{IsAppliedLeaf, AreBindings};
 ghost use Rattle.term_pool.specs.Reading.{arguments_of, IsLet, IsLetTerm};
 ghost use Rattle.term_pool.specs.Views.{RefersTo, ReferToAll, KeepsTerms};
 
@@ -18,7 +18,7 @@ impl<'a> Terms<'a> {
     /// cell.
     pub fn head(&mut self, r: Ref) -> Option<u32>
         requires { IsKnown self.old.pass r }
-        ensures application { IfSome result (λ k. (s : Table) (t : Term) → IsTable s → RefersTo s self.old r t → IsApplication s k (arguments_of t) t) }
+        ensures application { IfSome result (λ k. (s : Table) (t : Term) → IsTable s → RefersTo s self.old r t → IsAppliedLeaf s k (arguments_of t) t) }
         ensures variable { IfSome result (λ k. (s : Table) (x : Var) → RefersTo s self.old r (variable x) → k ≡ r) }
         ensures let_term { IfNone result ((s : Table) (t : Term) → IsTable s → RefersTo s self.old r t → IsLet t) }
         ensures keeps { KeepsTerms self.old self.new }

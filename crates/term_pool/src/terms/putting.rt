@@ -3,7 +3,7 @@
 ghost use Rattle.std.specs.Prelude.{◌≡◌, ℕ, IfOk, IfErr};
 ghost use Rattle.pair_pool.specs.Trees.{Tree};
 ghost use Rattle.pair_pool.specs.Views.{IsKnown, Knows};
-ghost use Rattle.term_pool.specs.Putting.{Piece, put, IsImage, AreImages, HasImages, PlacesImage, LacksRoomForImage};
+ghost use Rattle.term_pool.specs.Putting.{Piece, put, IsImageOfPiece, ArePiecesOfLeaves, HasPieceImages, PlacesPiece, LacksRoomForPiece};
 ghost use Rattle.term_pool.specs.Views.{KeepsTerms};
 ghost use Rattle.term_pool.specs.declared.stop.TermStop.TheVariants as TermStop;
 
@@ -28,12 +28,12 @@ impl<'a> Terms<'a> {
         r: Ref,
     ) -> Result<Image, TermStop>
         requires known { IsKnown self.old.pass r }
-        requires images { HasImages self.old.pass images.now }
-        ensures image { IfOk result (λ d. (f : ℕ → Piece) (t : Tree) → AreImages self.old.pass images.now f → Knows self.old.pass r t → IsImage self.new.pass d (put f t)) }
+        requires images { HasPieceImages self.old.pass images.now }
+        ensures image { IfOk result (λ d. (f : ℕ → Piece) (t : Tree) → ArePiecesOfLeaves self.old.pass images.now f → Knows self.old.pass r t → IsImageOfPiece self.new.pass d (put f t)) }
 
         // It places only cells of its answer's tree, and is refused for want of room for one.
-        ensures placed { (f : ℕ → Piece) → AreImages self.old.pass images.now f → PlacesImage self.old.pass self.new.pass f r }
-        ensures full { IfErr result (λ e. e ≡ TermStop.PoolFull → (f : ℕ → Piece) → AreImages self.old.pass images.now f → LacksRoomForImage self.old.pass self.new.pass f r) }
+        ensures placed { (f : ℕ → Piece) → ArePiecesOfLeaves self.old.pass images.now f → PlacesPiece self.old.pass self.new.pass f r }
+        ensures full { IfErr result (λ e. e ≡ TermStop.PoolFull → (f : ℕ → Piece) → ArePiecesOfLeaves self.old.pass images.now f → LacksRoomForPiece self.old.pass self.new.pass f r) }
         ensures keeps { KeepsTerms self.old self.new }
     {
         put(alloc, self.pool, &mut self.pass, images, r)

@@ -1,5 +1,5 @@
 use Rattle.std.proofs.Common.{length}
-use Rattle.pair_pool.specs.Words.{word_of, probe_start}
+use Rattle.pair_pool.specs.Words.{cell_word, probe_start}
 use Rattle.pair_pool.specs.Writes.{IsStopAt}
 use Rattle.pair_pool.proofs.TableLemmas.{IsTable-set, not_there}
 use Rattle.pair_pool.proofs.table.insert.Goals as goal
@@ -8,7 +8,7 @@ use Rattle.pair_pool.proofs.table.insert.Goals as goal
 stop :
     (c : goal.After-words-1) →
     IsStopAt c.args.words.now.items (probe_start (length c.args.words.now.items) c.args.first c.args.second)
-    (word_of c.args.first c.args.second) c.in-Free.place 0
+    (cell_word c.args.first c.args.second) c.in-Free.place 0
 stop c =
     rw (c.requires.size, ← c.start_of.ensures, ← c.word_of-wanted.ensures, ← c.deref.ensures.value) c.in-Free.ensures
 

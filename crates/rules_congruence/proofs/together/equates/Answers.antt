@@ -1,6 +1,6 @@
 use Rattle.std.proofs.Common.{◌↔◌, ◌∷◌, [], List, IsTrue}
 use Rattle.rule_model.specs.Congruence.{Equates, AreCongruent}
-use Rattle.rule_model.specs.Clausal.{itself}
+use Rattle.rule_model.specs.Clausal.{as_it_stands}
 use Rattle.term_model.specs.Terms.{Term}
 use Rattle.term_pool.specs.Views.{RefersTo}
 use Rattle.rules_congruence.specs.Sides.{IsGiven}
@@ -28,8 +28,8 @@ returns-clause-equates c =
 
 pub are_congruent-requires-clause-left : goal.are_congruent-requires-clause-left
 are_congruent-requires-clause-left c =
-    rw c.sides_of.ensures.same (left_is_term c.args.symbols.now c.args.terms.now itself c.args.literal c.in-Some.sides c.requires c.in-Some.ensures.sides)
+    rw c.sides_of.ensures.same (left_is_term c.args.symbols.now c.args.terms.now as_it_stands c.args.literal c.in-Some.sides c.requires c.in-Some.ensures.sides)
 
 pub are_congruent-requires-clause-right : goal.are_congruent-requires-clause-right
 are_congruent-requires-clause-right c =
-    rw c.sides_of.ensures.same (right_is_term c.args.symbols.now c.args.terms.now itself c.args.literal c.in-Some.sides c.requires c.in-Some.ensures.sides)
+    rw c.sides_of.ensures.same (right_is_term c.args.symbols.now c.args.terms.now as_it_stands c.args.literal c.in-Some.sides c.requires c.in-Some.ensures.sides)

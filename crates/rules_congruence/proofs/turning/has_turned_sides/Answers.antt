@@ -1,4 +1,4 @@
-use Rattle.rule_model.specs.Clausal.{itself}
+use Rattle.rule_model.specs.Clausal.{as_it_stands}
 use Rattle.rules_congruence.proofs.PartLemmas.{false_is, left_is_term, right_is_term}
 use Rattle.rules_congruence.proofs.TurningLemmas.{turned_sides_by}
 use Rattle.rules_congruence.proofs.turning.has_turned_sides.Goals as goal
@@ -9,11 +9,11 @@ returns-in_default-clause-turned c t refers =
 
 pub are_turned-requires-clause-old : goal.are_turned-requires-clause-old
 are_turned-requires-clause-old c =
-    rw c.sides_of.ensures.same (left_is_term c.args.symbols.now c.args.terms.now itself c.args.r c.in-Some.sides c.requires c.in-Some.ensures.sides)
+    rw c.sides_of.ensures.same (left_is_term c.args.symbols.now c.args.terms.now as_it_stands c.args.r c.in-Some.sides c.requires c.in-Some.ensures.sides)
 
 pub are_turned-requires-clause-new : goal.are_turned-requires-clause-new
 are_turned-requires-clause-new c =
-    rw c.sides_of.ensures.same (right_is_term c.args.symbols.now c.args.terms.now itself c.args.r c.in-Some.sides c.requires c.in-Some.ensures.sides)
+    rw c.sides_of.ensures.same (right_is_term c.args.symbols.now c.args.terms.now as_it_stands c.args.r c.in-Some.sides c.requires c.in-Some.ensures.sides)
 
 pub returns-clause-turned : goal.returns-clause-turned
 returns-clause-turned c t refers =

@@ -2,7 +2,7 @@ use Rattle.std.proofs.Common.{◌-◌, ℕ, List, length, ◌∙◌, ap, arith, 
 use Rattle.std.specs.Global.{Vec}
 use Rattle.rules_resolution.specs.Clause.{clauses_of}
 use Rattle.rules_resolution.specs.Literal.{Lit}
-use Rattle.rules_resolution.specs.Renaming.{renamed_from, renamed_in, joined}
+use Rattle.rules_resolution.specs.Renaming.{renamed_from, renamed_in, joined_clauses}
 use Rattle.rules_resolution.proofs.Renamings.{shown_before, none_before, length-renamed}
 use Rattle.rules_resolution.proofs.follow.follow_renamed.Goals as goal
 
@@ -15,7 +15,7 @@ follow_plainly-requires-clause-premises c =
 
 pub returns-clause-shown : goal.returns-clause-shown
 returns-clause-shown c =
-    let total = length-append (joined (clauses_of c.args.premises.now)) c.args.goal.now in
+    let total = length-append (joined_clauses (clauses_of c.args.premises.now)) c.args.goal.now in
     let count = c.requires.count in
     shown_before (clauses_of c.args.premises.now) c.args.goal.now c.in_ok-names.names.items (c.args.count - length c.args.goal.now) c.in_ok-names.ensures (omega arith)
     (clauses_of c.deref-3.result.now) c.deref-4.result.now
@@ -25,7 +25,7 @@ returns-clause-shown c =
 
 pub returns-clause-none : goal.returns-clause-none
 returns-clause-none c =
-    let total = length-append (joined (clauses_of c.args.premises.now)) c.args.goal.now in
+    let total = length-append (joined_clauses (clauses_of c.args.premises.now)) c.args.goal.now in
     let count = c.requires.count in
     none_before (clauses_of c.args.premises.now) c.args.goal.now c.in_ok-names.names.items (c.args.count - length c.args.goal.now) c.in_ok-names.ensures (omega arith)
     (clauses_of c.deref-3.result.now) c.deref-4.result.now

@@ -2,14 +2,14 @@ use Rattle.std.proofs.Common.{length, ap, arith, length-append}
 use Rattle.std.specs.Global.{Vec}
 use Rattle.rules_resolution.specs.Clause.{clauses_of}
 use Rattle.rules_resolution.specs.Literal.{Lit}
-use Rattle.rules_resolution.specs.Renaming.{joined}
+use Rattle.rules_resolution.specs.Renaming.{joined_clauses}
 use Rattle.rules_resolution.proofs.Keys.{joined-le, keys_joined, joined_length, keys_all}
 use Rattle.rules_resolution.proofs.naming.keys_of.Goals as goal
 
 pub add_keys-requires : goal.add_keys-requires
 add_keys-requires c =
     let le = joined-le c.args.premises.now c.loop-clause.clause-index c.clause-item.result c.loop-clause-test.true in
-    let total = length-append (joined (clauses_of c.args.premises.now)) c.args.goal.now in
+    let total = length-append (joined_clauses (clauses_of c.args.premises.now)) c.args.goal.now in
     let here = ap length c.as_slice.ensures.value in
     let there = ap (λ (v : Vec Lit). length v.items) c.clause-item.is in
     let from = c.loop-clause.invariant.1 in
@@ -19,7 +19,7 @@ add_keys-requires c =
 pub overflow_cast-from : goal.overflow_cast-from
 overflow_cast-from c =
     let le = joined-le c.args.premises.now c.loop-clause.clause-index c.clause-item.result c.loop-clause-test.true in
-    let total = length-append (joined (clauses_of c.args.premises.now)) c.args.goal.now in
+    let total = length-append (joined_clauses (clauses_of c.args.premises.now)) c.args.goal.now in
     let here = ap length c.as_slice.ensures.value in
     let there = ap (λ (v : Vec Lit). length v.items) c.clause-item.is in
     let few = c.requires.few in
@@ -30,7 +30,7 @@ overflow_cast-from c =
 pub overflow_add-from : goal.overflow_add-from
 overflow_add-from c =
     let le = joined-le c.args.premises.now c.loop-clause.clause-index c.clause-item.result c.loop-clause-test.true in
-    let total = length-append (joined (clauses_of c.args.premises.now)) c.args.goal.now in
+    let total = length-append (joined_clauses (clauses_of c.args.premises.now)) c.args.goal.now in
     let here = ap length c.as_slice.ensures.value in
     let there = ap (λ (v : Vec Lit). length v.items) c.clause-item.is in
     let few = c.requires.few in

@@ -3,7 +3,7 @@ use Rattle.std.specs.Global.{Vec}
 use Rattle.std.proofs.lemmas.List.{take_all}
 use Rattle.rules_resolution.specs.Clause.{clauses_of}
 use Rattle.rules_resolution.specs.Literal.{Lit}
-use Rattle.rules_resolution.specs.Renaming.{joined}
+use Rattle.rules_resolution.specs.Renaming.{joined_clauses}
 use Rattle.rules_resolution.proofs.Keys.{joined_length}
 use Rattle.rules_resolution.proofs.renaming.literal_count.Goals as goal
 
@@ -20,7 +20,7 @@ loop-clause-preserved c =
 
 pub returns : goal.returns
 returns c =
-    let total = length-append (joined (clauses_of c.args.premises.now)) c.args.goal.now in
-    let all = ap (λ (vs : List (Vec Lit)). length (joined (clauses_of vs))) (take_all c.loop-clause.clause-index c.args.premises.now (omega arith)) in
+    let total = length-append (joined_clauses (clauses_of c.args.premises.now)) c.args.goal.now in
+    let all = ap (λ (vs : List (Vec Lit)). length (joined_clauses (clauses_of vs))) (take_all c.loop-clause.clause-index c.args.premises.now (omega arith)) in
     let counted = c.loop-clause.invariant.0 in
     omega arith

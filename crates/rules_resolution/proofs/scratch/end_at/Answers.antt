@@ -1,7 +1,7 @@
 use Rattle.std.proofs.Common.{◌≡◌, ◌∙◌}
 use Rattle.term_pool.specs.Views.{RefersTo}
 use Rattle.rule_model.specs.Reading.{clause_at, premises_at}
-use Rattle.rule_model.specs.Renaming.{IsOneToOne}
+use Rattle.rule_model.specs.Renaming.{KeepsAtomsApart}
 use Rattle.rules_resolution.proofs.TermAnswers.{ends_of_terms}
 use Rattle.rules_resolution.proofs.TermLiterals.{are_terms, short_clauses}
 use Rattle.rules_resolution.proofs.scratch.end_at.Goals as goal
@@ -19,7 +19,7 @@ decide-requires-clause-literals c =
 pub returns-clause-end : goal.returns-clause-end
 returns-clause-end c =
     let same : c.load_clause.new.terms ≡ c.args.terms.now = c.in_ok-load_clause.ensures.same ∙ c.in_ok-count.ensures.same in
-    let one : IsOneToOne (RefersTo c.args.symbols.now c.args.terms.now) = rw same at (c.equal_exactly_where_terms_are.ensures c.args.symbols.now c.count-leaves.ensures.table) in
+    let one : KeepsAtomsApart (RefersTo c.args.symbols.now c.args.terms.now) = rw same at (c.equal_exactly_where_terms_are.ensures c.args.symbols.now c.count-leaves.ensures.table) in
     ends_of_terms c.args.symbols.now c.args.terms.now one c.args.proof.now c.args.i
     (λ p j stands. c.terms_correspond.ensures.clause c.args.symbols.now c.args.terms.now c.args.proof.now p j stands)
     (λ p stands. c.commands_correspond.ensures.premises c.args.symbols.now c.args.terms.now c.args.proof.now p c.args.i stands)

@@ -3,7 +3,7 @@ use Rattle.std.proofs.lemmas.List.{drop_more}
 use Rattle.term_model.specs.Flips.{equality}
 use Rattle.term_model.specs.Terms.{Var, Term}
 use Rattle.rule_model.specs.Congruence.{AreSides}
-use Rattle.rule_model.specs.Proofs.{Items}
+use Rattle.rule_model.specs.Proofs.{ProofItems}
 use Rattle.rule_model.specs.Reading.{clause_at}
 use Rattle.rules_subproof.specs.Lets.{clauses_at}
 use Rattle.rules_subproof.proofs.Linking.{drop_past}
@@ -14,7 +14,7 @@ not_true : IsTrue false → ⊥
 not_true e = cc
 
 -- what is left begins with the premise
-from_here : (of : Items Var Term) (js : List ℕ) (k : ℕ) (t u : Term) (goal : Type 0) → k < length js → AreSides (clauses_at of (drop k js)) t u ↔ goal → AreSides (clause_at of (get_or js k 0) ∷ clauses_at of (drop (k + 1) js)) t u ↔ goal
+from_here : (of : ProofItems Var Term) (js : List ℕ) (k : ℕ) (t u : Term) (goal : Type 0) → k < length js → AreSides (clauses_at of (drop k js)) t u ↔ goal → AreSides (clause_at of (get_or js k 0) ∷ clauses_at of (drop (k + 1) js)) t u ↔ goal
 from_here of js k t u goal below h = subst (λ ks. AreSides (clauses_at of ks) t u ↔ goal) (drop_more js k 0 below) h
 
 pub returns-then-equates-clause-sides : goal.returns-then-equates-clause-sides

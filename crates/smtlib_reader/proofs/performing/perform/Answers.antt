@@ -1,6 +1,6 @@
 use Rattle.std.proofs.Common.{subst}
 use Rattle.sexpr.specs.Source.{source}
-use Rattle.smtlib_reader.specs.CommandShapes.{SaysCommand}
+use Rattle.smtlib_reader.specs.CommandShapes.{SaysScriptCommand}
 use Rattle.smtlib_reader.specs.declared.commands.Command.{Command}
 use Rattle.smtlib_reader.proofs.CommandSteps.{without_effect_performed, checked_performed}
 use Rattle.smtlib_reader.proofs.performing.perform.Goals as goal
@@ -13,15 +13,15 @@ returns-in-WithoutEffect-clause-performs c =
 pub returns-in-SetLogic-clause-performs : goal.returns-in-SetLogic-clause-performs
 returns-in-SetLogic-clause-performs c =
     λ d sc says is.
-    c.set_logic.ensures.performs d sc (subst (λ (x : Command). SaysCommand (source c.args.text.now) c.args.nodes.now x d) c.in-SetLogic.is says) is
+    c.set_logic.ensures.performs d sc (subst (λ (x : Command). SaysScriptCommand (source c.args.text.now) c.args.nodes.now x d) c.in-SetLogic.is says) is
 
 pub returns-in-Assert-clause-performs : goal.returns-in-Assert-clause-performs
 returns-in-Assert-clause-performs c =
     λ d sc says is.
-    c.assert_term.ensures.performs d sc (subst (λ (x : Command). SaysCommand (source c.args.text.now) c.args.nodes.now x d) c.in-Assert.is says) is
+    c.assert_term.ensures.performs d sc (subst (λ (x : Command). SaysScriptCommand (source c.args.text.now) c.args.nodes.now x d) c.in-Assert.is says) is
 
 pub returns-in-CheckSat-clause-performs : goal.returns-in-CheckSat-clause-performs
 returns-in-CheckSat-clause-performs c =
     λ d sc says is.
     checked_performed c.args.symbols.now c.args.terms.now c.args.session.now c.args.session.now.reader.replaces_lets d sc
-    (subst (λ (x : Command). SaysCommand (source c.args.text.now) c.args.nodes.now x d) c.in-CheckSat.is says) is
+    (subst (λ (x : Command). SaysScriptCommand (source c.args.text.now) c.args.nodes.now x d) c.in-CheckSat.is says) is

@@ -3,7 +3,7 @@ use Rattle.pair_pool.specs.Trees.{Tree}
 use Rattle.term_model.specs.Terms.{Term}
 use Rattle.term_pool.specs.Building.{PlacesOnlyIn}
 use Rattle.term_pool.specs.Views.{ReferToAll, KeepsTerms}
-use Rattle.term_expansion.specs.Expanding.{SaysAll, HasParts, replaced_each, AreDone}
+use Rattle.term_expansion.specs.Expanding.{SaysAll, HasPartTerms, replaced_each, AreDone}
 use Rattle.term_expansion.specs.Needs.{AreNeeds}
 use Rattle.rule_model.specs.Replacement.{Replacement}
 use Rattle.term_expansion.proofs.expanding.+expanding.Given as goal
@@ -31,4 +31,4 @@ invariant-expand_all-terms l =
     × AreNeeds l.symbols l.terms l.needs
     × AreDone l.symbols l.terms l.done
     × ((ts : List Term) (q : Replacement) → ReferToAll l.symbols l.fn.terms l.list ts → SaysAll l.symbols l.fn.terms l.fn.assignments q ts → ReferToAll l.symbols l.terms l.all.items (take l.r-index (replaced_each q ts)))
-    × ((ts : List Term) (q : Replacement) (whole : Tree) → ReferToAll l.symbols l.fn.terms l.list ts → SaysAll l.symbols l.fn.terms l.fn.assignments q ts → HasParts l.symbols whole (replaced_each q ts) → PlacesOnlyIn l.fn.terms.pass l.terms.pass whole)
+    × ((ts : List Term) (q : Replacement) (whole : Tree) → ReferToAll l.symbols l.fn.terms l.list ts → SaysAll l.symbols l.fn.terms l.fn.assignments q ts → HasPartTerms l.symbols whole (replaced_each q ts) → PlacesOnlyIn l.fn.terms.pass l.terms.pass whole)

@@ -1,5 +1,5 @@
 use Rattle.std.proofs.Common.{◌∙◌, sym, ap, List, ℕ, length, get_or, take_all, subst}
-use Rattle.term_expansion.specs.Expanding.{IsGiven}
+use Rattle.term_expansion.specs.Expanding.{AreValuesGiven}
 use Rattle.term_expansion.proofs.KeyLemmas.{given-start, found-next, missed-next, one_more_each}
 use Rattle.term_expansion.proofs.expanding.given.Goals.{in-Some+in_ok-push+in_ok-push-2, in_default}
 use Rattle.term_expansion.proofs.expanding.given.Goals as goal
@@ -26,7 +26,7 @@ leaves-preserved c =
 
 pub returns-clause-given : goal.returns-clause-given
 returns-clause-given c = λ ks rs h.
-    subst (λ (ls : List ℕ). IsGiven ls ks rs c.leaves.given.variables.items c.leaves.given.values.items) (take_all c.leaves.k-index c.args.leaves.now c.leaves-test.false) (c.leaves.invariant.0 ks rs h)
+    subst (λ (ls : List ℕ). AreValuesGiven ls ks rs c.leaves.given.variables.items c.leaves.given.values.items) (take_all c.leaves.k-index c.args.leaves.now c.leaves-test.false) (c.leaves.invariant.0 ks rs h)
 
 pub returns-clause-one_each : goal.returns-clause-one_each
 returns-clause-one_each c = c.leaves.invariant.1

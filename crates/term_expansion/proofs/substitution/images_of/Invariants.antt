@@ -1,7 +1,7 @@
 use Rattle.std.proofs.Common.{◌≤◌, length, drop}
 use Rattle.sym_table.specs.Table.{Table, IsTable}
 use Rattle.term_pool.specs.Views.{TermsView}
-use Rattle.term_expansion.specs.Images.{ArePutFor}
+use Rattle.term_expansion.specs.PutFor.{ArePutFor}
 use Rattle.rule_model.specs.Replacement.{Replacement}
 use Rattle.term_expansion.specs.Values.{IsReplacement}
 use Rattle.term_expansion.proofs.substitution.images_of.Given as goal

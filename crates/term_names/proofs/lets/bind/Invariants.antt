@@ -1,6 +1,6 @@
 use Rattle.std.proofs.Common.{◌≡◌, ◌≤◌, ◌+◌, List, length, drop, map, if◌then◌else◌, ◌++◌}
 use Rattle.term_pool.specs.Views.{TermsView}
-use Rattle.term_names.specs.InScope.{IsScope, AreBound}
+use Rattle.term_names.specs.InScope.{IsScope, AreValuesBound}
 use Rattle.problem_text.specs.Names.{Bound, itself}
 use Rattle.term_names.specs.Scope.{Scoped}
 use Rattle.term_names.proofs.lets.bind.Given as goal
@@ -8,7 +8,7 @@ use Rattle.term_names.proofs.lets.bind.Given as goal
 abbrev pub invariant-variables : goal.invariant-variables
 invariant-variables l =
     (l.at ≤ length l.leaves)
-    × ((v : TermsView) (bs ps : List Bound) → AreBound l.symbols v (drop l.at l.leaves) (drop (l.from + l.at) l.values) bs → IsScope l.symbols v l.fn.scope ps → IsScope l.symbols v l.scope ((if l.replaces_lets then bs else map (λ b. itself b.variable) bs) ++ ps))
+    × ((v : TermsView) (bs ps : List Bound) → AreValuesBound l.symbols v (drop l.at l.leaves) (drop (l.from + l.at) l.values) bs → IsScope l.symbols v l.fn.scope ps → IsScope l.symbols v l.scope ((if l.replaces_lets then bs else map (λ b. itself b.variable) bs) ++ ps))
     × ((inner : List Scoped) × (l.scope ≡ inner ++ l.fn.scope) × (length inner + l.at ≡ length l.leaves))
 
 abbrev pub decreases-variables : goal.decreases-variables

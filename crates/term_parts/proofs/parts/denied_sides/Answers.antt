@@ -2,7 +2,7 @@ use Rattle.std.proofs.Common.{◌≡◌, ◌≢◌}
 use Rattle.term_model.specs.Flips.{equality}
 use Rattle.term_model.specs.Terms.{Term, not_of}
 use Rattle.term_pool.specs.Views.{RefersTo}
-use Rattle.rule_model.specs.Clausal.{itself}
+use Rattle.rule_model.specs.Clausal.{as_it_stands}
 use Rattle.term_parts.specs.Parts.{AreSidesOf}
 use Rattle.term_parts.proofs.Options.{if_some, if_none}
 use Rattle.term_parts.proofs.PartLemmas.{under_is_term, denied_are, not_denied}
@@ -17,7 +17,7 @@ sides_of-requires c =
 
 pub returns-clause-sides : goal.returns-clause-sides
 returns-clause-sides c =
-    if_some (λ p. (t : Term) → RefersTo c.args.symbols.now c.args.terms.now c.in-Some.inner t → AreSidesOf c.args.symbols.now c.args.terms.now itself p t)
+    if_some (λ p. (t : Term) → RefersTo c.args.symbols.now c.args.terms.now c.in-Some.inner t → AreSidesOf c.args.symbols.now c.args.terms.now as_it_stands p t)
     (λ p. (t : Term) → RefersTo c.args.symbols.now c.args.terms.now c.args.r t → AreSidesOf c.args.symbols.now c.args.terms.now not_of p t)
     c.sides_of.result
     (λ p sides t refers. denied_are c.args.symbols.now c.args.terms.now c.in-Some.inner p t (c.in-Some.ensures.under t refers) sides)

@@ -1,5 +1,5 @@
 use Rattle.std.proofs.Common.{◌<◌, ◌≤◌, ◌^◌, arith, refl, sym, ap, ◌∙◌}
-use Rattle.term_pool.specs.Heights.{heights_of}
+use Rattle.term_pool.specs.HeightTables.{heights_of}
 use Rattle.term_pool.proofs.HeightLemmas.{walk_start, walk_here, walk_memo, walk_unmet, walk_down, walk_up, walk_end, none_left}
 use Rattle.term_pool.proofs.ReadingLemmas.{reference_cell, leaf_of}
 use Rattle.term_pool.proofs.heights.walk.Goals as goal

@@ -4,7 +4,7 @@ use Rattle.std.specs.Int.{w128}
 use Rattle.std.proofs.lemmas.Result.{err_from_is_err_and}
 use Rattle.sexpr.specs.Source.{source}
 use Rattle.term_reader.specs.Entering.{IsNumber}
-use Rattle.term_reader.specs.Reading.{node_of, bound_of, effort}
+use Rattle.term_reader.specs.Credits.{node_of, bound_of, effort}
 use Rattle.term_reader.specs.declared.layers.Layer.{Layer}
 use Rattle.term_reader.specs.declared.reader.Reader.{Reader}
 use Rattle.term_reader.specs.declared.reader.Turn.{Turn}

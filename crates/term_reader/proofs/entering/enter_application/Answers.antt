@@ -1,6 +1,6 @@
 use Rattle.std.proofs.Common.{◌≤◌, ◌<◌, arith, length}
 use Rattle.sexpr.specs.Source.{source}
-use Rattle.term_reader.specs.Reading.{node_of, bound_of, effort}
+use Rattle.term_reader.specs.Credits.{node_of, bound_of, effort}
 use Rattle.term_reader.specs.declared.reader.Reader.{Reader}
 use Rattle.term_reader.specs.declared.reader.Turn.{Turn}
 use Rattle.term_reader.proofs.AtomLemmas.{name_begins}

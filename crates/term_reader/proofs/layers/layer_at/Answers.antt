@@ -2,7 +2,7 @@ use Rattle.std.proofs.Common.{ℕ, sym, subst}
 use Rattle.sexpr.specs.Items.{place_of}
 use Rattle.sexpr.specs.Source.{source}
 use Rattle.problem_text.specs.Forms.{Form, form_of, symbol_form}
-use Rattle.term_reader.specs.Shapes.{IsSymbolLayer}
+use Rattle.term_reader.specs.ShapeFaults.{IsSymbolLayer}
 use Rattle.term_reader.proofs.LayerLemmas.{symbol_top, symbol_spelled}
 use Rattle.term_reader.proofs.layers.layer_at.Goals as goal
 

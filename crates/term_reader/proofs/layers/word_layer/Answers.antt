@@ -1,7 +1,7 @@
 use Rattle.std.proofs.Common.{◌≡◌, true, false, sym, ap, ◌∙◌, subst}
 use Rattle.sexpr.specs.Words.{word_kind}
 use Rattle.problem_text.specs.Forms.{Form, faulty}
-use Rattle.term_reader.specs.Shapes.{IsTokenLayer, is_numeral_kind, cause_of_kind}
+use Rattle.term_reader.specs.ShapeFaults.{IsTokenLayer, is_numeral_kind, cause_of_kind}
 use Rattle.term_reader.proofs.WordForms.{kind_fits}
 use Rattle.term_reader.proofs.layers.word_layer.Goals as goal
 

@@ -1,5 +1,5 @@
 use Rattle.sexpr.specs.Source.{source}
-use Rattle.term_reader.specs.Reading.{effort}
+use Rattle.term_reader.specs.Credits.{effort}
 use Rattle.term_reader.proofs.ReadingTurns.{IsUnderWay}
 use Rattle.term_reader.proofs.reading.read.Given as goal
 

@@ -1,6 +1,6 @@
 use Rattle.std.proofs.Common.{◌<◌, arith, [], subst, sym}
 use Rattle.sexpr.specs.Source.{source}
-use Rattle.problem_text.specs.Forms.{Binds}
+use Rattle.problem_text.specs.Forms.{LetBinds}
 use Rattle.term_reader.specs.Shapes.{IsFirstRepeat}
 use Rattle.term_reader.proofs.FormSteps.{binds_ordered}
 use Rattle.term_reader.proofs.RepeatLemmas.{none_repeated, pair_there, pairs_left, pairs_further, only_there, left_start, left_stop, left_on, left_end}
@@ -23,7 +23,7 @@ returns-then-next_pair-body-clause-place c =
     λ bs are.
     let s = source c.args.text.now in
     let only = only_there s c.args.nodes.now c.args.first c.args.body c.next_pair.result bs are c.if-first-body.false (c.next_pair.ensures s) c.if-next_pair-body.true in
-    subst (λ (v : Binds). IsFirstRepeat s c.args.nodes.now c.args.first [] v c.only_pair.result c.args.body) (sym only.split) (c.only_pair.ensures only.name only.first only.there)
+    subst (λ (v : LetBinds). IsFirstRepeat s c.args.nodes.now c.args.first [] v c.only_pair.result c.args.body) (sym only.split) (c.only_pair.ensures only.name only.first only.there)
 
 pub pairs-init : goal.pairs-init
 pairs-init c = record {

@@ -1,13 +1,13 @@
 use Rattle.std.proofs.Common.{◌-◌}
 use Rattle.sexpr.specs.Source.{source}
-use Rattle.problem_text.specs.Forms.{Binds}
+use Rattle.problem_text.specs.Forms.{LetBinds}
 use Rattle.term_reader.specs.Layers.{AreBinds}
 use Rattle.term_reader.proofs.RepeatLemmas.{AreLeft}
 use Rattle.term_reader.proofs.repeats.first_repeat.Given as goal
 
 abbrev pub invariant-pairs : goal.invariant-pairs
 invariant-pairs l = record {
-  there : (bs : Binds) × AreBinds (source l.text) l.nodes l.k bs l.body;
+  there : (bs : LetBinds) × AreBinds (source l.text) l.nodes l.k bs l.body;
   left : AreLeft (source l.text) l.nodes l.first l.k l.body l.earlier.keys;
 }
 

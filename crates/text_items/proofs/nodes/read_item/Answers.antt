@@ -1,6 +1,6 @@
 -- By the open lists and the items still to come in them.
 use Rattle.std.proofs.Common.{subst}
-use Rattle.text_items.specs.Nodes.{IsAdded}
+use Rattle.text_items.specs.Adding.{IsAdded}
 use Rattle.text_items.proofs.ItemsRead.{first_opens, so_far_first, next_comes, so_far_next, item_there, rest_there}
 use Rattle.text_items.proofs.nodes.read_item.Goals as goal
 

@@ -1,5 +1,5 @@
 use Rattle.std.proofs.Common.{ap, ◌∙◌, Result, Ok, Err, OnErr}
-use Rattle.pair_pool.specs.Views.{HasCell, IsOf, Grows, AddsAtMost}
+use Rattle.pair_pool.specs.Views.{HasCell, IsPassOf, Grows, AddsAtMost}
 use Rattle.pair_pool.specs.Writes.{AddsWord}
 use Rattle.pair_pool.specs.OnlyPass.{only_pass, cells_of}
 use Rattle.pair_pool.proofs.PassLemmas.{known_as_reference, known_every_cell, listed_from_cell, cell_from_listed, adds_at_most, grows_from_cells, knows_cell, full_for_pass, not_full_for_pass, only_pass_tells_truth}
@@ -7,7 +7,7 @@ use Rattle.pair_pool.proofs.StateLemmas.{only_state_good, only_truth}
 use Rattle.pair_pool.proofs.pool.Pool.intern.Goals as goal
 
 pub insert-requires-clause-size : goal.insert-requires-clause-size
-unfolding IsOf
+unfolding IsPassOf
 insert-requires-clause-size c = rw (← c.pass.view_is, ← c.self.view_is) at c.requires.of_pool
 
 pub insert-requires-clause-first : goal.insert-requires-clause-first
@@ -95,5 +95,5 @@ pub returns-clause-not_full : goal.returns-clause-not_full
 returns-clause-not_full c = not_full_for_pass _ _ _ _ c.insert.ensures.table (adds c).cell
 
 pub returns-clause-of_pool : goal.returns-clause-of_pool
-unfolding IsOf
+unfolding IsPassOf
 returns-clause-of_pool c = c.insert.ensures.length ∙ (rw (← c.pass.view_is) at c.requires.of_pool)

@@ -1,7 +1,7 @@
 use Rattle.std.proofs.Common.{◌≡◌, ℕ, ◌^◌, ◌≤◌, [], arith}
 use Rattle.std.proofs.Math.Nat.{pow-le-pow_right}
 use Rattle.std.proofs.lemmas.List.{length-replicate}
-use Rattle.pair_pool.specs.Views.{IsOf}
+use Rattle.pair_pool.specs.Views.{IsPassOf}
 use Rattle.pair_pool.specs.OnlyPass.{cells_of, only_pass}
 use Rattle.pair_pool.proofs.TableLemmas.{IsTable-empty}
 use Rattle.pair_pool.proofs.PassLemmas.{cells_of-empty, knows_only_leaves}
@@ -18,7 +18,7 @@ empty : (c : goal.In_ok-words) → cells_of c.in_ok-words.words.items ≡ []
 empty c = rw c.in_ok-words.ensures (cells_of-empty (2 ^ c.args.bits))
 
 pub returns-clause-of_pool : goal.returns-clause-of_pool
-unfolding IsOf
+unfolding IsPassOf
 returns-clause-of_pool c = rw c.in_ok-words.ensures (length-replicate {A = ℕ} (2 ^ c.args.bits) 0)
 
 pub returns-clause-seen : goal.returns-clause-seen

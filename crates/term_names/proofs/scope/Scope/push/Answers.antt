@@ -3,20 +3,20 @@ use Rattle.std.proofs.Common.{◌≡◌, ◌∙◌, ◌+◌, ◌<◌, ◌++◌, 
 use Rattle.std.proofs.lemmas.List.{reverse-append, length-reverse, get_or_default}
 use Rattle.std.proofs.lemmas.Option.{slice_get_within}
 use Rattle.term_names.specs.declared.scope.Held.{Held}
-use Rattle.term_names.specs.Held.{IsLinked, scoped}
+use Rattle.term_names.specs.Held.{IsHeldLinked, scoped}
 use Rattle.term_names.proofs.HeldVariables.{IsLinked-numbered, IsLinked-push, scoped-numbered}
 use Rattle.term_names.proofs.scope.Scope.push.Goals as goal
 
 abbrev held : (c : goal.After-self-1) → Held
 held c = record { bound = c.args.bound; name = c.in_ok-name.name; outer = c.index-outer.result.now }
 
-grown : (c : goal.After-self-1) → IsLinked c.number_of.new.names c.number_of.new.innermost.items (reverse c.self.inside.held.items)
+grown : (c : goal.After-self-1) → IsHeldLinked c.number_of.new.names c.number_of.new.innermost.items (reverse c.self.inside.held.items)
 grown c = IsLinked-numbered _ _ _ _ _ _ _ c.in_ok-name.ensures.number c.self.invariant
 
 named_within : (c : goal.After-self-1) → c.in_ok-name.name < length c.number_of.new.names
 named_within c = slice_get_within _ _ _ c.in_ok-name.ensures.number.number
 
-linked : (c : goal.After-self-1) → IsLinked c.number_of.new.names (set c.number_of.new.innermost.items c.in_ok-name.name (length (reverse c.self.inside.held.items) + 1)) (held c ∷ reverse c.self.inside.held.items)
+linked : (c : goal.After-self-1) → IsHeldLinked c.number_of.new.names (set c.number_of.new.innermost.items c.in_ok-name.name (length (reverse c.self.inside.held.items) + 1)) (held c ∷ reverse c.self.inside.held.items)
 linked c =
     let below = named_within c in
     let one_each = (grown c).one_each in
@@ -35,8 +35,8 @@ counted c =
 
 pub invariant_of-self-2 : goal.invariant_of-self-2
 invariant_of-self-2 c =
-    subst (λ n. IsLinked c.number_of.new.names (set c.number_of.new.innermost.items c.in_ok-name.name n) (reverse c.push.new.self.items)) (sym (counted c))
-    (subst (IsLinked c.number_of.new.names (set c.number_of.new.innermost.items c.in_ok-name.name (length (reverse c.self.inside.held.items) + 1))) (sym (reversed c)) (linked c))
+    subst (λ n. IsHeldLinked c.number_of.new.names (set c.number_of.new.innermost.items c.in_ok-name.name n) (reverse c.push.new.self.items)) (sym (counted c))
+    (subst (IsHeldLinked c.number_of.new.names (set c.number_of.new.innermost.items c.in_ok-name.name (length (reverse c.self.inside.held.items) + 1))) (sym (reversed c)) (linked c))
 
 pub returns-clause-pushed : goal.returns-clause-pushed
 returns-clause-pushed c =

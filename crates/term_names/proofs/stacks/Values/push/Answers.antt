@@ -1,6 +1,6 @@
 -- Each part gets the value's part at its end.
 use Rattle.std.proofs.Common.{◌∙◌, ap, ◌++◌, [], ◌∷◌}
-use Rattle.term_names.specs.Stacks.{values_of, AreParts}
+use Rattle.term_names.specs.StackParts.{values_of, AreParts}
 use Rattle.term_names.proofs.ValueParts.{values_of-same, AreParts-own, AreParts-push}
 use Rattle.term_names.proofs.stacks.Values.push.Goals as goal
 

@@ -1,0 +1,21 @@
+-- Private. What is put in for variables, one by one.
+use Rattle.std.specs.Prelude.{◌≡◌, ◌≢◌, ℕ}
+use Rattle.sym_table.specs.Leaf.{Leaf}
+use Rattle.sym_table.specs.Table.{Table, IsLeaf}
+use Rattle.term_model.specs.Terms.{Var}
+use Rattle.term_pool.specs.Putting.{Piece, staying, CellImages, ArePiecesOfLeaves}
+use Rattle.term_pool.specs.StandsFor.{variable_leaf}
+use Rattle.term_pool.specs.Views.{TermsView}
+use Rattle.rule_model.specs.Replacement.{Replacement, replaced_by}
+use Rattle.term_expansion.specs.Images.{IsPieceOf}
+
+-- what the replacement puts in for leaves: something for variables, and other leaves stay
+pub record PutsFor (s : Table) (q : Replacement) (f : ℕ → Piece) : Type 0 where
+  pub variables : (k : ℕ) (x : Var) → IsLeaf s k (variable_leaf x) → IsPieceOf s (f k) (replaced_by q x)
+  pub others : (k : ℕ) (l : Leaf) → IsLeaf s k l → ((x : Var) → l ≢ variable_leaf x) → f k ≡ staying k
+
+-- the images are what the replacement puts in
+pub record ArePutFor (s : Table) (v : TermsView) (images : CellImages) (q : Replacement) : Type 0 where
+  pub pieces : ℕ → Piece
+  pub puts : PutsFor s q pieces
+  pub are : ArePiecesOfLeaves v.pass images pieces

@@ -1,0 +1,21 @@
+-- Private. How nodes are added to those of a text.
+use Rattle.std.specs.Prelude.{◌≡◌, ℕ, ◌+◌, ◌-◌, List, [], ◌∷◌, ◌++◌, length}
+use Rattle.sexpr.specs.declared.lexing.Token.{Token}
+use Rattle.sexpr.specs.declared.lexing.TokenKind.{TokenKind}
+use Rattle.sexpr.specs.declared.lexing.TokenKind.TheVariants.{Open, Close, Text, Quoted, Word}
+use Rattle.sexpr.specs.Items.{list}
+use Rattle.text_items.specs.declared.nodes.Node.{Node}
+use Rattle.text_items.specs.Nodes.{IsListClosed}
+
+-- The nodes with one more behind them.
+abbrev pub pushed : List Node → Token → ℕ → List Node
+pushed nodes t next = nodes ++ record { token = t; next = next } ∷ []
+
+-- The nodes after one token more of this kind. The opening bracket of the innermost open list is the last of the
+-- first `inner` nodes, and of the first `now` nodes afterwards: 0 where no list is open.
+abbrev pub IsAdded : List Node → ℕ → Token → TokenKind → List Node → ℕ → Type 0
+IsAdded nodes inner t Open after now = (after ≡ pushed nodes t inner) × (now ≡ length nodes + 1)
+IsAdded nodes inner t Close after now = IsListClosed nodes (inner - 1) (length nodes) after now
+IsAdded nodes inner t Text after now = (after ≡ pushed nodes t (length nodes + 1)) × (now ≡ inner)
+IsAdded nodes inner t Quoted after now = (after ≡ pushed nodes t (length nodes + 1)) × (now ≡ inner)
+IsAdded nodes inner t Word after now = (after ≡ pushed nodes t (length nodes + 1)) × (now ≡ inner)
