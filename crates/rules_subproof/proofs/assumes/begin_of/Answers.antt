@@ -9,5 +9,5 @@ halves-preserved c =
     let some = c.halves-test.true in (
       grind arith,
       inside_on c.args.proof.now c.args.end c.args.scope c.requires.closes _ (grind arith)
-      (let other = c.if-scope_of-scope.false in let is = c.scope_of.ensures in omega arith),
+          (let other = c.if-scope_of-scope.false in let is = c.scope_of.ensures in omega arith),
     )
