@@ -4,7 +4,7 @@ use Rattle.std.proofs.lemmas.Bool.{cases_lt}
 use Rattle.pair_pool.specs.Trees.{Tree, cell}
 use Rattle.pair_pool.specs.Views.{PassView, IsListed, IsPlaced, IsSeen, IsOneToOne, HasListsInOrder}
 use Rattle.sym_table.specs.Table.{Table, IsTable}
-use Rattle.smtlib_reader.specs.Making.{PlacesCellsOf, LacksCellOf, IsCellOf}
+use Rattle.smtlib_reader.specs.Making.{PlacesCellsOf, LacksCellOf, IsWantedCell}
 use Rattle.smtlib_reader.specs.ProblemViews.{IsCounted}
 use Rattle.carcara_cli.specs.Cells.{IsCellOfText, HasMoreCells}
 
@@ -20,7 +20,7 @@ module _ (s : Table) (old pass : PassView) (text : List ℕ) (replaces_lets : Bo
     (lacks : LacksCellOf s pass (IsCounted text replaces_lets)) where
   -- a cell that stands in the table is one of the text
   abbrev IsOfText : ℕ → ℕ → Type 0
-  IsOfText a b = IsCellOf s pass (IsCounted text replaces_lets) a b
+  IsOfText a b = IsWantedCell s pass (IsCounted text replaces_lets) a b
 
   none_before : (r a b : ℕ) → IsPlaced old r a b → ⊥
   none_before r a b p = let none : IsListed [] r a b = rw nothing at p in none_listed r a b none

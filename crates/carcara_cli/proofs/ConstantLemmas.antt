@@ -15,7 +15,7 @@ use Rattle.term_pool.specs.StandsFor.{function_leaf}
 use Rattle.term_pool.specs.Views.{TermsView}
 use Rattle.smtlib_reader.specs.Known.{KnownView, known_entry}
 use Rattle.smtlib_reader.specs.Scripts.{Script}
-use Rattle.smtlib_reader.specs.Standing.{IsScript, IsMeant, IsFunctionAt, IsNoFunction, function_in}
+use Rattle.smtlib_reader.specs.Standing.{IsScript, IsNameMeant, IsFunctionAt, IsNoFunction, function_in}
 use Rattle.carcara_cli.specs.Names.{Word, nth_word, MayDeclare}
 use Rattle.carcara_cli.specs.NamePlaces.{IsNoName, IsPlaceOf}
 use Rattle.carcara_cli.specs.Constants.{IsConstantLeaf, AreConstantsBelow}
@@ -55,16 +55,16 @@ module _ (s : Table) (v : TermsView) (known : KnownView) (sc : Script) (table : 
   -- a function of this name, or none, by the table and by the script
   function_or_none : (name : Word) → IsFunctionAt s sc name ⊎ IsNoFunction s sc name
   function_or_none name = by (known_entry known name) (is.names name) where
-    by : (o : Option _) → IsMeant s v known sc name o → IsFunctionAt s sc name ⊎ IsNoFunction s sc name
+    by : (o : Option _) → IsNameMeant s v known sc name o → IsFunctionAt s sc name ⊎ IsNoFunction s sc name
     by None m = elim m.1 [
       | inl at ↦ inl at
       | inr free ↦ inr free.no_function
     ]
     by (Some e) m = inr (record { table = t e m; script = n e m }) where
-      n : (e : _) → IsMeant s v known sc name (Some e) → function_in sc name ≡ None
+      n : (e : _) → IsNameMeant s v known sc name (Some e) → function_in sc name ≡ None
       n e m = grind arith
 
-      t : (e : _) → IsMeant s v known sc name (Some e) → IsFunctionName s name → ⊥
+      t : (e : _) → IsNameMeant s v known sc name (Some e) → IsFunctionName s name → ⊥
       t e m = grind arith
 
   -- a function by the table is one by the script
