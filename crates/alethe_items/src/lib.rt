@@ -5,7 +5,7 @@
 //!
 //! - `items`: going behind the answer and into the list, the next command, and what stands behind the list.
 //!
-//! What a contract sees: `specs/TextItems` (`HasItems`, which items stand from a place in the text on).
+//! What a contract sees: `specs/TextItems` (`HasCommandItems`, which items stand from a place in the text on).
 #![tactic(auto)]
 
 mod items;

@@ -41,11 +41,6 @@ unfolding coefficients_from
 read_fault read i rest refusal e =
     ap (λ (r : Result (Option Fraction) Refusal). behind_prefix read (result_then r (λ q. result_then (coefficients_from rest) (λ qs. Ok (then_rest q qs))))) e
 
-pub none_read : (r : Result (Option (List Fraction)) Refusal) → behind_prefix (Some []) r ≡ r
-none_read (Ok None) = refl
-none_read (Ok (Some qs)) = refl
-none_read (Err refusal) = refl
-
 pub all_read : (read : Option (List Fraction)) → behind_prefix read (coefficients_from no_items) ≡ Ok read
 unfolding coefficients_from
 all_read None = refl

@@ -64,6 +64,3 @@ joined whole den all rest before after e f g h =
 -- one of the parts is too wide
 pub none_num : (o : Option Pair) (a b : ℕ) → o ≡ None → 2 ^ 127 ≤ a → IsNarrowPair o (a, b)
 none_num o a b e h = subst (λ o. IsNarrowPair o (a, b)) (sym e) (inl h)
-
-pub none_den : (o : Option Pair) (a b : ℕ) → o ≡ None → 2 ^ 127 ≤ b → IsNarrowPair o (a, b)
-none_den o a b e h = subst (λ o. IsNarrowPair o (a, b)) (sym e) (inr h)

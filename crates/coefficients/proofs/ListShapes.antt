@@ -27,14 +27,6 @@ opposite_by (list p (item minus no_items)) = refl
 opposite_by (list p (item minus (item i no_items))) = refl
 opposite_by (list p (item minus (item i (item j rest)))) = refl
 
-short_among : (items : Items) → has_two items ≡ false → opposite_among items ≡ None
-short_among no_items e = refl
-short_among (item x no_items) e = refl
-short_among (item x (item y rest)) e = cc
-
-pub short_opposite : (i : Item) → has_two (items_of i) ≡ false → opposite_of i ≡ None
-short_opposite i e = opposite_by i ∙ short_among (items_of i) e
-
 module _ (s : List ℕ) (ns : List Node) (k : ℕ) (i : Item) (m : ℕ) (is : IsNode s ns k i m) (node : Node) (read : IsItemNode s i m node) where
   -- what stands in the item ends where the item ends
   pub inside : AreNodes s ns (k + 1) (items_of i) node.next
@@ -42,14 +34,6 @@ module _ (s : List ℕ) (ns : List Node) (k : ℕ) (i : Item) (m : ℕ) (is : Is
 
   pub items_inside : AreItemsFrom s ns (k + 1) node.next
   items_inside = (items_of i, inside)
-
-  -- there are more than two
-  pub long_opposite : (two : ℕ) (h : HasSecond s ns (k + 1) (items_of i) two node.next) (other : Node)
-      → ((j : Item) (n : ℕ) → IsNode s ns two j n → IsItemNode s j n other) → other.next ≢ node.next → opposite_of i ≡ None
-  long_opposite two h other tells differs =
-      let e = (tells h.two h.behind h.second_there).next in
-      let a = more_nodes s ns h.behind h.rest node.next h.rest_there (λ same. differs (e ∙ same)) in
-      opposite_by i ∙ ap opposite_among h.split ∙ ap (λ r. opposite_among (item h.one (item h.two r))) a.split
 
   two_among : (two : ℕ) (h : HasSecond s ns (k + 1) (items_of i) two node.next) (other : Node)
       → ((j : Item) (n : ℕ) → IsNode s ns two j n → IsItemNode s j n other) → other.next ≡ node.next
@@ -66,16 +50,6 @@ module _ (s : List ℕ) (ns : List Node) (k : ℕ) (i : Item) (m : ℕ) (is : Is
       → (b : Bool) → ((j : Item) (n : ℕ) → IsNode s ns (k + 1) j n → b ≡ is_symbol_of (codes "-") j) → b ≡ true → IsItemThere s ns (Some two) (opposite_of i)
   is_opposite two h other tells same b judged minus =
       (h.two, h.behind, two_among two h other tells same b judged ∙ ap (λ b. if b then Some h.two else None) minus, h.second_there)
-
-  -- or it is another
-  pub is_none : (two : ℕ) (h : HasSecond s ns (k + 1) (items_of i) two node.next) (other : Node)
-      → ((j : Item) (n : ℕ) → IsNode s ns two j n → IsItemNode s j n other) → other.next ≡ node.next
-      → (b : Bool) → ((j : Item) (n : ℕ) → IsNode s ns (k + 1) j n → b ≡ is_symbol_of (codes "-") j) → b ≡ false → opposite_of i ≡ None
-  is_none two h other tells same b judged no_ = two_among two h other tells same b judged ∙ ap (λ b. if b then Some h.two else None) no_
-
-  -- the first of two items
-  pub head_of : (two : ℕ) → HasSecond s ns (k + 1) (items_of i) two node.next → IsItemAt s ns (k + 1)
-  head_of two h = (h.one, two, h.first_there)
 
 -- The second item of some, and the third.
 module _ (s : List ℕ) (ns : List Node) (k : ℕ) (items : Items) (above m : ℕ) (h : HasSecond s ns k items above m) (node : Node)
@@ -97,15 +71,6 @@ module _ (s : List ℕ) (ns : List Node) (k : ℕ) (items : Items) (above m : �
       let a = more_nodes s ns h.behind h.rest m h.rest_there (λ e. differs (next_is ∙ e)) in
       (a.first, a.behind, subst (λ n. IsNode s ns n a.first a.behind) (sym next_is) a.here)
 
-  -- there are more than three
-  pub four_there : (differs : node.next ≢ m) (last : Node) → ((j : Item) (n : ℕ) → IsNode s ns node.next j n → IsItemNode s j n last) → last.next ≢ m → are_three items ≡ false
-  four_there differs last tells more =
-      let a = more_nodes s ns h.behind h.rest m h.rest_there (λ e. differs (next_is ∙ e)) in
-      let e = (tells a.first a.behind (subst (λ n. IsNode s ns n a.first a.behind) (sym next_is) a.here)).next in
-      let b = more_nodes s ns a.behind a.others m a.there (λ same. more (e ∙ same)) in
-      ap are_three h.split ∙ ap (λ r. are_three (item h.one (item h.two r))) a.split
-      ∙ ap (λ r. are_three (item h.one (item h.two (item a.first r)))) b.split
-
   -- there are three
   pub three_there : (differs : node.next ≢ m) (last : Node) → ((j : Item) (n : ℕ) → IsNode s ns node.next j n → IsItemNode s j n last) → last.next ≡ m → HasThree s ns k items above node.next m
   three_there differs last tells same =
@@ -122,8 +87,3 @@ module _ (s : List ℕ) (ns : List Node) (k : ℕ) (items : Items) (above m : �
         num_there = subst (λ n. IsNode s ns above h.two n) (sym next_is) h.second_there;
         den_there = subst (λ n. IsNode s ns node.next a.first n) (sym e ∙ same) there;
       }
-
-pub short_three : (items : Items) → has_two items ≡ false → are_three items ≡ false
-short_three no_items e = refl
-short_three (item x no_items) e = refl
-short_three (item x (item y rest)) e = cc

@@ -43,7 +43,7 @@ pub(crate) fn numbers_of(memo: &HashMap<Item, usize>, one: Item, other: Item) ->
     Both::Numbers(first, second)
 }
 
-/// RemembersItem the number of an item.
+/// Remembers the number of an item.
 pub(crate) fn note(
     memo: &mut HashMap<Item, usize>,
     item: &Item,

@@ -43,8 +43,8 @@ fn add(list: &mut Vec<Status>, status: Status) -> Result<(), Memory>
 /// step by a rule that leaves a hole is a Hole. A step by a rule that is judged here is Ok exactly where it meets the rule's
 /// condition, and else faulty. Any other rule is an unknown one, and its steps are holes where the flags say so.
 ///
-/// The proof's terms and the assertions are known to the pass, literals are terms of Bool, and no clause and no list of premises has 2^32 items. Refuses
-/// want of memory alone, and places no cell. It takes the time that the rules take.
+/// The proof's terms and the assertions are known to the pass, literals are terms of Bool, and no clause and no list of
+/// premises has 2^32 items. Refuses want of memory alone, and places no cell. It takes the time that the rules take.
 pub fn statuses(
     alloc: Global,
     proof: &Proof,

@@ -67,7 +67,7 @@ fn answer_at(
     let proof = subject.proof;
     let symbols = subject.symbols;
     match family {
-        Family::Resolution => { resolution.check(proof, i, Mode::Check, symbols, terms) }
+        Family::Resolution => resolution.check(proof, i, Mode::Check, symbols, terms),
         Family::Clausal => rules_clausal::check(alloc, proof, i, Mode::Check, symbols, terms),
         Family::Equality => rules_congruence::check(alloc, proof, i, Mode::Check, symbols, terms),
         Family::Closing => rules_subproof::check(alloc, proof, i, Mode::Check, symbols, terms),

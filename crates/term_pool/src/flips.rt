@@ -192,7 +192,7 @@ fn judge_terms(
     }
 }
 
-/// RemembersPair the answer for a pair.
+/// Remembers the answer for a pair.
 fn note(memo: &mut HashMap<Pair, bool>, pair: Pair, same: bool) -> Result<(), Memory>
     requires { answer_of memo.old pair ≡ None }
     ensures { OnOk result (RemembersPair memo.old memo.new pair same) }

@@ -69,7 +69,7 @@ fn look(images: &HashMap<u32, Image>, memo: &HashMap<u32, Image>, r: Ref) -> Opt
     memo.get(&r.number()).copied()
 }
 
-/// RemembersImage what a cell has become.
+/// Remembers what a cell has become.
 fn note(memo: &mut HashMap<u32, Image>, r: Ref, image: &Image) -> Result<(), Memory>
     requires { get nat_eq memo.old r ≡ None }
     ensures noted { OnOk result (RemembersImage memo.old memo.new r image.now) }
@@ -100,7 +100,7 @@ fn join(pool: &Pool, pass: &mut Pass, first: Image, second: Image) -> Result<Ima
     })
 }
 
-/// RemembersImage what a cell has become, where it is known what its parts have.
+/// Remembers what a cell has become, where it is known what its parts have.
 fn visit_cell(
     pool: &Pool,
     pass: &mut Pass,

@@ -1,4 +1,4 @@
-//! WholeReading a term from its top.
+//! Reading a term from its top.
 ghost use Rattle.std.specs.Prelude.{◌≡◌, ◌≤◌, ◌<◌, ◌^◌, ◌+◌, ◌-◌, length, IfOk, IfErr, OnErr};
 ghost use Rattle.sexpr.specs.Source.{source};
 ghost use Rattle.sym_table.specs.Table.{Table};

@@ -20,7 +20,7 @@ use term_names::faults::ReadFault;
 use term_pool::Terms;
 use text_items::nodes::Node;
 
-/// ComesToTerm the term at node `k` (SMT-LIB 2.6, "Terms and Formulas"): its value, or its first fault.
+/// Reads the term at node `k` (SMT-LIB 2.6, "Terms and Formulas"): its value, or its first fault.
 ///
 /// Costs as much as its nodes are, and for each use of a macro the distinct cells of its body. Takes no stack, however deep
 /// the term is.

@@ -100,7 +100,7 @@ impl<'a> TermReader<'a> {
         }
     }
 
-    /// ComesToTerm the term that begins with `first`, the token that the lexer gave last (SMT-LIB 2.6, "Terms and Formulas"),
+    /// Reads the term that begins with `first`, the token that the lexer gave last (SMT-LIB 2.6, "Terms and Formulas"),
     /// and leaves
     /// the lexer behind it.
     ///
@@ -141,7 +141,7 @@ impl<'a> TermReader<'a> {
         Ok(value.term)
     }
 
-    /// ComesToTerm the term at node `k`, as `term` does, from an item of the text that was read into nodes already. Refusals and
+    /// Reads the term at node `k`, as `term` does, from an item of the text that was read into nodes already. Refusals and
     /// what the reader is after them are those of `term`. Costs as much as the term has nodes, and for each use of a macro
     /// the distinct cells of its body.
     pub fn term_at(
@@ -166,7 +166,7 @@ impl<'a> TermReader<'a> {
         Ok(value.term)
     }
 
-    /// ComesToTerm the term at node `k`, as `term_at` does, and answers its sort and its height besides.
+    /// Reads the term at node `k`, as `term_at` does, and answers its sort and its height besides.
     pub fn value_at(
         &mut self,
         text: &Lexer<'_>,
@@ -222,7 +222,7 @@ fn enter_each(symbols: &Symbols, scope: &mut Scope, leaves: &[u32]) -> Result<()
     Ok(())
 }
 
-/// ComesToTerm the term that begins with `first`, the token that the lexer gave last, in place of what `nodes` held.
+/// Reads the term that begins with `first`, the token that the lexer gave last, in place of what `nodes` held.
 fn read_first(
     lexer: &mut Lexer<'_>,
     first: Token,
