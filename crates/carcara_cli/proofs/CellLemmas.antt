@@ -1,35 +1,45 @@
--- Where a pool has no room for a cell of a text's terms, each of its places has another cell of them.
+-- Where a pool has no room for a cell of a term that is read, each of its places has another cell of such terms.
 use Rattle.std.proofs.Common.{◌≡◌, ◌⊎◌, ℕ, ◌+◌, ◌^◌, ◌<◌, ◌≤◌, Bool, List, [], sym, inl, inr, arith}
 use Rattle.std.proofs.lemmas.Bool.{cases_lt}
 use Rattle.pair_pool.specs.Trees.{Tree, cell}
 use Rattle.pair_pool.specs.Views.{PassView, IsListed, IsPlaced, IsSeen, IsOneToOne, HasListsInOrder}
-use Rattle.sym_table.specs.Table.{Table, IsTable}
-use Rattle.smtlib_reader.specs.Making.{PlacesCellsOf, LacksCellOf, IsWantedCell}
-use Rattle.smtlib_reader.specs.ProblemViews.{IsCounted}
-use Rattle.carcara_cli.specs.Cells.{IsCellOfText, HasMoreCells}
+use Rattle.sym_table.specs.Table.{Table, IsTable, Keeps}
+use Rattle.term_model.specs.Terms.{Term}
+use Rattle.term_pool.specs.Views.{KeepsPass}
+use Rattle.term_names.specs.Making.{PlacesCellsOf, LacksCellOf, IsWantedCell}
+use Rattle.term_reader.proofs.Staying.{cell_stays, cell_more}
+use Rattle.carcara_cli.specs.Cells.{IsCellOfRead, HasMoreCells}
+use Rattle.carcara_cli.specs.Pools.{HoldsOnly}
 
 none_listed : (r a b : ℕ) → IsListed [] r a b → ⊥
 unfolding IsListed
 none_listed r a b l = absurd (omega (arith, l.1))
 
-module _ (s : Table) (old pass : PassView) (text : List ℕ) (replaces_lets : Bool)
-    (is_table : IsTable s)
-    (nothing : old.placed ≡ []) (all : pass.shares ≡ 65)
-    (one : IsOneToOne pass) (order : HasListsInOrder pass)
-    (placed : PlacesCellsOf s old pass (IsCounted text replaces_lets))
-    (lacks : LacksCellOf s pass (IsCounted text replaces_lets)) where
-  -- a cell that stands in the table is one of the text
-  abbrev IsOfText : ℕ → ℕ → Type 0
-  IsOfText a b = IsWantedCell s pass (IsCounted text replaces_lets) a b
+-- in a pass in which nothing stood, what was placed are cells of these terms
+pub holds_placed : (s : Table) (old new : PassView) (P Q : Term → Type 0) → ((t : Term) → P t → Q t) → old.placed ≡ [] → PlacesCellsOf s old new P → HoldsOnly s new Q
+holds_placed s old new P Q more nothing placed r a b p = elim (placed r a b p) [
+  | inl before ↦ let none : IsListed [] r a b = rw nothing at before in absurd (none_listed r a b none)
+  | inr is ↦ cell_more s new P Q more a b is
+]
 
-  none_before : (r a b : ℕ) → IsPlaced old r a b → ⊥
-  none_before r a b p = let none : IsListed [] r a b = rw nothing at p in none_listed r a b none
+-- then more is placed
+pub holds_more : (s z : Table) (old new : PassView) (P Q : Term → Type 0) → ((t : Term) → P t → Q t) → Keeps s z → KeepsPass old new → HoldsOnly s old Q → PlacesCellsOf z old new P → HoldsOnly z new Q
+holds_more s z old new P Q more table keeps holds placed r a b p = elim (placed r a b p) [
+  | inl before ↦ cell_stays s z old new Q table keeps a b (holds r a b before)
+  | inr is ↦ cell_more z new P Q more a b is
+]
+
+module _ (s : Table) (pass : PassView) (IsRead : Term → Type 0)
+    (is_table : IsTable s) (all : pass.shares ≡ 65)
+    (one : IsOneToOne pass) (order : HasListsInOrder pass)
+    (holds : HoldsOnly s pass IsRead)
+    (lacks : LacksCellOf s pass IsRead) where
+  -- a cell that stands in the table is one of a term that is read
+  abbrev IsOfText : ℕ → ℕ → Type 0
+  IsOfText a b = IsWantedCell s pass IsRead a b
 
   of_text : (r a b : ℕ) → IsSeen pass r a b → IsOfText a b
-  of_text r a b seen = elim (placed r a b (order.whole all r a b seen)) [
-    | inl before ↦ absurd (none_before r a b before)
-    | inr is ↦ is
-  ]
+  of_text r a b seen = holds r a b (order.whole all r a b seen)
 
   abbrev wanted : IsOfText lacks.full.first lacks.full.second
   wanted = record { whole = lacks.whole; wanted = lacks.wanted; tree = lacks.tree; stands = lacks.stands; cell = lacks.full.wanted }
@@ -37,8 +47,8 @@ module _ (s : Table) (old pass : PassView) (text : List ℕ) (replaces_lets : Bo
   abbrev tree_of : (a b : ℕ) → IsOfText a b → Tree
   tree_of a b is = cell is.cell.first is.cell.second
 
-  is_of_text : (a b : ℕ) (is : IsOfText a b) → IsCellOfText s text replaces_lets (tree_of a b is)
-  is_of_text a b is = record { whole = is.whole; counted = is.wanted; tree = is.tree; stands = is.stands; part = is.cell.part; is_cell = tt }
+  is_of_text : (a b : ℕ) (is : IsOfText a b) → IsCellOfRead s IsRead (tree_of a b is)
+  is_of_text a b is = record { whole = is.whole; read = is.wanted; tree = is.tree; stands = is.stands; part = is.cell.part; is_cell = tt }
 
   -- equal trees are of one cell
   one_cell : (a b c d : ℕ) (p : IsOfText a b) (q : IsOfText c d) → tree_of a b p ≡ tree_of c d q → (a ≡ c) × (b ≡ d)
@@ -82,7 +92,7 @@ module _ (s : Table) (old pass : PassView) (text : List ℕ) (replaces_lets : Bo
   ]
   other_place i j (inr h) (inr h') within within' same = omega arith
 
-  pub has_more_cells : (n : ℕ) → pass.places ≡ n → HasMoreCells text replaces_lets n
+  pub has_more_cells : (n : ℕ) → pass.places ≡ n → HasMoreCells IsRead n
   has_more_cells n e = record {
     table = s;
     is_table = is_table;

@@ -4,14 +4,12 @@ use Rattle.std.proofs.lemmas.Bool.{cases_lt}
 use Rattle.std.specs.List.{Contains}
 use Rattle.indexmap.proofs.IndexTableLemmas.Probe.{pigeonhole}
 use Rattle.pair_pool.specs.Trees.{Tree, leaf, cell}
-use Rattle.sexpr.specs.Items.{Items, StandsForItems}
 use Rattle.sym_table.specs.Leaf.{Leaf, operator}
 use Rattle.sym_table.specs.Table.{Table, IsTable}
 use Rattle.term_model.specs.Terms.{Term, Terms, Bindings, numeral, variable, operation, call, let_in, no_terms, term, no_bindings, binding}
 use Rattle.term_pool.specs.StandsFor.{function_leaf, StandsFor, StandsForApplication, StandsForList, StandsForBindings}
 use Rattle.term_pool.specs.Trees.{IsPartOf, IsCellTree}
-use Rattle.smtlib_reader.specs.Problems.{problem}
-use Rattle.carcara_cli.specs.Cells.{IsCellOfText, HasMoreCells}
+use Rattle.carcara_cli.specs.Cells.{IsCellOfRead, HasMoreCells}
 use Rattle.carcara_cli.specs.CellSums.{cells_in, cells_in_application, cells_in_list, cells_in_bindings, cells_in_all}
 
 -- the cells of a tree, each counted as often as it stands there
@@ -113,17 +111,13 @@ one_spot (x ∷ ts) (suc j) (suc k) p q t u inside is inside' is' within within'
     one_spot ts j k p q t u (omega (arith, inside)) is (omega (arith, inside')) is' within within' (omega (arith, e))
 
 module _ (one_tree : (s : Table) (a b : Tree) (t : Term) → IsTable s → StandsFor s a t → StandsFor s b t → a ≡ b)
-    (one_reading : (source : List ℕ) (a b : Items) → StandsForItems source a → StandsForItems source b → a ≡ b)
-    (text : List ℕ) (replaces_lets : Bool) (n : ℕ) (more : HasMoreCells text replaces_lets n)
-    (items : Items) (nested : StandsForItems text items) where
-  abbrev terms : List Term
-  terms = (problem replaces_lets items).state.terms
-
+    (IsRead : Term → Type 0) (n : ℕ) (more : HasMoreCells IsRead n)
+    (terms : List Term) (among : (t : Term) → IsRead t → Contains terms t) where
   abbrev IsOfText : Tree → Type 0
-  IsOfText t = IsCellOfText more.table text replaces_lets t
+  IsOfText t = IsCellOfRead more.table IsRead t
 
   there : (t : Tree) (is : IsOfText t) → Contains terms is.whole
-  there t is = rw (one_reading text is.counted.items items is.counted.nested nested) at is.counted.read
+  there t is = among is.whole is.read
 
   abbrev place : (t : Tree) → IsOfText t → ℕ
   place t is = place_in t is.tree is.part

@@ -1,51 +1,70 @@
 -- The judgement of a verdict on the two texts, and what a valid one shows.
-use Rattle.std.proofs.Common.{◌≡◌, ℕ, zero, suc, ◌<◌, ◌≤◌, Bool, List, [], ◌∷◌, length, get_or, map, refl, arith, Option, None, Some, inl, inr}
-use Rattle.std.specs.List.{Contains}
-use Rattle.term_model.specs.Terms.{Term}
-use Rattle.term_model.specs.Unsatisfiable.{MakesTrue, MakesAllTrue, Unsatisfiable}
-use Rattle.smtlib_reader.specs.Scripts.{Script}
+use Rattle.std.proofs.Common.{◌≡◌, ℕ, suc, ◌≤◌, Bool, List, [], ◌∷◌, length, refl, ◌∙◌, arith, Option, None, Some}
+use Rattle.sym_table.specs.Table.{Table}
+use Rattle.term_model.specs.Terms.{Var, Term}
+use Rattle.term_model.specs.Unsatisfiable.{Unsatisfiable}
+use Rattle.term_pool.specs.Views.{TermsView, ReferToAll}
+use Rattle.rule_model.specs.declared.statuses.Status.{Status}
+use Rattle.rule_model.specs.declared.statuses.Verdict.{Verdict}
+use Rattle.rule_model.specs.Proofs.{ProofItems}
+use Rattle.problem_text.specs.Problems.{StandsForProblem}
+use Rattle.problem_text.specs.Scripts.{Script}
+use Rattle.alethe_text.specs.ProofTexts.{StandsForProof}
+use Rattle.alethe_reader.specs.Reading.{IsProofOf}
 use Rattle.file_ports.specs.declared.whole.ReadStop.{ReadStop}
 use Rattle.file_ports.specs.declared.whole.ReadStop.TheVariants as stops
 use Rattle.file_ports.specs.Faults.{HasRisen}
 use Rattle.file_ports.specs.Texts.{AreTold}
-use Rattle.carcara_cli.specs.declared.literal.Literal.{Literal}
 use Rattle.carcara_cli.specs.declared.judgement.Judgement.{Judgement}
-use Rattle.carcara_cli.specs.declared.judgement.Judgement.TheVariants.{Valid, NoEmptyClause, NotMet, NotAsserted, RefusedProblem, RefusedProof, PoolFull}
+use Rattle.carcara_cli.specs.declared.judgement.Judgement.TheVariants.{Valid, Holey, NoEmptyClause, Faulty, TooWide, RefusedProblem, RefusedProof, PoolFull}
 use Rattle.carcara_cli.specs.declared.answer.Answer.{Answer}
 use Rattle.carcara_cli.specs.declared.answer.Answer.TheVariants.{Usage, ReadFault, TooLong, Judged}
-use Rattle.carcara_cli.specs.declared.check.Verdict.{Verdict}
-use Rattle.carcara_cli.specs.declared.check.Verdict.TheVariants as verdict
-use Rattle.carcara_cli.specs.Names.{Word}
-use Rattle.carcara_cli.specs.Texts.{IsLiteralOver, literal_term}
-use Rattle.carcara_cli.specs.Problem.{AreLiterals, IsProblemText}
-use Rattle.carcara_cli.specs.Proof.{ProofCommand}
-use Rattle.carcara_cli.specs.Commands.{HaveEarlierPremises}
-use Rattle.carcara_cli.specs.Verdict.{IsVerdict}
 use Rattle.carcara_cli.specs.CommandLine.{Asked}
-use Rattle.carcara_cli.specs.Judgement.{IsProofText, IsJudgedAs, IsJudgement}
+use Rattle.carcara_cli.specs.Reading.{flags_of, settings_of}
+use Rattle.carcara_cli.specs.Holes.{holes_from}
+use Rattle.carcara_cli.specs.Judgement.{IsCheckedAs, IsJudgement}
+use Rattle.carcara_cli.specs.Judging.{IsJudgedProof}
 use Rattle.carcara_cli.specs.Printed.{status_of}
 use Rattle.carcara_cli.specs.TopCall.{most_bytes, most_bits, IsWithinLimit, IsTooLong, IsJudgedIfTold, IsJudgedOfFiles, IsAnswerTo, IsUnsatisfiableIfTold, ShowsUnsatisfiable}
-use Rattle.carcara_cli.specs.Answering.{IsUnread, NamesOneOf, IsNamed}
+use Rattle.carcara_cli.specs.Answering.{IsUnread, IsNamed}
+use Rattle.carcara_cli.proofs.VerdictLemmas.{Corresponds, verdict_stands}
 
-module _ (problem : List ℕ) (replaces_lets : Bool) (proof : List ℕ) (bits : ℕ) (script : Script) (names ids : List Word) (assertions : List Literal) (commands : List ProofCommand)
-    (problem_text : IsProblemText problem replaces_lets script names assertions) (proof_text : IsProofText proof names ids commands) where
-  judged_as : (v : Verdict) → IsVerdict assertions commands v → IsJudgedAs problem replaces_lets proof v ids
-  judged_as v h = record { script = script; names = names; assertions = assertions; commands = commands; problem_text = problem_text; proof_text = proof_text; verdict = h }
+-- the same commands have the same holes
+holes_stand : (refs : ProofItems ℕ ℕ) (proof : ProofItems Var Term) (s : Table) (v : TermsView) → Corresponds s v refs proof → (i : ℕ) (statuses : List Status) → holes_from refs i statuses ≡ holes_from proof i statuses
+holes_stand refs proof s v same i [] = refl
+holes_stand refs proof s v same i (Status.Ok ∷ statuses) = holes_stand refs proof s v same (suc i) statuses
+holes_stand refs proof s v same i (Status.Hole ∷ statuses) = rw (same.ids i, same.rules i, holes_stand refs proof s v same (suc i) statuses) refl
+holes_stand refs proof s v same i (Status.Faulty cause ∷ statuses) = holes_stand refs proof s v same (suc i) statuses
+holes_stand refs proof s v same i (Status.Wide ∷ statuses) = holes_stand refs proof s v same (suc i) statuses
 
-  pub verdict_within : (v : Verdict) → IsVerdict assertions commands v → NamesOneOf (length ids) v
-  verdict_within verdict.Valid h = tt
-  verdict_within verdict.NoEmptyClause h = tt
-  verdict_within (verdict.NotMet k) h = omega (arith, h.0.within, proof_text.proof.each_id)
-  verdict_within (verdict.NotAsserted k) h = omega (arith, h.0.within, proof_text.proof.each_id)
+module _ (problem : List ℕ) (replaces_lets : Bool) (text : List ℕ) (bits : ℕ) (script : Script)
+    (s : Table) (v : TermsView) (asserted : List ℕ) (refs : ProofItems ℕ ℕ)
+    (problem_text : StandsForProblem problem replaces_lets script)
+    (assertions : ReferToAll s v asserted script.assertions)
+    (read : IsProofOf text (settings_of replaces_lets) script s v refs)
+    (same : Corresponds s v refs read.proof) where
+  checked_as : (j : Judgement) (h : IsJudgedProof (flags_of replaces_lets) s v asserted refs j) (of : Verdict) → h.of ≡ of → IsCheckedAs problem replaces_lets text of
+  checked_as j h of e = record {
+    script = script;
+    commands = read.proof;
+    after = read.after;
+    statuses = h.statuses;
+    problem_text = problem_text;
+    proof_text = read.stands;
+    are = h.are read.proof script.assertions read.refer assertions;
+    verdict = rw e at (verdict_stands s v refs read.proof same h.statuses h.of h.verdict);
+  }
 
-  pub named_is_judged : (v : Verdict) (j : Judgement) → IsVerdict assertions commands v → IsNamed ids v j → IsJudgement problem replaces_lets proof bits j
-  named_is_judged v Valid h n = (ids, judged_as verdict.Valid (rw n at h))
-  named_is_judged v NoEmptyClause h n = (ids, judged_as verdict.NoEmptyClause (rw n at h))
-  named_is_judged v (NotMet id) h n = (ids, n.0, judged_as (verdict.NotMet n.0) (rw n.1 at h), n.2)
-  named_is_judged v (NotAsserted id) h n = (ids, n.0, judged_as (verdict.NotAsserted n.0) (rw n.1 at h), n.2)
-  named_is_judged v (RefusedProblem r) h n = absurd n
-  named_is_judged v (RefusedProof r) h n = absurd n
-  named_is_judged v PoolFull h n = absurd n
+  pub judged_proof : (j : Judgement) → IsJudgedProof (flags_of replaces_lets) s v asserted refs j → IsJudgement problem replaces_lets text bits j
+  unfolding checked_as
+  judged_proof Valid h = checked_as Valid h Verdict.Valid h.named
+  judged_proof (Holey holes) h = (checked_as (Holey holes) h Verdict.Holey h.named.0, h.named.1 ∙ holes_stand refs read.proof s v same 0 h.statuses)
+  judged_proof NoEmptyClause h = checked_as NoEmptyClause h Verdict.NoEmpty h.named
+  judged_proof (Faulty id cause) h = (h.named.0, checked_as (Faulty id cause) h (Verdict.InvalidAt h.named.0 cause) h.named.1, h.named.2 ∙ same.ids h.named.0)
+  judged_proof (TooWide id) h = (h.named.0, checked_as (TooWide id) h (Verdict.Unknown h.named.0) h.named.1, h.named.2 ∙ same.ids h.named.0)
+  judged_proof (RefusedProblem r) h = absurd h.named
+  judged_proof (RefusedProof r) h = absurd h.named
+  judged_proof PoolFull h = absurd h.named
 
 -- what was read of a file that is within the limit is all that is told
 pub within_told : (told : Option (List ℕ)) (bytes : List ℕ) → AreTold told bytes → length bytes ≤ most_bytes → IsWithinLimit told
@@ -78,47 +97,18 @@ unread_is content before after p asked stops.Fault a e too_long fault h = rw (�
 unread_is content before after p asked stops.TooLong a e too_long fault h = rw (← e, h) (too_long refl)
 unread_is content before after p asked stops.Memory a e too_long fault h = absurd h
 
--- a list that has all of an unsatisfiable list's terms is unsatisfiable too
-more_assertions : (all some : List Term) → ((t : Term) → Contains some t → Contains all t) → Unsatisfiable some → Unsatisfiable all
-more_assertions all some within none I true_all = none I (by some (λ t there. from_all t (within t there))) where
-  at_place : (ts : List Term) → MakesAllTrue I ts → (k : ℕ) (t : Term) → k < length ts → get_or ts k t ≡ t → MakesTrue I [] t
-  at_place [] each k t inside is = absurd (omega (arith, inside))
-  at_place (u ∷ ts) each zero t inside is = rw is at each.0
-  at_place (u ∷ ts) each (suc k) t inside is = at_place ts each.1 k t (omega arith) is
-
-  from_all : (t : Term) → Contains all t → MakesTrue I [] t
-  from_all t there = at_place all true_all there.0 t there.1 there.2
-
-  by : (ts : List Term) → ((t : Term) → Contains ts t → MakesTrue I [] t) → MakesAllTrue I ts
-  by [] each = tt
-  by (u ∷ ts) each = (each u (0, omega arith, refl), by ts (λ t there. each t (suc there.0, omega (arith, there.1), there.2)))
-
--- the terms of a problem's literals are among its assertions
-literals_are_assertions : (sc : Script) (names : List Word) (ls : List Literal) → AreLiterals sc names ls → (t : Term) → Contains (map (literal_term names) ls) t → Contains sc.assertions t
-literals_are_assertions sc names ls are t there = by ls (λ l h. (are l).0 h) there.0 there.1 there.2 where
-  by : (ms : List Literal) → ((l : Literal) → Contains ms l → IsLiteralOver names l × Contains sc.assertions (literal_term names l)) → (k : ℕ) → k < length (map (literal_term names) ms) → get_or (map (literal_term names) ms) k t ≡ t → Contains sc.assertions t
-  by [] each k inside is = absurd (omega (arith, inside))
-  by (m ∷ ms) each zero inside is = rw is at (each m (0, omega arith, refl)).1
-  by (m ∷ ms) each (suc k) inside is = by ms (λ l h. each l (suc h.0, omega (arith, h.1), h.2)) k (omega (arith, inside)) is
-
-module _ (sound : (names : List Word) (assertions : List Literal) (commands : List ProofCommand) → HaveEarlierPremises commands → IsVerdict assertions commands verdict.Valid → Unsatisfiable (map (literal_term names) assertions)) where
+module _ (sound : (problem : List ℕ) (replaces_lets : Bool) (proof : List ℕ) → IsCheckedAs problem replaces_lets proof Verdict.Valid → (sc : Script) × StandsForProblem problem replaces_lets sc × Unsatisfiable sc.assertions) where
   valid_told : (replaces_lets : Bool) (x y : Option (List ℕ)) → IsJudgedIfTold replaces_lets x y Valid → IsUnsatisfiableIfTold replaces_lets x y
   valid_told replaces_lets None y h = tt
   valid_told replaces_lets (Some problem) None h = tt
-  valid_told replaces_lets (Some problem) (Some proof) h =
-      let j = h.1 in (
-        j.script,
-        j.problem_text.stands,
-        more_assertions j.script.assertions (map (literal_term j.names) j.assertions)
-            (literals_are_assertions j.script j.names j.assertions j.problem_text.literals)
-            (sound j.names j.assertions j.commands (λ k within. (j.proof_text.proof.each k within).earlier) j.verdict),
-      )
+  valid_told replaces_lets (Some problem) (Some proof) h = sound problem replaces_lets proof h
 
   valid_shows_told : (replaces_lets : Bool) (x y : Option (List ℕ)) (j : Judgement) → IsJudgedIfTold replaces_lets x y j → status_of (Judged j) ≡ 0 → IsUnsatisfiableIfTold replaces_lets x y
   valid_shows_told replaces_lets x y Valid h e = valid_told replaces_lets x y h
   valid_shows_told replaces_lets x y NoEmptyClause h e = absurd (omega (arith, e))
-  valid_shows_told replaces_lets x y (NotMet id) h e = absurd (omega (arith, e))
-  valid_shows_told replaces_lets x y (NotAsserted id) h e = absurd (omega (arith, e))
+  valid_shows_told replaces_lets x y (Holey holes) h e = absurd (omega (arith, e))
+  valid_shows_told replaces_lets x y (Faulty id cause) h e = absurd (omega (arith, e))
+  valid_shows_told replaces_lets x y (TooWide id) h e = absurd (omega (arith, e))
   valid_shows_told replaces_lets x y (RefusedProblem r) h e = absurd (omega (arith, e))
   valid_shows_told replaces_lets x y (RefusedProof r) h e = absurd (omega (arith, e))
   valid_shows_told replaces_lets x y PoolFull h e = absurd (omega (arith, e))

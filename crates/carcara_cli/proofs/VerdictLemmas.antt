@@ -1,105 +1,90 @@
--- Odd numbers, and the status of a command.
-use Rattle.std.proofs.Common.{◌≡◌, ℕ, zero, suc, ◌+◌, ◌%◌, ◌<◌, Bool, true, false, not, ◌||◌, nat_eq, below_more, refl, ap, ◌∙◌, sym, inl, inr, arith, List, [], None, Some, Option, length, get_or}
-use Rattle.std.proofs.lemmas.Bool.{eq-eqb}
-use Rattle.std.proofs.lemmas.Bool.Decides.{nat_tests}
-use Rattle.rule_model.specs.Consequence.{Contradicts, Leads, Follows}
-use Rattle.rules_resolution.specs.Literal.{Lit}
-use Rattle.rules_resolution.specs.Trace.{Trace}
-use Rattle.rules_resolution.specs.Shows.{Shows}
-use Rattle.std.specs.List.{list_any, Contains}
-use Rattle.std.specs.Prelude.{MatchOption, MatchBool}
-use Rattle.std.proofs.lemmas.Bool.{cases_lt, eqb-true, and_parts, and_from}
-use Rattle.std.proofs.lemmas.Map.Views.{Contains-from_any}
-use Rattle.std.proofs.lemmas.List.Folds.{list_any_at}
-use Rattle.carcara_cli.specs.declared.literal.Literal.{Literal}
-use Rattle.std.proofs.lemmas.List.{get_or-map}
-use Rattle.carcara_cli.specs.declared.command.Command.{Command}
-use Rattle.carcara_cli.specs.declared.check.Status.TheVariants as status
-use Rattle.carcara_cli.specs.Proof.{ProofCommand, assume_command, step_command, command_at}
-use Rattle.carcara_cli.specs.Commands.{stated_command, stated_commands}
-use Rattle.carcara_cli.specs.Verdict.{is_odd, MeetsCondition, AreMetBelow, ReachesEmptyBelow, IsEmptyStep}
-use Rattle.carcara_cli.specs.Statuses.{equal_literals, IsSetOf, DecidesStep, IsStatus}
+-- A verdict on a proof over references is one on the proof over terms for which it stands.
+use Rattle.std.proofs.Common.{◌≡◌, ℕ, zero, suc, ◌<◌, List, [], ◌∷◌, length, slice_get, Some, Result, Ok, Err, IfOk, refl, sym, ◌∙◌, arith}
+use Rattle.std.specs.List.{AllZip}
+use Rattle.sym_table.specs.Table.{Table}
+use Rattle.term_model.specs.Terms.{Var, Term}
+use Rattle.term_pool.specs.Views.{TermsView, RefersTo}
+use Rattle.rule_model.specs.declared.statuses.Status.{Status}
+use Rattle.rule_model.specs.declared.statuses.Verdict.{Verdict}
+use Rattle.rule_model.specs.Proofs.{ProofItems}
+use Rattle.rule_model.specs.Reading.{id_at, rule_name_at, clause_at, premises_at, scope_at}
+use Rattle.rule_model.specs.Scopes.{commands_in}
+use Rattle.rule_model.specs.Statuses.{ReachesEmpty, IsVerdict}
+use Rattle.rules_resolution.specs.Steps.{IsShort}
+use Rattle.carcara_cli.specs.Answering.{NamesOneOf}
 
-other_parity : (n : ℕ) → nat_eq (suc n % 2) 1 ≡ not (nat_eq (n % 2) 1)
-other_parity n = grind (arith, nat_tests)
+module _ {A B : Type 0} (R : A → B → Type 0) where
+  zip_nil : (xs : List A) (ys : List B) → AllZip R xs ys → xs ≡ [] → ys ≡ []
+  zip_nil [] [] h e = refl
+  zip_nil [] (y ∷ ys) h e = absurd h
+  zip_nil (x ∷ xs) [] h e = absurd h
+  zip_nil (x ∷ xs) (y ∷ ys) h e = absurd (cc)
 
-pub is_odd_is : (n : ℕ) → nat_eq (n % 2) 1 ≡ is_odd n
-is_odd_is zero = refl
-is_odd_is (suc n) = other_parity n ∙ ap not (is_odd_is n)
+  nil_zip : (xs : List A) (ys : List B) → AllZip R xs ys → ys ≡ [] → xs ≡ []
+  nil_zip [] [] h e = refl
+  nil_zip [] (y ∷ ys) h e = absurd h
+  nil_zip (x ∷ xs) [] h e = absurd h
+  nil_zip (x ∷ xs) (y ∷ ys) h e = absurd (cc)
 
--- what a trail shows follows
-pub shown_follows : (premises : List (List Lit)) (goal : List Lit) (trail : Trace) → Shows premises goal trail → Follows premises goal
-shown_follows premises goal trail = by trail.last where
-  by : (last : Option ℕ) → MatchOption last ((trail.units ≡ []) × Contradicts goal) (λ n. (Contradicts goal → ⊥) × Leads premises goal trail.units n) → Follows premises goal
-  by None h = inl h.1
-  by (Some n) h = inr (trail.units, n, h.1)
+  pub zip_length : (xs : List A) (ys : List B) → AllZip R xs ys → length xs ≡ length ys
+  zip_length [] [] h = refl
+  zip_length [] (y ∷ ys) h = absurd h
+  zip_length (x ∷ xs) [] h = absurd h
+  zip_length (x ∷ xs) (y ∷ ys) h = let rest = zip_length xs ys h.1 in omega (arith, rest)
 
-equal_literals-true : (a b : Literal) → equal_literals a b ≡ true → a ≡ b
-equal_literals-true a b h =
-    let parts = and_parts (nat_eq a.name b.name) (nat_eq a.nots b.nots) h in
-    let name : a.name ≡ b.name = eqb-true a.name b.name parts.0 in
-    let nots : a.nots ≡ b.nots = eqb-true a.nots b.nots parts.1 in
-    let with_name : ℕ → Literal = λ n. record { name = n; nots = a.nots } in
-    let with_nots : ℕ → Literal = λ n. record { name = b.name; nots = n } in
-    ap with_name name ∙ ap with_nots nots
+-- the two have the same commands
+pub record Corresponds (s : Table) (v : TermsView) (refs : ProofItems ℕ ℕ) (proof : ProofItems Var Term) : Type 0 where
+  pub count : commands_in refs ≡ commands_in proof
+  pub ids : (i : ℕ) → id_at refs i ≡ id_at proof i
+  pub rules : (i : ℕ) → rule_name_at refs i ≡ rule_name_at proof i
+  pub scopes : (i : ℕ) → scope_at refs i ≡ scope_at proof i
+  pub premises : (i : ℕ) → premises_at refs i ≡ premises_at proof i
+  pub clauses : (i : ℕ) → AllZip (RefersTo s v) (clause_at refs i) (clause_at proof i)
 
-equal_literals-itself : (l : Literal) → equal_literals l l ≡ true
-equal_literals-itself l = and_from (nat_eq l.name l.name) (nat_eq l.nots l.nots) (eq-eqb l.name l.name refl) (eq-eqb l.nots l.nots refl)
+module _ (s : Table) (v : TermsView) (refs : ProofItems ℕ ℕ) (proof : ProofItems Var Term) (same : Corresponds s v refs proof) where
+  reaches : ReachesEmpty refs → ReachesEmpty proof
+  reaches h = record {
+    index = h.index;
+    within = omega (arith, h.within, same.count);
+    scope = sym (same.scopes h.index) ∙ h.scope;
+    empty = zip_nil (RefersTo s v) (clause_at refs h.index) (clause_at proof h.index) (same.clauses h.index) h.empty;
+  }
 
-pub asserted_is : (assertions keys : List Literal) (l : Literal) → IsSetOf assertions keys → list_any (equal_literals l) keys ≡ true → Contains assertions l
-asserted_is assertions keys l s h = Contains-from_any {eq = equal_literals} equal_literals-true l assertions (sym (s l) ∙ h)
+  reached : ReachesEmpty proof → ReachesEmpty refs
+  reached h = record {
+    index = h.index;
+    within = omega (arith, h.within, same.count);
+    scope = same.scopes h.index ∙ h.scope;
+    empty = nil_zip (RefersTo s v) (clause_at refs h.index) (clause_at proof h.index) (same.clauses h.index) h.empty;
+  }
 
-pub not_asserted : (assertions keys : List Literal) (l : Literal) → IsSetOf assertions keys → list_any (equal_literals l) keys ≡ false → Contains assertions l → ⊥
-not_asserted assertions keys l s h there =
-    let passes : equal_literals l (get_or assertions there.0 l) ≡ true = ap (equal_literals l) there.2 ∙ equal_literals-itself l in
-    let found = list_any_at (equal_literals l) assertions there.0 l there.1 passes in
-    let clash : true ≡ false = sym found ∙ sym (s l) ∙ h in
-    cc
+  pub verdict_stands : (statuses : List Status) (of : Verdict) → IsVerdict statuses refs of → IsVerdict statuses proof of
+  verdict_stands statuses (Verdict.InvalidAt i cause) h = h
+  verdict_stands statuses (Verdict.Unknown i) h = h
+  verdict_stands statuses Verdict.NoEmpty h = (h.0, λ r. h.1 (reached r))
+  verdict_stands statuses Verdict.Holey h = (h.0, h.1, reaches h.2)
+  verdict_stands statuses Verdict.Valid h = (h.0, reaches h.1)
 
--- the command at a place of the code's commands
-pub command_at-stated_commands : (commands : List Command) (k : ℕ) (c : Command) → k < length commands → get_or commands k c ≡ c → command_at (stated_commands commands) k ≡ stated_command c
-command_at-stated_commands commands k c within is = get_or-map stated_command commands k c (step_command [] []) within ∙ ap stated_command is
+  pub short_stands : IsShort proof → IsShort refs
+  short_stands h = record {
+    clauses = λ i. rw (← zip_length (RefersTo s v) (clause_at refs i) (clause_at proof i) (same.clauses i)) at (h.clauses i);
+    premises = λ i. rw (← same.premises i) at (h.premises i);
+  }
 
-module _ (assertions : List Literal) (keys : List Literal) (commands : List ProofCommand) (c : ProofCommand) (same : IsSetOf assertions keys) where
-  pub assume_met : (l : Literal) → c ≡ assume_command l → list_any (equal_literals l) keys ≡ true → IsStatus assertions commands c status.Met
-  assume_met l e h = rw e (asserted_is assertions keys l same h)
+-- a command that a verdict names is one of those with a status
+status_within : (statuses : List Status) (i : ℕ) (status : Status) → slice_get statuses i ≡ Some status → i < length statuses
+status_within [] i status e = absurd (cc)
+status_within (z ∷ statuses) zero status e = omega arith
+status_within (z ∷ statuses) (suc i) status e = let h = status_within statuses i status e in omega (arith, h)
 
-  pub assume_faulty : (l : Literal) → c ≡ assume_command l → list_any (equal_literals l) keys ≡ false → IsStatus assertions commands c status.NotAsserted
-  assume_faulty l e h = rw e (not_asserted assertions keys l same h, tt)
+pub verdict_within : (statuses : List Status) (refs : ProofItems ℕ ℕ) (of : Verdict) → IsVerdict statuses refs of → NamesOneOf (length statuses) of
+verdict_within statuses refs (Verdict.InvalidAt i cause) h = status_within statuses i (Status.Faulty cause) h.here
+verdict_within statuses refs (Verdict.Unknown i) h = status_within statuses i Status.Wide h.here
+verdict_within statuses refs Verdict.NoEmpty h = tt
+verdict_within statuses refs Verdict.Holey h = tt
+verdict_within statuses refs Verdict.Valid h = tt
 
-pub step_met : (assertions : List Literal) (commands : List ProofCommand) (c : ProofCommand) (clause : List Literal) (premises : List ℕ) → c ≡ step_command clause premises → DecidesStep commands clause premises true → IsStatus assertions commands c status.Met
-step_met assertions commands c clause premises e h = rw e h
-
-pub step_faulty : (assertions : List Literal) (commands : List ProofCommand) (c : ProofCommand) (clause : List Literal) (premises : List ℕ) → c ≡ step_command clause premises → DecidesStep commands clause premises false → IsStatus assertions commands c status.NotMet
-step_faulty assertions commands c clause premises e h = rw e (h, tt)
-
--- what was seen of the commands before a place
-pub record SeenBelow (assertions : List Literal) (commands : List ProofCommand) (n : ℕ) (reached : Bool) : Type 0 where
-  pub met : AreMetBelow assertions commands n
-  pub empty : MatchBool reached (ReachesEmptyBelow commands n) (ReachesEmptyBelow commands n → ⊥)
-
-pub none_seen : (assertions : List Literal) (commands : List ProofCommand) → SeenBelow assertions commands 0 false
-none_seen assertions commands = record { met = λ k h. absurd (omega arith); empty = λ e. absurd (omega (arith, e.1)) }
-
-reaches_earlier : (commands : List ProofCommand) (n : ℕ) → ReachesEmptyBelow commands n → ReachesEmptyBelow commands (n + 1)
-reaches_earlier commands n e = (e.0, omega (arith, e.1), e.2)
-
-pub one_seen_more : (assertions : List Literal) (commands : List ProofCommand) (n : ℕ) (reached empty : Bool) → SeenBelow assertions commands n reached → MeetsCondition assertions commands (command_at commands n) →
-    MatchBool empty (IsEmptyStep (command_at commands n)) (IsEmptyStep (command_at commands n) → ⊥) → SeenBelow assertions commands (n + 1) (reached || empty)
-one_seen_more assertions commands n reached empty s met here = record {
-  met = below_more (λ k. MeetsCondition assertions commands (command_at commands k)) n s.met met;
-  empty = by reached empty s.empty here;
-}
-  where
-    by : (b e : Bool) → MatchBool b (ReachesEmptyBelow commands n) (ReachesEmptyBelow commands n → ⊥) → MatchBool e (IsEmptyStep (command_at commands n)) (IsEmptyStep (command_at commands n) → ⊥) →
-        MatchBool (b || e) (ReachesEmptyBelow commands (n + 1)) (ReachesEmptyBelow commands (n + 1) → ⊥)
-    by true e before h = reaches_earlier commands n before
-    by false true before h = (n, omega arith, h)
-    by false false before h = λ r. elim (cases_lt r.0 n) [
-      | inl earlier ↦ before (r.0, earlier, r.2)
-      | inr past ↦ h (let is : r.0 ≡ n = omega (arith, r.1) in rw is at r.2)
-    ]
-
--- all commands were seen
-pub all_seen : (assertions : List Literal) (commands : List ProofCommand) (n : ℕ) (reached : Bool) → SeenBelow assertions commands n reached → n ≡ length commands → SeenBelow assertions commands (length commands) reached
-all_seen assertions commands n reached s e = rw (← e) s
+-- what holds of an answer holds in weaker words
+pub if_ok_more : {A E : Type 0} (P Q : A → Type 0) → ((a : A) → P a → Q a) → (r : Result A E) → IfOk r P → IfOk r Q
+if_ok_more P Q more (Ok a) h = more a h
+if_ok_more P Q more (Err e) h = h

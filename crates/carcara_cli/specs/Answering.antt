@@ -1,16 +1,18 @@
 -- Private. What the parts of the top call say on the way to an answer.
-use Rattle.std.specs.Prelude.{◌≡◌, ℕ, ◌<◌, List, ⊤, Option, None, Some}
+use Rattle.std.specs.Prelude.{◌≡◌, ℕ, ◌<◌, List, map, ⊤, Option, None, Some}
 use Rattle.file_ports.specs.declared.whole.ReadStop.{ReadStop}
 use Rattle.file_ports.specs.declared.whole.ReadStop.TheVariants as stop
+use Rattle.rule_model.specs.declared.statuses.Status.{Status}
+use Rattle.rule_model.specs.declared.statuses.Verdict.{Verdict}
+use Rattle.rule_model.specs.Proofs.{ProofItems}
+use Rattle.rule_model.specs.Reading.{id_at}
 use Rattle.carcara_cli.specs.declared.answer.Answer.{Answer}
 use Rattle.carcara_cli.specs.declared.answer.Answer.TheVariants.{ReadFault, TooLong}
 use Rattle.carcara_cli.specs.declared.judgement.Judgement.{Judgement}
-use Rattle.carcara_cli.specs.declared.judgement.Judgement.TheVariants.{Valid, NoEmptyClause, NotMet, NotAsserted, RefusedProblem, RefusedProof, PoolFull}
-use Rattle.carcara_cli.specs.declared.check.Verdict.{Verdict}
-use Rattle.carcara_cli.specs.declared.check.Verdict.TheVariants as verdict
-use Rattle.carcara_cli.specs.Names.{Word, nth_word}
+use Rattle.carcara_cli.specs.declared.judgement.Judgement.TheVariants.{Valid, Holey, NoEmptyClause, Faulty, TooWide}
 use Rattle.carcara_cli.specs.declared.command_line.Request.{Request}
 use Rattle.carcara_cli.specs.CommandLine.{Asked}
+use Rattle.carcara_cli.specs.Holes.{holes_from, told_hole}
 
 -- the answer where a file was not read, but for want of memory
 abbrev pub IsUnread : ReadStop → Answer → Type 0
@@ -18,20 +20,20 @@ IsUnread stop.Fault a = a ≡ ReadFault
 IsUnread stop.TooLong a = a ≡ TooLong
 IsUnread stop.Memory a = ⊥
 
--- a faulty command that a verdict names is one of so many
+-- a command that a verdict names is one of so many
 abbrev pub NamesOneOf : ℕ → Verdict → Type 0
-NamesOneOf n verdict.Valid = ⊤
-NamesOneOf n verdict.NoEmptyClause = ⊤
-NamesOneOf n (verdict.NotMet k) = k < n
-NamesOneOf n (verdict.NotAsserted k) = k < n
+NamesOneOf n (Verdict.InvalidAt i cause) = i < n
+NamesOneOf n (Verdict.Unknown i) = i < n
+NamesOneOf n v = ⊤
 
--- the judgement that a verdict is, over these ids
-abbrev pub IsNamed : List Word → Verdict → Judgement → Type 0
-IsNamed ids v Valid = v ≡ verdict.Valid
-IsNamed ids v NoEmptyClause = v ≡ verdict.NoEmptyClause
-IsNamed ids v (NotMet id) = (k : ℕ) × (v ≡ verdict.NotMet k) × (id.items ≡ nth_word ids k)
-IsNamed ids v (NotAsserted id) = (k : ℕ) × (v ≡ verdict.NotAsserted k) × (id.items ≡ nth_word ids k)
-IsNamed ids v _ = ⊥
+-- the judgement that a verdict is, with the ids that it names
+abbrev pub IsNamed : {V T : Type 0} → List Status → ProofItems V T → Verdict → Judgement → Type 0
+IsNamed statuses proof v Valid = v ≡ Verdict.Valid
+IsNamed statuses proof v (Holey holes) = (v ≡ Verdict.Holey) × (map told_hole holes.items ≡ holes_from proof 0 statuses)
+IsNamed statuses proof v NoEmptyClause = v ≡ Verdict.NoEmpty
+IsNamed statuses proof v (Faulty id cause) = (i : ℕ) × (v ≡ Verdict.InvalidAt i cause) × (id.items ≡ id_at proof i)
+IsNamed statuses proof v (TooWide id) = (i : ℕ) × (v ≡ Verdict.Unknown i) × (id.items ≡ id_at proof i)
+IsNamed statuses proof v _ = ⊥
 
 -- what a request of the code asks for
 abbrev pub told_of : Option Request → Option Asked

@@ -3,7 +3,6 @@
 -- every word behind it is an operand.
 use Rattle.std.specs.Prelude.{ℕ, List, [], ◌∷◌, ◌++◌, Bool, true, false, not, if◌then◌else◌, Option, None, Some, nat_eq, bytes_eq, codes, drop, filter, take_while}
 use Rattle.std.specs.List.{prefix_len}
-use Rattle.carcara_cli.specs.Names.{Word}
 
 -- a check of the proof at one path against the problem at another, and whether each let of the problem is replaced by
 -- its body with the terms put in
@@ -11,6 +10,10 @@ pub record Asked : Type 0 where
   pub proof : List ℕ
   pub problem : List ℕ
   pub replaces_lets : Bool
+
+-- a word, as its bytes
+abbrev pub Word : Type 0
+Word = List ℕ
 
 -- any word but `--`
 abbrev pub is_no_end : Word → Bool

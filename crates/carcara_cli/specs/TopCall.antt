@@ -3,8 +3,8 @@
 use Rattle.std.specs.Prelude.{◌≡◌, ◌≢◌, ◌⊎◌, ℕ, ◌≤◌, List, length, Bool, Option, None, Some, ⊤}
 use Rattle.std.specs.Io.KnownBytes.{Appends}
 use Rattle.term_model.specs.Unsatisfiable.{Unsatisfiable}
-use Rattle.smtlib_reader.specs.Problems.{StandsForProblem}
-use Rattle.smtlib_reader.specs.Scripts.{Script}
+use Rattle.problem_text.specs.Problems.{StandsForProblem}
+use Rattle.problem_text.specs.Scripts.{Script}
 use Rattle.file_ports.specs.Faults.{HasRisen}
 use Rattle.file_ports.specs.Texts.{IsLongerThan, AppendsFront}
 use Rattle.carcara_cli.specs.declared.judgement.Judgement.{Judgement}

@@ -1,79 +1,165 @@
 //! The judgement of the two texts.
-ghost use Rattle.std.specs.Prelude.{◌≡◌, ◌<◌, ◌≤◌, length, All, IfOk, IfErr};
-ghost use Rattle.carcara_cli.specs.Names.{nth_word};
-ghost use Rattle.carcara_cli.specs.Commands.{stated_commands, IsShort};
-ghost use Rattle.carcara_cli.specs.Judgement.{left_out, IsProofText, IsRefusalOf, IsJudgement};
-ghost use Rattle.carcara_cli.specs.Answering.{NamesOneOf, IsNamed};
+ghost use Rattle.std.specs.Prelude.{◌≡◌, ◌≤◌, ◌+◌, ◌^◌, ℕ, [], length, false, IfOk};
+ghost use Rattle.proof_store.specs.Checks.{StandForSome};
+ghost use Rattle.proof_store.specs.Meaning.{StandForItems};
+ghost use Rattle.term_model.specs.Terms.{Var, Term};
+ghost use Rattle.rule_model.specs.Conditions.{IsClauseOfTruths};
+ghost use Rattle.rule_model.specs.Proofs.{ProofItems};
+ghost use Rattle.rule_model.specs.Reading.{clause_at};
+ghost use Rattle.rules_resolution.specs.Steps.{IsShort};
+ghost use Rattle.term_reader.specs.ProblemViews.{IsNewTable};
+ghost use Rattle.step_check.specs.Statuses.{AreAsserted, AreStatusesOf};
+ghost use Rattle.carcara_cli.specs.Reading.{flags_of, IsReadOf};
+ghost use Rattle.carcara_cli.specs.Pools.{HoldsOnly, IsReadProblem};
+ghost use Rattle.carcara_cli.specs.Judgement.{IsJudgement};
+ghost use Rattle.carcara_cli.specs.Judging.{IsJudgedProof};
 ghost use Rattle.carcara_cli.specs.TopCall.{most_bytes};
 
-use crate::check::{Verdict, check};
 use crate::judgement::Judgement;
-use crate::names::NameTable;
-use crate::proof::{Proof, read_proof};
-use crate::reading::{LEAST_BITS, MOST_BITS, Reading, read};
-use crate::words::words_of;
-use rules_resolution::Memory;
-use sexpr::{Cause, Refusal, form};
-use std::alloc::{AllocError, Global};
+use crate::laws::proofs_have_scoped_terms;
+use crate::naming::named;
+use crate::pools::{LEAST_BITS, MOST_BITS, pool_bits, pool_full};
+use alethe_reader::read_proof;
+use alethe_text::laws::proofs_are_short;
+use pair_pool::{Memory, Pool};
+use problem_text::laws::{scripts_are_closed, scripts_are_well_sorted};
+use proof_store::{Proof, RuleStop, commands_correspond, proofs_stand_for_one, terms_correspond};
+use smtlib_reader::{Flags, Problem, ReadFault, read_problem};
+use std::alloc::Global;
+use step_check::statuses;
+use sym_table::Symbols;
+use term_pool::Terms;
+use term_reader::view_laws::problems_stay;
+use verdict_merge::merge;
 
-/// A proof that has a form, but none of the forms that are read so far.
-fn left_out() -> Refusal
-    ensures { result ≡ left_out }
+/// The text of a problem and that of a proof.
+#[derive(Drop)]
+struct Texts<'a> {
+    problem: &'a [u8],
+    proof: &'a [u8],
+    /// Whether each let is replaced by its body with the terms put in.
+    replaces_lets: bool,
+}
+
+/// How the texts are read and checked.
+fn flags_of(replaces_lets: bool) -> Flags
+    ensures { result ≡ flags_of replaces_lets }
 {
-    Refusal {
-        cause: Cause::LeftOut,
-        at: 0,
+    Flags {
+        expand_lets: replaces_lets,
+        strict: false,
+        ignore_unknown: false,
     }
 }
 
-/// The proof that a text stands for, over the constants of a problem.
-fn proof_of(
+/// The judgement of a proof that was read, behind a problem that was read.
+fn judge_commands(
     alloc: Global,
-    text: &[u8],
-    names: &NameTable,
-) -> Result<Result<Proof, Refusal>, AllocError>
-    requires { length text.now ≤ most_bytes }
-    ensures read { IfOk result (λ r. IfOk r (λ p. IsProofText text.now names.now p.ids (stated_commands p.commands.items))) }
-    ensures short { IfOk result (λ r. IfOk r (λ p. All IsShort p.commands.items)) }
-    ensures refused { IfOk result (λ r. IfErr r (IsRefusalOf text.now)) }
+    flags: Flags,
+    problem: &Problem,
+    proof: &Proof,
+    symbols: &Symbols,
+    terms: &mut Terms<'_>,
+) -> Result<Judgement, Memory>
+    requires lax { flags.strict ≡ false }
+    requires stand { StandForSome symbols.now terms.old proof.now }
+    requires asserted { AreAsserted symbols.now terms.old problem.now.assertions }
+    requires short { IsShort proof.now }
+    requires sorted { (of : ProofItems Var Term) (i : ℕ) → StandForItems symbols.now terms.old proof.now of → IsClauseOfTruths (clause_at of i) }
+    ensures { IfOk result (IsJudgedProof flags symbols.now terms.old problem.now.assertions proof.now) }
 {
-    if let Err(refusal) = form(text) {
-        return Ok(Err(refusal));
-    }
-    let Ok(words) = words_of(alloc, text)? else {
-        return Ok(Err(left_out()));
+    commands_correspond();
+    let list = match statuses(alloc, proof, problem, symbols, flags, terms) {
+        Ok(list) => list,
+        Err(RuleStop::Memory) => return Err(Memory),
+        Err(RuleStop::PoolFull) => unreachable!(),
     };
-    match read_proof(alloc, &words, names)? {
-        Some(proof) => Ok(Ok(proof)),
-        None => Ok(Err(left_out())),
+    let pieces = [list];
+    let verdict = merge(&pieces, proof);
+    Ok(named(alloc, verdict, &pieces[0], proof)?)
+}
+
+/// What the texts come to where the problem was read: its proof is read, and judged.
+fn judge_proof(
+    alloc: Global,
+    texts: &Texts<'_>,
+    problem: &Problem,
+    symbols: &mut Symbols,
+    mut terms: Terms<'_>,
+) -> Result<Judgement, Memory>
+    requires size { length texts.now.proof.now ≤ most_bytes }
+    requires problem { IsReadProblem texts.now.problem.now texts.now.replaces_lets symbols.old terms problem.now }
+    requires room { length symbols.old.leaves + length texts.now.proof.now ≤ 2 ^ 30 }
+    requires shares { terms.pass.shares ≡ 65 }
+    requires holds { HoldsOnly symbols.old terms.pass (IsReadOf texts.now.problem.now texts.now.replaces_lets texts.now.proof.now) }
+    ensures { (bits : ℕ) → terms.entry.pass.places ≡ 2 ^ bits → IfOk result (IsJudgement texts.now.problem.now texts.now.replaces_lets texts.now.proof.now bits) }
+{
+    problems_stay();
+    proofs_are_short();
+    scripts_are_well_sorted();
+    scripts_are_closed();
+    proofs_have_scoped_terms();
+    commands_correspond();
+    terms_correspond();
+    proofs_stand_for_one();
+    let flags = flags_of(texts.replaces_lets);
+    let proof = match read_proof(alloc, texts.proof, flags, problem, symbols, &mut terms) {
+        Ok(proof) => proof,
+        Err(ReadFault::Text(refusal)) => return Ok(Judgement::RefusedProof(refusal)),
+        Err(ReadFault::PoolFull) => return Ok(pool_full(symbols, terms)),
+        Err(ReadFault::Memory) => return Err(Memory),
+    };
+    let _leaves = symbols.count();
+    terms.one_to_one();
+    judge_commands(alloc, flags, problem, &proof, symbols, &mut terms)
+}
+
+/// What the texts come to, with a new table of symbols and terms of a pool in which nothing stands.
+fn judge_with(
+    alloc: Global,
+    texts: &Texts<'_>,
+    symbols: &mut Symbols,
+    mut terms: Terms<'_>,
+) -> Result<Judgement, Memory>
+    requires problem { length texts.now.problem.now ≤ most_bytes }
+    requires proof { length texts.now.proof.now ≤ most_bytes }
+    requires new_symbols { IsNewTable symbols.old }
+    requires nothing { terms.pass.placed ≡ [] }
+    requires shares { terms.pass.shares ≡ 65 }
+    ensures { (bits : ℕ) → terms.entry.pass.places ≡ 2 ^ bits → IfOk result (IsJudgement texts.now.problem.now texts.now.replaces_lets texts.now.proof.now bits) }
+{
+    let flags = flags_of(texts.replaces_lets);
+    match read_problem(alloc, texts.problem, flags, symbols, &mut terms) {
+        Ok(problem) => judge_proof(alloc, texts, &problem, symbols, terms),
+        Err(ReadFault::Text(refusal)) => Ok(Judgement::RefusedProblem(refusal)),
+        Err(ReadFault::PoolFull) => Ok(pool_full(symbols, terms)),
+        Err(ReadFault::Memory) => Err(Memory),
     }
 }
 
-/// The id at a place, as an owned name.
-fn owned_id(alloc: Global, ids: &NameTable, place: usize) -> Result<Vec<u8>, AllocError>
-    requires { place < length ids.now }
-    ensures { IfOk result (λ v. v.items ≡ nth_word ids.now place) }
+/// What the texts come to, with a new pool with so many bits.
+fn judge_into(alloc: Global, bits: u32, texts: &Texts<'_>) -> Result<Judgement, Memory>
+    requires least { LEAST_BITS ≤ bits }
+    requires most { bits ≤ MOST_BITS }
+    requires problem { length texts.now.problem.now ≤ most_bytes }
+    requires proof { length texts.now.proof.now ≤ most_bytes }
+    ensures { IfOk result (IsJudgement texts.now.problem.now texts.now.replaces_lets texts.now.proof.now bits) }
 {
-    Vec::from_slice(alloc, ids.at(place))
+    let Ok(mut symbols) = Symbols::new(alloc) else {
+        return Err(Memory);
+    };
+    let Ok((pool, pass)) = Pool::new(alloc, bits) else {
+        return Err(Memory);
+    };
+    let terms = Terms::new(&pool, pass);
+    judge_with(alloc, texts, &mut symbols, terms)
 }
 
-/// The judgement that a verdict is, with the id of its faulty command.
-fn named(alloc: Global, verdict: Verdict, ids: &NameTable) -> Result<Judgement, AllocError>
-    requires { NamesOneOf (length ids.now) verdict }
-    ensures { IfOk result (IsNamed ids.now verdict) }
-{
-    match verdict {
-        Verdict::Valid => Ok(Judgement::Valid),
-        Verdict::NoEmptyClause => Ok(Judgement::NoEmptyClause),
-        Verdict::NotMet(place) => Ok(Judgement::NotMet(owned_id(alloc, ids, place)?)),
-        Verdict::NotAsserted(place) => Ok(Judgement::NotAsserted(owned_id(alloc, ids, place)?)),
-    }
-}
-
-/// Judges the texts of a problem and of a proof, with the problem's lets or with their bodies in their places. The
-/// terms are read into pools of at most 2^most_bits places, 12 to 26 bits: the top call hands in 26.
+/// Judges the texts of a problem and of a proof, with their lets or with their bodies in their places. The terms are read
+/// into pools of at most 2^most_bits places, 12 to 26 bits: the top call hands in 26. Where a pool has no room for them, the
+/// texts are read again into one that is twice as large.
 ///
-/// The problem's text is read first: its refusal, or a full pool, is answered whatever the proof's text is.
+/// The problem's text is read first: its refusal is answered whatever the proof's text is.
 pub fn judge(
     alloc: Global,
     problem: &[u8],
@@ -87,16 +173,16 @@ pub fn judge(
     requires most { most_bits ≤ MOST_BITS }
     ensures { IfOk result (IsJudgement problem.now replaces_lets proof.now most_bits) }
 {
-    let bytes = problem.len() + proof.len();
-    let problem = match read(alloc, problem, replaces_lets, bytes, most_bits)? {
-        Reading::Read(problem) => problem,
-        Reading::Refused(refusal) => return Ok(Judgement::RefusedProblem(refusal)),
-        Reading::PoolFull => return Ok(Judgement::PoolFull),
+    let texts = Texts {
+        problem,
+        proof,
+        replaces_lets,
     };
-    let proof = match proof_of(alloc, proof, &problem.names)? {
-        Ok(proof) => proof,
-        Err(refusal) => return Ok(Judgement::RefusedProof(refusal)),
-    };
-    let verdict = check(alloc, &problem.assertions, &proof.commands)?;
-    Ok(named(alloc, verdict, &proof.ids)?)
+    for bits in pool_bits(problem.len() + proof.len(), most_bits)..most_bits {
+        match judge_into(alloc, bits, &texts)? {
+            Judgement::PoolFull => {}
+            judgement => return Ok(judgement),
+        }
+    }
+    judge_into(alloc, most_bits, &texts)
 }

@@ -1,15 +1,50 @@
-//! A law of the definitions: the contract of a function that does nothing.
-ghost use Rattle.std.specs.Prelude.{◌<◌, ℕ, List, Bool};
+//! Laws of the definitions. Each is the contract of a function that does nothing.
+ghost use Rattle.std.specs.Prelude.{◌<◌, ◌++◌, ℕ, List, Bool};
 ghost use Rattle.sexpr.specs.Items.{Items, StandsForItems};
-ghost use Rattle.smtlib_reader.specs.Problems.{problem};
+ghost use Rattle.term_model.specs.Terms.{Var, Term};
+ghost use Rattle.term_model.specs.Unsatisfiable.{Unsatisfiable};
+ghost use Rattle.rule_model.specs.declared.statuses.Verdict.{Verdict};
+ghost use Rattle.rule_model.specs.Proofs.{ProofItems as Proof};
+ghost use Rattle.rule_model.specs.Truth.{IsWellSortedProof};
+ghost use Rattle.problem_text.specs.Problems.{problem, StandsForProblem};
+ghost use Rattle.problem_text.specs.Scripts.{Script};
+ghost use Rattle.problem_text.specs.Soundness.{IsSound, HasScopedTerms};
+ghost use Rattle.alethe_text.specs.ProofTexts.{proof_from, StandsForProof};
+ghost use Rattle.alethe_text.specs.States.{ProofSettings, unread};
+ghost use Rattle.carcara_cli.specs.Reading.{settings_of, IsReadOf};
 ghost use Rattle.carcara_cli.specs.Cells.{HasMoreCells};
 ghost use Rattle.carcara_cli.specs.CellSums.{cells_in_all};
+ghost use Rattle.carcara_cli.specs.Judgement.{IsCheckedAs};
 
-/// Where the terms that are read of a text have more distinct cells than n, they have more than n in sum. So `pool full` can
-/// be answered of no text whose terms have 2^26 cells or fewer, each counted as often as it stands there.
-pub fn full_pools_have_many_cells()
-    ensures { (text : List ℕ) (replaces_lets : Bool) (n : ℕ) → HasMoreCells text replaces_lets n → (items : Items) → StandsForItems text items → n < cells_in_all (problem replaces_lets items).state.terms }
+use alethe_text::laws::proofs_are_well_formed;
+use problem_text::laws::{scripts_are_closed, scripts_are_well_sorted, texts_have_one_reading};
+use rule_model::laws::soundness::valid_proofs_are_refutations;
+
+/// Whatever proof a text stands for behind a problem: its literals are terms of Bool, what an anchor gives a variable has
+/// the variable's sort, and the open anchors bind the variables that stand free in these terms.
+pub fn proofs_have_scoped_terms()
+    ensures { (source : List ℕ) (settings : ProofSettings) (before : Script) (proof : Proof Var Term) (after : Script) → IsSound before → HasScopedTerms before → StandsForProof source settings before proof after → IsWellSortedProof proof }
+{}
+
+/// Where the verdict on the proof is `valid`, the problem's text stands for assertions that no interpretation makes all
+/// true.
+pub fn valid_proofs_are_sound()
+    ensures { (text : List ℕ) (replaces_lets : Bool) (proof : List ℕ) → IsCheckedAs text replaces_lets proof Verdict.Valid → (sc : Script) × StandsForProblem text replaces_lets sc × Unsatisfiable sc.assertions }
 {
+    scripts_are_well_sorted();
+    scripts_are_closed();
+    proofs_are_well_formed();
+    proofs_have_scoped_terms();
+    valid_proofs_are_refutations();
+}
+
+/// Where the terms that are read have more distinct cells than n, they have more than n in sum. So `pool full` can be
+/// answered of no texts whose terms have 2^26 cells or fewer, each counted as often as it stands there.
+pub fn full_pools_have_many_cells()
+    ensures both { (text : List ℕ) (replaces_lets : Bool) (proof : List ℕ) (n : ℕ) (sc : Script) (items others : Items) → HasMoreCells (IsReadOf text replaces_lets proof) n → StandsForItems text items → StandsForItems proof others → StandsForProblem text replaces_lets sc → n < cells_in_all ((problem replaces_lets items).state.terms ++ (proof_from (settings_of replaces_lets) others (unread sc)).state.script.terms) }
+    ensures problem { (text : List ℕ) (replaces_lets : Bool) (proof : List ℕ) (n : ℕ) (items : Items) → HasMoreCells (IsReadOf text replaces_lets proof) n → StandsForItems text items → ((sc : Script) → StandsForProblem text replaces_lets sc → ⊥) → n < cells_in_all (problem replaces_lets items).state.terms }
+{
+    texts_have_one_reading();
     term_pool::trees_of_terms();
     sexpr::items_are_unique();
 }

@@ -9,12 +9,12 @@ ghost use Rattle.carcara_cli.specs.TopCall.{most_bytes, IsTooLong, IsAnswerTo, I
 ghost use Rattle.carcara_cli.specs.Answering.{IsUnread};
 
 use crate::answer::{Answer, status_of, text_of};
-use crate::check::valid_proofs_are_sound;
 use crate::command_line::{Request, asked_of};
 use crate::judging::judge;
-use crate::reading::MOST_BITS;
+use crate::laws::valid_proofs_are_sound;
+use crate::pools::MOST_BITS;
 use file_ports::{Folder, Gate, OutStop, ReadStop, Sink, read_whole, write_whole};
-use rules_resolution::Memory;
+use pair_pool::Memory;
 use std::alloc::Global;
 
 /// The bytes of the two files.
@@ -99,8 +99,9 @@ fn report<S: Sink>(alloc: Global, answer: &Answer, out: &mut S) -> u8
 /// `words` are those of the command line without the program's name: `check`, and behind it the paths of the proof and
 /// of the problem, with `--expand-let-bindings` in any place; a `--` ends the options.
 ///
-/// Status 0 is `valid`, 1 `invalid`, 3 `refused`, 5 a read fault, 6 a write fault, 7 want of memory, 8 a problem whose
-/// terms have more than 2^26 distinct cells, 9 a file of more than 268,435,456 bytes, and 64 words that spell no command.
+/// Status 0 is `valid`, 1 `invalid`, 2 `holey`, 3 `refused`, 4 `unknown`, 5 a read fault, 6 a write fault, 7 want of memory,
+/// 8 texts whose terms have more than 2^26 distinct cells, 9 a file of more than 268,435,456 bytes, and 64 words that spell no
+/// command.
 ///
 /// The first that answers decides, in this order: the words, the problem's file, the proof's file, the problem's text,
 /// the proof's text, the verdict. Nothing is written before the answer is known. Where it can't be written whole, the

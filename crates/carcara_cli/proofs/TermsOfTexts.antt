@@ -1,0 +1,29 @@
+-- The terms that count as read of two texts are among those of the scripts after them.
+use Rattle.std.proofs.Common.{◌≡◌, ◌⊎◌, ℕ, ◌+◌, ◌<◌, Bool, List, ◌++◌, length, inl, inr, arith}
+use Rattle.std.specs.List.{Contains}
+use Rattle.std.proofs.lemmas.List.Elements.{Contains-append_left, Contains-append_right}
+use Rattle.sexpr.specs.Items.{Items, StandsForItems}
+use Rattle.term_model.specs.Terms.{Term}
+use Rattle.problem_text.specs.Problems.{problem, StandsForProblem}
+use Rattle.problem_text.specs.Scripts.{Script}
+use Rattle.alethe_text.specs.ProofTexts.{proof_from}
+use Rattle.alethe_text.specs.States.{unread}
+use Rattle.carcara_cli.specs.Reading.{settings_of, IsReadOf}
+
+module _ (one_reading : (source : List ℕ) (a b : Items) → StandsForItems source a → StandsForItems source b → a ≡ b) where
+  among_own : (text : List ℕ) (replaces_lets : Bool) (items other : Items) (t : Term) → StandsForItems text items → StandsForItems text other → Contains (problem replaces_lets other).state.terms t → Contains (problem replaces_lets items).state.terms t
+  among_own text replaces_lets items other t nested there h = rw (one_reading text other items there nested) at h
+
+  pub among_problem : (text : List ℕ) (replaces_lets : Bool) (proof : List ℕ) (items : Items) → StandsForItems text items
+      → ((sc : Script) → StandsForProblem text replaces_lets sc → ⊥) → (t : Term) → IsReadOf text replaces_lets proof t → Contains (problem replaces_lets items).state.terms t
+  among_problem text replaces_lets proof items nested none t (inl h) = among_own text replaces_lets items h.items t nested h.nested h.read
+  among_problem text replaces_lets proof items nested none t (inr h) = absurd (none h.script h.stands)
+
+  pub among_both : ((source : List ℕ) (replaces : Bool) (s t : Script) → StandsForProblem source replaces s → StandsForProblem source replaces t → s ≡ t)
+      → (text : List ℕ) (replaces_lets : Bool) (proof : List ℕ) (sc : Script) (items others : Items)
+      → StandsForItems text items → StandsForItems proof others → StandsForProblem text replaces_lets sc → (t : Term) → IsReadOf text replaces_lets proof t
+      → Contains ((problem replaces_lets items).state.terms ++ (proof_from (settings_of replaces_lets) others (unread sc)).state.script.terms) t
+  among_both one_script text replaces_lets proof sc items others nested behind stands t (inl h) =
+      Contains-append_left _ _ t (among_own text replaces_lets items h.items t nested h.nested h.read)
+  among_both one_script text replaces_lets proof sc items others nested behind stands t (inr h) =
+      Contains-append_right _ _ t (rw (one_reading proof h.counted.items others h.counted.nested behind, one_script text replaces_lets h.script sc h.stands stands) at h.counted.read)
