@@ -1,2 +1,38 @@
 mod IdLemmas
 pub mod IdsInUse
+pub mod Answering
+pub mod StillRead
+pub mod TermAnswers
+mod JudgedIds
+pub mod WrittenStays
+pub mod BoundLemmas
+mod OuterImages
+mod ImageReading
+mod OpenedNames
+mod JudgedNames
+pub mod ScopeReading
+mod ArgumentReading
+mod ArgumentLoop
+mod ArgumentNodes
+mod AssumeReading
+mod SpelledNames
+mod NamedCommands
+pub mod StillReadCommands
+mod TextCommands
+mod PerformedCommands
+mod TextLoop
+mod ReadProofs
+mod StoredItems
+mod Reaches
+mod Indices
+mod StandingSteps
+mod RuleWords
+mod FormulaLists
+mod NamingItems
+mod NamedArguments
+mod AddedSteps
+mod LowestTerms
+mod LowestCoefficients
+mod FormedSteps
+mod StepReading
+mod AttributeReading

@@ -1,3 +1,17 @@
 pub mod Ids
 pub mod IdsInUse
 pub mod HeldIds
+pub mod Reading
+pub mod CommandNames
+pub mod TextReading
+pub mod Bound
+pub mod Opening
+pub mod Sessions
+pub mod Answers
+pub mod ReadTerms
+pub mod Judging
+pub mod Reach
+pub mod Standing
+pub mod StepParts
+pub mod Arguments
+pub mod AddedSteps

@@ -1,0 +1,186 @@
+-- What an argument of an anchor comes to.
+use Rattle.std.proofs.Common.{◌≡◌, ◌≤◌, ◌+◌, ◌-◌, ℕ, Bool, true, false, not, ◌||◌, List, [], ◌∷◌, ◌++◌, map, length, take, Option, Some, None, Result, Ok, Err, refl, sym, ap, subst, ◌∙◌, arith}
+use Rattle.std.specs.Prelude.{⊤}
+use Rattle.std.specs.List.{AllZip}
+use Rattle.std.proofs.lemmas.List.{append_assoc, map-append, length-append, length-map}
+use Rattle.std.proofs.lemmas.Slice.Zip.{AllZip-long, all_zipped_more}
+use Rattle.sexpr.specs.declared.causes.Cause.TheVariants.{Repeated, BadAnchor}
+use Rattle.sexpr.specs.declared.causes.Refusal.{Refusal}
+use Rattle.sexpr.specs.Items.{Item}
+use Rattle.sym_table.specs.Table.{Table, Keeps, IsLeaf}
+use Rattle.term_model.specs.declared.symbols.Sort.{Sort}
+use Rattle.term_model.specs.Terms.{Var, Term}
+use Rattle.term_pool.specs.StandsFor.{variable_leaf}
+use Rattle.term_pool.specs.Views.{TermsView, RefersTo, KeepsTerms}
+use Rattle.rule_model.specs.Contexts.{put_in_each, images}
+use Rattle.rule_model.specs.Judged.{open_anchors}
+use Rattle.rule_model.specs.Scopes.{Nesting}
+use Rattle.proof_store.specs.Meaning.{IsBindingOf}
+use Rattle.text_items.specs.ItemShapes.{Name}
+use Rattle.problem_text.specs.Outcomes.{Outcome, done, and_then}
+use Rattle.problem_text.specs.Scripts.{with_let_name, with_term}
+use Rattle.problem_text.specs.TypedTerms.{Typed}
+use Rattle.problem_text.specs.Words.{is_among, is_built_in}
+use Rattle.term_expansion.specs.declared.values.Value.{Value}
+use Rattle.term_names.specs.Making.{PlacesCellsOf}
+use Rattle.term_names.specs.Standing.{AddsNoSymbols}
+use Rattle.term_names.specs.declared.faults.ReadFault.{ReadFault}
+use Rattle.term_reader.specs.ProblemViews.{ReaderView, IsReaderOf}
+use Rattle.term_reader.proofs.Staying.{adds_none, keeps_none, refers_stays, places_none, places_then, pass_keeps_none}
+use Rattle.term_reader.proofs.ViewsStay.{reader_stays}
+use Rattle.alethe_text.specs.Anchors.{bound_names, sort_given, image_of, script_changed, argument_read}
+use Rattle.alethe_text.specs.Commands.{assigned}
+use Rattle.alethe_text.specs.ProofTerms.{place_in, term_in}
+use Rattle.alethe_text.specs.States.{ProofSettings, ProofState, Reading, ◌>>=◌, give, demand, given}
+use Rattle.alethe_reader.specs.Answers.{WasRead, IsAnswer, Answers, KeepsRead}
+use Rattle.alethe_reader.specs.Bound.{images_in}
+use Rattle.alethe_reader.specs.Opening.{IsOpening, IsSameScope, IsArgumentRead, IsNameJudged, image_read, IsImageRead}
+use Rattle.alethe_reader.specs.ReadTerms.{IsReadValue}
+use Rattle.alethe_reader.specs.declared.bound.BoundVariables.{BoundVariables}
+use Rattle.alethe_reader.proofs.Answering.{stops, goes, refuses, same_outcome}
+use Rattle.alethe_reader.proofs.BoundLemmas.{zip_front, zip_joined}
+use Rattle.alethe_reader.proofs.ImageReading.{keeps_image}
+use Rattle.alethe_reader.proofs.OpenedNames.{judged_more, fresh_more}
+use Rattle.alethe_reader.proofs.ScopeReading.{reader_named, reader_more}
+use Rattle.alethe_reader.proofs.WrittenStays.{bindings_stay}
+
+-- a fault, or want of memory, whatever would have come after
+pub fails : {A T U : Type 0} {s : Table} {v w : TermsView} {M : T → A → ProofState → Type 0} (N : U → A → ProofState → Type 0) {o : Outcome ProofState A} (fault : ReadFault) → Answers s v w M o (Err fault) → Answers s v w N o (Err fault)
+fails N fault h = record { answer = h.answer; placed = h.placed }
+
+-- in a table with more leaves
+pub ends_so : {A T U : Type 0} {s z : Table} {v w : TermsView} {M : T → A → ProofState → Type 0} (N : U → A → ProofState → Type 0) {o : Outcome ProofState A} {t : T} (u : U) → Keeps s z → Answers s v w M o (Ok t)
+    → ((a : A) (p : ProofState) → M t a p → N u a p) → Answers z v w N o (Ok u)
+ends_so {A} {T} {U} {s} {z} {v} {w} {M} N {o} {t} u keeps h more = record {
+  answer = record { value = h.answer.value; state = h.answer.state; comes = h.answer.comes; after = more h.answer.value h.answer.state h.answer.after };
+  placed = places_then s z v.pass w.pass w.pass (WasRead o) keeps (pass_keeps_none w.pass) h.placed (places_none z w.pass w.pass (WasRead o) refl);
+}
+
+pub lacks_memory : {A T U : Type 0} {s z : Table} {v w : TermsView} {M : T → A → ProofState → Type 0} (N : U → A → ProofState → Type 0) {o : Outcome ProofState A} {t : T} → Keeps s z → Answers s v w M o (Ok t) → Answers z v w N o (Err ReadFault.Memory)
+lacks_memory {A} {T} {U} {s} {z} {v} {w} {M} N {o} {t} keeps h = record {
+  answer = tt;
+  placed = places_then s z v.pass w.pass w.pass (WasRead o) keeps (pass_keeps_none w.pass) h.placed (places_none z w.pass w.pass (WasRead o) refl);
+}
+
+-- the name
+pub name_free : (built bound : Bool) (place : ℕ) (u : ⊤) → IsNameJudged built bound place (Ok u) → (built ≡ false) × (bound ≡ false)
+name_free true bound place u h = absurd h
+name_free false true place u h = absurd h
+name_free false false place u h = (refl, refl)
+
+module _ (settings : ProofSettings) (earlier : List (List ℕ)) (place : ℕ) (x : Name) (o : Option Item) (i : Item) (p : ProofState) where
+  -- the state once the name was judged
+  abbrev pub named_state : ProofState
+  named_state = record p { script = with_let_name x.name p.script }
+
+  -- by the name and by the sort
+  abbrev argument_so : Bool → Bool → Result (Option Sort) Refusal → Outcome ProofState (Var × Term)
+  argument_so built bound sort =
+      (demand (not built) Repeated x.place >>= λ _. demand (not bound) BadAnchor x.place >>= λ _. script_changed (with_let_name x.name) >>= λ _. given sort >>= λ wanted. term_in settings p.scope.nesting i >>= image_read place x.name wanted p.scope.nesting) p
+
+  abbrev is_bound_here : Bool
+  is_bound_here = is_among earlier x.name || is_among (bound_names p.scope.nesting) x.name
+
+  argument_is : argument_read settings earlier (assigned place x o i) p ≡ argument_so (is_built_in x.name) is_bound_here (sort_given p.script.sorts o)
+  unfolding argument_read image_read ◌>>=◌
+  argument_is = refl
+
+  so_far : (built bound : Bool) → is_built_in x.name ≡ built → is_bound_here ≡ bound → argument_read settings earlier (assigned place x o i) p ≡ argument_so built bound (sort_given p.script.sorts o)
+  so_far built bound e f = argument_is ∙ (ap (λ b. argument_so b is_bound_here (sort_given p.script.sorts o)) e ∙ ap (λ b. argument_so built b (sort_given p.script.sorts o)) f)
+
+  pub name_refused : (refusal : Refusal) → IsNameJudged (is_built_in x.name) is_bound_here x.place (Err refusal) → (argument_read settings earlier (assigned place x o i) p).result ≡ Err refusal
+  unfolding ◌>>=◌
+  name_refused refusal h = go (is_built_in x.name) is_bound_here refl refl h
+    where
+      go : (built bound : Bool) → is_built_in x.name ≡ built → is_bound_here ≡ bound → IsNameJudged built bound x.place (Err refusal) → (argument_read settings earlier (assigned place x o i) p).result ≡ Err refusal
+      go true bound e f h = ap (λ (q : Outcome ProofState (Var × Term)). q.result) (so_far true bound e f) ∙ ap (λ (r : Refusal). Err r) (sym h)
+      go false true e f h = ap (λ (q : Outcome ProofState (Var × Term)). q.result) (so_far false true e f) ∙ ap (λ (r : Refusal). Err r) (sym h)
+      go false false e f h = absurd h
+
+  module _ (plain : is_built_in x.name ≡ false) (free : is_bound_here ≡ false) where
+    pub sort_refused : (refusal : Refusal) → sort_given p.script.sorts o ≡ Err refusal → (argument_read settings earlier (assigned place x o i) p).result ≡ Err refusal
+    unfolding ◌>>=◌
+    sort_refused refusal e = ap (λ (q : Outcome ProofState (Var × Term)). q.result) (so_far false false plain free ∙ ap (argument_so false false) e)
+
+    module _ (wanted : Option Sort) (given_sort : sort_given p.script.sorts o ≡ Ok wanted) where
+      to_term : argument_read settings earlier (assigned place x o i) p ≡ and_then (term_in settings p.scope.nesting i named_state) (image_read place x.name wanted p.scope.nesting)
+      unfolding ◌>>=◌
+      to_term = so_far false false plain free ∙ ap (argument_so false false) given_sort
+
+      pub no_term : {T U : Type 0} {s : Table} {v w : TermsView} {M : T → Typed → ProofState → Type 0} (N : U → Var × Term → ProofState → Type 0) (fault : ReadFault) → Answers s v w M (term_in settings p.scope.nesting i named_state) (Err fault)
+          → Answers s v w N (argument_read settings earlier (assigned place x o i) p) (Err fault)
+      no_term N fault h = same_outcome to_term (stops (image_read place x.name wanted p.scope.nesting) (λ t. keeps_image place x.name wanted p.scope.nesting t) h)
+
+      module _ (s : Table) (v mid w : TermsView) (r : ReaderView) (c : Value) (h : Answers s v mid (IsReadValue s mid settings p.scope.nesting r named_state) (term_in settings p.scope.nesting i named_state) (Ok c)) (keeps : KeepsTerms mid w) where
+        -- the variable with its term and its image was read
+        pub record IsVariableRead (image : ℕ) (b : Var × Term) (q : ProofState) : Type 0 where
+          pub term : RefersTo s w c.term b.1
+          pub sort : c.sort ≡ b.0.sort
+          pub name : b.0.name ≡ x.name
+          pub image_there : RefersTo s w image (image_of p.scope.nesting b.1)
+          pub reader : IsReaderOf s w r q.script (place_in settings p.scope.nesting)
+          pub same : IsSameScope p q
+
+        pub variable_read : (result : Result ℕ ReadFault)
+            → ((t : Typed) (q : ProofState) → IsReadValue s mid settings p.scope.nesting r named_state c t q → Answers s mid w (IsImageRead s w x.name p.scope.nesting t q) (image_read place x.name wanted p.scope.nesting t q) result)
+            → Answers s v w IsVariableRead (argument_read settings earlier (assigned place x o i) p) result
+        variable_read result k =
+            same_outcome to_term
+            (goes (image_read place x.name wanted p.scope.nesting) (λ t. keeps_image place x.name wanted p.scope.nesting t) h (adds_none s).keeps keeps (λ t q m. go t q m result (k t q m)))
+          where
+            after : (t : Typed) (q : ProofState) → IsReadValue s mid settings p.scope.nesting r named_state c t q → (image : ℕ) (b : Var × Term) (z : ProofState) → IsImageRead s w x.name p.scope.nesting t q image b z → IsVariableRead image b z
+            after t q m image b z g = record {
+              term = rw g.same (refers_stays s s mid w (adds_none s).keeps keeps c.term t.tree m.is.refers);
+              sort = rw g.same m.is.sort;
+              name = rw g.same refl;
+              image_there = rw g.same g.refers;
+              reader = rw g.state (reader_more s w r q.script (place_in settings p.scope.nesting) (reader_stays s s mid w (adds_none s) keeps r q.script (place_in settings p.scope.nesting) m.behind.reader) (image_of p.scope.nesting t.tree));
+              same = rw g.state (record { scope = m.behind.scope; anchors = m.behind.anchors });
+            }
+
+            go : (t : Typed) (q : ProofState) → IsReadValue s mid settings p.scope.nesting r named_state c t q → (result : Result ℕ ReadFault) → Answers s mid w (IsImageRead s w x.name p.scope.nesting t q) (image_read place x.name wanted p.scope.nesting t q) result
+                → Answers s mid w IsVariableRead (image_read place x.name wanted p.scope.nesting t q) result
+            go t q m result g = Rattle.alethe_reader.proofs.Answering.answers_more IsVariableRead (λ image b z. after t q m image b z) g
+
+-- The argument's variable joins those that were read.
+module _ (s z : Table) (v w : TermsView) (settings : ProofSettings) (adds : AddsNoSymbols s z) (terms : KeepsTerms v w) (earlier : List (List ℕ)) (bs : List (Var × Term)) (p q : ProofState) (d e : BoundVariables) (r t : ReaderView) (opening : IsOpening s v settings r d earlier bs p) (same : IsSameScope p q) where
+  pub opens_more : (b : Var × Term) (name : List ℕ) (leaf term image : ℕ) → IsReaderOf z w t q.script (place_in settings p.scope.nesting) → b.0.name ≡ name → is_among (map (λ u. u.id) d.names) name ≡ false
+      → IsLeaf z leaf (variable_leaf b.0) → RefersTo z w term b.1 → RefersTo z w image (image_of p.scope.nesting b.1)
+      → map (λ u. u.id) e.names ≡ map (λ u. u.id) d.names ++ name ∷ [] → e.images.items ≡ d.images.items ++ (leaf, image) ∷ [] → e.opened.items ≡ d.opened.items ++ (leaf, term) ∷ []
+      → IsOpening z w settings t e (b.0.name ∷ earlier) (bs ++ b ∷ []) q
+  opens_more b name leaf term image reader named free is term_there image_there names images_are opened_are = record {
+    reader = rw same.scope reader;
+    names = rw same.scope (names ∙ (ap (λ ns. ns ++ name ∷ []) opening.names ∙ (ap (λ n. (bound_names p.scope.nesting ++ map (λ c. c.0.name) bs) ++ n ∷ []) (sym named)
+        ∙ (append_assoc (bound_names p.scope.nesting) (map (λ c. c.0.name) bs) (b.0.name ∷ []) ∙ ap (λ ns. bound_names p.scope.nesting ++ ns) (sym (map-append (λ c. c.0.name) bs (b ∷ [])))))));
+    judged = rw same.scope (λ n.
+        judged_more earlier (bound_names p.scope.nesting) (map (λ u. u.id) d.names) b.0.name n (opening.judged n)
+        ∙ ap (λ ns. is_among ns n) (ap (λ m. map (λ u. u.id) d.names ++ m ∷ []) named ∙ sym names));
+    images = rw (same.scope, images_are) (subst (λ qs. AllZip (IsBindingOf z w) (d.images.items ++ (leaf, image) ∷ []) qs) list_of_images
+        (all_zipped_more (IsBindingOf z w) d.images.items (images_in p.scope.nesting ++ put_in_each (images (open_anchors p.scope.nesting)) bs) (leaf, image) (b.0, image_of p.scope.nesting b.1)
+        (bindings_stay s z v w adds.keeps terms d.images.items (images_in p.scope.nesting ++ put_in_each (images (open_anchors p.scope.nesting)) bs) opening.images)
+        (record { variable = is; term = image_there })));
+    opened = rw opened_are (all_zipped_more (IsBindingOf z w) d.opened.items bs (leaf, term) b (bindings_stay s z v w adds.keeps terms d.opened.items bs opening.opened) (record { variable = is; term = term_there }));
+    apart = rw same.scope opening.apart;
+    fresh = rw same.scope (fresh_more (bound_names p.scope.nesting) bs b opening.fresh (subst (λ n. is_among (bound_names p.scope.nesting ++ map (λ c. c.0.name) bs) n ≡ false) (sym named) (subst (λ ns. is_among ns name ≡ false) opening.names free)));
+  }
+    where
+      list_of_images : (images_in p.scope.nesting ++ put_in_each (images (open_anchors p.scope.nesting)) bs) ++ (b.0, image_of p.scope.nesting b.1) ∷ [] ≡ images_in p.scope.nesting ++ put_in_each (images (open_anchors p.scope.nesting)) (bs ++ b ∷ [])
+      list_of_images =
+          append_assoc (images_in p.scope.nesting) (put_in_each (images (open_anchors p.scope.nesting)) bs) ((b.0, image_of p.scope.nesting b.1) ∷ [])
+          ∙ ap (λ qs. images_in p.scope.nesting ++ qs) (sym (map-append (λ c. (c.0, Rattle.rule_model.specs.Substitution.put_in (images (open_anchors p.scope.nesting)) c.1)) bs (b ∷ [])))
+
+-- how many images there are around the anchor
+module _ (s : Table) (v : TermsView) (settings : ProofSettings) (r : ReaderView) (d : BoundVariables) (earlier : List (List ℕ)) (bs : List (Var × Term)) (p : ProofState) (h : IsOpening s v settings r d earlier bs p) where
+  images_long : length d.images.items ≡ length (images_in p.scope.nesting) + length bs
+  images_long =
+      sym (AllZip-long (IsBindingOf s v) d.images.items (images_in p.scope.nesting ++ put_in_each (images (open_anchors p.scope.nesting)) bs) h.images)
+      ∙ (length-append (images_in p.scope.nesting) (put_in_each (images (open_anchors p.scope.nesting)) bs) ∙ ap (λ n. length (images_in p.scope.nesting) + n) (length-map bs _))
+
+  opened_long : length bs ≡ length d.opened.items
+  opened_long = AllZip-long (IsBindingOf s v) d.opened.items bs h.opened
+
+  pub enough_images : length d.opened.items ≤ length d.images.items
+  enough_images = omega (arith, images_long, opened_long)
+
+  pub outer_images : AllZip (IsBindingOf s v) (take (length d.images.items - length d.opened.items) d.images.items) (images_in p.scope.nesting)
+  outer_images = zip_front (IsBindingOf s v) d.images.items (images_in p.scope.nesting) (put_in_each (images (open_anchors p.scope.nesting)) bs) (length d.images.items - length d.opened.items) (omega (arith, images_long, opened_long)) h.images

@@ -1,0 +1,123 @@
+-- The image of a variable, once its term was read.
+use Rattle.std.proofs.Common.{◌≡◌, ◌≤◌, ℕ, nat_le, Bool, true, false, List, [], ◌∷◌, ◌++◌, Option, inl, inr, Result, Ok, Err, refl, sym, ap, subst, ◌∙◌}
+use Rattle.std.specs.Prelude.{⊤, Contains}
+use Rattle.std.specs.List.{AllZip}
+use Rattle.std.proofs.lemmas.List.Elements.{Contains-push}
+use Rattle.pair_pool.specs.Views.{PassView, IsUnchanged}
+use Rattle.sexpr.specs.declared.causes.Cause.TheVariants.{SortMismatch, TooHigh}
+use Rattle.sexpr.specs.declared.causes.Refusal.{Refusal}
+use Rattle.sym_table.specs.Table.{Table}
+use Rattle.term_model.specs.declared.symbols.Sort.{Sort}
+use Rattle.term_model.specs.Terms.{Var, Term}
+use Rattle.term_pool.specs.Views.{TermsView, RefersTo, KeepsTerms}
+use Rattle.term_pool.specs.declared.stop.TermStop.{TermStop}
+use Rattle.rule_model.specs.Heights.{height}
+use Rattle.rule_model.specs.Replacement.{Replacement}
+use Rattle.rule_model.specs.Scopes.{Nesting}
+use Rattle.proof_store.specs.Meaning.{IsBindingOf}
+use Rattle.contexts.specs.PutIn.{StandForReplacement, PlacesTerm, LacksRoomFor}
+use Rattle.problem_text.specs.Limits.{most_height}
+use Rattle.problem_text.specs.Outcomes.{Outcome, done, refuse}
+use Rattle.problem_text.specs.Scripts.{with_term}
+use Rattle.problem_text.specs.TypedTerms.{Typed}
+use Rattle.term_names.specs.Faults.{fault_of}
+use Rattle.term_names.specs.Making.{PlacesCellsOf, LacksCellOf}
+use Rattle.term_names.specs.declared.faults.ReadFault.{ReadFault}
+use Rattle.term_reader.proofs.Staying.{places_none, places_then, table_keeps_none}
+use Rattle.alethe_text.specs.Anchors.{image_of, script_changed}
+use Rattle.alethe_text.specs.States.{ProofSettings, ProofState, Reading, ◌>>=◌, give, demand}
+use Rattle.alethe_reader.specs.Answers.{WasRead, IsAnswer, Answers, KeepsRead}
+use Rattle.alethe_reader.specs.Opening.{is_wanted, image_read, IsImageRead}
+use Rattle.alethe_reader.proofs.Answering.{refuses}
+use Rattle.alethe_reader.proofs.StillRead.{keeps_then, keeps_demand, keeps_give}
+use Rattle.alethe_reader.proofs.StillReadCommands.{keeps_more}
+
+-- bindings as contexts has them
+pub stand_for : (s : Table) (v : TermsView) (bs : List (ℕ × ℕ)) (q : Replacement) → AllZip (IsBindingOf s v) bs q → StandForReplacement s v bs q
+stand_for s v [] [] h = tt
+stand_for s v [] (c ∷ q) h = absurd h
+stand_for s v (b ∷ bs) [] h = absurd h
+stand_for s v (b ∷ bs) (c ∷ q) h = (h.0.variable, h.0.term, stand_for s v bs q h.1)
+
+pub places_of : (s : Table) (old new : PassView) (t : Term) (P : Term → Type 0) → P t → PlacesTerm s old new t → PlacesCellsOf s old new P
+places_of s old new t P wanted h r a b e =
+    elim (h.placed r a b e) [ inl x ↦ inl x | inr y ↦ inr (record { whole = t; wanted = wanted; tree = h.tree; stands = h.stands; cell = y }) ]
+
+pub lacks_of : (s : Table) (new : PassView) (t : Term) (P : Term → Type 0) → P t → LacksRoomFor s new t → LacksCellOf s new P
+lacks_of s new t P wanted h = record { whole = t; wanted = wanted; tree = h.tree; stands = h.stands; full = h.full }
+
+module _ (place : ℕ) (name : List ℕ) (wanted : Option Sort) (nesting : Nesting Var Term) (t : Typed) where
+  pub keeps_image : KeepsRead (image_read place name wanted nesting t)
+  unfolding image_read
+  keeps_image =
+      keeps_then _ _ (keeps_demand _ _ _) (λ _. keeps_then _ _ (keeps_more _) (λ _. keeps_then _ _ (keeps_demand _ _ _) (λ _. keeps_give _)))
+
+  module _ (q : ProofState) where
+    abbrev image : Term
+    image = image_of nesting t.tree
+
+    abbrev with_image : ProofState
+    with_image = record q { script = with_term image q.script }
+
+    abbrev variable_of : Var × Term
+    variable_of = (record { name = name; sort = t.sort }, t.tree)
+
+    -- by the sort, and by the height
+    abbrev read_so : Bool → Bool → Outcome ProofState (Var × Term)
+    read_so fits low = (demand fits SortMismatch place >>= λ _. script_changed (with_term image) >>= λ _. demand low TooHigh place >>= λ _. give variable_of) q
+
+    read_is : image_read place name wanted nesting t q ≡ read_so (is_wanted wanted t.sort) (nat_le (height image) most_height)
+    unfolding image_read ◌>>=◌
+    read_is = refl
+
+    pub other_sort : is_wanted wanted t.sort ≡ false → (image_read place name wanted nesting t q).result ≡ Err (record { cause = SortMismatch; at = place })
+    unfolding ◌>>=◌
+    other_sort e = ap (λ (o : Outcome ProofState (Var × Term)). o.result) (read_is ∙ ap (λ fits. read_so fits (nat_le (height image) most_height)) e)
+
+    module _ (fits : is_wanted wanted t.sort ≡ true) where
+      fitting : image_read place name wanted nesting t q ≡ read_so true (nat_le (height image) most_height)
+      fitting = read_is ∙ ap (λ b. read_so b (nat_le (height image) most_height)) fits
+
+      pub too_high : nat_le (height image) most_height ≡ false → (image_read place name wanted nesting t q).result ≡ Err (record { cause = TooHigh; at = place })
+      unfolding ◌>>=◌
+      too_high e = ap (λ (o : Outcome ProofState (Var × Term)). o.result) (fitting ∙ ap (read_so true) e)
+
+      pub image_done : nat_le (height image) most_height ≡ true → image_read place name wanted nesting t q ≡ done variable_of with_image
+      unfolding ◌>>=◌
+      image_done e = fitting ∙ ap (read_so true) e
+
+      -- the image counts as read
+      pub image_was_read : WasRead (image_read place name wanted nesting t q) image
+      unfolding ◌>>=◌
+      image_was_read = subst (λ (o : Outcome ProofState (Var × Term)). WasRead o image) (sym fitting) (go (nat_le (height image) most_height))
+        where
+          go : (low : Bool) → WasRead (read_so true low) image
+          go true = Contains-push q.script.terms image
+          go false = Contains-push q.script.terms image
+
+      module _ (s : Table) (v w : TermsView) (placed : PlacesTerm s v.pass w.pass image) where
+        cells_of : PlacesCellsOf s v.pass w.pass (WasRead (image_read place name wanted nesting t q))
+        cells_of = places_of s v.pass w.pass image (WasRead (image_read place name wanted nesting t q)) image_was_read placed
+
+        pub no_image : (stop : TermStop) → (stop ≡ TermStop.PoolFull → LacksRoomFor s w.pass image) → Answers s v w (IsImageRead s w name nesting t q) (image_read place name wanted nesting t q) (Err (fault_of stop))
+        no_image TermStop.PoolFull full = record { answer = lacks_of s w.pass image (WasRead (image_read place name wanted nesting t q)) image_was_read (full refl); placed = cells_of }
+        no_image TermStop.Memory full = record { answer = tt; placed = cells_of }
+
+        module _ (x : TermsView) (keeps : KeepsTerms w x) (unchanged : IsUnchanged w.pass x.pass) where
+          cells_still : PlacesCellsOf s v.pass x.pass (WasRead (image_read place name wanted nesting t q))
+          cells_still =
+              places_then s s v.pass w.pass x.pass (WasRead (image_read place name wanted nesting t q)) (table_keeps_none s) keeps.pass cells_of
+              (places_none s w.pass x.pass (WasRead (image_read place name wanted nesting t q)) unchanged.placed)
+
+          pub no_height : Answers s v x (IsImageRead s x name nesting t q) (image_read place name wanted nesting t q) (Err ReadFault.Memory)
+          no_height = record { answer = tt; placed = cells_still }
+
+          pub image_refused : nat_le (height image) most_height ≡ false → (refusal : Refusal) → refusal ≡ record { cause = TooHigh; at = place }
+              → Answers s v x (IsImageRead s x name nesting t q) (image_read place name wanted nesting t q) (Err (ReadFault.Text refusal))
+          image_refused e refusal is = record { answer = too_high e ∙ ap (λ (r : Refusal). Err r) (sym is); placed = cells_still }
+
+          pub image_made : nat_le (height image) most_height ≡ true → (c : ℕ) → RefersTo s x c image → Answers s v x (IsImageRead s x name nesting t q) (image_read place name wanted nesting t q) (Ok c)
+          image_made e c refers = record {
+            answer = record { value = variable_of; state = with_image; comes = image_done e; after = record { refers = refers; same = refl; state = refl } };
+            placed = cells_still;
+          }

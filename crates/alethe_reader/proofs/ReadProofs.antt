@@ -1,0 +1,223 @@
+-- A whole proof that was read.
+use Rattle.std.proofs.Common.{◌≡◌, ◌≤◌, refl, sym, ◌∙◌, ap, subst, ℕ, zero, List, [], ◌∷◌, ◌++◌, map, length, arith, Bool, true, false, Option, Some, None, Result, Ok, Err, IfOk, inl, inr, if◌then◌else◌, slice_index_or}
+use Rattle.std.specs.Prelude.{⊤, Contains}
+use Rattle.std.proofs.lemmas.List.{length-append}
+use Rattle.pair_pool.specs.Views.{PassView}
+use Rattle.sexpr.specs.declared.causes.Cause.TheVariants.{BadCommand, BadAnchor}
+use Rattle.sexpr.specs.declared.causes.Refusal.{Refusal}
+use Rattle.sexpr.specs.declared.lexing.Lexer.{Lexer}
+use Rattle.sexpr.specs.Form.{HasForm}
+use Rattle.sexpr.specs.Items.{Item, Items, no_items, item, StandsForItems}
+use Rattle.sexpr.specs.Source.{source, position}
+use Rattle.sym_table.specs.Table.{Table}
+use Rattle.term_model.specs.Terms.{Var, Term}
+use Rattle.term_pool.specs.Views.{TermsView}
+use Rattle.rule_model.specs.Proofs.{ProofItems as Proof}
+use Rattle.rule_model.specs.Scopes.{Nesting, outermost, inside}
+use Rattle.rule_model.specs.Writing.{unwritten}
+use Rattle.proof_store.specs.Meaning.{StandForItems, no_items_stand}
+use Rattle.text_items.specs.ItemShapes.{excess}
+use Rattle.problem_text.specs.Outcomes.{Outcome, done}
+use Rattle.problem_text.specs.Scripts.{Script}
+use Rattle.term_names.specs.Making.{PlacesCellsOf, LacksCellOf}
+use Rattle.term_names.specs.declared.faults.ReadFault.{ReadFault}
+use Rattle.term_reader.specs.ProblemViews.{IsReaderOf}
+use Rattle.term_reader.specs.Reading.{EndsWith}
+use Rattle.term_reader.proofs.Staying.{places_more, lacks_more}
+use Rattle.alethe_text.specs.ProofTerms.{place_in}
+use Rattle.alethe_text.specs.ProofTexts.{commands, behind_answer, is_list_of_commands, unwrapped_commands, excess_behind, none_behind, closed_proof, finished, proof_from, StandsForProof, IsFirstProofFault}
+use Rattle.alethe_text.specs.States.{ProofSettings, ProofState, unread, ◌>>=◌}
+use Rattle.alethe_items.specs.TextItems.{HasCommandItems, behind_list}
+use Rattle.alethe_reader.specs.Answers.{WasRead}
+use Rattle.alethe_reader.specs.Bound.{AreBound}
+use Rattle.alethe_reader.specs.CommandNames.{HaveNames}
+use Rattle.alethe_reader.specs.Reading.{IsCounted, IsProofOf}
+use Rattle.alethe_reader.specs.Sessions.{StandForNesting, starts, IsSession}
+use Rattle.alethe_reader.specs.TextReading.{closing_from, left_from, AreLeft, NoneLeft, AreRead, ReadsAll, IsFinished}
+use Rattle.alethe_reader.specs.declared.session.OpenAnchor.{OpenAnchor}
+use Rattle.alethe_reader.specs.declared.session.Session.{Session}
+use Rattle.alethe_reader.proofs.NamedCommands.{commands_named}
+use Rattle.alethe_reader.proofs.SpelledNames.{AreSpelled}
+
+-- nothing was read of a proof
+pub is_new : (s : Table) (v : TermsView) (settings : ProofSettings) (d : Session) (before : Script) → settings.is_strict ≡ false → d.builder ≡ unwritten → d.ids ≡ [] → d.anchors.items ≡ []
+    → AreBound s v d.bound outermost → IsReaderOf s v d.reader before (place_in settings outermost) → IsSession s v settings d (unread before)
+is_new s v settings d before lax built none no_anchors bound reader = record {
+  lax = lax;
+  reader = reader;
+  written = record {
+    nesting = rw built tt;
+    items = rw built no_items_stand;
+    ids = rw (none, built) refl;
+    places = rw no_anchors refl;
+    starts_kept = rw (no_anchors, built) refl;
+    counts_kept = rw (no_anchors, built) refl;
+    bound = bound;
+  };
+}
+
+-- what stands behind the commands
+excess_same : (items : Items) → excess (behind_list items) ≡ excess_behind items
+excess_same no_items = refl
+excess_same (item i rest) = go (is_list_of_commands i)
+  where
+    go : (b : Bool) → excess (if b then rest else no_items) ≡ (if b then excess rest else None)
+    go true = refl
+    go false = refl
+
+left_of : (settings : ProofSettings) (items : Items) (p : ProofState) → left_from settings (unwrapped_commands (behind_answer items)) (behind_list (behind_answer items)) p ≡ proof_from settings items p
+unfolding proof_from left_from closing_from
+left_of settings items p =
+    ap (λ (o : Option ℕ). (commands settings (unwrapped_commands (behind_answer items)) >>= λ _. none_behind o >>= λ _. finished) p) (excess_same (behind_answer items))
+
+module _ (settings : ProofSettings) (behind : Items) (p : ProofState) where
+  excess_refuses : (place : ℕ) → excess behind ≡ Some place → (closing_from settings behind tt p).result ≡ Err (record { cause = BadCommand; at = place })
+  unfolding closing_from ◌>>=◌
+  excess_refuses place e = ap (λ (o : Option ℕ). ((none_behind o >>= λ _. finished) p).result) e
+
+  then_closed : excess behind ≡ None → closing_from settings behind tt p ≡ closed_proof p.scope.nesting p.scope.items p.anchors p
+  unfolding closing_from ◌>>=◌
+  then_closed e = ap (λ (o : Option ℕ). (none_behind o >>= λ _. finished) p) e
+
+starts_none : (n : Nesting ℕ ℕ) → starts n ≡ [] → n ≡ outermost
+starts_none outermost e = refl
+starts_none (inside around before anchor) e = absurd (let f = ap length e in let g = length-append (starts around) (_ ∷ []) in omega arith)
+
+some_starts : (n : Nesting ℕ ℕ) (k : ℕ) (ks : List ℕ) → k ∷ ks ≡ starts n → n ≡ outermost → ⊥
+some_starts n k ks e is = let f = e ∙ ap starts is in cc
+
+both_outermost : (s : Table) (v : TermsView) (n : Nesting ℕ ℕ) (m : Nesting Var Term) → n ≡ outermost → StandForNesting s v n m → m ≡ outermost
+both_outermost s v outermost outermost e h = refl
+both_outermost s v outermost (inside around before anchor) e h = absurd h
+both_outermost s v (inside around before anchor) m e h = absurd (cc)
+
+not_outermost : (s : Table) (v : TermsView) (n : Nesting ℕ ℕ) (m : Nesting Var Term) → (n ≡ outermost → ⊥) → StandForNesting s v n m → (items : Proof Var Term) (places : List ℕ) (p : ProofState)
+    → (closed_proof m items places p).result ≡ Err (record { cause = BadAnchor; at = slice_index_or places 0 0 })
+not_outermost s v outermost m other h items places p = absurd (other refl)
+not_outermost s v (inside around before anchor) outermost other h items places p = absurd h
+not_outermost s v (inside around before anchor) (inside outer behind last) other h items places p = refl
+
+module _ (s : Table) (v : TermsView) (settings : ProofSettings) (d : Session) (p : ProofState) (behind : Items) (session : IsSession s v settings d p) where
+  pub item_behind : (place : ℕ) → Some place ≡ excess behind → IsFinished s v p (closing_from settings behind tt p) (Err (ReadFault.Text (record { cause = BadCommand; at = place })))
+  item_behind place e = excess_refuses settings behind p place (sym e)
+
+  pub anchor_open : None ≡ excess behind → (a : OpenAnchor) (others : List OpenAnchor) → d.anchors.items ≡ a ∷ others
+      → IsFinished s v p (closing_from settings behind tt p) (Err (ReadFault.Text (record { cause = BadAnchor; at = a.place })))
+  anchor_open e a others is =
+      let w = session.written in
+      let starts_is : a.ids ∷ map (λ b. b.ids) others ≡ starts d.builder.nesting = sym (ap (map (λ b. b.ids)) is) ∙ w.starts_kept in
+      let places_are : a.place ∷ map (λ b. b.place) others ≡ p.anchors = sym (ap (map (λ b. b.place)) is) ∙ w.places in
+      ap (λ (o : Outcome ProofState (Proof Var Term)). o.result) (then_closed settings behind p (sym e))
+      ∙ (not_outermost s v d.builder.nesting p.scope.nesting (some_starts d.builder.nesting a.ids (map (λ b. b.ids) others) starts_is) w.nesting p.scope.items p.anchors p
+      ∙ ap (λ (places : List ℕ). Err (record { cause = BadAnchor; at = slice_index_or places 0 0 })) (sym places_are))
+
+  pub none_open : d.anchors.items ≡ [] → d.builder.nesting ≡ outermost
+  none_open is = starts_none d.builder.nesting (sym session.written.starts_kept ∙ ap (map (λ b. b.ids)) is)
+
+  pub proof_finished : None ≡ excess behind → d.anchors.items ≡ [] → (refs : Proof ℕ ℕ) → refs ≡ d.builder.items → IsFinished s v p (closing_from settings behind tt p) (Ok refs)
+  proof_finished e is refs same =
+      let closed = both_outermost s v d.builder.nesting p.scope.nesting (none_open is) session.written.nesting in
+      (p.scope.items,
+       then_closed settings behind p (sym e) ∙ ap (λ (n : Nesting Var Term). closed_proof n p.scope.items p.anchors p) closed,
+       subst (λ (x : Proof ℕ ℕ). StandForItems s v x p.scope.items) (sym same) session.written.items)
+
+-- at the start all commands of the text are left
+module _ (spelled : AreSpelled) (text : List ℕ) (settings : ProofSettings) (before : Script) (l m o : Lexer) (in_list : Bool) (whole : source l ≡ text) (start : position l ≡ 0) where
+  abbrev pub Skips : Type 0
+  Skips = (items : Items) → HasCommandItems (source l) false (position l) items no_items → HasCommandItems (source m) false (position m) (behind_answer items) no_items
+
+  abbrev pub Enters : Type 0
+  Enters = (items : Items) → HasCommandItems (source m) false (position m) items no_items → HasCommandItems (source o) in_list (position o) (unwrapped_commands items) (behind_list items)
+
+  pub all_items : (items : Items) → StandsForItems text items → HasCommandItems (source l) false (position l) items no_items
+  all_items items h =
+      subst (λ (x : List ℕ). HasCommandItems x false (position l) items no_items) (sym whole)
+      (subst (λ (n : ℕ). HasCommandItems text false n items no_items) (sym start) (record { tokens = h.tokens; after = []; read = h.read; nested = h.nested; end = (refl, refl) }))
+
+  pub starts_here : Skips → Enters → (items : Items) → StandsForItems text items → AreLeft (source o) settings in_list (position o) (unread before) (proof_from settings items (unread before))
+  starts_here skips enters items h = record {
+    items = unwrapped_commands (behind_answer items);
+    behind = behind_list (behind_answer items);
+    here = enters (behind_answer items) (skips items (all_items items h));
+    named = commands_named spelled text items h;
+    comes = left_of settings items (unread before);
+  }
+
+-- what reading all commands of the text has come to
+module _ (text : List ℕ) (settings : ProofSettings) (before : Script) (form : HasForm text) where
+  abbrev whole_of : Items → Outcome ProofState (Proof Var Term)
+  whole_of items = proof_from settings items (unread before)
+
+  counted : (items : Items) → StandsForItems text items → (t : Term) → WasRead (whole_of items) t → IsCounted text settings before t
+  counted items h t read = record { items = items; nested = h; read = read }
+
+  first_fault : (items : Items) → StandsForItems text items → (r : Refusal) → (whole_of items).result ≡ Err r → IsFirstProofFault text settings before r
+  first_fault items h r is = inr (record { items = items; nested = h; refused = is })
+
+  module _ (source : List ℕ) (s : Table) (old new : TermsView) (d : Session) (at : ℕ) where
+    abbrev pub Reads : Result Unit ReadFault → Type 0
+    Reads result = (items : Items) → StandsForItems text items → ReadsAll source s old new settings d at (whole_of items) result
+
+    pub read_placed : (result : Result Unit ReadFault) → Reads result → PlacesCellsOf s old.pass new.pass (IsCounted text settings before)
+    read_placed result reads = places_more s old.pass new.pass (WasRead (whole_of form.0)) (IsCounted text settings before) (counted form.0 form.1) (reads form.0 form.1).placed
+
+    pub read_fault : (f : ReadFault) (r : Refusal) → f ≡ ReadFault.Text r → Reads (Err f) → IsFirstProofFault text settings before r
+    read_fault f r is reads =
+        first_fault form.0 form.1 r
+        (subst (λ (x : ReadFault). EndsWith s new.pass (whole_of form.0).result (WasRead (whole_of form.0)) x) is (reads form.0 form.1).outcome)
+
+    pub read_full : (f : ReadFault) → f ≡ ReadFault.PoolFull → Reads (Err f) → LacksCellOf s new.pass (IsCounted text settings before)
+    read_full f is reads =
+        lacks_more s new.pass (WasRead (whole_of form.0)) (IsCounted text settings before) (counted form.0 form.1)
+        (subst (λ (x : ReadFault). EndsWith s new.pass (whole_of form.0).result (WasRead (whole_of form.0)) x) is (reads form.0 form.1).outcome)
+
+    -- Once all commands were read, and what is left is finished.
+    abbrev pub Finishes : Result (Proof ℕ ℕ) ReadFault → Type 0
+    Finishes result = (p : ProofState) (behind : Items) → HasCommandItems source false at behind no_items → IsSession s new settings d p → IsFinished s new p (closing_from settings behind tt p) result
+
+    ended : {u : Unit {0}} (result : Result (Proof ℕ ℕ) ReadFault) → Reads (Ok u) → Finishes result → (p : ProofState) × IsFinished s new p (whole_of form.0) result
+    ended result reads finishes =
+        let (p, none, session) = (reads form.0 form.1).outcome in
+        (p, subst (λ (w : Outcome ProofState (Proof Var Term)). IsFinished s new p w result) none.comes (finishes p none.behind none.here session))
+
+    proof_of : (result : Result (Proof ℕ ℕ) ReadFault) → (p : ProofState) × IsFinished s new p (whole_of form.0) result → IfOk result (IsProofOf text settings before s new)
+    proof_of (Ok refs) (p, proof, is, refer) = record {
+      proof = proof;
+      after = p.script;
+      stands = record {
+        items = form.0;
+        nested = form.1;
+        read = ap (λ (w : Outcome ProofState (Proof Var Term)). w.result) is;
+        script = ap (λ (w : Outcome ProofState (Proof Var Term)). w.state.script) is;
+      };
+      refer = refer;
+    }
+    proof_of (Err fault) h = tt
+
+    fault_of : (result : Result (Proof ℕ ℕ) ReadFault) (r : Refusal) → result ≡ Err (ReadFault.Text r) → (p : ProofState) × IsFinished s new p (whole_of form.0) result → (whole_of form.0).result ≡ Err r
+    fault_of result r e (p, h) = subst (λ (x : Result (Proof ℕ ℕ) ReadFault). IsFinished s new p (whole_of form.0) x) e h
+
+    pub some_end : {u : Unit {0}} → Reads (Ok u) → (p : ProofState) × (behind : Items) × HasCommandItems source false at behind no_items × IsSession s new settings d p
+    some_end reads = let (p, none, session) = (reads form.0 form.1).outcome in (p, none.behind, none.here, session)
+
+    module _ {u : Unit {0}} (result : Result (Proof ℕ ℕ) ReadFault) (reads : Reads (Ok u)) (finishes : Finishes result) where
+      pub finished_proof : IfOk result (IsProofOf text settings before s new)
+      finished_proof = proof_of result (ended result reads finishes)
+
+      pub finished_fault : (r : Refusal) → result ≡ Err (ReadFault.Text r) → IsFirstProofFault text settings before r
+      finished_fault r e = first_fault form.0 form.1 r (fault_of result r e (ended result reads finishes))
+
+      pub never_full : result ≡ Err ReadFault.PoolFull → ⊥
+      never_full e = let (p, h) = ended result reads finishes in subst (λ (x : Result (Proof ℕ ℕ) ReadFault). IsFinished s new p (whole_of form.0) x) e h
+
+      pub never_both : ((proof : Proof Var Term) (after : Script) (r : Refusal) → StandsForProof text settings before proof after → IsFirstProofFault text settings before r → ⊥)
+          → (r : Refusal) → IsFirstProofFault text settings before r → IfOk result (λ _. ⊥)
+      never_both law r faulty = go result finished_proof
+        where
+          go : (x : Result (Proof ℕ ℕ) ReadFault) → IfOk x (IsProofOf text settings before s new) → IfOk x (λ _. ⊥)
+          go (Ok refs) h = law h.proof h.after r h.stands faulty
+          go (Err fault) h = tt
+
+-- a fault that is handed on
+pub same_fault : {A : Type 0} (result : Result A ReadFault) (f g : ReadFault) → (x : ReadFault) × (result ≡ Err x) × (x ≡ f) → result ≡ Err g → f ≡ g
+same_fault result f g (x, is, same) e = cc

@@ -1,0 +1,162 @@
+-- The commands of a proof's text, the first one after the other.
+use Rattle.std.proofs.Common.{◌≡◌, refl, sym, ◌∙◌, ap, subst, ℕ, List, length, Bool, true, false, Result, Ok, Err}
+use Rattle.std.specs.Prelude.{⊤, Contains}
+use Rattle.sexpr.specs.declared.causes.Refusal.{Refusal}
+use Rattle.sexpr.specs.Items.{Item, Items, no_items, item}
+use Rattle.sym_table.specs.Table.{Table}
+use Rattle.term_model.specs.Terms.{Var, Term}
+use Rattle.term_pool.specs.Views.{TermsView}
+use Rattle.rule_model.specs.Proofs.{ProofItems as Proof}
+use Rattle.text_items.specs.Nodes.{IsNode}
+use Rattle.text_items.specs.declared.nodes.Node.{Node}
+use Rattle.problem_text.specs.Outcomes.{Outcome, done, going_on, and_then}
+use Rattle.term_names.specs.declared.faults.ReadFault.{ReadFault}
+use Rattle.term_reader.proofs.Staying.{places_none, places_more}
+use Rattle.alethe_text.specs.Commands.{Command, command_of}
+use Rattle.alethe_text.specs.ProofTexts.{performed, commands}
+use Rattle.alethe_text.specs.States.{ProofSettings, ProofState, Reading, ◌>>=◌}
+use Rattle.alethe_commands.specs.CommandNodes.{IsCommand, SaysCommand}
+use Rattle.alethe_commands.specs.declared.commands.Command as code
+use Rattle.alethe_reader.specs.Answers.{WasRead, Answers}
+use Rattle.alethe_items.specs.TextItems.{HasCommandItems, IsFirst}
+use Rattle.alethe_reader.specs.CommandNames.{HasNames, HaveNames, IsNamed}
+use Rattle.alethe_reader.specs.Sessions.{IsSession, StandsAfter}
+use Rattle.alethe_reader.specs.TextReading.{closing_from, left_from, AreLeft, NoneLeft, ReadsCommand}
+use Rattle.alethe_reader.specs.declared.session.Session.{Session}
+use Rattle.alethe_reader.proofs.Answering.{read_on, stops, same_outcome}
+use Rattle.alethe_reader.proofs.NamedCommands.{is_named_so}
+use Rattle.alethe_reader.proofs.StillReadCommands.{keeps_left}
+
+then_then : {A B C : Type 0} (o : Outcome ProofState A) (f : A → Reading B) (g : B → Reading C) → and_then (and_then o f) g ≡ and_then o (λ a s. and_then (f a s) g)
+then_then {A} {B} {C} o f g = go o.result o.state
+  where
+    go : (r : Result A Refusal) (s : ProofState) → and_then (going_on r s f) g ≡ going_on r s (λ a t. and_then (f a t) g)
+    go (Ok a) s = refl
+    go (Err refusal) s = refl
+
+-- the first of the commands, by its shape
+abbrev then_rest : ProofSettings → Items → Items → Outcome ProofState ⊤ → Outcome ProofState (Proof Var Term)
+then_rest settings rest behind o = and_then o (λ _. left_from settings rest behind)
+
+abbrev first_of : ProofSettings → Items → Items → ProofState → Result Command Refusal → Outcome ProofState (Proof Var Term)
+first_of settings rest behind p r = going_on r p (λ c q. then_rest settings rest behind (performed settings c q))
+
+unfolds : (settings : ProofSettings) (i : Item) (rest behind : Items) (p : ProofState) → left_from settings (item i rest) behind p ≡ first_of settings rest behind p (command_of i)
+unfolding left_from commands ◌>>=◌
+unfolds settings i rest behind p = go (command_of i)
+  where
+    go : (r : Result Command Refusal) → and_then (going_on r p (λ c q. and_then (performed settings c q) (λ _. commands settings rest))) (closing_from settings behind) ≡ first_of settings rest behind p r
+    go (Ok c) = then_then (performed settings c p) (λ _. commands settings rest) (closing_from settings behind)
+    go (Err refusal) = refl
+
+none_comes : (settings : ProofSettings) (behind : Items) (p : ProofState) → left_from settings no_items behind p ≡ closing_from settings behind tt p
+unfolding left_from commands ◌>>=◌
+none_comes settings behind p = refl
+
+-- the nodes are those of the first command that is left, and the others stand from this place on
+pub record HasFirst (source : List ℕ) (nodes : List Node) (in_list : Bool) (at : ℕ) (settings : ProofSettings) (p : ProofState) (whole : Outcome ProofState (Proof Var Term)) : Type 0 where
+  pub first : Item
+  pub others : Items
+  pub behind : Items
+  pub here : IsNode source nodes 0 first (length nodes)
+  pub left : HasCommandItems source in_list at others behind
+  pub named : HasNames first × HaveNames others
+  pub comes : first_of settings others behind p (command_of first) ≡ whole
+
+module _ (settings : ProofSettings) (in_list : Bool) (p : ProofState) (whole : Outcome ProofState (Proof Var Term)) where
+  pub has_first : (old new : List ℕ) (nodes : List Node) (from at : ℕ) → ((items behind : Items) → HasCommandItems old in_list from items behind → IsFirst new in_list nodes at items behind)
+      → AreLeft old settings in_list from p whole → HasFirst new nodes in_list at settings p whole
+  has_first old new nodes from at found h =
+      let f = found h.items h.behind h.here in
+      record {
+        first = f.first;
+        others = f.others;
+        behind = h.behind;
+        here = f.here;
+        left = f.left;
+        named = subst HaveNames f.split h.named;
+        comes = sym (unfolds settings f.first f.others h.behind p) ∙ (ap (λ x. left_from settings x h.behind p) (sym f.split) ∙ h.comes);
+      }
+
+  pub none_left : (old new : List ℕ) (from at : ℕ) → ((items behind : Items) → HasCommandItems old in_list from items behind → (items ≡ no_items) × HasCommandItems new false at behind no_items)
+      → AreLeft old settings in_list from p whole → NoneLeft new settings at p whole
+  none_left old new from at none h =
+      let (e, left) = none h.items h.behind h.here in
+      record {
+        behind = h.behind;
+        here = left;
+        comes = sym (none_comes settings h.behind p) ∙ (ap (λ x. left_from settings x h.behind p) (sym e) ∙ h.comes);
+      }
+
+  -- the shape of the first command, and what comes of it and of the others
+  pub record IsShaped (source : List ℕ) (nodes : List Node) (others behind : Items) (c : code.Command) : Type 0 where
+    pub shape : Command
+    pub says : SaysCommand source nodes c shape
+    pub named : IsNamed shape
+    pub comes : then_rest settings others behind (performed settings shape p) ≡ whole
+
+  pub command_fault : (source : List ℕ) (nodes : List Node) (at : ℕ) (r : Refusal) → (h : HasFirst source nodes in_list at settings p whole) → IsCommand source nodes (Err r) (command_of h.first) → whole.result ≡ Err r
+  command_fault source nodes at r h is = ap (λ (o : Outcome ProofState (Proof Var Term)). o.result) (sym h.comes ∙ ap (first_of settings h.others h.behind p) is)
+
+  pub command_read : (source : List ℕ) (nodes : List Node) (at : ℕ) (c : code.Command) → (h : HasFirst source nodes in_list at settings p whole) → IsCommand source nodes (Ok c) (command_of h.first) → IsShaped source nodes h.others h.behind c
+  command_read source nodes at c h (d, is, says) = record { shape = d; says = says; named = is_named_so h.first d is h.named.0; comes = ap (first_of settings h.others h.behind p) (sym is) ∙ h.comes }
+
+  read_by_whole : (others behind : Items) (o : Outcome ProofState ⊤) → then_rest settings others behind o ≡ whole → (t : Term) → WasRead o t → WasRead whole t
+  read_by_whole others behind o e t h = subst (λ (w : Outcome ProofState (Proof Var Term)). WasRead w t) e (read_on o (λ _. left_from settings others behind) (λ _. keeps_left settings others behind) t h)
+
+  -- a command more
+  pub performs_well : {source : List ℕ} {s : Table} {old new : TermsView} {d : Session} {at : ℕ} {u : ⊤} (others behind : Items) (o : Outcome ProofState ⊤)
+      → HasCommandItems source in_list at others behind → HaveNames others → then_rest settings others behind o ≡ whole
+      → Answers s old new (StandsAfter s new settings d) o (Ok u) → ReadsCommand source s old new settings d in_list at whole (Ok true)
+  performs_well {source} {s} {old} {new} others behind o here named comes h = record {
+    outcome =
+      (h.answer.state,
+       record { items = others; behind = behind; here = here; named = named; comes = sym (ap (then_rest settings others behind) h.answer.comes) ∙ comes },
+       h.answer.after.session);
+    placed = places_more s old.pass new.pass (WasRead o) (WasRead whole) (read_by_whole others behind o comes) h.placed;
+  }
+
+  pub performs_not : {source : List ℕ} {s : Table} {old new : TermsView} {d : Session} {at : ℕ} {fault : ReadFault} (others behind : Items) (o : Outcome ProofState ⊤)
+      → then_rest settings others behind o ≡ whole
+      → Answers s old new (StandsAfter s new settings d) o (Err fault) → ReadsCommand source s old new settings d in_list at whole (Err fault)
+  performs_not {source} {s} {old} {new} {d} {at} {fault} others behind o comes h =
+      let N : ⊤ → Proof Var Term → ProofState → Type 0 = λ _ _ _. ⊤ in
+      let all : Answers s old new N whole (Err fault) = same_outcome (sym comes) (stops (λ _. left_from settings others behind) (λ _. keeps_left settings others behind) h) in
+      record { outcome = all.answer; placed = all.placed }
+
+  pub ends_here : {source : List ℕ} {s : Table} {v : TermsView} {d : Session} {at : ℕ} → NoneLeft source settings at p whole → IsSession s v settings d p → ReadsCommand source s v v settings d in_list at whole (Ok false)
+  ends_here {source} {s} {v} none session = record { outcome = (p, none, session); placed = places_none s v.pass v.pass (WasRead whole) refl }
+
+  pub refused_here : {source : List ℕ} {s : Table} {v : TermsView} {d : Session} {at : ℕ} (r : Refusal) → whole.result ≡ Err r → ReadsCommand source s v v settings d in_list at whole (Err (ReadFault.Text r))
+  refused_here {source} {s} {v} r is = record { outcome = is; placed = places_none s v.pass v.pass (WasRead whole) refl }
+
+  pub no_memory_here : {source : List ℕ} {s : Table} {v : TermsView} {d : Session} {at : ℕ} → ReadsCommand source s v v settings d in_list at whole (Err ReadFault.Memory)
+  no_memory_here {source} {s} {v} = record { outcome = tt; placed = places_none s v.pass v.pass (WasRead whole) refl }
+
+pub some_first : (in_list : Bool) (old new : List ℕ) (nodes slice : List Node) (from at : ℕ) (s : Table) (v : TermsView) (d : Session)
+    → slice ≡ nodes
+    → ((items behind : Items) → HasCommandItems old in_list from items behind → IsFirst new in_list nodes at items behind)
+    → (settings : ProofSettings) × (p : ProofState) × (whole : Outcome ProofState (Proof Var Term)) × AreLeft old settings in_list from p whole × IsSession s v settings d p
+    → (i : Item) × IsNode new slice 0 i (length slice)
+some_first in_list old new nodes slice from at s v d same found (settings, p, whole, left, _) =
+    let h = has_first settings in_list p whole old new nodes from at found left in
+    (h.first, subst (λ (x : List Node). IsNode new x 0 h.first (length x)) (sym same) h.here)
+
+-- as the nodes are those of the slice
+pub found_in : (source : List ℕ) (nodes slice : List Node) (r : Result code.Command Refusal)
+    → slice ≡ nodes
+    → ((i : Item) → IsNode source slice 0 i (length slice) → IsCommand source slice r (command_of i))
+    → (i : Item) → IsNode source nodes 0 i (length nodes) → IsCommand source nodes r (command_of i)
+found_in source nodes slice r same found =
+    subst (λ (x : List Node). (i : Item) → IsNode source x 0 i (length x) → IsCommand source x r (command_of i)) same found
+
+pub some_shape : (in_list : Bool) (old new : List ℕ) (nodes slice more : List Node) (from at : ℕ) (s : Table) (v : TermsView) (d : Session) (c : code.Command)
+    → slice ≡ nodes → more ≡ nodes
+    → ((items behind : Items) → HasCommandItems old in_list from items behind → IsFirst new in_list nodes at items behind)
+    → ((i : Item) → IsNode new slice 0 i (length slice) → IsCommand new slice (Ok c) (command_of i))
+    → (settings : ProofSettings) × (p : ProofState) × (whole : Outcome ProofState (Proof Var Term)) × AreLeft old settings in_list from p whole × IsSession s v settings d p
+    → (x : Command) × SaysCommand new more c x × IsNamed x
+some_shape in_list old new nodes slice more from at s v d c same also found read (settings, p, whole, left, _) =
+    let h = has_first settings in_list p whole old new nodes from at found left in
+    let shaped = command_read settings in_list p whole new nodes at c h (found_in new nodes slice (Ok c) same read h.first h.here) in
+    (shaped.shape, subst (λ (x : List Node). SaysCommand new x c shaped.shape) (sym also) shaped.says, shaped.named)

@@ -1,0 +1,110 @@
+-- Cited by crates above. What is written of a proof stands for the same as the table and the pool grow, and has the ids of the
+-- proof over terms.
+use Rattle.std.proofs.Common.{◌≡◌, ℕ, List, [], ◌∷◌, ◌++◌, length, map, refl, sym, ap, subst, ◌∙◌, suc, ◌+◌}
+use Rattle.std.specs.List.{AllZip}
+use Rattle.sym_table.specs.Table.{Table, Keeps}
+use Rattle.term_model.specs.Terms.{Var, Term}
+use Rattle.term_pool.specs.Views.{TermsView, RefersTo, KeepsTerms}
+use Rattle.rule_model.specs.Proofs.{Step as ProofStep, ProofItems, no_items, with_assume, with_step, with_subproof}
+use Rattle.rule_model.specs.Scopes.{Nesting, outermost, inside, Scope, at, first_index, scope_number, commands_in, subproofs_in}
+use Rattle.proof_store.specs.Meaning.{IsBindingOf, IsStepOf, StandForItems, no_items_stand, assume_stands, step_stands, subproof_stands}
+use Rattle.term_reader.proofs.Staying.{refers_stays}
+use Rattle.alethe_text.specs.States.{ProofState}
+use Rattle.alethe_reader.specs.declared.ids.Role.{Role}
+use Rattle.alethe_reader.specs.declared.ids.Role.TheVariants.{Assume, Step, Anchor}
+use Rattle.alethe_reader.specs.declared.session.Session.{Session}
+use Rattle.alethe_reader.specs.Bound.{AreBound, images_in}
+use Rattle.alethe_reader.specs.declared.bound.BoundVariables.{BoundVariables}
+use Rattle.alethe_reader.specs.Ids.{Used}
+use Rattle.alethe_reader.specs.IdsInUse.{in_use, own_ids, ids_around, ids_in}
+use Rattle.alethe_reader.specs.Sessions.{StandForNesting, IsWritten}
+use Rattle.alethe_reader.proofs.StoredItems.{commands_same, subproofs_same, items_stay}
+
+module _ (s z : Table) (v w : TermsView) (table : Keeps s z) (terms : KeepsTerms v w) where
+  pub bindings_stay : (bs : List (ℕ × ℕ)) (cs : List (Var × Term)) → AllZip (IsBindingOf s v) bs cs → AllZip (IsBindingOf z w) bs cs
+  bindings_stay [] [] h = h
+  bindings_stay [] (c ∷ cs) h = absurd h
+  bindings_stay (b ∷ bs) [] h = absurd h
+  bindings_stay (b ∷ bs) (c ∷ cs) h =
+      (record { variable = table.leaves b.0 _ h.0.variable; term = refers_stays s z v w table terms b.1 c.1 h.0.term }, bindings_stay bs cs h.1)
+
+  pub stored_stay : (is : ProofItems ℕ ℕ) (ps : ProofItems Var Term) → StandForItems s v is ps → StandForItems z w is ps
+  stored_stay is ps h = items_stay s z v w table (refers_stays s z v w table terms) is ps h
+
+  pub nesting_stays : (n : Nesting ℕ ℕ) (m : Nesting Var Term) → StandForNesting s v n m → StandForNesting z w n m
+  nesting_stays outermost outermost h = h
+  nesting_stays outermost (inside around before anchor) h = absurd h
+  nesting_stays (inside around before anchor) outermost h = absurd h
+  nesting_stays (inside around before anchor) (inside outer behind other) h = (
+    nesting_stays around outer h.0,
+    stored_stay before behind h.1,
+    h.2,
+    bindings_stay anchor.bindings other.bindings h.3,
+  )
+
+  bound_stays : (b : BoundVariables) (n : Nesting Var Term) → AreBound s v b n → AreBound z w b n
+  bound_stays b n h = record { names = h.names; images = bindings_stay b.images.items (images_in n) h.images; apart = h.apart }
+
+  pub written_stays : (d : Session) (p : ProofState) → IsWritten s v d p → IsWritten z w d p
+  written_stays d p h = record {
+    nesting = nesting_stays d.builder.nesting p.scope.nesting h.nesting;
+    items = stored_stay d.builder.items p.scope.items h.items;
+    ids = h.ids;
+    places = h.places;
+    starts_kept = h.starts_kept;
+    counts_kept = h.counts_kept;
+    bound = bound_stays d.bound p.scope.nesting h.bound;
+  }
+
+-- the ids in use, by references and by terms
+module _ (s : Table) (v : TermsView) where
+  pub first_same : (n : Nesting ℕ ℕ) (m : Nesting Var Term) → StandForNesting s v n m → first_index n ≡ first_index m
+  first_same outermost outermost h = refl
+  first_same outermost (inside around before anchor) h = absurd h
+  first_same (inside around before anchor) outermost h = absurd h
+  first_same (inside around before anchor) (inside outer behind other) h =
+      let a = first_same around outer h.0 in let b = commands_same s v before behind h.1 in cc
+
+  pub number_same : (n : Nesting ℕ ℕ) (m : Nesting Var Term) → StandForNesting s v n m → scope_number n ≡ scope_number m
+  number_same outermost outermost h = refl
+  number_same outermost (inside around before anchor) h = absurd h
+  number_same (inside around before anchor) outermost h = absurd h
+  number_same (inside around before anchor) (inside outer behind other) h =
+      let a = number_same around outer h.0 in let b = subproofs_same s v before behind h.1 in cc
+
+  own_same : (n : Nesting ℕ ℕ) (m : Nesting Var Term) → first_index n ≡ first_index m → (is : ProofItems ℕ ℕ) (ps : ProofItems Var Term) → StandForItems s v is ps → own_ids n is ≡ own_ids m ps
+  own_same n m e _ _ no_items_stand = refl
+  own_same n m e _ _ (assume_stands is ps id r t h refers) = both (own_same n m e is ps h) (e) (commands_same s v is ps h)
+    where
+      both : own_ids n is ≡ own_ids m ps → first_index n ≡ first_index m → commands_in is ≡ commands_in ps → own_ids n (with_assume is id r) ≡ own_ids m (with_assume ps id t)
+      both a b c = cc
+  own_same n m e _ _ (step_stands is ps step of h stands) = both (own_same n m e is ps h) e (commands_same s v is ps h) stands.id
+    where
+      both : own_ids n is ≡ own_ids m ps → first_index n ≡ first_index m → commands_in is ≡ commands_in ps → step.id ≡ of.id → own_ids n (with_step is step) ≡ own_ids m (with_step ps of)
+      both a b c d = cc
+  own_same n m e _ _ (subproof_stands is ps bs cs within proof step of h b g stands) =
+      both (own_same n m e is ps h) e (commands_same s v is ps h) (commands_same s v within proof g) stands.id
+    where
+      both : own_ids n is ≡ own_ids m ps → first_index n ≡ first_index m → commands_in is ≡ commands_in ps → commands_in within ≡ commands_in proof → step.id ≡ of.id
+          → own_ids n (with_subproof is bs within step) ≡ own_ids m (with_subproof ps cs proof of)
+      both a b c d f = cc
+
+  around_same : (n : Nesting ℕ ℕ) (m : Nesting Var Term) → StandForNesting s v n m → ids_around n ≡ ids_around m
+  around_same outermost outermost h = refl
+  around_same outermost (inside around before anchor) h = absurd h
+  around_same (inside around before anchor) outermost h = absurd h
+  around_same (inside around before anchor) (inside outer behind other) h =
+      both (around_same around outer h.0) (own_same around outer (first_same around outer h.0) before behind h.1)
+      (number_same (inside around before anchor) (inside outer behind other) h) h.2
+    where
+      both : ids_around around ≡ ids_around outer → own_ids around before ≡ own_ids outer behind → scope_number (inside around before anchor) ≡ scope_number (inside outer behind other) → anchor.id ≡ other.id
+          → ids_around (inside around before anchor) ≡ ids_around (inside outer behind other)
+      both a b c d = cc
+
+  pub ids_same : (d : Scope ℕ ℕ) (p : Scope Var Term) → StandForNesting s v d.nesting p.nesting → StandForItems s v d.items p.items → ids_in d ≡ ids_in p
+  ids_same d p n i =
+      let a = around_same d.nesting p.nesting n in let b = own_same d.nesting p.nesting (first_same d.nesting p.nesting n) d.items p.items i in cc
+
+  -- what is written has the ids of the state
+  pub written_ids : (d : Session) (p : ProofState) → IsWritten s v d p → d.ids ≡ ids_in p.scope
+  written_ids d p h = h.ids ∙ ids_same d.builder p.scope h.nesting h.items

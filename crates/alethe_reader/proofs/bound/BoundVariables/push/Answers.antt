@@ -1,0 +1,6 @@
+-- A name that is not bound is not in use.
+use Rattle.alethe_reader.proofs.BoundLemmas.{among_unused}
+use Rattle.alethe_reader.proofs.bound.BoundVariables.push.Goals as goal
+
+pub push-requires : goal.push-requires
+push-requires c = among_unused c.args.self.now.names c.args.name.now c.requires

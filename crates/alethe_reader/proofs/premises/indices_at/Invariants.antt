@@ -1,0 +1,20 @@
+-- The commands of the names before node k were found.
+use Rattle.std.proofs.Common.{◌-◌, List}
+use Rattle.sexpr.specs.Source.{source}
+use Rattle.rule_model.specs.Visibility.{Sight}
+use Rattle.text_items.specs.ItemShapes.{Name}
+use Rattle.alethe_commands.specs.CommandNodes.{AreNameNodes}
+use Rattle.alethe_text.specs.Ids.{indices_of}
+use Rattle.alethe_text.specs.States.{ProofState}
+use Rattle.alethe_reader.specs.Reach.{IsReach}
+use Rattle.alethe_reader.proofs.Indices.{AreSoFar}
+use Rattle.alethe_reader.proofs.premises.indices_at.Given as goal
+
+abbrev pub invariant-names : goal.invariant-names
+invariant-names l = record {
+  some : (ns : List Name) × AreNameNodes (source l.text) l.nodes l.k ns l.end;
+  so_far : (ns : List Name) (sights : List Sight) (p : ProofState) → AreNameNodes (source l.text) l.nodes l.first ns l.end → IsReach l.ids l.reach sights → AreSoFar (source l.text) l.nodes sights p l.indices.items l.k l.end (indices_of sights ns p);
+}
+
+abbrev pub decreases-names : goal.decreases-names
+decreases-names l = l.end - l.k

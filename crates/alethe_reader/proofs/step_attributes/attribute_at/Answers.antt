@@ -1,0 +1,73 @@
+-- By what the attribute is.
+use Rattle.std.proofs.Common.{sym, ap, subst, refl, ◌∙◌}
+use Rattle.sexpr.specs.Source.{source}
+use Rattle.alethe_commands.specs.CommandNodes.{SaysAttribute}
+use Rattle.alethe_commands.specs.declared.attributes.StepAttribute.{StepAttribute}
+use Rattle.alethe_text.specs.Arguments.{takes_coefficients}
+use Rattle.alethe_text.specs.Commands.{Attribute}
+use Rattle.alethe_text.specs.Steps.{attribute_read}
+use Rattle.alethe_reader.proofs.Answering.{same_outcome}
+use Rattle.alethe_reader.proofs.AttributeReading.{rule_answers, premises_answer, discharge_answers, ratios_answer, names_answer}
+use Rattle.alethe_reader.proofs.step_attributes.attribute_at.Goals as goal
+
+pub returns-in-Rule-clause-read : goal.returns-in-Rule-clause-read
+returns-in-Rule-clause-read c a settings at p before says stands same parts =
+    let h = subst (λ (x : StepAttribute). SaysAttribute (source c.args.text.now) c.args.nodes.now x a) c.in-Rule.is says in
+    same_outcome (ap (λ (x : Attribute). attribute_read settings at x before p) h.1)
+    (rule_answers _ _ settings at c.args.session.now p before h.0 _ (c.judge_rule.ensures h.0 p h.2)
+    (record { parts = parts; id = refl; rule = refl; rule_name = refl; clause = refl; behind = record { reader = stands.reader; scope = refl; anchors = refl } }))
+
+pub returns-in-Premises-clause-read : goal.returns-in-Premises-clause-read
+returns-in-Premises-clause-read c a settings at p before says stands same parts =
+    let h = subst (λ (x : StepAttribute). SaysAttribute (source c.args.text.now) c.args.nodes.now x a) c.in-Premises.is says in
+    same_outcome (ap (λ (x : Attribute). attribute_read settings at x before p) h.1)
+    (premises_answer _ _ settings at (record c.args.session.now { parts = record c.args.session.now.parts { premises = c.indices_at.new.indices } }) p before h.0 _ _ (c.indices_at.ensures h.0 at.sees p h.2 stands.sees)
+    (record {
+      parts = record { premises = refl; discharged = parts.discharged; pivots = parts.pivots; ratios = parts.ratios };
+      id = refl;
+      rule = refl;
+      rule_name = refl;
+      clause = refl;
+      behind = record { reader = stands.reader; scope = refl; anchors = refl };
+    }))
+
+pub returns-in-Discharge-clause-read : goal.returns-in-Discharge-clause-read
+returns-in-Discharge-clause-read c a settings at p before says stands same parts =
+    let h = subst (λ (x : StepAttribute). SaysAttribute (source c.args.text.now) c.args.nodes.now x a) c.in-Discharge.is says in
+    same_outcome (ap (λ (x : Attribute). attribute_read settings at x before p) h.1)
+    (discharge_answers _ _ settings at (record c.args.session.now { parts = record c.args.session.now.parts { discharged = c.indices_at-in-Discharge.new.indices } }) p before h.0 _ _ (c.indices_at-in-Discharge.ensures h.0 at.discharges p h.2 stands.discharges)
+    (record {
+      parts = record { premises = parts.premises; discharged = refl; pivots = parts.pivots; ratios = parts.ratios };
+      id = refl;
+      rule = refl;
+      rule_name = refl;
+      clause = refl;
+      behind = record { reader = stands.reader; scope = refl; anchors = refl };
+    }))
+
+pub returns-then-takes_coefficients-clause-read : goal.returns-then-takes_coefficients-clause-read
+returns-then-takes_coefficients-clause-read c a settings at p before says stands same parts =
+    let h = subst (λ (x : StepAttribute). SaysAttribute (source c.args.text.now) c.args.nodes.now x a) c.in-Arguments.is says in
+    let takes = ap takes_coefficients same ∙ (sym c.takes_coefficients.ensures ∙ c.if-takes_coefficients.true) in
+    same_outcome (ap (λ (x : Attribute). attribute_read settings at x before p) h.1)
+    (ratios_answer _ _ settings at (record c.args.session.now { parts = c.ratios_at.new.parts }) p before h.0 takes c.ratios_at.new.parts _ (c.ratios_at.ensures.read h.0 h.2)
+    (record {
+      parts = record {
+        premises = ap (λ x. x.items) c.ratios_at.ensures.premises ∙ parts.premises;
+        discharged = ap (λ x. x.items) c.ratios_at.ensures.discharged ∙ parts.discharged;
+        pivots = parts.pivots;
+        ratios = refl;
+      };
+      id = refl;
+      rule = refl;
+      rule_name = refl;
+      clause = refl;
+      behind = record { reader = stands.reader; scope = refl; anchors = refl };
+    }))
+
+pub returns-else-takes_coefficients-clause-read : goal.returns-else-takes_coefficients-clause-read
+returns-else-takes_coefficients-clause-read c a settings at p before says stands same parts =
+    let h = subst (λ (x : StepAttribute). SaysAttribute (source c.args.text.now) c.args.nodes.now x a) c.in-Arguments.is says in
+    let takes = ap takes_coefficients same ∙ (sym c.takes_coefficients.ensures ∙ c.if-takes_coefficients.false) in
+    same_outcome (ap (λ (x : Attribute). attribute_read settings at x before p) h.1)
+    (names_answer _ _ _ settings at (record c.args.session.now { reader = c.names_at.new.reader }) p before h.0 stands.lax takes _ (c.names_at.ensures.read h.0 settings at.nesting p h.2 stands.reader) parts)

@@ -1,0 +1,30 @@
+-- Public. The variables that the open anchors bind: their names, and their images.
+use Rattle.std.specs.Prelude.{◌≡◌, ℕ, false, List, [], ◌++◌, map, ⊤}
+use Rattle.std.specs.List.{AllByRecursion, AllZip}
+use Rattle.sym_table.specs.Table.{Table}
+use Rattle.term_model.specs.Terms.{Var, Term}
+use Rattle.term_pool.specs.Views.{TermsView}
+use Rattle.rule_model.specs.Contexts.{put_in_each, images}
+use Rattle.rule_model.specs.Judged.{open_anchors}
+use Rattle.rule_model.specs.Replacement.{Replacement}
+use Rattle.rule_model.specs.Scopes.{Nesting, outermost, inside}
+use Rattle.proof_store.specs.Meaning.{IsBindingOf}
+use Rattle.problem_text.specs.Words.{is_among}
+use Rattle.alethe_text.specs.Anchors.{bound_names}
+use Rattle.alethe_reader.specs.declared.bound.BoundVariables.{BoundVariables}
+
+-- the images of the variables that the open anchors bind, those of the outermost one first
+abbrev pub images_in : Nesting Var Term → Replacement
+images_in outermost = []
+images_in (inside around before anchor) = images_in around ++ put_in_each (images (open_anchors around)) anchor.bindings
+
+-- no anchor binds a name that an anchor around it binds
+abbrev pub AreApart : Nesting Var Term → Type 0
+AreApart outermost = ⊤
+AreApart (inside around before anchor) = AreApart around × AllByRecursion (λ b. is_among (bound_names around) b.0.name ≡ false) anchor.bindings
+
+-- the names and the images are those of the open anchors
+pub record AreBound (s : Table) (v : TermsView) (b : BoundVariables) (nesting : Nesting Var Term) : Type 0 where
+  pub names : map (λ u. u.id) b.names ≡ bound_names nesting
+  pub images : AllZip (IsBindingOf s v) b.images.items (images_in nesting)
+  pub apart : AreApart nesting

@@ -1,0 +1,80 @@
+-- Private. A proof's text that is being read, from command to command.
+use Rattle.std.specs.Prelude.{◌≡◌, ◌≤◌, ◌+◌, ◌-◌, ℕ, Bool, true, false, List, length, Result, Ok, Err, ⊤}
+use Rattle.sexpr.specs.Items.{Items, no_items}
+use Rattle.sym_table.specs.Table.{Table}
+use Rattle.term_model.specs.Terms.{Var, Term}
+use Rattle.term_pool.specs.Views.{TermsView}
+use Rattle.rule_model.specs.Proofs.{ProofItems as Proof}
+use Rattle.rule_model.specs.Scopes.{Scope, next_index, next_scope}
+use Rattle.proof_store.specs.Meaning.{StandForItems}
+use Rattle.text_items.specs.ItemShapes.{excess}
+use Rattle.problem_text.specs.Outcomes.{Outcome, done}
+use Rattle.term_names.specs.Making.{PlacesCellsOf}
+use Rattle.term_names.specs.declared.faults.ReadFault.{ReadFault}
+use Rattle.term_reader.specs.Reading.{EndsWith}
+use Rattle.alethe_text.specs.ProofTexts.{commands, none_behind, finished}
+use Rattle.alethe_text.specs.States.{ProofSettings, ProofState, Reading, ◌>>=◌}
+use Rattle.alethe_reader.specs.Answers.{WasRead}
+use Rattle.alethe_items.specs.TextItems.{HasCommandItems}
+use Rattle.alethe_reader.specs.CommandNames.{HaveNames}
+use Rattle.alethe_reader.specs.Sessions.{IsSession}
+use Rattle.alethe_reader.specs.declared.session.Session.{Session}
+
+-- behind the commands: what stands behind their list, and the end of the proof
+unfoldable pub closing_from : ProofSettings → Items → ⊤ → Reading (Proof Var Term)
+closing_from settings behind _ = do
+  _ ← none_behind (excess behind)
+  finished
+
+-- what these commands come to, and what stands behind their list
+unfoldable pub left_from : ProofSettings → Items → Items → Reading (Proof Var Term)
+left_from settings items behind = commands settings items >>= closing_from settings behind
+
+-- The commands that are left of a text come to this outcome.
+pub record AreLeft (source : List ℕ) (settings : ProofSettings) (in_list : Bool) (at : ℕ) (p : ProofState) (whole : Outcome ProofState (Proof Var Term)) : Type 0 where
+  pub items : Items
+  pub behind : Items
+  pub here : HasCommandItems source in_list at items behind
+  pub named : HaveNames items
+  pub comes : left_from settings items behind p ≡ whole
+
+-- No command is left, and what stands behind their list stands from this place on.
+pub record NoneLeft (source : List ℕ) (settings : ProofSettings) (at : ℕ) (p : ProofState) (whole : Outcome ProofState (Proof Var Term)) : Type 0 where
+  pub behind : Items
+  pub here : HasCommandItems source false at behind no_items
+  pub comes : closing_from settings behind tt p ≡ whole
+
+-- A command was read, and others may be left; or none was left; or it has a fault.
+abbrev pub IsCommandRead : List ℕ → Table → TermsView → ProofSettings → Session → Bool → ℕ → Outcome ProofState (Proof Var Term) → Result Bool ReadFault → Type 0
+IsCommandRead source s v settings d in_list at whole (Ok true) = (p : ProofState) × AreLeft source settings in_list at p whole × IsSession s v settings d p
+IsCommandRead source s v settings d in_list at whole (Ok false) = (p : ProofState) × NoneLeft source settings at p whole × IsSession s v settings d p
+IsCommandRead source s v settings d in_list at whole (Err fault) = EndsWith s v.pass whole.result (WasRead whole) fault
+
+pub record ReadsCommand (source : List ℕ) (s : Table) (old new : TermsView) (settings : ProofSettings) (d : Session) (in_list : Bool) (at : ℕ) (whole : Outcome ProofState (Proof Var Term)) (result : Result Bool ReadFault) : Type 0 where
+  pub outcome : IsCommandRead source s new settings d in_list at whole result
+  pub placed : PlacesCellsOf s old.pass new.pass (WasRead whole)
+
+-- All commands of a text were read, or one has a fault.
+abbrev pub AreRead : List ℕ → Table → TermsView → ProofSettings → Session → ℕ → Outcome ProofState (Proof Var Term) → Result Unit ReadFault → Type 0
+AreRead source s v settings d at whole (Ok _) = (p : ProofState) × NoneLeft source settings at p whole × IsSession s v settings d p
+AreRead source s v settings d at whole (Err fault) = EndsWith s v.pass whole.result (WasRead whole) fault
+
+pub record ReadsAll (source : List ℕ) (s : Table) (old new : TermsView) (settings : ProofSettings) (d : Session) (at : ℕ) (whole : Outcome ProofState (Proof Var Term)) (result : Result Unit ReadFault) : Type 0 where
+  pub outcome : AreRead source s new settings d at whole result
+  pub placed : PlacesCellsOf s old.pass new.pass (WasRead whole)
+
+-- The proof that was read, or the fault of what stands behind the commands, or of an anchor that is open.
+abbrev pub IsFinished : Table → TermsView → ProofState → Outcome ProofState (Proof Var Term) → Result (Proof ℕ ℕ) ReadFault → Type 0
+IsFinished s v p whole (Ok refs) = (proof : Proof Var Term) × (whole ≡ done proof p) × StandForItems s v refs proof
+IsFinished s v p whole (Err (ReadFault.Text r)) = whole.result ≡ Err r
+IsFinished s v p whole (Err ReadFault.PoolFull) = ⊥
+IsFinished s v p whole (Err ReadFault.Memory) = ⊤
+
+-- how many leaves a table may have once the rest of a text is read: one for each byte
+abbrev pub most_after : ℕ → List ℕ → ℕ → ℕ
+most_after count source at = count + (length source - at)
+
+-- each command that is written, and each scope, has a byte before this place
+pub record IsShort (scope : Scope ℕ ℕ) (at : ℕ) : Type 0 where
+  pub commands : next_index scope ≤ at
+  pub scopes : next_scope scope ≤ at + 1

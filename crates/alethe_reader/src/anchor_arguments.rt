@@ -1,0 +1,239 @@
+//! The arguments of anchors: variables with their terms (Alethe specification, "The Proof Format": contexts).
+ghost use Rattle.std.specs.Prelude.{◌≡◌, ◌≤◌, ◌<◌, ◌^◌, ◌+◌, ◌-◌, ℕ, List, [], map, length, take, Option, None, OnOk};
+ghost use Rattle.std.specs.List.{AllZip};
+ghost use Rattle.sexpr.specs.Items.{Item};
+ghost use Rattle.sexpr.specs.Source.{source};
+ghost use Rattle.term_model.specs.Terms.{Var, Term, sort_eq};
+ghost use Rattle.term_pool.specs.Views.{KeepsTerms};
+ghost use Rattle.rule_model.specs.Scopes.{Nesting};
+ghost use Rattle.proof_store.specs.Meaning.{IsBindingOf};
+ghost use Rattle.text_items.specs.ItemShapes.{Name};
+ghost use Rattle.text_items.specs.NameNodes.{IsNameNode};
+ghost use Rattle.text_items.specs.Nodes.{IsNode};
+ghost use Rattle.problem_text.specs.TypedTerms.{Typed};
+ghost use Rattle.problem_text.specs.Words as words;
+ghost use Rattle.term_names.specs.Standing.{AddsNoSymbols};
+ghost use Rattle.term_expansion.specs.Values.{IsValue};
+ghost use Rattle.term_reader.specs.ProblemViews.{IsReaderOf};
+ghost use Rattle.alethe_commands.specs.CommandNodes.{IsSortNode, AreArguments};
+ghost use Rattle.alethe_text.specs.Anchors.{sort_given, argument_read, arguments_read};
+ghost use Rattle.alethe_text.specs.Commands as shape;
+ghost use Rattle.alethe_text.specs.ProofTerms.{place_in};
+ghost use Rattle.alethe_text.specs.States.{ProofSettings, ProofState};
+ghost use Rattle.alethe_reader.specs.Answers.{Answers};
+ghost use Rattle.alethe_reader.specs.Bound.{AreBound, AreApart, images_in};
+ghost use Rattle.alethe_reader.specs.Opening.{IsOpening, IsArgumentRead, AreArgumentsRead, IsNameJudged, is_wanted, image_read, IsImageRead};
+
+use crate::bound::{BoundVariables, OpenedVariable};
+use crate::judging::{Named, named_at};
+use alethe_commands::{AnchorArgument, argument_at};
+use contexts::put_in;
+use pair_pool::Ref;
+use sexpr::{Cause, Lexer, Refusal};
+use smtlib_reader::sort_at;
+use sym_table::{Symbols, is_built_in};
+use term_expansion::values::Value;
+use term_model::Sort;
+use term_names::faults::ReadFault;
+use term_pool::Terms;
+use term_reader::TermReader;
+use text_items::nodes::Node;
+use text_items::refusals::refused;
+use text_items::shapes::node_at;
+
+/// The greatest height of a term that is read.
+const MOST_HEIGHT: u32 = 2000;
+
+/// A variable with its term, by the nodes of its name, of its sort where it has one, and of its term. It begins at a place.
+#[derive(Clone, Copy)]
+struct Assigned {
+    place: u64,
+    variable: usize,
+    sort: Option<usize>,
+    term: usize,
+}
+
+/// What is wanted of a variable: where it begins, and the sort that the text gives it.
+#[derive(Clone, Copy)]
+struct Wanted {
+    place: u64,
+    sort: Option<Sort>,
+}
+
+/// Reads the arguments of an anchor, which stand from node `first` to the end, in a scope without its variables. Afterwards
+/// `bound` has them behind all others, and alone in `opened`.
+///
+/// Refused at the first fault of the first that has one. After a refusal the reader and what is bound are given up.
+pub(crate) fn read_arguments(
+    text: &Lexer<'_>,
+    nodes: &[Node],
+    first: usize,
+    symbols: &mut Symbols,
+    terms: &mut Terms<'_>,
+    reader: &mut TermReader<'_>,
+    bound: &mut BoundVariables,
+) -> Result<(), ReadFault>
+    requires arguments { (others : List shape.Argument) × AreArguments (source text.now) nodes.now first others (length nodes.now) }
+    requires scope { (settings : ProofSettings) × (p : ProofState) × IsReaderOf symbols.old terms.old reader.old p.script (place_in settings p.scope.nesting) × AreBound symbols.old terms.old bound.old p.scope.nesting }
+    requires room { length symbols.old.leaves + (length nodes.now - first) ≤ 2 ^ 30 }
+    ensures read { (others : List shape.Argument) (settings : ProofSettings) (p : ProofState) → AreArguments (source text.now) nodes.now first others (length nodes.now) → IsReaderOf symbols.old terms.old reader.old p.script (place_in settings p.scope.nesting) → AreBound symbols.old terms.old bound.old p.scope.nesting → Answers symbols.new terms.old terms.new (AreArgumentsRead symbols.new terms.new settings reader.new bound.new p) (arguments_read settings [] others p) result }
+    ensures few { length symbols.new.leaves ≤ length symbols.old.leaves + (length nodes.now - first) }
+    ensures symbols { AddsNoSymbols symbols.old symbols.new }
+    ensures keeps { KeepsTerms terms.old terms.new }
+{
+    bound.opened.clear();
+    let mut k = first;
+    'arguments: while k != nodes.len() {
+        read_argument(text, nodes, k, symbols, terms, reader, bound)?;
+        k = node_at(nodes, k).next;
+    }
+    Ok(())
+}
+
+/// Reads the argument at node `k`, behind those that were read of the anchor.
+fn read_argument(
+    text: &Lexer<'_>,
+    nodes: &[Node],
+    k: usize,
+    symbols: &mut Symbols,
+    terms: &mut Terms<'_>,
+    reader: &mut TermReader<'_>,
+    bound: &mut BoundVariables,
+) -> Result<(), ReadFault>
+    requires argument { (i : Item) × (m : ℕ) × IsNode (source text.now) nodes.now k i m × (shape.argument_fault i ≡ None) }
+    requires opening { (settings : ProofSettings) × (earlier : List (List ℕ)) × (bs : List (Var × Term)) × (p : ProofState) × IsOpening symbols.old terms.old settings reader.old bound.old earlier bs p }
+    requires room { length symbols.old.leaves + (length nodes.now - k) ≤ 2 ^ 30 }
+    ensures read { (i : Item) (m : ℕ) (settings : ProofSettings) (earlier : List (List ℕ)) (bs : List (Var × Term)) (p : ProofState) → IsNode (source text.now) nodes.now k i m → shape.argument_fault i ≡ None → IsOpening symbols.old terms.old settings reader.old bound.old earlier bs p → Answers symbols.new terms.old terms.new (IsArgumentRead symbols.new terms.new settings reader.new bound.new earlier bs p) (argument_read settings earlier (shape.argument_of i) p) result }
+    // Each leaf that is added has a node of the item.
+    ensures spent { (i : Item) (m : ℕ) → IsNode (source text.now) nodes.now k i m → OnOk result (length symbols.new.leaves ≤ length symbols.old.leaves + (m - k)) }
+    ensures few { length symbols.new.leaves ≤ length symbols.old.leaves + (length nodes.now - k) }
+    ensures symbols { AddsNoSymbols symbols.old symbols.new }
+    ensures keeps { KeepsTerms terms.old terms.new }
+{
+    match argument_at(text, nodes, k) {
+        AnchorArgument::Alone { place } => {
+            Err(ReadFault::Text(refused(Cause::LeftOut, place)))
+        }
+        AnchorArgument::Assigned {
+            place,
+            variable,
+            sort,
+            ..
+        } => {
+            // Behind `:=` stand the variable, which may have its sort with it, and the term.
+            let term = node_at(nodes, k + 2).next;
+            let assigned = Assigned {
+                place,
+                variable,
+                sort,
+                term,
+            };
+            read_assigned(text, nodes, assigned, symbols, terms, reader, bound)
+        }
+    }
+}
+
+/// Reads a variable with its term, behind those that were read of the anchor.
+fn read_assigned(
+    text: &Lexer<'_>,
+    nodes: &[Node],
+    assigned: Assigned,
+    symbols: &mut Symbols,
+    terms: &mut Terms<'_>,
+    reader: &mut TermReader<'_>,
+    bound: &mut BoundVariables,
+) -> Result<(), ReadFault>
+    requires name { (x : Name) × IsNameNode (source text.now) nodes.now assigned.variable x }
+    requires sort { (o : Option Item) × IsSortNode (source text.now) nodes.now assigned.sort o }
+    requires term { (i : Item) × (m : ℕ) × IsNode (source text.now) nodes.now assigned.term i m }
+    requires opening { (settings : ProofSettings) × (earlier : List (List ℕ)) × (bs : List (Var × Term)) × (p : ProofState) × IsOpening symbols.old terms.old settings reader.old bound.old earlier bs p }
+    requires room { length symbols.old.leaves + (length nodes.now - assigned.term) < 2 ^ 30 }
+    ensures read { (x : Name) (o : Option Item) (i : Item) (m : ℕ) (settings : ProofSettings) (earlier : List (List ℕ)) (bs : List (Var × Term)) (p : ProofState) → IsNameNode (source text.now) nodes.now assigned.variable x → IsSortNode (source text.now) nodes.now assigned.sort o → IsNode (source text.now) nodes.now assigned.term i m → IsOpening symbols.old terms.old settings reader.old bound.old earlier bs p → Answers symbols.new terms.old terms.new (IsArgumentRead symbols.new terms.new settings reader.new bound.new earlier bs p) (argument_read settings earlier (shape.assigned assigned.place x o i) p) result }
+    ensures spent { (i : Item) (m : ℕ) → IsNode (source text.now) nodes.now assigned.term i m → OnOk result (length symbols.new.leaves ≤ length symbols.old.leaves + (m - assigned.term) + 1) }
+    ensures few { length symbols.new.leaves ≤ length symbols.old.leaves + (length nodes.now - assigned.term) + 1 }
+    ensures symbols { AddsNoSymbols symbols.old symbols.new }
+    ensures keeps { KeepsTerms terms.old terms.new }
+{
+    let variable = named_at(text, nodes, assigned.variable);
+    judge_variable(bound, variable)?;
+    let wanted = Wanted {
+        place: assigned.place,
+        sort: sort_wanted(text, nodes, assigned.sort, symbols)?,
+    };
+    let value = reader.value_at(text, nodes, assigned.term, symbols, terms)?;
+    let (term, sort) = (value.term, value.sort);
+    let image = image_at(bound, wanted, value, symbols, terms)?;
+    let leaf = symbols.variable(variable.name, sort)?;
+    bound.push(variable.name, OpenedVariable { leaf, term, image })?;
+    Ok(())
+}
+
+/// Judges the name of a variable: refused as repeated where it is built in, and as a bad anchor where an open anchor binds it,
+/// or this one.
+fn judge_variable(bound: &BoundVariables, variable: Named<'_>) -> Result<(), Refusal>
+    ensures { IsNameJudged (words.is_built_in variable.entry.name.now) (words.is_among (map (λ u. u.id) bound.now.names) variable.entry.name.now) variable.entry.place result }
+{
+    if is_built_in(variable.name) {
+        return Err(refused(Cause::Repeated, variable.place));
+    }
+    if bound.has(variable.name) {
+        return Err(refused(Cause::BadAnchor, variable.place));
+    }
+    Ok(())
+}
+
+/// The sort that the text gives a variable, where it gives one.
+fn sort_wanted(
+    text: &Lexer<'_>,
+    nodes: &[Node],
+    sort: Option<usize>,
+    symbols: &Symbols,
+) -> Result<Option<Sort>, Refusal>
+    requires { (o : Option Item) × IsSortNode (source text.now) nodes.now sort o }
+    ensures { (o : Option Item) → IsSortNode (source text.now) nodes.now sort o → result ≡ sort_given symbols.now.sorts o }
+{
+    match sort {
+        None => Ok(None),
+        Some(k) => match sort_at(text, nodes, k, symbols) {
+            Ok(sort) => Ok(Some(sort)),
+            Err(refusal) => Err(refusal),
+        },
+    }
+}
+
+/// The image of a variable, whose term this is: the term with the images of the outer anchors put in.
+///
+/// Refused where the term has not the sort that the text gives, where the image is too high, for want of memory, and where the
+/// pool had no room for a cell of the image.
+fn image_at(
+    bound: &BoundVariables,
+    wanted: Wanted,
+    value: Value,
+    symbols: &Symbols,
+    terms: &mut Terms<'_>,
+) -> Result<Ref, ReadFault>
+    requires value { (t : Typed) × IsValue symbols.now terms.old value t }
+    requires outer { length bound.now.opened.items ≤ length bound.now.images.items }
+    requires images { (nesting : Nesting Var Term) × AllZip (IsBindingOf symbols.now terms.old) (take (length bound.now.images.items - length bound.now.opened.items) bound.now.images.items) (images_in nesting) }
+    ensures read { (name : List ℕ) (t : Typed) (nesting : Nesting Var Term) (q : ProofState) → IsValue symbols.now terms.old value t → AreApart nesting → AllZip (IsBindingOf symbols.now terms.old) (take (length bound.now.images.items - length bound.now.opened.items) bound.now.images.items) (images_in nesting) → Answers symbols.now terms.old terms.new (IsImageRead symbols.now terms.new name nesting t q) (image_read wanted.place name wanted.sort nesting t q) result }
+    ensures keeps { KeepsTerms terms.old terms.new }
+{
+    if !is_wanted(wanted.sort, value.sort) {
+        return Err(ReadFault::Text(refused(Cause::SortMismatch, wanted.place)));
+    }
+    let outer = bound.images.len() - bound.opened.len();
+    let image = put_in(bound.alloc, &bound.images[..outer], symbols, terms, value.term)?;
+    if terms.height(bound.alloc, image)? > MOST_HEIGHT {
+        return Err(ReadFault::Text(refused(Cause::TooHigh, wanted.place)));
+    }
+    Ok(image)
+}
+
+fn is_wanted(wanted: Option<Sort>, sort: Sort) -> bool
+    ensures { result ≡ is_wanted wanted sort }
+{
+    match wanted {
+        None => true,
+        Some(wanted) => sort == wanted,
+    }
+}

@@ -1,0 +1,74 @@
+//! Anchors of a proof (Alethe specification, "Subproofs", and "The Proof Format": contexts).
+ghost use Rattle.std.specs.Prelude.{◌≡◌, ◌≤◌, ◌<◌, ◌^◌, ◌+◌, ◌-◌, List, length, OnOk};
+ghost use Rattle.sexpr.specs.Source.{source};
+ghost use Rattle.term_pool.specs.Views.{KeepsTerms};
+ghost use Rattle.rule_model.specs.RuleNames.{IsSymbolName};
+ghost use Rattle.rule_model.specs.Scopes.{next_index, next_scope};
+ghost use Rattle.text_items.specs.ItemShapes.{Name};
+ghost use Rattle.term_names.specs.Standing.{AddsNoSymbols};
+ghost use Rattle.alethe_commands.specs.CommandNodes.{SaysAnchor};
+ghost use Rattle.alethe_text.specs.Anchors.{anchor_read};
+ghost use Rattle.alethe_text.specs.Commands as shape;
+ghost use Rattle.alethe_text.specs.States.{ProofSettings, ProofState};
+ghost use Rattle.alethe_reader.specs.Answers.{Answers};
+ghost use Rattle.alethe_reader.specs.Sessions.{IsSession, StandsAfter};
+
+use crate::anchor_arguments::read_arguments;
+use crate::ids::Role;
+use crate::judging::{judge_id, named_at};
+use crate::scopes::enter_variables;
+use crate::session::{OpenAnchor, Session};
+use sexpr::{Cause, Lexer};
+use sym_table::Symbols;
+use term_names::faults::ReadFault;
+use term_pool::Terms;
+use text_items::nodes::Node;
+
+/// An anchor by the places of its nodes: it begins at `place` in the text, and its arguments, which go to the end, at node
+/// `first`.
+#[derive(Clone, Copy)]
+pub struct AnchorNodes {
+    pub place: u64,
+    pub id: usize,
+    pub first: usize,
+}
+
+/// Opens the scope of an anchor: its id is put in use, and its variables in scope, with the images of their terms.
+///
+/// Refused where the id is that of an open anchor or of a visible command, at the first fault of its arguments in their order,
+/// and besides for want of memory, and where the pool had no room for a cell of a term that was read. After a refusal the
+/// session is given up.
+pub fn read_anchor(
+    text: &Lexer<'_>,
+    nodes: &[Node],
+    anchor: AnchorNodes,
+    symbols: &mut Symbols,
+    terms: &mut Terms<'_>,
+    session: &mut Session<'_>,
+) -> Result<(), ReadFault>
+    requires says { (n : Name) × (others : List shape.Argument) × SaysAnchor (source text.now) nodes.now anchor.place anchor.id anchor.first (shape.anchor anchor.place n others) × IsSymbolName n.name }
+    requires session { (settings : ProofSettings) × (p : ProofState) × IsSession symbols.old terms.old settings session.old p }
+    requires room { length symbols.old.leaves + (length nodes.now - anchor.first) ≤ 2 ^ 30 }
+    requires few { next_scope session.old.builder + 1 < 2 ^ 32 - 1 }
+    ensures read { (n : Name) (others : List shape.Argument) (settings : ProofSettings) (p : ProofState) → SaysAnchor (source text.now) nodes.now anchor.place anchor.id anchor.first (shape.anchor anchor.place n others) → IsSession symbols.old terms.old settings session.old p → Answers symbols.new terms.old terms.new (StandsAfter symbols.new terms.new settings session.new) (anchor_read settings anchor.place n others p) result }
+    ensures few { length symbols.new.leaves ≤ length symbols.old.leaves + (length nodes.now - anchor.first) }
+    ensures symbols { AddsNoSymbols symbols.old symbols.new }
+    ensures keeps { KeepsTerms terms.old terms.new }
+    ensures commands { OnOk result (next_index session.new.builder ≡ next_index session.old.builder) }
+    ensures scopes { OnOk result (next_scope session.new.builder ≡ next_scope session.old.builder + 1) }
+{
+    let id = named_at(text, nodes, anchor.id);
+    judge_id(&session.ids, id, Cause::Repeated)?;
+    let (reader, bound) = (&mut session.reader, &mut session.bound);
+    read_arguments(text, nodes, anchor.first, symbols, terms, reader, bound)?;
+    enter_variables(&mut session.reader, &session.bound.opened)?;
+    let open = OpenAnchor {
+        place: anchor.place,
+        ids: session.ids.len(),
+        variables: session.bound.opened.len(),
+    };
+    let scope = session.builder.anchor(id.name, &session.bound.opened)?;
+    session.ids.push(id.name, Role::Anchor, scope)?;
+    session.anchors.push(open)?;
+    Ok(())
+}

@@ -1,0 +1,97 @@
+//! Formulas of a proof, read in a scope behind what the problem and the proof up to there name.
+ghost use Rattle.std.specs.Prelude.{◌≡◌, ◌≤◌, ◌^◌, ◌+◌, ◌-◌, ℕ, length, OnOk};
+ghost use Rattle.sexpr.specs.Items.{Item, Items};
+ghost use Rattle.sexpr.specs.Source.{source};
+ghost use Rattle.term_model.specs.Terms.{Var, Term, sort_eq};
+ghost use Rattle.term_model.specs.declared.symbols.Sort.TheVariants as sort;
+ghost use Rattle.term_pool.specs.Views.{KeepsTerms};
+ghost use Rattle.rule_model.specs.Scopes.{Nesting};
+ghost use Rattle.text_items.specs.Nodes.{IsNode, AreNodes};
+ghost use Rattle.text_items.specs.Stepping.{IsItemAt, AreItemsFrom};
+ghost use Rattle.term_names.specs.Standing.{AddsNoSymbols};
+ghost use Rattle.term_reader.specs.ProblemViews.{IsReaderOf};
+ghost use Rattle.alethe_text.specs.ProofTerms.{place_in, formula_in, formulas_in};
+ghost use Rattle.alethe_text.specs.States.{ProofSettings, ProofState};
+ghost use Rattle.alethe_reader.specs.Answers.{Answers};
+ghost use Rattle.alethe_reader.specs.ReadTerms.{IsReadFormula, AreReadFormulas};
+
+use pair_pool::Ref;
+use sexpr::{Cause, Lexer};
+use sym_table::Symbols;
+use term_model::Sort;
+use term_names::faults::ReadFault;
+use term_pool::Terms;
+use term_reader::TermReader;
+use text_items::nodes::Node;
+use text_items::refusals::refused;
+use text_items::shapes::node_at;
+
+/// Reads the formula at node `k`: a term of the sort Bool (SMT-LIB 2.6, "Terms and Formulas").
+///
+/// Refused at the term's first fault, or else at its first byte where it has another sort; and besides for want of memory, and
+/// where the pool had no room for a cell of a term that was read. After a refusal the reader is given up.
+pub(crate) fn formula_at(
+    text: &Lexer<'_>,
+    nodes: &[Node],
+    k: usize,
+    symbols: &mut Symbols,
+    terms: &mut Terms<'_>,
+    reader: &mut TermReader<'_>,
+) -> Result<Ref, ReadFault>
+    requires item { IsItemAt (source text.now) nodes.now k }
+    requires reader { (settings : ProofSettings) × (nesting : Nesting Var Term) × (p : ProofState) × IsReaderOf symbols.old terms.old reader.old p.script (place_in settings nesting) }
+    requires room { length symbols.old.leaves + (length nodes.now - k) ≤ 2 ^ 30 }
+    ensures read { (i : Item) (m : ℕ) (settings : ProofSettings) (nesting : Nesting Var Term) (p : ProofState) → IsNode (source text.now) nodes.now k i m → IsReaderOf symbols.old terms.old reader.old p.script (place_in settings nesting) → Answers symbols.new terms.old terms.new (IsReadFormula symbols.new terms.new settings nesting reader.new p) (formula_in settings nesting i p) result }
+    // Each leaf that is added has a node of the item.
+    ensures spent { (i : Item) (m : ℕ) → IsNode (source text.now) nodes.now k i m → OnOk result (length symbols.new.leaves ≤ length symbols.old.leaves + (m - k)) }
+    ensures few { length symbols.new.leaves ≤ length symbols.old.leaves + (length nodes.now - k) }
+    ensures symbols { AddsNoSymbols symbols.old symbols.new }
+    ensures keeps { KeepsTerms terms.old terms.new }
+{
+    let value = reader.value_at(text, nodes, k, symbols, terms)?;
+    if is_bool(value.sort) {
+        Ok(value.term)
+    } else {
+        let place = node_at(nodes, k).token.start;
+        Err(ReadFault::Text(refused(Cause::SortMismatch, place)))
+    }
+}
+
+fn is_bool(given: Sort) -> bool
+    ensures { result ≡ sort_eq given sort.Bool }
+{
+    given == Sort::Bool
+}
+
+/// Reads the formulas that stand from `first` to before `end` one after another, in place of what `formulas` held.
+///
+/// Refused at the first fault of the first that has one, as `formula_at` refuses. After a refusal the reader is given up.
+pub(crate) fn formulas_at(
+    text: &Lexer<'_>,
+    nodes: &[Node],
+    first: usize,
+    end: usize,
+    symbols: &mut Symbols,
+    terms: &mut Terms<'_>,
+    reader: &mut TermReader<'_>,
+    formulas: &mut Vec<Ref>,
+) -> Result<(), ReadFault>
+    requires items { AreItemsFrom (source text.now) nodes.now first end }
+    requires reader { (settings : ProofSettings) × (nesting : Nesting Var Term) × (p : ProofState) × IsReaderOf symbols.old terms.old reader.old p.script (place_in settings nesting) }
+    requires room { length symbols.old.leaves + (length nodes.now - first) ≤ 2 ^ 30 }
+    ensures read { (items : Items) (settings : ProofSettings) (nesting : Nesting Var Term) (p : ProofState) → AreNodes (source text.now) nodes.now first items end → IsReaderOf symbols.old terms.old reader.old p.script (place_in settings nesting) → Answers symbols.new terms.old terms.new (AreReadFormulas symbols.new terms.new settings nesting reader.new p formulas.new.items) (formulas_in settings nesting items p) result }
+    // Each leaf that is added has a node of its own.
+    ensures spent { OnOk result (length symbols.new.leaves ≤ length symbols.old.leaves + (end - first)) }
+    ensures few { length symbols.new.leaves ≤ length symbols.old.leaves + (length nodes.now - first) }
+    ensures symbols { AddsNoSymbols symbols.old symbols.new }
+    ensures keeps { KeepsTerms terms.old terms.new }
+{
+    formulas.clear();
+    let mut k = first;
+    'formulas: while k != end {
+        let formula = formula_at(text, nodes, k, symbols, terms, reader)?;
+        formulas.push(formula)?;
+        k = node_at(nodes, k).next;
+    }
+    Ok(())
+}

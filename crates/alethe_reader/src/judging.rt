@@ -1,0 +1,57 @@
+//! The ids of commands that close nothing (Alethe specification, "The Proof Format").
+ghost use Rattle.std.specs.Prelude.{◌≡◌, OnOk, Ok, Err};
+ghost use Rattle.problem_text.specs.Outcomes.{given};
+ghost use Rattle.text_items.specs.ItemShapes.{Name};
+ghost use Rattle.text_items.specs.NameNodes.{IsNameNode};
+ghost use Rattle.sexpr.specs.Source.{source};
+ghost use Rattle.alethe_text.specs.Ids as text;
+ghost use Rattle.alethe_text.specs.States.{ProofState};
+ghost use Rattle.alethe_reader.specs.Ids.{IsUnused};
+ghost use Rattle.alethe_reader.specs.IdsInUse.{ids_in};
+ghost use Rattle.alethe_reader.specs.Judging.{cause_of, is_named};
+
+use crate::ids::{Ids, Role};
+use sexpr::{Cause, Lexer, Refusal};
+use text_items::nodes::Node;
+use text_items::refusals::refused;
+use text_items::shapes::name_of;
+
+/// A name where it stands in a text.
+#[derive(Clone, Copy)]
+pub(crate) struct Named<'a> {
+    pub(crate) place: u64,
+    pub(crate) name: &'a [u8],
+}
+
+/// The name at the node of a symbol.
+pub(crate) fn named_at<'a>(text: &Lexer<'a>, nodes: &[Node], k: usize) -> Named<'a>
+    requires { (n : Name) × IsNameNode (source text.now) nodes.now k n }
+    ensures { (n : Name) → IsNameNode (source text.now) nodes.now k n → is_named result ≡ n }
+{
+    Named {
+        place: nodes[k].token.start,
+        name: name_of(text, nodes, k),
+    }
+}
+
+/// Judges the id of a command that closes nothing: refused for the cause `of_anchor` where it is that of an open anchor, and
+/// as repeated where it is that of a visible command.
+pub(crate) fn judge_id(ids: &Ids, id: Named<'_>, of_anchor: Cause) -> Result<(), Refusal>
+    ensures unused { OnOk result (IsUnused ids.now id.entry.name.now) }
+    ensures judged { (p : ProofState) → ids.now ≡ ids_in p.scope → text.id_judged of_anchor (is_named id.entry) p ≡ given result p }
+{
+    match ids.find(id.name) {
+        None => Ok(()),
+        Some(found) => Err(refused(cause_of(of_anchor, found.role), id.place)),
+    }
+}
+
+/// Why an id in use may not be that of a command that closes nothing.
+pub(crate) fn cause_of(of_anchor: Cause, role: Role) -> Cause
+    ensures { result ≡ cause_of of_anchor role }
+{
+    match role {
+        Role::Assume | Role::Step => Cause::Repeated,
+        Role::Anchor => of_anchor,
+    }
+}

@@ -1,0 +1,66 @@
+//! What the commands of a proof do (Alethe, "The Proof Format").
+ghost use Rattle.std.specs.Prelude.{◌≡◌, ◌≤◌, ◌<◌, ◌^◌, ◌+◌, ◌-◌, length, OnOk};
+ghost use Rattle.sexpr.specs.Source.{source};
+ghost use Rattle.term_pool.specs.Views.{KeepsTerms};
+ghost use Rattle.rule_model.specs.Scopes.{next_index, next_scope};
+ghost use Rattle.term_names.specs.Standing.{AddsNoSymbols};
+ghost use Rattle.alethe_text.specs.Commands as shape;
+ghost use Rattle.alethe_text.specs.ProofTexts.{performed};
+ghost use Rattle.alethe_text.specs.States.{ProofSettings, ProofState};
+ghost use Rattle.alethe_commands.specs.CommandNodes.{SaysCommand};
+ghost use Rattle.alethe_reader.specs.Answers.{Answers};
+ghost use Rattle.alethe_reader.specs.CommandNames.{IsNamed};
+ghost use Rattle.alethe_reader.specs.Sessions.{IsSession, StandsAfter};
+
+use crate::anchors::{AnchorNodes, read_anchor};
+use crate::assuming::read_assume;
+use crate::session::Session;
+use crate::stepping::{StepNodes, read_step};
+use alethe_commands::Command;
+use sexpr::Lexer;
+use sym_table::Symbols;
+use term_names::faults::ReadFault;
+use term_pool::Terms;
+use text_items::nodes::Node;
+
+/// Does what a command asks for.
+pub(crate) fn perform(
+    text: &Lexer<'_>,
+    nodes: &[Node],
+    symbols: &mut Symbols,
+    terms: &mut Terms<'_>,
+    session: &mut Session<'_>,
+    command: Command,
+) -> Result<(), ReadFault>
+    requires says { (c : shape.Command) × SaysCommand (source text.now) nodes.now command c × IsNamed c }
+    requires session { (settings : ProofSettings) × (p : ProofState) × IsSession symbols.old terms.old settings session.old p }
+    requires room { length symbols.old.leaves + length nodes.now ≤ 2 ^ 30 }
+    requires few { next_index session.old.builder + 1 < 2 ^ 32 - 1 }
+    requires few_scopes { next_scope session.old.builder + 1 < 2 ^ 32 - 1 }
+    ensures read { (c : shape.Command) (settings : ProofSettings) (p : ProofState) → SaysCommand (source text.now) nodes.now command c → IsSession symbols.old terms.old settings session.old p → Answers symbols.new terms.old terms.new (StandsAfter symbols.new terms.new settings session.new) (performed settings c p) result }
+    ensures few { length symbols.new.leaves ≤ length symbols.old.leaves + length nodes.now }
+    ensures commands { OnOk result (next_index session.new.builder ≤ next_index session.old.builder + 1) }
+    ensures scopes { OnOk result (next_scope session.new.builder ≤ next_scope session.old.builder + 1) }
+    ensures symbols { AddsNoSymbols symbols.old symbols.new }
+    ensures keeps { KeepsTerms terms.old terms.new }
+{
+    match command {
+        Command::Assume { id, term } => read_assume(text, nodes, id, term, symbols, terms, session),
+        Command::Step {
+            id,
+            first,
+            attributes,
+        } => {
+            let step = StepNodes {
+                id,
+                first,
+                attributes,
+            };
+            read_step(text, nodes, step, symbols, terms, session)
+        }
+        Command::Anchor { place, id, first } => {
+            let anchor = AnchorNodes { place, id, first };
+            read_anchor(text, nodes, anchor, symbols, terms, session)
+        }
+    }
+}

@@ -1,0 +1,119 @@
+//! Reading a proof behind a problem (Alethe, "The Proof Format").
+ghost use Rattle.std.specs.Prelude.{◌≡◌, ◌≤◌, ◌+◌, ◌^◌, length, false, Err, IfOk};
+ghost use Rattle.sexpr.specs.declared.causes.Refusal.{Refusal};
+ghost use Rattle.sexpr.specs.Items.{Items, no_items};
+ghost use Rattle.sexpr.specs.Source as at;
+ghost use Rattle.sym_table.specs.Table.{Table};
+ghost use Rattle.term_pool.specs.Views.{TermsView, KeepsTerms};
+ghost use Rattle.problem_text.specs.Scripts.{Script};
+ghost use Rattle.term_names.specs.Making.{PlacesCellsOf, LacksCellOf};
+ghost use Rattle.term_names.specs.Standing.{AddsNoSymbols};
+ghost use Rattle.term_names.specs.declared.faults.ReadFault.TheVariants as fault;
+ghost use Rattle.term_reader.specs.ProblemViews.{IsProblemOf};
+ghost use Rattle.alethe_text.specs.ProofTexts.{IsFirstProofFault};
+ghost use Rattle.alethe_text.specs.States.{ProofSettings, ProofState, unread};
+ghost use Rattle.alethe_items.specs.TextItems.{HasCommandItems};
+ghost use Rattle.alethe_reader.specs.Reading.{IsCounted, IsProofOf};
+ghost use Rattle.alethe_reader.specs.Sessions.{IsSession};
+ghost use Rattle.alethe_reader.specs.TextReading.{NoneLeft, IsFinished, IsShort, closing_from};
+
+use crate::bound::BoundVariables;
+use crate::ids::Ids;
+use crate::session::{Session, StepParts};
+use crate::text_reading::read_commands;
+use alethe_items::{enter_list, excess, skip_answer};
+use alethe_text::laws::proof_texts_have_one_reading;
+use proof_store::{Proof, ProofBuilder};
+use sexpr::{Cause, Lexer, form, tokens_are_spelled};
+use std::alloc::Global;
+use sym_table::Symbols;
+use term_names::faults::ReadFault;
+use term_pool::Terms;
+use term_reader::{Flags, Problem, TermReader};
+use text_items::refusals::refused;
+
+/// A proof of which nothing was read yet.
+fn new_session<'a>(alloc: Global, problem: &'a Problem, flags: Flags) -> Session<'a>
+    ensures session { (s : Table) (v : TermsView) (before : Script) → IsProblemOf s v problem.now before → IsSession s v (record { replaces_lets = flags.expand_lets; is_strict = false }) result (unread before) }
+    ensures short { IsShort result.builder 0 }
+{
+    Session {
+        reader: TermReader::new(alloc, problem, flags),
+        builder: ProofBuilder::new(alloc),
+        ids: Ids::new(alloc),
+        anchors: Vec::new(alloc),
+        bound: BoundVariables::new(alloc),
+        parts: StepParts {
+            clause: Vec::new(alloc),
+            premises: Vec::new(alloc),
+            discharged: Vec::new(alloc),
+            has_ratios: false,
+            ratios: Vec::new(alloc),
+        },
+    }
+}
+
+/// The proof that was read, where nothing stands behind the list of its commands and no anchor is open.
+fn finish(lexer: Lexer<'_>, session: Session<'_>) -> Result<Proof, ReadFault>
+    requires { (s : Table) × (v : TermsView) × (settings : ProofSettings) × (p : ProofState) × (behind : Items) × HasCommandItems (at.source lexer) false (at.position lexer) behind no_items × IsSession s v settings session p }
+    ensures { (s : Table) (v : TermsView) (settings : ProofSettings) (p : ProofState) (behind : Items) → HasCommandItems (at.source lexer) false (at.position lexer) behind no_items → IsSession s v settings session p → IsFinished s v p (closing_from settings behind tt p) result }
+{
+    if let Some(place) = excess(lexer) {
+        return Err(ReadFault::Text(refused(Cause::BadCommand, place)));
+    }
+    if let Some(outermost) = session.anchors.first() {
+        return Err(ReadFault::Text(refused(Cause::BadAnchor, outermost.place)));
+    }
+    Ok(session.builder.finish()?)
+}
+
+/// Reads the text of a proof behind a problem: what it stands for, or its first fault.
+///
+/// Problem and symbols have to be what the reading of the problem left. Numerals and variables are put into the table, no
+/// more than the text has bytes, and the terms into the pool. The first fault is one of form, or else the first one of the
+/// commands in their order. Refused besides for want of memory, and where the pool had no room for a cell of a term that
+/// was read.
+pub fn read_proof(
+    alloc: Global,
+    bytes: &[u8],
+    flags: Flags,
+    problem: &Problem,
+    symbols: &mut Symbols,
+    terms: &mut Terms<'_>,
+) -> Result<Proof, ReadFault>
+    requires short { length bytes.now ≤ 268435456 }
+    requires lax { flags.strict ≡ false }
+    requires problem { (before : Script) × IsProblemOf symbols.old terms.old problem.now before }
+    requires room { length symbols.old.leaves + length bytes.now ≤ 2 ^ 30 }
+    ensures proof { (before : Script) → IsProblemOf symbols.old terms.old problem.now before →
+        IfOk result (λ proof. IsProofOf bytes.now (record { replaces_lets = flags.expand_lets; is_strict = false }) before symbols.new terms.new proof) }
+    ensures fault { (before : Script) (r : Refusal) → IsProblemOf symbols.old terms.old problem.now before →
+        result ≡ Err (fault.Text r) → IsFirstProofFault bytes.now (record { replaces_lets = flags.expand_lets; is_strict = false }) before r }
+    ensures refused { (before : Script) (r : Refusal) → IsProblemOf symbols.old terms.old problem.now before →
+        IsFirstProofFault bytes.now (record { replaces_lets = flags.expand_lets; is_strict = false }) before r → IfOk result (λ _. ⊥) }
+    ensures placed { (before : Script) → IsProblemOf symbols.old terms.old problem.now before →
+        PlacesCellsOf symbols.new terms.old.pass terms.new.pass (IsCounted bytes.now (record { replaces_lets = flags.expand_lets; is_strict = false }) before) }
+    ensures full { (before : Script) → IsProblemOf symbols.old terms.old problem.now before → result ≡ Err fault.PoolFull →
+        LacksCellOf symbols.new terms.new.pass (IsCounted bytes.now (record { replaces_lets = flags.expand_lets; is_strict = false }) before) }
+    ensures few { length symbols.new.leaves ≤ length symbols.old.leaves + length bytes.now }
+    ensures symbols { AddsNoSymbols symbols.old symbols.new }
+    ensures keeps { KeepsTerms terms.old terms.new }
+{
+    proof_texts_have_one_reading();
+    tokens_are_spelled();
+    form(bytes)?;
+    let mut lexer = Lexer::new(bytes);
+    skip_answer(&mut lexer);
+    let in_list = enter_list(&mut lexer);
+    let mut nodes = Vec::new(alloc);
+    let mut session = new_session(alloc, problem, flags);
+    read_commands(
+        &mut lexer,
+        in_list,
+        &mut nodes,
+        symbols,
+        terms,
+        &mut session,
+    )?;
+    finish(lexer, session)
+}

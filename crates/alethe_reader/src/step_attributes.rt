@@ -1,0 +1,200 @@
+//! The attributes of a step, in the order of the text (Alethe specification, "The Proof Format").
+ghost use Rattle.std.specs.Prelude.{◌≡◌, ◌≤◌, ◌^◌, ◌+◌, ◌-◌, not, ℕ, List, [], length, OnOk};
+ghost use Rattle.sexpr.specs.declared.causes.Cause.TheVariants.{LeftOut};
+ghost use Rattle.sexpr.specs.Items.{Items};
+ghost use Rattle.sexpr.specs.Source.{source};
+ghost use Rattle.term_model.specs.Terms.{Term};
+ghost use Rattle.term_pool.specs.Views.{KeepsTerms};
+ghost use Rattle.rule_model.specs.Proofs.{Step};
+ghost use Rattle.rule_model.specs.RuleNames.{left_out_rules};
+ghost use Rattle.text_items.specs.ItemShapes.{Name};
+ghost use Rattle.text_items.specs.NameNodes.{IsNameNode};
+ghost use Rattle.text_items.specs.Nodes.{AreNodes};
+ghost use Rattle.text_items.specs.Stepping.{AreItemsFrom};
+ghost use Rattle.problem_text.specs.Words.{is_among};
+ghost use Rattle.term_names.specs.Standing.{AddsNoSymbols};
+ghost use Rattle.alethe_commands.specs.CommandNodes.{AreAttributes, SaysAttribute};
+ghost use Rattle.alethe_text.specs.Arguments as spec;
+ghost use Rattle.alethe_text.specs.Coefficients.{coefficients_from};
+ghost use Rattle.alethe_text.specs.Commands.{Attribute};
+ghost use Rattle.alethe_text.specs.Ids as ids;
+ghost use Rattle.alethe_text.specs.States.{ProofSettings, ProofState, demand};
+ghost use Rattle.alethe_text.specs.Steps.{attribute_read, attributes_read};
+ghost use Rattle.alethe_reader.specs.Answers.{Answers};
+ghost use Rattle.alethe_reader.specs.StepParts.{ArePartsOf, IsBare, StandsAt, AreReadAttributes, AreRatios, IsJudged, KeepsOthers, fault_of, own_nodes, nodes_from};
+
+use crate::arguments::{ArgumentNodes, names_at};
+use crate::judging::named_at;
+use crate::premises::indices_at;
+use crate::rules::is_left_out;
+use crate::session::{Session, StepParts};
+use crate::standing::Standing;
+use alethe_commands::attributes::{StepAttribute, next_attribute};
+use coefficients::{Stop, coefficients_at};
+use rule_model::Rule;
+use sexpr::{Cause, Lexer};
+use sym_table::Symbols;
+use term_names::faults::ReadFault;
+use term_pool::Terms;
+use text_items::nodes::Node;
+use text_items::refusals::refused;
+
+/// Where the attributes of a step begin, the step's rule, and how it stands.
+#[derive(Clone, Copy)]
+pub(crate) struct StepAttributes {
+    pub(crate) first: usize,
+    pub(crate) rule: Rule,
+    pub(crate) standing: Standing,
+}
+
+/// One attribute of a step, the step's rule, and how it stands.
+#[derive(Clone, Copy)]
+struct OneAttribute {
+    attribute: StepAttribute,
+    rule: Rule,
+    standing: Standing,
+}
+
+/// Reads the attributes of a step, which go to the last node, in the order of the text, into the parts of the session, in place
+/// of what was in them; its literals stay there.
+///
+/// Refused at the first fault: a rule that is left out, a premise that is no visible command, an id to be discharged that is no
+/// assume of the scope that the step closes, a coefficient that is too wide, or the first fault of a term that gets a name in
+/// the arguments of another rule; and besides for want of memory, and where the pool had no room for a cell of a term that was
+/// read. After a refusal the session is given up.
+pub(crate) fn attributes_at(
+    text: &Lexer<'_>,
+    nodes: &[Node],
+    step: StepAttributes,
+    symbols: &mut Symbols,
+    terms: &mut Terms<'_>,
+    session: &mut Session<'_>,
+) -> Result<(), ReadFault>
+    requires attributes { (attributes : List Attribute) × AreAttributes (source text.now) nodes.now step.first attributes (length nodes.now) }
+    requires stands { (settings : ProofSettings) × (at : ids.Standing) × (p : ProofState) × StandsAt symbols.old terms.old settings at session.old step.standing p }
+    requires room { length symbols.old.leaves + (length nodes.now - step.first) ≤ 2 ^ 30 }
+    ensures read { (attributes : List Attribute) (settings : ProofSettings) (at : ids.Standing) (p : ProofState) (before : Step Term) → AreAttributes (source text.now) nodes.now step.first attributes (length nodes.now) → StandsAt symbols.old terms.old settings at session.old step.standing p → before.rule ≡ step.rule → IsBare before → Answers symbols.new terms.old terms.new (AreReadAttributes symbols.new terms.new settings at.nesting session.new p before) (attributes_read settings at attributes before p) result }
+    // Each leaf that is added has a node of its own.
+    ensures few { length symbols.new.leaves ≤ length symbols.old.leaves + (length nodes.now - step.first) }
+    ensures symbols { AddsNoSymbols symbols.old symbols.new }
+    ensures keeps { KeepsTerms terms.old terms.new }
+    ensures others { KeepsOthers session.old session.new }
+{
+    clear(&mut session.parts, takes_coefficients(step.rule));
+    let mut at = step.first;
+    'attributes: while let Some(attribute) = next_attribute(text, nodes, &mut at, nodes.len()) {
+        let one = OneAttribute {
+            attribute,
+            rule: step.rule,
+            standing: step.standing,
+        };
+        attribute_at(text, nodes, one, symbols, terms, session)?;
+    }
+    Ok(())
+}
+
+/// Empties what attributes have of a step's parts. There are coefficients, though none so far, where its rule takes them.
+fn clear(parts: &mut StepParts, has_ratios: bool)
+    ensures parts { (before : Step Term) → IsBare before → spec.takes_coefficients before.rule ≡ has_ratios → ArePartsOf parts.new before }
+    ensures clause { parts.new.clause ≡ parts.old.clause }
+{
+    parts.premises.clear();
+    parts.discharged.clear();
+    parts.ratios.clear();
+    parts.has_ratios = has_ratios;
+}
+
+fn takes_coefficients(rule: Rule) -> bool
+    ensures { result ≡ spec.takes_coefficients rule }
+{
+    match rule {
+        Rule::LaGeneric => true,
+        _ => false,
+    }
+}
+
+/// Reads one attribute into the parts of the session.
+fn attribute_at(
+    text: &Lexer<'_>,
+    nodes: &[Node],
+    one: OneAttribute,
+    symbols: &mut Symbols,
+    terms: &mut Terms<'_>,
+    session: &mut Session<'_>,
+) -> Result<(), ReadFault>
+    requires says { (a : Attribute) × SaysAttribute (source text.now) nodes.now one.attribute a }
+    requires stands { (settings : ProofSettings) × (at : ids.Standing) × (p : ProofState) × StandsAt symbols.old terms.old settings at session.old one.standing p }
+    requires room { length symbols.old.leaves + nodes_from one.attribute (length nodes.now) ≤ 2 ^ 30 }
+    ensures read { (a : Attribute) (settings : ProofSettings) (at : ids.Standing) (p : ProofState) (before : Step Term) → SaysAttribute (source text.now) nodes.now one.attribute a → StandsAt symbols.old terms.old settings at session.old one.standing p → before.rule ≡ one.rule → ArePartsOf session.old.parts before → Answers symbols.new terms.old terms.new (AreReadAttributes symbols.new terms.new settings at.nesting session.new p before) (attribute_read settings at a before p) result }
+    ensures spent { OnOk result (length symbols.new.leaves ≤ length symbols.old.leaves + own_nodes one.attribute) }
+    ensures few { length symbols.new.leaves ≤ length symbols.old.leaves + nodes_from one.attribute (length nodes.now) }
+    ensures symbols { AddsNoSymbols symbols.old symbols.new }
+    ensures keeps { KeepsTerms terms.old terms.new }
+    ensures others { KeepsOthers session.old session.new }
+{
+    let standing = one.standing;
+    let parts = &mut session.parts;
+    match one.attribute {
+        StepAttribute::Rule(k) => judge_rule(text, nodes, k),
+        StepAttribute::Premises { first, end } => {
+            let reach = standing.premises;
+            indices_at(text, nodes, first, end, &session.ids, reach, &mut parts.premises)
+        }
+        StepAttribute::Discharge { first, end } => {
+            let reach = standing.discharges;
+            indices_at(text, nodes, first, end, &session.ids, reach, &mut parts.discharged)
+        }
+        StepAttribute::Arguments { first, end } => {
+            let arguments = ArgumentNodes { first, end };
+            if takes_coefficients(one.rule) {
+                ratios_at(text, nodes, arguments, parts)
+            } else {
+                names_at(text, nodes, arguments, symbols, terms, &mut session.reader)
+            }
+        }
+    }
+}
+
+/// Judges the rule whose name is at a node: refused where it is left out.
+fn judge_rule(text: &Lexer<'_>, nodes: &[Node], k: usize) -> Result<(), ReadFault>
+    requires { (n : Name) × IsNameNode (source text.now) nodes.now k n }
+    ensures { (n : Name) (p : ProofState) → IsNameNode (source text.now) nodes.now k n → IsJudged (demand (not (is_among left_out_rules n.name)) LeftOut n.place p) p result }
+{
+    let rule = named_at(text, nodes, k);
+    if is_left_out(rule.name) {
+        return Err(ReadFault::Text(refused(Cause::LeftOut, rule.place)));
+    }
+    Ok(())
+}
+
+/// Reads the coefficients of a step in place of what was there. It has none where some argument is no coefficient.
+fn ratios_at(
+    text: &Lexer<'_>,
+    nodes: &[Node],
+    arguments: ArgumentNodes,
+    parts: &mut StepParts,
+) -> Result<(), ReadFault>
+    requires { AreItemsFrom (source text.now) nodes.now arguments.first arguments.end }
+    ensures read { (items : Items) → AreNodes (source text.now) nodes.now arguments.first items arguments.end → AreRatios parts.new result (coefficients_from items) }
+    ensures clause { parts.new.clause ≡ parts.old.clause }
+    ensures premises { parts.new.premises ≡ parts.old.premises }
+    ensures discharged { parts.new.discharged ≡ parts.old.discharged }
+{
+    let all = coefficients_at(text, nodes, arguments.first, arguments.end, &mut parts.ratios);
+    match all {
+        Ok(all) => {
+            parts.has_ratios = all;
+            Ok(())
+        }
+        Err(stop) => Err(fault_of(stop)),
+    }
+}
+
+fn fault_of(stop: Stop) -> ReadFault
+    ensures { result ≡ fault_of stop }
+{
+    match stop {
+        Stop::Text(refusal) => ReadFault::Text(refusal),
+        Stop::Memory => ReadFault::Memory,
+    }
+}

@@ -1,0 +1,191 @@
+//! Steps of a proof (Alethe specification, "The Proof Format" and "Subproofs").
+ghost use Rattle.std.specs.Prelude.{◌≡◌, ◌≤◌, ◌<◌, ◌^◌, ◌+◌, ◌-◌, ◌++◌, ◌∷◌, [], ℕ, List, length, take, IfOk, IfErr, OnOk};
+ghost use Rattle.sexpr.specs.Items.{Items};
+ghost use Rattle.sexpr.specs.Source.{source};
+ghost use Rattle.sym_table.specs.Table.{Table};
+ghost use Rattle.term_model.specs.Terms.{Var, Term};
+ghost use Rattle.term_pool.specs.Views.{TermsView, KeepsTerms};
+ghost use Rattle.rule_model.specs.Proofs.{Step, ProofItems as Proof};
+ghost use Rattle.rule_model.specs.RuleNames.{IsSymbolName};
+ghost use Rattle.rule_model.specs.Scopes.{Anchor, Nesting, inside, own_bindings, next_index, next_scope};
+ghost use Rattle.rule_model.specs.Writing as writing;
+ghost use Rattle.rule_model.specs.Writing.{MayTake};
+ghost use Rattle.proof_store.specs.Ratios.{fractions};
+ghost use Rattle.text_items.specs.ItemShapes.{Name};
+ghost use Rattle.term_names.specs.Standing.{AddsNoSymbols};
+ghost use Rattle.term_names.specs.declared.faults.ReadFault.{ReadFault};
+ghost use Rattle.term_reader.specs.ProblemViews.{IsReaderOf};
+ghost use Rattle.alethe_commands.specs.CommandNodes.{SaysStep};
+ghost use Rattle.alethe_text.specs.Commands as shape;
+ghost use Rattle.alethe_text.specs.Ids as ids;
+ghost use Rattle.alethe_text.specs.ProofTerms.{place_in};
+ghost use Rattle.alethe_text.specs.States.{ProofSettings, ProofState};
+ghost use Rattle.alethe_text.specs.Steps as steps;
+ghost use Rattle.alethe_reader.specs.AddedSteps as spec;
+ghost use Rattle.alethe_reader.specs.AddedSteps.{IsToAdd};
+ghost use Rattle.alethe_reader.specs.Answers.{Answers};
+ghost use Rattle.alethe_reader.specs.Bound.{AreBound};
+ghost use Rattle.alethe_reader.specs.Ids.{Used};
+ghost use Rattle.alethe_reader.specs.Sessions.{IsSession, StandsAfter};
+ghost use Rattle.alethe_reader.specs.Standing.{IsClosing};
+ghost use Rattle.alethe_reader.specs.declared.session.OpenAnchor.{OpenAnchor};
+
+use crate::formulas::formulas_at;
+use crate::ids::Role;
+use crate::judging::{Named, named_at};
+use crate::rules::rule_named;
+use crate::scopes::leave_variables;
+use crate::session::{OpenAnchor, Session, StepParts};
+use crate::standing::standing_at;
+use crate::step_attributes::{StepAttributes, attributes_at};
+use alethe_commands::attributes::rule_word;
+use rule_model::Rule;
+use sexpr::Lexer;
+use pair_pool::Memory;
+use proof_store::{ProofBuilder, Ratio};
+use sym_table::Symbols;
+use term_names::faults::ReadFault;
+use term_pool::Terms;
+use term_reader::TermReader;
+use text_items::nodes::Node;
+
+/// A step by the places of its nodes: its id, its literals, which end before its attributes, and these, which go to the end.
+#[derive(Clone, Copy)]
+pub struct StepNodes {
+    pub id: usize,
+    pub first: usize,
+    pub attributes: usize,
+}
+
+/// A step as it is to be added: its id, its rule with the word for it, and the anchor whose scope it closes. What else it has
+/// are the parts of the session.
+#[derive(Clone, Copy)]
+struct NewStep<'a> {
+    id: Named<'a>,
+    rule: Rule,
+    word: &'a [u8],
+    closes: Option<OpenAnchor>,
+}
+
+/// Adds a step. One with the id of the innermost open anchor closes its scope: it is read in the scope around.
+///
+/// Refused where the id may not be that of the step, at the first fault of its literals, and then of its attributes in the
+/// order of the text; and besides for want of memory, and where the pool had no room for a cell of a term that was read. After
+/// a refusal the session is given up.
+pub fn read_step(
+    text: &Lexer<'_>,
+    nodes: &[Node],
+    step: StepNodes,
+    symbols: &mut Symbols,
+    terms: &mut Terms<'_>,
+    session: &mut Session<'_>,
+) -> Result<(), ReadFault>
+    requires says { (n : Name) × (literals : Items) × (attributes : List shape.Attribute) × SaysStep (source text.now) nodes.now step.id step.first step.attributes (shape.step n literals attributes) × IsSymbolName n.name × IsSymbolName (steps.rule_word attributes) }
+    requires session { (settings : ProofSettings) × (p : ProofState) × IsSession symbols.old terms.old settings session.old p }
+    requires room { length symbols.old.leaves + (length nodes.now - step.first) ≤ 2 ^ 30 }
+    requires few { next_index session.old.builder + 1 < 2 ^ 32 - 1 }
+    ensures read { (n : Name) (literals : Items) (attributes : List shape.Attribute) (settings : ProofSettings) (p : ProofState) → SaysStep (source text.now) nodes.now step.id step.first step.attributes (shape.step n literals attributes) → IsSession symbols.old terms.old settings session.old p → Answers symbols.new terms.old terms.new (StandsAfter symbols.new terms.new settings session.new) (steps.step_read settings n literals attributes p) result }
+    ensures few { length symbols.new.leaves ≤ length symbols.old.leaves + (length nodes.now - step.first) }
+    ensures symbols { AddsNoSymbols symbols.old symbols.new }
+    ensures keeps { KeepsTerms terms.old terms.new }
+    ensures commands { OnOk result (next_index session.new.builder ≡ next_index session.old.builder + 1) }
+    ensures scopes { OnOk result (next_scope session.new.builder ≡ next_scope session.old.builder) }
+{
+    let id = named_at(text, nodes, step.id);
+    let standing = standing_at(session, id)?;
+    stand(&mut session.reader, standing.closes);
+    formulas_at(
+        text,
+        nodes,
+        step.first,
+        step.attributes,
+        symbols,
+        terms,
+        &mut session.reader,
+        &mut session.parts.clause,
+    )?;
+    let word = rule_word(text, nodes, step.attributes, nodes.len());
+    let rule = rule_named(word);
+    let attributes = StepAttributes {
+        first: step.attributes,
+        rule,
+        standing,
+    };
+    attributes_at(text, nodes, attributes, symbols, terms, session)?;
+    let new = NewStep {
+        id,
+        rule,
+        word,
+        closes: standing.closes,
+    };
+    add_step(session, new)?;
+    Ok(())
+}
+
+/// Goes to the scope in which a step stands: one that closes a scope stands in the scope around.
+fn stand(reader: &mut TermReader<'_>, closes: Option<OpenAnchor>)
+    requires { (s : Table) × (v : TermsView) × (settings : ProofSettings) × (used : List Used) × (p : ProofState) × (id : List ℕ) × (here : ids.Standing) × IsReaderOf s v reader.old p.script (place_in settings p.scope.nesting) × IsClosing used p id here closes }
+    ensures { (s : Table) (v : TermsView) (settings : ProofSettings) (used : List Used) (p : ProofState) (id : List ℕ) (here : ids.Standing) → IsReaderOf s v reader.old p.script (place_in settings p.scope.nesting) → IsClosing used p id here closes → IsReaderOf s v reader.new p.script (place_in settings here.nesting) }
+{
+    let Some(anchor) = closes else {
+        return;
+    };
+    leave_variables(reader, anchor.variables);
+}
+
+/// Adds the step that was read, and puts its id in use. Where it closes a scope, all that belongs to the scope is left. Refuses
+/// want of memory alone.
+fn add_step(session: &mut Session<'_>, new: NewStep<'_>) -> Result<(), ReadFault>
+    requires step { (s : Table) × (v : TermsView) × (settings : ProofSettings) × (step : Step Term) × (p : ProofState) × IsToAdd s v settings session.old new step p }
+    requires few { next_index session.old.builder + 1 < 2 ^ 32 - 1 }
+    ensures added { OnOk result ((s : Table) (v : TermsView) (settings : ProofSettings) (step : Step Term) (p : ProofState) → IsToAdd s v settings session.old new.entry step p → IsSession s v settings session.new (steps.with_step step p)) }
+    ensures refused { IfErr result (λ fault. fault ≡ ReadFault.Memory) }
+    ensures commands { OnOk result (next_index session.new.builder ≡ next_index session.old.builder + 1) }
+    ensures scopes { OnOk result (next_scope session.new.builder ≡ next_scope session.old.builder) }
+{
+    let index = take_step(&mut session.builder, &session.parts, new)?;
+    if let Some(anchor) = new.closes {
+        leave_scope(session, anchor);
+    }
+    session.ids.push(new.id.name, Role::Step, index)?;
+    Ok(())
+}
+
+/// Hands the step over to the builder, and answers its index.
+fn take_step(
+    builder: &mut ProofBuilder,
+    parts: &StepParts,
+    new: NewStep<'_>,
+) -> Result<u32, Memory>
+    requires may { MayTake builder.old (spec.step_of parts.now new) }
+    requires few { next_index builder.old + 1 < 2 ^ 32 - 1 }
+    ensures index { IfOk result (λ i. i ≡ next_index builder.old) }
+    ensures written { OnOk result (builder.new ≡ writing.take_step builder.old (spec.step_of parts.now new.entry)) }
+{
+    let clause = parts.clause.as_slice();
+    let premises = parts.premises.as_slice();
+    let discharged = parts.discharged.as_slice();
+    let ratios = ratios_of(parts);
+    builder.step(new.id.name, new.rule, new.word, clause, premises, discharged, &[], ratios)
+}
+
+/// The coefficients of the step, where it has any.
+fn ratios_of(parts: &StepParts) -> Option<&[Ratio]>
+    ensures { fractions result ≡ spec.ratios_of parts.now }
+{
+    if parts.has_ratios { Some(parts.ratios.as_slice()) } else { None }
+}
+
+/// Leaves the scope of the innermost anchor: its ids, its variables, and itself.
+fn leave_scope(session: &mut Session<'_>, anchor: OpenAnchor)
+    requires { (s : Table) × (v : TermsView) × (nesting : Nesting Var Term) × AreBound s v session.old.bound nesting × (anchor.variables ≡ length (own_bindings nesting)) }
+    ensures ids { session.new.ids ≡ take anchor.ids session.old.ids }
+    ensures anchors { (front : List OpenAnchor) (last : OpenAnchor) → session.old.anchors.items ≡ front ++ last ∷ [] → session.new.anchors.items ≡ front }
+    ensures bound { (s : Table) (v : TermsView) (around : Nesting Var Term) (before : Proof Var Term) (other : Anchor Var Term) → anchor.variables ≡ length other.bindings → AreBound s v session.old.bound (inside around before other) → AreBound s v session.new.bound around }
+    ensures builder { session.new.builder ≡ session.old.builder }
+    ensures reader { session.new.reader ≡ session.old.reader }
+{
+    session.ids.leave(anchor.ids);
+    session.anchors.pop();
+    session.bound.leave(anchor.variables);
+}

@@ -1,0 +1,82 @@
+//! Reading the commands of a proof's text, one after another.
+ghost use Rattle.std.specs.Prelude.{◌≡◌, ◌≤◌, ◌<◌, ◌^◌, length, true, false, IsTrue, IfOk, OnOk};
+ghost use Rattle.sexpr.specs.Items.{Items, no_items};
+ghost use Rattle.sexpr.specs.Source as at;
+ghost use Rattle.sym_table.specs.Table.{Table};
+ghost use Rattle.term_model.specs.Terms.{Var, Term};
+ghost use Rattle.term_pool.specs.Views.{TermsView, KeepsTerms};
+ghost use Rattle.rule_model.specs.Proofs.{ProofItems as Proof};
+ghost use Rattle.problem_text.specs.Outcomes.{Outcome};
+ghost use Rattle.term_names.specs.Standing.{AddsNoSymbols};
+ghost use Rattle.alethe_text.specs.States.{ProofSettings, ProofState};
+ghost use Rattle.alethe_items.specs.TextItems.{HasCommandItems};
+ghost use Rattle.alethe_reader.specs.Sessions.{IsSession};
+ghost use Rattle.alethe_reader.specs.TextReading.{AreLeft, ReadsCommand, ReadsAll, IsShort, most_after};
+
+use crate::performing::perform;
+use crate::session::Session;
+use alethe_commands::command_of;
+use alethe_items::next_item;
+use sexpr::Lexer;
+use sym_table::Symbols;
+use term_names::faults::ReadFault;
+use term_pool::Terms;
+use text_items::nodes::Node;
+
+/// Reads the next command of a text, and does what it asks for. Answers whether there was one.
+fn read_command(
+    lexer: &mut Lexer<'_>,
+    in_list: bool,
+    nodes: &mut Vec<Node>,
+    symbols: &mut Symbols,
+    terms: &mut Terms<'_>,
+    session: &mut Session<'_>,
+) -> Result<bool, ReadFault>
+    requires left { (settings : ProofSettings) × (p : ProofState) × (whole : Outcome ProofState (Proof Var Term)) × AreLeft (at.source lexer.old) settings in_list (at.position lexer.old) p whole × IsSession symbols.old terms.old settings session.old p }
+    requires room { most_after (length symbols.old.leaves) (at.source lexer.old) (at.position lexer.old) ≤ 2 ^ 30 }
+    requires short { length (at.source lexer.old) ≤ 268435456 }
+    requires inside { at.position lexer.old ≤ length (at.source lexer.old) }
+    requires few { IsShort session.old.builder (at.position lexer.old) }
+    ensures reads { (settings : ProofSettings) (p : ProofState) (whole : Outcome ProofState (Proof Var Term)) → AreLeft (at.source lexer.old) settings in_list (at.position lexer.old) p whole → IsSession symbols.old terms.old settings session.old p → ReadsCommand (at.source lexer.new) symbols.new terms.old terms.new settings session.new in_list (at.position lexer.new) whole result }
+    ensures source { at.source lexer.new ≡ at.source lexer.old }
+    ensures progress { IfOk result (λ found. IsTrue found → at.position lexer.old < at.position lexer.new) }
+    ensures inside { IfOk result (λ found. IsTrue found → at.position lexer.new ≤ length (at.source lexer.old)) }
+    ensures short { IfOk result (λ found. IsTrue found → IsShort session.new.builder (at.position lexer.new)) }
+    ensures few { IfOk result (λ found. IsTrue found → most_after (length symbols.new.leaves) (at.source lexer.new) (at.position lexer.new) ≤ most_after (length symbols.old.leaves) (at.source lexer.old) (at.position lexer.old)) }
+    ensures few_at_all { length symbols.new.leaves ≤ most_after (length symbols.old.leaves) (at.source lexer.old) (at.position lexer.old) }
+    ensures symbols { AddsNoSymbols symbols.old symbols.new }
+    ensures keeps { KeepsTerms terms.old terms.new }
+{
+    if !next_item(lexer, in_list, nodes)? {
+        return Ok(false);
+    }
+    let command = command_of(lexer, nodes)?;
+    perform(lexer, nodes, symbols, terms, session, command)?;
+    Ok(true)
+}
+
+/// Reads the commands that are left of a text.
+pub(crate) fn read_commands(
+    lexer: &mut Lexer<'_>,
+    in_list: bool,
+    nodes: &mut Vec<Node>,
+    symbols: &mut Symbols,
+    terms: &mut Terms<'_>,
+    session: &mut Session<'_>,
+) -> Result<(), ReadFault>
+    requires left { (settings : ProofSettings) × (p : ProofState) × (whole : Outcome ProofState (Proof Var Term)) × AreLeft (at.source lexer.old) settings in_list (at.position lexer.old) p whole × IsSession symbols.old terms.old settings session.old p }
+    requires room { most_after (length symbols.old.leaves) (at.source lexer.old) (at.position lexer.old) ≤ 2 ^ 30 }
+    requires short { length (at.source lexer.old) ≤ 268435456 }
+    requires inside { at.position lexer.old ≤ length (at.source lexer.old) }
+    requires few { IsShort session.old.builder (at.position lexer.old) }
+    ensures reads { (settings : ProofSettings) (p : ProofState) (whole : Outcome ProofState (Proof Var Term)) → AreLeft (at.source lexer.old) settings in_list (at.position lexer.old) p whole → IsSession symbols.old terms.old settings session.old p → ReadsAll (at.source lexer.new) symbols.new terms.old terms.new settings session.new (at.position lexer.new) whole result }
+    ensures few { length symbols.new.leaves ≤ most_after (length symbols.old.leaves) (at.source lexer.old) (at.position lexer.old) }
+    ensures symbols { AddsNoSymbols symbols.old symbols.new }
+    ensures keeps { KeepsTerms terms.old terms.new }
+{
+    'commands: loop {
+        if !read_command(lexer, in_list, nodes, symbols, terms, session)? {
+            return Ok(());
+        }
+    }
+}
