@@ -45,8 +45,18 @@ pub enum Piece<'a> {
     Open(&'a str),
     /// The same bytes, so many times.
     Repeated(u32, &'a str),
+    /// The same bytes, so many times, each with a number of its own.
+    Numbered(Numbers, &'a str),
     /// The text of that name.
     Named(&'a str),
+}
+
+/// The numbers below `count`, each once where the two have no divisor but 1: first 0, and then each `step` above the one
+/// before, without the multiples of `count`.
+#[derive(Clone, Copy, Debug, PartialEq, Eq)]
+pub struct Numbers {
+    pub count: u32,
+    pub step: u32,
 }
 
 /// What a line is, without its end.
@@ -61,6 +71,7 @@ pub fn line_of(line: &str) -> Result<Line<'_>, Fault> {
         "|" => Ok(Line::Piece(Piece::Whole(rest))),
         "+" => Ok(Line::Piece(Piece::Open(rest))),
         "*" => repeated(rest),
+        "%" => numbered(rest),
         "<" => Ok(Line::Piece(Piece::Named(rest))),
         "words" => Ok(Line::Field(Field::Words(rest))),
         "failing-reads" => Ok(Line::Field(Field::FailingReads(rest))),
@@ -85,6 +96,14 @@ fn repeated(rest: &str) -> Result<Line<'_>, Fault> {
     let (count, text) = rest.split_once(' ').ok_or(Fault::NoSuchLine)?;
     let count = count.parse::<u32>().map_err(|_| Fault::BadNumber)?;
     Ok(Line::Piece(Piece::Repeated(count, text)))
+}
+
+fn numbered(rest: &str) -> Result<Line<'_>, Fault> {
+    let (count, rest) = rest.split_once(' ').ok_or(Fault::NoSuchLine)?;
+    let (step, text) = rest.split_once(' ').ok_or(Fault::NoSuchLine)?;
+    let count = count.parse::<u32>().map_err(|_| Fault::BadNumber)?;
+    let step = step.parse::<u32>().map_err(|_| Fault::BadNumber)?;
+    Ok(Line::Piece(Piece::Numbered(Numbers { count, step }, text)))
 }
 
 fn status(rest: &str) -> Result<Line<'_>, Fault> {

@@ -2,7 +2,7 @@
 use crate::case::Case;
 use crate::draft::Draft;
 use crate::fault::Fault;
-use crate::line::{Line, Part, Piece, line_of};
+use crate::line::{Line, Numbers, Part, Piece, line_of};
 use indexmap::IndexMap;
 use std::alloc::Global;
 use std::mem;
@@ -89,6 +89,9 @@ impl Reader {
             }
             Piece::Open(text) => self.text.extend_from_slice(text.as_bytes())?,
             Piece::Repeated(count, text) => repeat(&mut self.text, text.as_bytes(), count)?,
+            Piece::Numbered(numbers, text) => {
+                number(self.alloc, &mut self.text, text.as_bytes(), numbers)?
+            }
             Piece::Named(name) => {
                 let named = self.named.get(name).ok_or(Fault::NoSuchText)?;
                 self.text.extend_from_slice(named)?;
@@ -118,6 +121,41 @@ impl Reader {
 fn repeat(text: &mut Vec<u8>, bytes: &[u8], count: u32) -> Result<(), Fault> {
     for _ in 0..count {
         text.extend_from_slice(bytes)?;
+    }
+    Ok(())
+}
+
+// Adds the bytes once for each number: `%` stands for the number, and `~` for the one above it.
+fn number(
+    alloc: Global,
+    text: &mut Vec<u8>,
+    bytes: &[u8],
+    numbers: Numbers,
+) -> Result<(), Fault> {
+    let mut number = 0u32;
+    for _ in 0..numbers.count {
+        add_numbered(alloc, text, bytes, number)?;
+        number = number
+            .saturating_add(numbers.step)
+            .checked_rem(numbers.count)
+            .unwrap_or(0);
+    }
+    Ok(())
+}
+
+fn add_numbered(
+    alloc: Global,
+    text: &mut Vec<u8>,
+    bytes: &[u8],
+    number: u32,
+) -> Result<(), Fault> {
+    let above = number.saturating_add(1);
+    for byte in bytes {
+        match *byte {
+            b'%' => text.extend_from_slice(format!(in alloc; "{number}")?.as_bytes())?,
+            b'~' => text.extend_from_slice(format!(in alloc; "{above}")?.as_bytes())?,
+            byte => text.push(byte)?,
+        }
     }
     Ok(())
 }
