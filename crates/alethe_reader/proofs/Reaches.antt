@@ -58,7 +58,7 @@ reaches_all scope len e = record {
   seen = λ id f h.
       subst (λ cs. find (λ c. bytes_eq c.id id) cs ≡ sight_at f.role f.number id) (sights_seen scope) (found_seen (ids_in scope) id f h)
       ∙ picks f.number id (nat_le 0 f.place) (nat_lt f.place len) f.role (le-leb 0 f.place (omega arith))
-        (lt-ltb f.place len (let w = slice_get_within (ids_in scope) f.place _ h.here in omega (arith, w, e)));
+      (lt-ltb f.place len (let w = slice_get_within (ids_in scope) f.place _ h.here in omega (arith, w, e)));
   unseen = λ id h. subst (λ cs. find (λ c. bytes_eq c.id id) cs ≡ None) (sights_seen scope) (unseen (ids_in scope) id h);
 }
 

@@ -28,10 +28,10 @@ rules-preserved c =
     let next : c.rules.k + 1 ≡ suc c.rules.k = omega arith in
     record {
       so_far =
-        ap (λ n. rule_among (drop n rules) c.args.name.now) next
-        ∙ (sym (among_here rules c.rules.k r c.args.name.now (slice_get-get_or rules c.rules.k Rule.Assume c.rules-test.true)
-        ∙ ap (λ b. if b then r else rule_among (drop (suc c.rules.k) rules) c.args.name.now) test)
-        ∙ c.rules.invariant.so_far);
+          ap (λ n. rule_among (drop n rules) c.args.name.now) next
+          ∙ (sym (among_here rules c.rules.k r c.args.name.now (slice_get-get_or rules c.rules.k Rule.Assume c.rules-test.true)
+          ∙ ap (λ b. if b then r else rule_among (drop (suc c.rules.k) rules) c.args.name.now) test)
+          ∙ c.rules.invariant.so_far);
     }
 
 pub returns : goal.returns
