@@ -209,7 +209,7 @@ pub said : (source : List ℕ) (nodes : List Node) (id first others : ℕ) (n : 
 said source nodes id first others n literals attributes h = record {
   name_here = subst (IsNameNode source nodes id) (name_of h.same) h.name_here;
   literals_here = subst (λ items. AreNodes source nodes first items others) (literals_of h.same) h.literals_here;
-  attributes_here = subst (λ as. AreAttributes source nodes others as (length nodes)) (attributes_of h.same) h.attributes_here;
+  attributes_here = subst (λ listed. AreAttributes source nodes others listed (length nodes)) (attributes_of h.same) h.attributes_here;
 }
   where
     name_of : {m n : Name} {k l : Items} {a b : List Attribute} → shape.step n l b ≡ shape.step m k a → m ≡ n

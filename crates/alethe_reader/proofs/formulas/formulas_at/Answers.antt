@@ -93,3 +93,9 @@ returns-clause-few c = elim c.formulas.invariant.within [
   | inl e ↦ omega (arith, e, c.formulas.invariant.spent)
   | inr h ↦ omega (arith, h, c.formulas.invariant.spent, c.formulas.invariant.ordered)
 ]
+
+pub returns-in_err-formula-clause-symbols : goal.returns-in_err-formula-clause-symbols
+returns-in_err-formula-clause-symbols c = adds_then _ _ _ c.formulas.invariant.adds c.formula_at.ensures.symbols
+
+pub returns-in_err-push-clause-symbols : goal.returns-in_err-push-clause-symbols
+returns-in_err-push-clause-symbols c = adds_then _ _ _ c.formulas.invariant.adds c.formula_at.ensures.symbols
