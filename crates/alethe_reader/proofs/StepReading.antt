@@ -42,7 +42,7 @@ use Rattle.alethe_reader.specs.Standing.{IsAnchorOf, IsClosing, Stands}
 use Rattle.alethe_reader.specs.StepParts.{AreReadAttributes, IsBare, KeepsOthers, StandsAt}
 use Rattle.alethe_reader.proofs.Answering.{stops, goes, answers, refuses, no_memory, same_outcome}
 use Rattle.alethe_reader.proofs.FormedSteps.{read_has_rule}
-use Rattle.alethe_reader.proofs.StillRead.{keeps_then, keeps_changed, keeps_formulas}
+use Rattle.alethe_reader.proofs.StillRead.{keeps_then, keeps_changed}
 use Rattle.alethe_reader.proofs.StillReadCommands.{keeps_attributes}
 use Rattle.alethe_reader.proofs.WrittenStays.{written_stays}
 
@@ -163,8 +163,8 @@ module _ (settings : ProofSettings) (n : Name) (p : ProofState) (d : Session) (s
         lax = session.lax;
         reader = read.behind.reader;
         written =
-          written_same y x d e p t others.builder others.ids others.anchors others.bound scope (read.behind.anchors ∙ k.behind.anchors)
-          (written_stays s y v x (adds_then s z y first second).keeps (terms_kept v w x old more) d p session.written);
+            written_same y x d e p t others.builder others.ids others.anchors others.bound scope (read.behind.anchors ∙ k.behind.anchors)
+            (written_stays s y v x (adds_then s z y first second).keeps (terms_kept v w x old more) d p session.written);
         id = read.id ∙ sym named;
         rule = read.rule ∙ sym ruled;
         word = read.rule_name ∙ sym worded;

@@ -5,7 +5,6 @@ use Rattle.sexpr.specs.Source.{source}
 use Rattle.text_items.proofs.NodeSteps.{first_at, others_from, further, item_within, node_inside}
 use Rattle.term_reader.proofs.Staying.{adds_none, adds_then, keeps_none, keeps_then}
 use Rattle.alethe_text.specs.ProofTerms.{formulas_in}
-use Rattle.alethe_text.specs.States.{ProofState}
 use Rattle.alethe_reader.proofs.FormulaLists.{item_here, so_far_first, all_read, fails, no_room, so_far_next}
 use Rattle.alethe_reader.proofs.formulas.formulas_at.Goals as goal
 

@@ -1,9 +1,9 @@
 -- Where a rule has the word, it is the first.
-use Rattle.std.proofs.Common.{◌≡◌, ◌+◌, ℕ, suc, List, length, drop, slice_index_or, true, false, refl, sym, ◌∙◌, ap, subst, arith, if◌then◌else◌}
+use Rattle.std.proofs.Common.{◌≡◌, ◌+◌, suc, drop, slice_index_or, true, false, sym, ◌∙◌, ap, subst, arith, if◌then◌else◌}
 use Rattle.std.specs.Str.{bytes_eq}
 use Rattle.std.proofs.lemmas.Option.{slice_get-get_or}
 use Rattle.rule_model.specs.declared.rules.Rule.{Rule}
-use Rattle.rule_model.specs.RuleNames.{known_rules, rule_among, rule_named}
+use Rattle.rule_model.specs.RuleNames.{rule_among, rule_named}
 use Rattle.alethe_reader.proofs.RuleWords.{among_here, among_none}
 use Rattle.alethe_reader.proofs.rules.rule_named.Goals as goal
 

@@ -1,15 +1,11 @@
 -- The id, then the literals, then the attributes, and what is added.
-use Rattle.std.proofs.Common.{◌≡◌, ◌+◌, ◌≤◌, List, Ok, Err, refl, sym, ◌∙◌, ap, subst, arith}
+use Rattle.std.proofs.Common.{◌≡◌, refl, sym, ◌∙◌, ap, subst, arith}
 use Rattle.std.proofs.lemmas.Result.{err_from_is_err_and}
-use Rattle.sexpr.specs.Source.{source}
 use Rattle.rule_model.specs.RuleNames.{rule_named, IsSymbolName}
-use Rattle.term_model.specs.Terms.{Term}
-use Rattle.term_pool.specs.Views.{ReferToAll}
 use Rattle.text_items.specs.ItemShapes.{Name}
-use Rattle.term_reader.proofs.Staying.{adds_then, keeps_then}
+use Rattle.term_reader.proofs.Staying.{adds_then}
 use Rattle.alethe_text.specs.Ids as ids
 use Rattle.alethe_text.specs.Steps.{rule_word, bare_step}
-use Rattle.alethe_reader.specs.Standing.{Stands, IsStanding}
 use Rattle.alethe_reader.proofs.StepReading.{no_standing, no_clause, no_attributes, no_room, is_stepped, some_step, is_bare, stands_there, to_add, said, symbol_named, rule_symbol, stands_as, literals_first, attributes_within}
 use Rattle.alethe_reader.proofs.stepping.read_step.Goals as goal
 
