@@ -1,5 +1,5 @@
 -- A step that was read may be added to the proof over references, and what is written then is that of the state.
-use Rattle.std.proofs.Common.{◌≡◌, ◌⊎◌, inl, inr, ℕ, zero, suc, ◌+◌, ◌-◌, ◌≤◌, ◌<◌, List, [], ◌∷◌, ◌++◌, map, length, take, Bool, true, false, if◌then◌else◌, Option, Some, None, IfSome, All, Contains, refl, sym, ◌∙◌, ap, subst, arith}
+use Rattle.std.proofs.Common.{◌≡◌, inl, inr, ℕ, ◌+◌, ◌-◌, List, [], ◌∷◌, ◌++◌, map, length, take, Bool, true, false, if◌then◌else◌, Option, Some, None, IfSome, All, Contains, refl, sym, ◌∙◌, ap, subst, arith}
 use Rattle.std.specs.Prelude.{bytes_eq}
 use Rattle.std.specs.List.{AllZip}
 use Rattle.std.proofs.lemmas.List.{map-append, length-append}
@@ -11,10 +11,10 @@ use Rattle.rule_model.specs.Proofs.{Step, ProofItems, no_items, with_assume, wit
 use Rattle.rule_model.specs.RuleNames.{rule_named, left_out_rules, IsSymbolName}
 use Rattle.rule_model.specs.Scopes.{Anchor, Nesting, outermost, inside, Scope, at, own_bindings, first_index, commands_in, next_index, next_scope}
 use Rattle.rule_model.specs.Visibility.{Sight, sight, seen, visible, assumes_in}
-use Rattle.rule_model.specs.WellFormed.{IsNewId, IsLowest, HasRule, MayStand, MayClose}
+use Rattle.rule_model.specs.WellFormed.{IsLowest, HasRule, MayStand}
 use Rattle.rule_model.specs.Writing.{is_open_id, add_step, close_scope, take_step, MayCloseHere, MayTake}
-use Rattle.proof_store.specs.Meaning.{IsBindingOf, IsPivotOf, IsStepOf, StandForItems, no_items_stand, assume_stands, step_stands, subproof_stands}
-use Rattle.alethe_text.specs.Ids.{assumes_seen, Standing, stands_in, closes_scope}
+use Rattle.proof_store.specs.Meaning.{IsPivotOf, IsStepOf, StandForItems, no_items_stand, assume_stands, step_stands, subproof_stands}
+use Rattle.alethe_text.specs.Ids.{assumes_seen, Standing, closes_scope}
 use Rattle.alethe_text.specs.ProofTerms.{place_in}
 use Rattle.alethe_text.specs.States.{ProofSettings, ProofState}
 use Rattle.alethe_text.specs.Steps as steps

@@ -40,9 +40,9 @@ module _ {A B T U : Type 0} {s : Table} {old mid : TermsView} {M : T → A → P
       record {
         answer = subst (λ (q : Outcome ProofState B). IsAnswer z new.pass N q r) (sym is) rest.answer;
         placed =
-          places_then s z old.pass mid.pass new.pass (WasRead (and_then o next)) table terms.pass
-          (places_more s old.pass mid.pass _ _ (read_on o next keeps) h.placed)
-          (subst (λ (q : Outcome ProofState B). PlacesCellsOf z mid.pass new.pass (WasRead q)) (sym is) rest.placed);
+            places_then s z old.pass mid.pass new.pass (WasRead (and_then o next)) table terms.pass
+            (places_more s old.pass mid.pass _ _ (read_on o next keeps) h.placed)
+            (subst (λ (q : Outcome ProofState B). PlacesCellsOf z mid.pass new.pass (WasRead q)) (sym is) rest.placed);
       }
 
 module _ {A T : Type 0} {s : Table} {v : TermsView} {M : T → A → ProofState → Type 0} where

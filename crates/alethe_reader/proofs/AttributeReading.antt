@@ -5,18 +5,16 @@ use Rattle.sexpr.specs.declared.causes.Cause.TheVariants.{LeftOut}
 use Rattle.sexpr.specs.declared.causes.Refusal.{Refusal}
 use Rattle.sexpr.specs.Items.{Items}
 use Rattle.sym_table.specs.Table.{Table}
-use Rattle.term_model.specs.Terms.{Var, Term}
+use Rattle.term_model.specs.Terms.{Term}
 use Rattle.term_pool.specs.Views.{TermsView, KeepsTerms}
 use Rattle.rule_model.specs.Proofs.{Step, Fraction}
 use Rattle.rule_model.specs.RuleNames.{left_out_rules}
-use Rattle.rule_model.specs.Scopes.{Nesting}
 use Rattle.rule_model.specs.Visibility.{Sight}
 use Rattle.proof_store.specs.Ratios.{fraction_of_ratio}
 use Rattle.text_items.specs.declared.nodes.Node.{Node}
 use Rattle.text_items.specs.ItemShapes.{Name}
 use Rattle.problem_text.specs.Outcomes.{Outcome, done, going_on, and_then}
 use Rattle.problem_text.specs.Words.{is_among}
-use Rattle.term_names.specs.Faults.{IsFaultOf}
 use Rattle.term_names.specs.Making.{PlacesCellsOf}
 use Rattle.term_names.specs.Standing.{AddsNoSymbols}
 use Rattle.term_names.specs.declared.faults.ReadFault.{ReadFault}
@@ -24,24 +22,23 @@ use Rattle.term_reader.specs.ProblemViews.{ReaderView, IsReaderOf}
 use Rattle.term_reader.proofs.Staying.{adds_none, keeps_none, places_none, places_more, places_then}
 use Rattle.alethe_commands.specs.CommandNodes.{AreAttributes, HasFirstAttribute, LiesWithin}
 use Rattle.alethe_commands.specs.declared.attributes.StepAttribute.{StepAttribute}
-use Rattle.alethe_text.specs.Arguments.{takes_coefficients, takes_pivots, named_among, pivots_from, arguments_from}
+use Rattle.alethe_text.specs.Arguments.{takes_coefficients, takes_pivots, named_among, arguments_from}
 use Rattle.alethe_text.specs.Coefficients.{coefficients_from}
 use Rattle.alethe_text.specs.Commands.{Attribute, rule, premises, arguments, discharge}
 use Rattle.alethe_text.specs.Ids as text
 use Rattle.alethe_text.specs.ProofTerms.{place_in}
 use Rattle.alethe_text.specs.States.{ProofSettings, ProofState, Reading, ◌>>=◌, give, given, demand}
 use Rattle.alethe_text.specs.Steps.{attribute_read, attributes_read}
-use Rattle.alethe_reader.specs.Answers.{WasRead, IsAnswer, Answers, KeepsRead}
+use Rattle.alethe_reader.specs.Answers.{WasRead, IsAnswer, Answers}
 use Rattle.alethe_reader.specs.Arguments.{AreNamed}
 use Rattle.alethe_reader.specs.Reach.{IsReach, AreIndices}
-use Rattle.alethe_reader.specs.Sessions.{IsBehind}
 use Rattle.alethe_reader.specs.StepParts.{ArePartsOf, StandsAt, AreReadAttributes, IsJudged, AreRatios, KeepsOthers, own_nodes, nodes_from}
 use Rattle.alethe_reader.specs.declared.session.Session.{Session}
 use Rattle.alethe_reader.specs.declared.session.StepParts.{StepParts}
 use Rattle.alethe_reader.specs.declared.standing.Standing.{Standing}
 use Rattle.alethe_reader.proofs.Answering.{read_on, stops, goes, answers, refuses, no_memory, same_outcome}
 use Rattle.alethe_reader.proofs.StillRead.{keeps_give}
-use Rattle.alethe_reader.proofs.StillReadCommands.{keeps_attribute, keeps_attributes}
+use Rattle.alethe_reader.proofs.StillReadCommands.{keeps_attributes}
 
 -- of two readings the one that is meant
 one_of : {A : Type 0} (b : Bool) (one other : Reading A) (p : ProofState) → b ≡ true → (if b then one else other) p ≡ one p

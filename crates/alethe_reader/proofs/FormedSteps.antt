@@ -205,10 +205,9 @@ pub read_has_rule : (settings : ProofSettings) (p : Standing) (id : List ℕ) (o
 read_has_rule settings p id others clause s t step symbol e =
     let P : Scope Var Term → Type 0 = λ scope. ⊤ in
     let h : StepRead P p id (rule_word others) step t × AllByRecursion (IsKept P settings p id (rule_word others)) others =
-        subst (Ends (λ step t. StepRead P p id (rule_word others) step t × AllByRecursion (IsKept P settings p id (rule_word others)) others)) e
-        (attributes_formed P settings p id (rule_word others) others s (bare_step id (rule_word others) clause) tt (bare_is p id (rule_word others) clause)) in
-    let read = h.0.1 in
-    (
+    subst (Ends (λ step t. StepRead P p id (rule_word others) step t × AllByRecursion (IsKept P settings p id (rule_word others)) others)) e
+    (attributes_formed P settings p id (rule_word others) others s (bare_step id (rule_word others) clause) tt (bare_is p id (rule_word others) clause)) in
+    let read = h.0.1 in (
       read,
       record {
         named = read.named;

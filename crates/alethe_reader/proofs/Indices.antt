@@ -1,6 +1,6 @@
 -- Names of commands, one after another.
-use Rattle.std.proofs.Common.{◌≡◌, ◌≢◌, ℕ, suc, ◌+◌, ◌≤◌, ◌<◌, List, [], ◌∷◌, ◌++◌, length, Option, Some, None, Result, Ok, Err, find, refl, sym, ◌∙◌, ap, subst, arith}
-use Rattle.std.specs.Prelude.{⊤, bytes_eq}
+use Rattle.std.proofs.Common.{◌≡◌, ◌≢◌, ℕ, ◌+◌, ◌≤◌, List, [], ◌∷◌, ◌++◌, length, Option, Result, Ok, Err, find, refl, sym, ◌∙◌, ap, arith}
+use Rattle.std.specs.Prelude.{bytes_eq}
 use Rattle.std.proofs.lemmas.List.{append_assoc, append-nil}
 use Rattle.sexpr.specs.declared.causes.Cause.TheVariants.{NoStep}
 use Rattle.sexpr.specs.declared.causes.Refusal.{Refusal}
@@ -9,12 +9,10 @@ use Rattle.text_items.specs.declared.nodes.Node.{Node}
 use Rattle.text_items.specs.ItemShapes.{Name}
 use Rattle.text_items.specs.NameNodes.{IsNameNode}
 use Rattle.problem_text.specs.Outcomes.{Outcome, done, going_on, and_then}
-use Rattle.term_names.specs.Faults.{IsFaultOf}
-use Rattle.term_names.specs.declared.faults.ReadFault.{ReadFault}
 use Rattle.alethe_commands.specs.CommandNodes.{AreNameNodes}
 use Rattle.alethe_text.specs.Ids.{indices_of}
 use Rattle.alethe_text.specs.States.{ProofState, Reading, ◌>>=◌, give, found}
-use Rattle.alethe_reader.specs.Reach.{IsIndex, AreIndices}
+use Rattle.alethe_reader.specs.Reach.{IsIndex}
 
 -- the nodes of names end behind the last one
 pub names_end : (source : List ℕ) (nodes : List Node) (k : ℕ) (ns : List Name) (m : ℕ) → AreNameNodes source nodes k ns m → k + length ns ≡ m

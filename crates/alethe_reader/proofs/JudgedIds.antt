@@ -1,11 +1,10 @@
 -- An id is judged by the ids that are in use.
-use Rattle.std.proofs.Common.{◌≡◌, ◌≢◌, ℕ, zero, suc, List, [], ◌∷◌, ◌++◌, map, Bool, true, false, not, ◌||◌, Option, Some, None, Result, Ok, Err, cond, find, slice_get, refl, sym, ◌∙◌, ap, subst, if◌then◌else◌}
+use Rattle.std.proofs.Common.{◌≡◌, ◌≢◌, ℕ, zero, suc, List, [], ◌∷◌, ◌++◌, map, Bool, true, false, not, ◌||◌, Option, Some, None, Ok, Err, cond, find, slice_get, refl, sym, ◌∙◌, ap, subst}
 use Rattle.std.specs.Prelude.{⊤, is_some}
 use Rattle.std.specs.Str.{bytes_eq}
 use Rattle.std.proofs.lemmas.Slice.Eq.{bytes_eq-Decides}
 use Rattle.sexpr.specs.declared.causes.Cause.{Cause}
 use Rattle.sexpr.specs.declared.causes.Cause.TheVariants.{Repeated}
-use Rattle.sexpr.specs.declared.causes.Refusal.{Refusal}
 use Rattle.term_model.specs.Terms.{Var, Term}
 use Rattle.rule_model.specs.Scopes.{Scope}
 use Rattle.rule_model.specs.Visibility.{Sight, seen, visible_ids, open_ids}
@@ -13,7 +12,7 @@ use Rattle.text_items.specs.ItemShapes.{Name}
 use Rattle.problem_text.specs.Outcomes.{Outcome, given}
 use Rattle.problem_text.specs.Words.{is_among}
 use Rattle.alethe_text.specs.Ids.{id_judged}
-use Rattle.alethe_text.specs.States.{ProofState, ◌>>=◌, demand, give}
+use Rattle.alethe_text.specs.States.{ProofState, ◌>>=◌, demand}
 use Rattle.alethe_reader.specs.declared.ids.Found.{Found}
 use Rattle.alethe_reader.specs.declared.ids.Role.{Role}
 use Rattle.alethe_reader.specs.declared.ids.Role.TheVariants.{Assume, Step, Anchor}

@@ -1,21 +1,20 @@
 -- The commands that a step may name, by the ids in use.
-use Rattle.std.proofs.Common.{◌≡◌, ◌≢◌, ℕ, zero, suc, ◌+◌, ◌≤◌, ◌<◌, List, [], ◌∷◌, ◌++◌, length, slice_get, Bool, true, false, ◌&&◌, if◌then◌else◌, Option, Some, None, find, refl, sym, ◌∙◌, ap, subst, arith}
+use Rattle.std.proofs.Common.{◌≡◌, ℕ, zero, suc, ◌+◌, ◌≤◌, ◌<◌, List, [], ◌∷◌, ◌++◌, length, slice_get, Bool, true, false, ◌&&◌, if◌then◌else◌, Option, Some, None, find, refl, sym, ◌∙◌, subst, arith}
 use Rattle.std.specs.Prelude.{bytes_eq, nat_le, nat_lt}
 use Rattle.std.proofs.lemmas.Bool.{ltb-true, ltb-false, lt-ltb, le-ltb, leb-true, leb-false, le-leb}
 use Rattle.std.proofs.lemmas.List.{append_assoc, length-append}
 use Rattle.std.proofs.lemmas.Option.{slice_get_within}
 use Rattle.term_model.specs.Terms.{Var, Term}
 use Rattle.rule_model.specs.Proofs.{ProofItems}
-use Rattle.rule_model.specs.Scopes.{Anchor, Nesting, outermost, inside, Scope, at, scope_number}
+use Rattle.rule_model.specs.Scopes.{Anchor, Nesting, inside, Scope, at, scope_number}
 use Rattle.rule_model.specs.Visibility.{Sight, sight, seen}
 use Rattle.alethe_text.specs.Ids.{assumes_seen}
 use Rattle.alethe_reader.specs.declared.ids.Found.{Found}
 use Rattle.alethe_reader.specs.declared.ids.Role.{Role}
 use Rattle.alethe_reader.specs.declared.ids.Role.TheVariants as role
-use Rattle.alethe_reader.specs.declared.premises.Reach.{Reach}
 use Rattle.alethe_reader.specs.Ids.{Used, IsUnused, IsUsedAt}
 use Rattle.alethe_reader.specs.IdsInUse.{in_use, own_ids, ids_around, ids_in, sight_at, hidden}
-use Rattle.alethe_reader.specs.Reach.{takes, reaches, IsReach}
+use Rattle.alethe_reader.specs.Reach.{takes, IsReach}
 use Rattle.alethe_reader.proofs.IdsInUse.{found_seen, unseen, sights_seen, own_discharged, outer_discharged, none_discharged}
 
 -- what is picked, by three tests
@@ -58,7 +57,7 @@ reaches_all scope len e = record {
   seen = λ id f h.
       subst (λ cs. find (λ c. bytes_eq c.id id) cs ≡ sight_at f.role f.number id) (sights_seen scope) (found_seen (ids_in scope) id f h)
       ∙ picks f.number id (nat_le 0 f.place) (nat_lt f.place len) f.role (le-leb 0 f.place (omega arith))
-        (lt-ltb f.place len (let w = slice_get_within (ids_in scope) f.place _ h.here in omega (arith, w, e)));
+      (lt-ltb f.place len (let w = slice_get_within (ids_in scope) f.place _ h.here in omega (arith, w, e)));
   unseen = λ id h. subst (λ cs. find (λ c. bytes_eq c.id id) cs ≡ None) (sights_seen scope) (unseen (ids_in scope) id h);
 }
 

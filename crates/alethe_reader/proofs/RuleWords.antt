@@ -1,5 +1,5 @@
 -- The rule that a word names, by a list that is gone through.
-use Rattle.std.proofs.Common.{◌≡◌, ℕ, zero, suc, ◌+◌, ◌≤◌, List, [], ◌∷◌, length, drop, slice_get, Some, Bool, true, false, if◌then◌else◌, refl, sym, ◌∙◌, ap, arith}
+use Rattle.std.proofs.Common.{◌≡◌, ℕ, zero, suc, ◌≤◌, List, [], ◌∷◌, length, drop, slice_get, Some, if◌then◌else◌, refl, ap, arith}
 use Rattle.std.specs.Str.{bytes_eq}
 use Rattle.rule_model.specs.declared.rules.Rule.{Rule}
 use Rattle.rule_model.specs.RuleNames.{word_of, rule_among}

@@ -1,6 +1,6 @@
 -- Cited by crates above. What a reader of terms stands for stays when terms and names are added to its script, and as variables of an anchor enter and leave.
-use Rattle.std.proofs.Common.{◌≡◌, ◌<◌, ◌≤◌, ◌+◌, ℕ, zero, suc, List, [], ◌∷◌, ◌++◌, map, reverse, length, take, get_or, refl, sym, ap, subst, ◌∙◌, arith}
-use Rattle.std.proofs.lemmas.List.{append_assoc, map-append, reverse-append, take_all, take_more}
+use Rattle.std.proofs.Common.{◌≡◌, ◌<◌, ◌≤◌, ◌+◌, ◌-◌, ℕ, zero, suc, List, [], ◌∷◌, ◌++◌, map, reverse, length, take, get_or, refl, sym, ap, subst, ◌∙◌, arith}
+use Rattle.std.proofs.lemmas.List.{map-append, reverse-append, take_all, take_more}
 use Rattle.std.specs.List.{AllZip}
 use Rattle.sym_table.specs.Table.{Table, IsLeaf}
 use Rattle.term_model.specs.Terms.{Var, Term}
@@ -8,7 +8,7 @@ use Rattle.term_pool.specs.StandsFor.{variable_leaf}
 use Rattle.term_pool.specs.Views.{TermsView}
 use Rattle.proof_store.specs.Meaning.{IsBindingOf}
 use Rattle.rule_model.specs.Proofs.{ProofItems}
-use Rattle.rule_model.specs.Scopes.{Anchor, Nesting, inside}
+use Rattle.rule_model.specs.Scopes.{Anchor, Nesting, outermost, inside, own_bindings}
 use Rattle.rule_model.specs.Visibility.{open_bindings}
 use Rattle.problem_text.specs.Names.{Bound, Place, itself}
 use Rattle.problem_text.specs.Scripts.{Script, with_term, with_let_name}
@@ -94,3 +94,30 @@ module _ (s : Table) (v : TermsView) (r : ReaderView) (sc : Script) (settings : 
 
   pub reader_outside : IsReaderOf s v r sc (place_in settings (inside around before anchor)) → IsReaderOf s v r sc (place_with settings around anchor (length anchor.bindings))
   reader_outside h = subst (λ bs. IsReaderOf s v r sc (record (place_in settings around) { scope = bs })) (all_entered around before anchor) h
+
+-- The variables of an anchor leave the scope, the last one first.
+last_entered : (bs : List (Var × Term)) (around : List Bound) (left : ℕ) → 0 < left → left ≤ length bs → (b : Var × Term) × (entered left bs around ≡ itself b.0 ∷ entered (left - 1) bs around)
+last_entered [] around left some fewer = absurd (omega (arith, some, fewer))
+last_entered (b ∷ bs) around left some fewer =
+    (get_or (b ∷ bs) (left - 1) b, ap (λ n. entered n (b ∷ bs) around) next ∙ one_entered (b ∷ bs) around (left - 1) b (omega (arith, some, fewer)))
+  where
+    next : left ≡ left - 1 + 1
+    next = omega (arith, some)
+
+module _ (s : Table) (v : TermsView) (sc : Script) (settings : ProofSettings) where
+  pub some_left : (r t : ReaderView) (nesting : Nesting Var Term) (count left : ℕ) → count ≡ length (own_bindings nesting) → 0 < left → left ≤ count
+      → ((around : Nesting Var Term) (before : ProofItems Var Term) (anchor : Anchor Var Term) → count ≡ length anchor.bindings → IsReaderOf s v r sc (place_in settings (inside around before anchor)) → IsReaderOf s v t sc (place_with settings around anchor left))
+      → IsReaderOf s v r sc (place_in settings nesting) → (p : Place) × (x : Bound) × (outer : List Bound) × IsReaderOf s v t sc p × (p.scope ≡ x ∷ outer)
+  some_left r t outermost count left same some fewer scope h = absurd (omega (arith, same, some, fewer))
+  some_left r t (inside around before anchor) count left same some fewer scope h =
+      let (b, is) = last_entered anchor.bindings (variables_in around) left some (omega (arith, same, fewer)) in
+      (place_with settings around anchor left, itself b.0, entered (left - 1) anchor.bindings (variables_in around), scope around before anchor same h, is)
+
+  pub one_left : (t : ReaderView) (around : Nesting Var Term) (anchor : Anchor Var Term) (left : ℕ) → 0 < left → left ≤ length anchor.bindings
+      → ((x : Bound) (outer : List Bound) → entered left anchor.bindings (variables_in around) ≡ x ∷ outer → IsReaderOf s v t sc (record (place_in settings around) { scope = outer }))
+      → IsReaderOf s v t sc (place_with settings around anchor (left - 1))
+  one_left t around anchor left some fewer pop =
+      let (b, is) = last_entered anchor.bindings (variables_in around) left some fewer in pop (itself b.0) (entered (left - 1) anchor.bindings (variables_in around)) is
+
+  pub none_left : (t : ReaderView) (around : Nesting Var Term) (anchor : Anchor Var Term) (left : ℕ) → left ≡ 0 → IsReaderOf s v t sc (place_with settings around anchor left) → IsReaderOf s v t sc (place_in settings around)
+  none_left t around anchor left none h = subst (λ k. IsReaderOf s v t sc (place_with settings around anchor k)) none h

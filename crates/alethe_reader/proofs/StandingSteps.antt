@@ -1,9 +1,8 @@
 -- How a step stands, by its id among those in use.
-use Rattle.std.proofs.Common.{◌≡◌, ◌≢◌, ℕ, zero, suc, ◌+◌, ◌≤◌, ◌<◌, List, [], ◌∷◌, ◌++◌, map, length, take, slice_get, Bool, true, false, if◌then◌else◌, Option, Some, None, Result, Ok, Err, refl, sym, ◌∙◌, ap, subst, arith}
+use Rattle.std.proofs.Common.{◌≡◌, ◌≢◌, ℕ, zero, suc, ◌+◌, ◌<◌, List, [], ◌∷◌, ◌++◌, map, length, take, slice_get, Bool, true, false, if◌then◌else◌, Some, None, Err, refl, sym, ◌∙◌, ap, subst, arith}
 use Rattle.std.specs.Prelude.{⊤, bytes_eq}
 use Rattle.std.specs.List.{AllZip}
 use Rattle.std.proofs.lemmas.Slice.Eq.{bytes_eq-Decides}
-use Rattle.std.proofs.lemmas.List.{length-append}
 use Rattle.sexpr.specs.declared.causes.Cause.TheVariants.{BadAnchor}
 use Rattle.sexpr.specs.declared.causes.Refusal.{Refusal}
 use Rattle.sym_table.specs.Table.{Table}
@@ -11,25 +10,24 @@ use Rattle.term_model.specs.Terms.{Var, Term}
 use Rattle.term_pool.specs.Views.{TermsView}
 use Rattle.rule_model.specs.Proofs.{ProofItems}
 use Rattle.rule_model.specs.RuleNames.{IsSymbolName}
-use Rattle.rule_model.specs.Scopes.{Anchor, Nesting, outermost, inside, Scope, at, scope_number}
+use Rattle.rule_model.specs.Scopes.{Anchor, Nesting, outermost, inside, at, scope_number}
 use Rattle.rule_model.specs.Visibility.{seen}
 use Rattle.rule_model.specs.Writing.{is_open_id}
 use Rattle.proof_store.specs.Meaning.{IsBindingOf}
 use Rattle.text_items.specs.ItemShapes.{Name}
-use Rattle.problem_text.specs.Outcomes.{Outcome, done, given, going_on, and_then}
+use Rattle.problem_text.specs.Outcomes.{Outcome, done, and_then}
 use Rattle.alethe_text.specs.Ids.{assumes_seen, Standing as TextStanding, id_judged, stands_in, closes_scope, standing_of}
-use Rattle.alethe_text.specs.States.{ProofState, ◌>>=◌, give, seen_in}
+use Rattle.alethe_text.specs.States.{ProofState, ◌>>=◌, give}
 use Rattle.alethe_reader.specs.declared.ids.Found.{Found}
 use Rattle.alethe_reader.specs.declared.ids.Role.TheVariants as role
-use Rattle.alethe_reader.specs.declared.premises.Reach.{Reach}
 use Rattle.alethe_reader.specs.declared.session.OpenAnchor.{OpenAnchor}
 use Rattle.alethe_reader.specs.declared.session.Session.{Session}
 use Rattle.alethe_reader.specs.Ids.{Used, IsUnused, IsUsedAt}
-use Rattle.alethe_reader.specs.IdsInUse.{in_use, own_ids, ids_in}
+use Rattle.alethe_reader.specs.IdsInUse.{in_use, ids_in}
 use Rattle.alethe_reader.specs.Judging.{cause_of}
 use Rattle.alethe_reader.specs.Reach.{IsReach}
 use Rattle.alethe_reader.specs.Sessions.{StandForNesting, starts, counts, IsWritten}
-use Rattle.alethe_reader.specs.Standing.{IsAnchorOf, IsClosing, Stands, IsStanding}
+use Rattle.alethe_reader.specs.Standing.{IsAnchorOf, Stands, IsStanding}
 use Rattle.alethe_reader.proofs.IdsInUse.{unused_new}
 use Rattle.alethe_reader.proofs.JudgedIds.{judged_new, judged_used}
 use Rattle.alethe_reader.proofs.Reaches.{splits, reaches_none, reaches_all, reaches_outer, reaches_assumes}

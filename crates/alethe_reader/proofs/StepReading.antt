@@ -1,10 +1,11 @@
 -- What a step comes to.
-use Rattle.std.proofs.Common.{◌≡◌, ℕ, List, [], ◌∷◌, length, Option, Some, None, Result, Ok, Err, refl, sym, ap, subst, ◌∙◌}
+use Rattle.std.proofs.Common.{◌≡◌, ◌≤◌, ℕ, false, List, [], ◌∷◌, length, Option, Some, None, Result, Ok, Err, refl, sym, ap, subst, ◌∙◌}
 use Rattle.std.specs.Prelude.{⊤}
 use Rattle.sexpr.specs.declared.causes.Refusal.{Refusal}
 use Rattle.sexpr.specs.Items.{Items}
 use Rattle.alethe_commands.specs.CommandNodes.{AreAttributes, SaysStep}
 use Rattle.alethe_text.specs.Commands as shape
+use Rattle.text_items.proofs.NodeSteps.{nodes_ordered}
 use Rattle.text_items.specs.NameNodes.{IsNameNode}
 use Rattle.text_items.specs.Nodes.{AreNodes}
 use Rattle.text_items.specs.declared.nodes.Node.{Node}
@@ -18,26 +19,30 @@ use Rattle.text_items.specs.ItemShapes.{Name}
 use Rattle.problem_text.specs.Outcomes.{Outcome, done, going_on, and_then}
 use Rattle.term_names.specs.Standing.{AddsNoSymbols}
 use Rattle.term_names.specs.declared.faults.ReadFault.{ReadFault}
-use Rattle.term_reader.proofs.Staying.{adds_none, keeps_none, refers_stays}
+use Rattle.term_reader.proofs.Staying.{adds_none, adds_then, keeps_none, keeps_then as terms_kept, refers_stays}
 use Rattle.term_reader.specs.ProblemViews.{ReaderView, IsReaderOf}
 use Rattle.alethe_text.specs.Commands.{Attribute}
 use Rattle.alethe_text.specs.Ids.{Standing, closes_scope, standing_of}
 use Rattle.alethe_text.specs.ProofTerms.{place_in, formulas_in}
 use Rattle.alethe_text.specs.States.{ProofSettings, ProofState, Reading, ◌>>=◌, changed}
 use Rattle.alethe_text.specs.Steps.{rule_word, bare_step, attributes_read, with_step, step_read}
+use Rattle.alethe_reader.specs.declared.judging.Named.{Named}
 use Rattle.alethe_reader.specs.declared.session.OpenAnchor.{OpenAnchor}
 use Rattle.alethe_reader.specs.declared.session.Session.{Session}
+use Rattle.alethe_reader.specs.declared.session.StepParts.{StepParts}
+use Rattle.alethe_reader.specs.declared.standing.Standing.{Standing as ReaderStanding}
 use Rattle.alethe_reader.specs.declared.stepping.NewStep.{NewStep}
 use Rattle.alethe_reader.specs.AddedSteps.{IsToAdd}
 use Rattle.alethe_reader.specs.Answers.{Answers, KeepsRead}
 use Rattle.alethe_reader.specs.Ids.{Used}
+use Rattle.alethe_reader.specs.Judging.{is_named}
 use Rattle.alethe_reader.specs.ReadTerms.{AreReadFormulas}
 use Rattle.alethe_reader.specs.Sessions.{IsSession, IsWritten, StandsAfter}
-use Rattle.alethe_reader.specs.Standing.{IsAnchorOf, IsClosing}
-use Rattle.alethe_reader.specs.StepParts.{AreReadAttributes}
+use Rattle.alethe_reader.specs.Standing.{IsAnchorOf, IsClosing, Stands}
+use Rattle.alethe_reader.specs.StepParts.{AreReadAttributes, IsBare, KeepsOthers, StandsAt}
 use Rattle.alethe_reader.proofs.Answering.{stops, goes, answers, refuses, no_memory, same_outcome}
 use Rattle.alethe_reader.proofs.FormedSteps.{read_has_rule}
-use Rattle.alethe_reader.proofs.StillRead.{keeps_then, keeps_changed, keeps_formulas}
+use Rattle.alethe_reader.proofs.StillRead.{keeps_then, keeps_changed}
 use Rattle.alethe_reader.proofs.StillReadCommands.{keeps_attributes}
 use Rattle.alethe_reader.proofs.WrittenStays.{written_stays}
 
@@ -135,32 +140,41 @@ closing_same : (used more : List Used) (p q : ProofState) (id name : List ℕ) (
 closing_same used more p q id name here None a b c h = rw (a, b, c) h
 closing_same used more p q id name here (Some x) a b c h = rw (a, b, c) h
 
--- The step that was read is to be added.
-pub to_add : (settings : ProofSettings) (n : Name) (attributes : List Attribute) (p : ProofState) (s y : Table) (v x : TermsView) (d e : Session) → IsSession s v settings d p → Keeps s y → KeepsTerms v x
-    → e.builder ≡ d.builder → e.ids ≡ d.ids → e.anchors ≡ d.anchors → e.bound ≡ d.bound
-    → (closes : Option OpenAnchor) (here : Standing) → IsClosing d.ids p n.name here closes
-    → IsSymbolName (rule_word attributes) → (new : NewStep) → new.id.name.now ≡ n.name → new.rule ≡ rule_named (rule_word attributes) → new.word.now ≡ rule_word attributes → new.closes ≡ closes
-    → (clause : List Term) (q : ProofState) → ReferToAll y x e.parts.clause.items clause → q.scope ≡ p.scope → q.anchors ≡ p.anchors
-    → (step : Step Term) (t : ProofState) → AreReadAttributes y x settings here.nesting e q (bare_step n.name (rule_word attributes) clause) tt step t
-    → attributes_read settings here attributes (bare_step n.name (rule_word attributes) clause) q ≡ done step t
-    → IsToAdd y x settings e new step t
-to_add settings n attributes p s y v x d e session table terms built used anchors bound closes here closing symbol new named ruled worded closed clause q refer scope places step t read comes =
-    let has = read_has_rule settings here n.name attributes clause q t step symbol comes in
-    record {
-      here = here;
-      lax = session.lax;
-      reader = read.behind.reader;
-      written = written_same y x d e p t built used anchors bound (read.behind.scope ∙ scope) (read.behind.anchors ∙ places) (written_stays s y v x table terms d p session.written);
-      id = read.id ∙ sym named;
-      rule = read.rule ∙ sym ruled;
-      word = read.rule_name ∙ sym worded;
-      closes = subst (IsClosing e.ids t step.id here) (sym closed) (closing_same d.ids e.ids p t n.name step.id here closes used (read.behind.scope ∙ scope) read.id closing);
-      named = has.1;
-      premises = has.0.premises;
-      discharged = has.0.discharged;
-      clause = subst (ReferToAll y x e.parts.clause.items) (sym read.clause) refer;
-      parts = read.parts;
-    }
+-- nothing of the step's attributes is read
+pub is_bare : (id word : List ℕ) (clause : List Term) → IsBare (bare_step id word clause)
+is_bare id word clause = record { premises = refl; discharged = refl; pivots = refl; ratios = refl }
+
+module _ (settings : ProofSettings) (n : Name) (p : ProofState) (d : Session) (standing : ReaderStanding) (stands : Stands d.ids p n standing) {z : Table} {w : TermsView} {r : ReaderView} {refs : List ℕ} (clause : List Term) (q : ProofState) (k : AreReadFormulas z w settings stands.here.nesting r p refs tt clause q) where
+  -- behind the literals the step stands as before
+  pub stands_there : {parts : StepParts} → settings.is_strict ≡ false → StandsAt z w settings stands.here (record d { reader = r; parts = parts }) standing q
+  stands_there lax = record { lax = lax; sees = stands.premises; discharges = stands.discharges; reader = k.behind.reader }
+
+  -- The step that was read is to be added.
+  pub to_add : {s y : Table} {v x : TermsView} {parts : StepParts} {e : Session} → IsSession s v settings d p → AddsNoSymbols s z → AddsNoSymbols z y → KeepsTerms v w → KeepsTerms w x → KeepsOthers (record d { reader = r; parts = parts }) e → parts.clause.items ≡ refs
+      → (attributes : List Attribute) → IsSymbolName (rule_word attributes) → (new : NewStep) → new.id.name.now ≡ n.name → new.rule ≡ rule_named (rule_word attributes) → new.word.now ≡ rule_word attributes → new.closes ≡ standing.closes
+      → (step : Step Term) (t : ProofState) → AreReadAttributes y x settings stands.here.nesting e q (bare_step n.name (rule_word attributes) clause) tt step t
+      → attributes_read settings stands.here attributes (bare_step n.name (rule_word attributes) clause) q ≡ done step t
+      → IsToAdd y x settings e new step t
+  to_add {s} {y} {v} {x} {parts} {e} session first second old more others held attributes symbol new named ruled worded closed step t read comes =
+      let has = read_has_rule settings stands.here n.name attributes clause q t step symbol comes in
+      let scope = read.behind.scope ∙ k.behind.scope in
+      record {
+        here = stands.here;
+        lax = session.lax;
+        reader = read.behind.reader;
+        written =
+            written_same y x d e p t others.builder others.ids others.anchors others.bound scope (read.behind.anchors ∙ k.behind.anchors)
+            (written_stays s y v x (adds_then s z y first second).keeps (terms_kept v w x old more) d p session.written);
+        id = read.id ∙ sym named;
+        rule = read.rule ∙ sym ruled;
+        word = read.rule_name ∙ sym worded;
+        closes = subst (IsClosing e.ids t step.id stands.here) (sym closed) (closing_same d.ids e.ids p t n.name step.id stands.here standing.closes others.ids scope read.id stands.closes);
+        named = has.1;
+        premises = has.0.premises;
+        discharged = has.0.discharged;
+        clause = subst (ReferToAll y x e.parts.clause.items) (sym read.clause) (rw (others.clause, held) (clause_stays z y w x second.keeps more refs clause k.refer));
+        parts = read.parts;
+      }
 
 -- Where the reader stands as a step does: where it closes nothing it stays, and else goes to the scope around.
 module _ (s : Table) (v : TermsView) (settings : ProofSettings) (used : List Used) (p : ProofState) (id : List ℕ) (here : Standing) where
@@ -195,7 +209,7 @@ pub said : (source : List ℕ) (nodes : List Node) (id first others : ℕ) (n : 
 said source nodes id first others n literals attributes h = record {
   name_here = subst (IsNameNode source nodes id) (name_of h.same) h.name_here;
   literals_here = subst (λ items. AreNodes source nodes first items others) (literals_of h.same) h.literals_here;
-  attributes_here = subst (λ as. AreAttributes source nodes others as (length nodes)) (attributes_of h.same) h.attributes_here;
+  attributes_here = subst (λ listed. AreAttributes source nodes others listed (length nodes)) (attributes_of h.same) h.attributes_here;
 }
   where
     name_of : {m n : Name} {k l : Items} {a b : List Attribute} → shape.step n l b ≡ shape.step m k a → m ≡ n
@@ -206,3 +220,28 @@ said source nodes id first others n literals attributes h = record {
 
     attributes_of : {m n : Name} {k l : Items} {a b : List Attribute} → shape.step n l b ≡ shape.step m k a → a ≡ b
     attributes_of e = cc
+
+-- the parts of a step stand one behind another
+pub literals_first : {source : List ℕ} {nodes : List Node} {id first others : ℕ} {n : Name} {literals : Items} {attributes : List Attribute} → IsSaid source nodes id first others n literals attributes → first ≤ others
+literals_first {source} {nodes} {id} {first} {others} {n} {literals} h = nodes_ordered source nodes first literals others h.literals_here
+
+pub attributes_within : {source : List ℕ} {nodes : List Node} {id first others : ℕ} {n : Name} {literals : Items} {attributes : List Attribute} → IsSaid source nodes id first others n literals attributes → others ≤ length nodes
+attributes_within {source} {nodes} {id} {first} {others} h = nodes_ordered source nodes others h.attributes_here.items (length nodes) h.attributes_here.there
+
+-- its id and the word of its rule are names of symbols
+abbrev pub SaysNamedStep : List ℕ → List Node → ℕ → ℕ → ℕ → Type 0
+SaysNamedStep source nodes id first others =
+    (n : Name) × (literals : Items) × (attributes : List Attribute) × SaysStep source nodes id first others (shape.step n literals attributes) × IsSymbolName n.name × IsSymbolName (rule_word attributes)
+
+module _ {source : List ℕ} {nodes : List Node} {id first others : ℕ} where
+  pub symbol_named : SaysNamedStep source nodes id first others → (named : Named) → ((n : Name) → IsNameNode source nodes id n → is_named named ≡ n) → IsSymbolName named.name.now
+  symbol_named (n, literals, attributes, says, symbol, rule) named is =
+      subst IsSymbolName (ap (λ (x : Name). x.name) (sym (is n (said source nodes id first others n literals attributes says).name_here))) symbol
+
+  pub rule_symbol : SaysNamedStep source nodes id first others → (word : List ℕ) → ((attributes : List Attribute) → AreAttributes source nodes others attributes (length nodes) → word ≡ rule_word attributes) → IsSymbolName word
+  rule_symbol (n, literals, attributes, says, symbol, rule) word is =
+      subst IsSymbolName (sym (is attributes (said source nodes id first others n literals attributes says).attributes_here)) rule
+
+-- how a step stands by its id, under the name that the text gives
+pub stands_as : {used : List Used} {p : ProofState} {standing : ReaderStanding} {n : Name} (named : Named) → is_named named ≡ n → Stands used p (is_named named) standing → Stands used p n standing
+stands_as {used} {p} {standing} named same h = subst (λ x. Stands used p x standing) same h

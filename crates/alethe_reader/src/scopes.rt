@@ -19,7 +19,10 @@ use sym_table::Memory;
 use term_reader::TermReader;
 
 /// Puts the variables of an anchor in scope, by their leaves, the first one outermost. Refuses want of memory alone.
-pub(crate) fn enter_variables(reader: &mut TermReader<'_>, opened: &[(u32, Ref)]) -> Result<(), Memory>
+pub(crate) fn enter_variables(
+    reader: &mut TermReader<'_>,
+    opened: &[(u32, Ref)],
+) -> Result<(), Memory>
     ensures { (s : Table) (v : TermsView) (sc : Script) (p : Place) (bs : List (Var × Term)) → AllZip (IsBindingOf s v) opened.now bs → IsReaderOf s v reader.old sc p → OnOk result (IsReaderOf s v reader.new sc (record p { scope = entered (length bs) bs p.scope })) }
 {
     let mut k = 0;

@@ -138,11 +138,27 @@ fn attribute_at(
         StepAttribute::Rule(k) => judge_rule(text, nodes, k),
         StepAttribute::Premises { first, end } => {
             let reach = standing.premises;
-            indices_at(text, nodes, first, end, &session.ids, reach, &mut parts.premises)
+            indices_at(
+                text,
+                nodes,
+                first,
+                end,
+                &session.ids,
+                reach,
+                &mut parts.premises,
+            )
         }
         StepAttribute::Discharge { first, end } => {
             let reach = standing.discharges;
-            indices_at(text, nodes, first, end, &session.ids, reach, &mut parts.discharged)
+            indices_at(
+                text,
+                nodes,
+                first,
+                end,
+                &session.ids,
+                reach,
+                &mut parts.discharged,
+            )
         }
         StepAttribute::Arguments { first, end } => {
             let arguments = ArgumentNodes { first, end };
@@ -180,7 +196,13 @@ fn ratios_at(
     ensures premises { parts.new.premises ≡ parts.old.premises }
     ensures discharged { parts.new.discharged ≡ parts.old.discharged }
 {
-    let all = coefficients_at(text, nodes, arguments.first, arguments.end, &mut parts.ratios);
+    let all = coefficients_at(
+        text,
+        nodes,
+        arguments.first,
+        arguments.end,
+        &mut parts.ratios,
+    );
     match all {
         Ok(all) => {
             parts.has_ratios = all;

@@ -39,10 +39,10 @@ use crate::session::{OpenAnchor, Session, StepParts};
 use crate::standing::standing_at;
 use crate::step_attributes::{StepAttributes, attributes_at};
 use alethe_commands::attributes::rule_word;
-use rule_model::Rule;
-use sexpr::Lexer;
 use pair_pool::Memory;
 use proof_store::{ProofBuilder, Ratio};
+use rule_model::Rule;
+use sexpr::Lexer;
 use sym_table::Symbols;
 use term_names::faults::ReadFault;
 use term_pool::Terms;
@@ -152,11 +152,7 @@ fn add_step(session: &mut Session<'_>, new: NewStep<'_>) -> Result<(), ReadFault
 }
 
 /// Hands the step over to the builder, and answers its index.
-fn take_step(
-    builder: &mut ProofBuilder,
-    parts: &StepParts,
-    new: NewStep<'_>,
-) -> Result<u32, Memory>
+fn take_step(builder: &mut ProofBuilder, parts: &StepParts, new: NewStep<'_>) -> Result<u32, Memory>
     requires may { MayTake builder.old (spec.step_of parts.now new) }
     requires few { next_index builder.old + 1 < 2 ^ 32 - 1 }
     ensures index { IfOk result (λ i. i ≡ next_index builder.old) }
@@ -166,14 +162,27 @@ fn take_step(
     let premises = parts.premises.as_slice();
     let discharged = parts.discharged.as_slice();
     let ratios = ratios_of(parts);
-    builder.step(new.id.name, new.rule, new.word, clause, premises, discharged, &[], ratios)
+    builder.step(
+        new.id.name,
+        new.rule,
+        new.word,
+        clause,
+        premises,
+        discharged,
+        &[],
+        ratios,
+    )
 }
 
 /// The coefficients of the step, where it has any.
 fn ratios_of(parts: &StepParts) -> Option<&[Ratio]>
     ensures { fractions result ≡ spec.ratios_of parts.now }
 {
-    if parts.has_ratios { Some(parts.ratios.as_slice()) } else { None }
+    if parts.has_ratios {
+        Some(parts.ratios.as_slice())
+    } else {
+        None
+    }
 }
 
 /// Leaves the scope of the innermost anchor: its ids, its variables, and itself.

@@ -5,7 +5,6 @@ use Rattle.sexpr.specs.Source.{source}
 use Rattle.text_items.proofs.NodeSteps.{first_at, others_from, further, item_within, node_inside}
 use Rattle.term_reader.proofs.Staying.{adds_none, adds_then, keeps_none, keeps_then}
 use Rattle.alethe_text.specs.ProofTerms.{formulas_in}
-use Rattle.alethe_text.specs.States.{ProofState}
 use Rattle.alethe_reader.proofs.FormulaLists.{item_here, so_far_first, all_read, fails, no_room, so_far_next}
 use Rattle.alethe_reader.proofs.formulas.formulas_at.Goals as goal
 
@@ -93,3 +92,9 @@ returns-clause-few c = elim c.formulas.invariant.within [
   | inl e ↦ omega (arith, e, c.formulas.invariant.spent)
   | inr h ↦ omega (arith, h, c.formulas.invariant.spent, c.formulas.invariant.ordered)
 ]
+
+pub returns-in_err-formula-clause-symbols : goal.returns-in_err-formula-clause-symbols
+returns-in_err-formula-clause-symbols c = adds_then _ _ _ c.formulas.invariant.adds c.formula_at.ensures.symbols
+
+pub returns-in_err-push-clause-symbols : goal.returns-in_err-push-clause-symbols
+returns-in_err-push-clause-symbols c = adds_then _ _ _ c.formulas.invariant.adds c.formula_at.ensures.symbols

@@ -10,13 +10,13 @@ pub returns-then-reaches : goal.returns-then-reaches
 returns-then-reaches c sights h = (
   sight c.in-Some.found.number c.args.id.name.now,
   h.seen c.args.id.name.now c.in-Some.found c.in-Some.ensures
-  ∙ ap (λ b. if b then Some (sight c.in-Some.found.number c.args.id.name.now) else None) (sym c.reaches.ensures ∙ c.if-reaches.true),
+      ∙ ap (λ b. if b then Some (sight c.in-Some.found.number c.args.id.name.now) else None) (sym c.reaches.ensures ∙ c.if-reaches.true),
   refl,
 )
 
 pub returns-else-reaches : goal.returns-else-reaches
 returns-else-reaches c sights h = (
   h.seen c.args.id.name.now c.in-Some.found c.in-Some.ensures
-  ∙ ap (λ b. if b then Some (sight c.in-Some.found.number c.args.id.name.now) else None) (sym c.reaches.ensures ∙ c.if-reaches.false),
+      ∙ ap (λ b. if b then Some (sight c.in-Some.found.number c.args.id.name.now) else None) (sym c.reaches.ensures ∙ c.if-reaches.false),
   c.refused-else-reaches.ensures,
 )

@@ -1,5 +1,5 @@
 -- One name after another.
-use Rattle.std.proofs.Common.{◌≡◌, ◌+◌, sym, ◌∙◌, ap, subst, Ok, Err, List, ℕ, find, arith}
+use Rattle.std.proofs.Common.{subst, Ok, Err, find, arith}
 use Rattle.std.specs.Prelude.{bytes_eq}
 use Rattle.std.proofs.lemmas.Result.{err_from_is_err_and}
 use Rattle.sexpr.specs.Source.{source}

@@ -1,9 +1,9 @@
 -- Where a rule has the word, it is the first.
-use Rattle.std.proofs.Common.{◌≡◌, ◌+◌, ℕ, suc, List, length, drop, slice_index_or, true, false, refl, sym, ◌∙◌, ap, subst, arith, if◌then◌else◌}
+use Rattle.std.proofs.Common.{◌≡◌, ◌+◌, suc, drop, slice_index_or, true, false, sym, ◌∙◌, ap, subst, arith, if◌then◌else◌}
 use Rattle.std.specs.Str.{bytes_eq}
 use Rattle.std.proofs.lemmas.Option.{slice_get-get_or}
 use Rattle.rule_model.specs.declared.rules.Rule.{Rule}
-use Rattle.rule_model.specs.RuleNames.{known_rules, rule_among, rule_named}
+use Rattle.rule_model.specs.RuleNames.{rule_among, rule_named}
 use Rattle.alethe_reader.proofs.RuleWords.{among_here, among_none}
 use Rattle.alethe_reader.proofs.rules.rule_named.Goals as goal
 
@@ -28,10 +28,10 @@ rules-preserved c =
     let next : c.rules.k + 1 ≡ suc c.rules.k = omega arith in
     record {
       so_far =
-        ap (λ n. rule_among (drop n rules) c.args.name.now) next
-        ∙ (sym (among_here rules c.rules.k r c.args.name.now (slice_get-get_or rules c.rules.k Rule.Assume c.rules-test.true)
-        ∙ ap (λ b. if b then r else rule_among (drop (suc c.rules.k) rules) c.args.name.now) test)
-        ∙ c.rules.invariant.so_far);
+          ap (λ n. rule_among (drop n rules) c.args.name.now) next
+          ∙ (sym (among_here rules c.rules.k r c.args.name.now (slice_get-get_or rules c.rules.k Rule.Assume c.rules-test.true)
+          ∙ ap (λ b. if b then r else rule_among (drop (suc c.rules.k) rules) c.args.name.now) test)
+          ∙ c.rules.invariant.so_far);
     }
 
 pub returns : goal.returns

@@ -1,10 +1,8 @@
 -- The step may be added, and what is written then is that of the state.
-use Rattle.std.proofs.Common.{◌≡◌, ◌≢◌, ◌++◌, ◌∷◌, [], take, Option, Some, None, refl, sym, ◌∙◌, ap, subst}
-use Rattle.alethe_reader.specs.AddedSteps.{step_of}
+use Rattle.std.proofs.Common.{◌++◌, ◌∷◌, [], take, sym, ◌∙◌, ap, subst}
 use Rattle.alethe_reader.specs.Bound.{AreBound}
 use Rattle.alethe_reader.specs.IdsInUse.{in_use}
 use Rattle.alethe_reader.specs.declared.ids.Role.TheVariants as role
-use Rattle.alethe_reader.specs.declared.session.OpenAnchor.{OpenAnchor}
 use Rattle.alethe_reader.specs.declared.session.Session.{Session}
 use Rattle.alethe_reader.proofs.AddedSteps.{may_take, added_here, added_around}
 use Rattle.alethe_reader.proofs.stepping.add_step.Goals as goal
