@@ -1,16 +1,16 @@
 -- The arguments of an anchor, one after another.
 use Rattle.std.proofs.Common.{◌≡◌, ◌≢◌, ◌≤◌, ◌<◌, ◌+◌, ◌-◌, ℕ, Bool, true, false, List, [], ◌∷◌, ◌++◌, length, Option, Some, None, Result, Ok, Err, refl, sym, ap, subst, ◌∙◌, arith}
-use Rattle.std.specs.Prelude.{⊤, Contains}
+use Rattle.std.specs.Prelude.{⊤}
 use Rattle.std.specs.Option.{option_or}
 use Rattle.std.proofs.lemmas.List.{append_assoc, append-nil}
 use Rattle.sexpr.specs.declared.causes.Refusal.{Refusal}
-use Rattle.sexpr.specs.Items.{Item, Items, no_items, item}
-use Rattle.sym_table.specs.Table.{Table, Keeps}
+use Rattle.sexpr.specs.Items.{Item}
+use Rattle.sym_table.specs.Table.{Table}
 use Rattle.term_model.specs.Terms.{Var, Term}
 use Rattle.term_pool.specs.Views.{TermsView, KeepsTerms}
 use Rattle.text_items.specs.declared.nodes.Node.{Node}
-use Rattle.text_items.specs.Nodes.{IsNode, AreNodes}
-use Rattle.text_items.proofs.NodeSteps.{AreMore, more_nodes, no_nodes, node_behind, node_inside, nodes_ordered}
+use Rattle.text_items.specs.Nodes.{IsNode}
+use Rattle.text_items.proofs.NodeSteps.{more_nodes, no_nodes, nodes_ordered}
 use Rattle.problem_text.specs.Outcomes.{Outcome, done, going_on, and_then}
 use Rattle.term_names.specs.Making.{PlacesCellsOf}
 use Rattle.term_names.specs.Standing.{AddsNoSymbols}

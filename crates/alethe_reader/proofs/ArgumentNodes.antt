@@ -1,14 +1,13 @@
 -- The nodes of an argument that gives a variable its term.
-use Rattle.std.proofs.Common.{◌≡◌, ◌≤◌, ◌<◌, ◌+◌, ℕ, List, Option, Some, None, if◌then◌else◌, refl, sym, ap, subst, ◌∙◌, arith, true, false, Bool, is_some}
+use Rattle.std.proofs.Common.{◌≡◌, ◌≤◌, ◌+◌, ℕ, List, Option, Some, None, if◌then◌else◌, refl, sym, ap, subst, ◌∙◌, arith, true, false, Bool, is_some}
 use Rattle.std.specs.Prelude.{codes}
-use Rattle.std.specs.Option.{option_or}
 use Rattle.sexpr.specs.Items.{Item, word, quoted, string, list, Items, no_items, item, place_of, symbol_name}
 use Rattle.text_items.specs.declared.nodes.Node.{Node}
-use Rattle.text_items.specs.ItemShapes.{Name, excess}
+use Rattle.text_items.specs.ItemShapes.{Name}
 use Rattle.text_items.specs.Keywords.{is_spelled}
 use Rattle.text_items.specs.Nodes.{IsNode, AreNodes}
-use Rattle.text_items.proofs.NodeSteps.{node_behind, node_inside, nodes_ordered}
-use Rattle.alethe_text.specs.Commands.{Argument, variable_alone, assigned, assigned_fault, alone_fault, argument_fault, assigned_to, argument_of}
+use Rattle.text_items.proofs.NodeSteps.{nodes_ordered}
+use Rattle.alethe_text.specs.Commands.{assigned, assigned_fault, alone_fault, argument_fault, assigned_to, argument_of}
 
 -- Behind `:=` stand a variable and a term, which ends where the argument does or before.
 pub record HasTerm (source : List ℕ) (nodes : List Node) (k m : ℕ) (value : Item) : Type 0 where

@@ -1,10 +1,10 @@
 -- What an argument of an anchor comes to.
-use Rattle.std.proofs.Common.{◌≡◌, ◌≤◌, ◌+◌, ◌-◌, ℕ, Bool, true, false, not, ◌||◌, List, [], ◌∷◌, ◌++◌, map, length, take, Option, Some, None, Result, Ok, Err, refl, sym, ap, subst, ◌∙◌, arith}
+use Rattle.std.proofs.Common.{◌≡◌, ◌≤◌, ◌+◌, ◌-◌, ℕ, Bool, true, false, not, ◌||◌, List, [], ◌∷◌, ◌++◌, map, length, take, Option, Result, Ok, Err, refl, sym, ap, subst, ◌∙◌, arith}
 use Rattle.std.specs.Prelude.{⊤}
 use Rattle.std.specs.List.{AllZip}
 use Rattle.std.proofs.lemmas.List.{append_assoc, map-append, length-append, length-map}
 use Rattle.std.proofs.lemmas.Slice.Zip.{AllZip-long, all_zipped_more}
-use Rattle.sexpr.specs.declared.causes.Cause.TheVariants.{Repeated, BadAnchor}
+use Rattle.sexpr.specs.declared.causes.Cause.TheVariants.{Repeated, LeftOut, BadAnchor}
 use Rattle.sexpr.specs.declared.causes.Refusal.{Refusal}
 use Rattle.sexpr.specs.Items.{Item}
 use Rattle.sym_table.specs.Table.{Table, Keeps, IsLeaf}
@@ -14,31 +14,31 @@ use Rattle.term_pool.specs.StandsFor.{variable_leaf}
 use Rattle.term_pool.specs.Views.{TermsView, RefersTo, KeepsTerms}
 use Rattle.rule_model.specs.Contexts.{put_in_each, images}
 use Rattle.rule_model.specs.Judged.{open_anchors}
-use Rattle.rule_model.specs.Scopes.{Nesting}
 use Rattle.proof_store.specs.Meaning.{IsBindingOf}
 use Rattle.text_items.specs.ItemShapes.{Name}
-use Rattle.problem_text.specs.Outcomes.{Outcome, done, and_then}
-use Rattle.problem_text.specs.Scripts.{with_let_name, with_term}
+use Rattle.problem_text.specs.Outcomes.{Outcome, and_then}
+use Rattle.problem_text.specs.Scripts.{with_let_name}
 use Rattle.problem_text.specs.TypedTerms.{Typed}
 use Rattle.problem_text.specs.Words.{is_among, is_built_in}
 use Rattle.term_expansion.specs.declared.values.Value.{Value}
-use Rattle.term_names.specs.Making.{PlacesCellsOf}
 use Rattle.term_names.specs.Standing.{AddsNoSymbols}
 use Rattle.term_names.specs.declared.faults.ReadFault.{ReadFault}
 use Rattle.term_reader.specs.ProblemViews.{ReaderView, IsReaderOf}
-use Rattle.term_reader.proofs.Staying.{adds_none, keeps_none, refers_stays, places_none, places_then, pass_keeps_none}
+use Rattle.term_reader.proofs.Staying.{adds_none, adds_then, keeps_none, refers_stays, places_none, places_then, pass_keeps_none}
 use Rattle.term_reader.proofs.ViewsStay.{reader_stays}
 use Rattle.alethe_text.specs.Anchors.{bound_names, sort_given, image_of, script_changed, argument_read}
-use Rattle.alethe_text.specs.Commands.{assigned}
+use Rattle.alethe_text.specs.Commands.{Argument, variable_alone, assigned}
 use Rattle.alethe_text.specs.ProofTerms.{place_in, term_in}
-use Rattle.alethe_text.specs.States.{ProofSettings, ProofState, Reading, ◌>>=◌, give, demand, given}
-use Rattle.alethe_reader.specs.Answers.{WasRead, IsAnswer, Answers, KeepsRead}
+use Rattle.alethe_text.specs.States.{ProofSettings, ProofState, ◌>>=◌, demand, given}
+use Rattle.alethe_reader.specs.Answers.{WasRead, Answers}
 use Rattle.alethe_reader.specs.Bound.{images_in}
+use Rattle.alethe_reader.specs.Judging.{is_named}
+use Rattle.alethe_reader.specs.declared.judging.Named.{Named}
 use Rattle.alethe_reader.specs.Opening.{IsOpening, IsSameScope, IsArgumentRead, IsNameJudged, image_read, IsImageRead}
 use Rattle.alethe_reader.specs.ReadTerms.{IsReadValue}
 use Rattle.alethe_reader.specs.declared.bound.BoundVariables.{BoundVariables}
-use Rattle.alethe_reader.proofs.Answering.{stops, goes, refuses, same_outcome}
-use Rattle.alethe_reader.proofs.BoundLemmas.{zip_front, zip_joined}
+use Rattle.alethe_reader.proofs.Answering.{stops, goes, answers_more, same_outcome}
+use Rattle.alethe_reader.proofs.BoundLemmas.{zip_front}
 use Rattle.alethe_reader.proofs.ImageReading.{keeps_image}
 use Rattle.alethe_reader.proofs.OpenedNames.{judged_more, fresh_more}
 use Rattle.alethe_reader.proofs.ScopeReading.{reader_named, reader_more}
@@ -67,6 +67,20 @@ pub name_free : (built bound : Bool) (place : ℕ) (u : ⊤) → IsNameJudged bu
 name_free true bound place u h = absurd h
 name_free false true place u h = absurd h
 name_free false false place u h = (refl, refl)
+
+-- a variable alone
+pub alone_refused : (settings : ProofSettings) (earlier : List (List ℕ)) (a : Argument) (place : ℕ) (p : ProofState) → a ≡ variable_alone place → (refusal : Refusal) → refusal ≡ record { cause = LeftOut; at = place } → (argument_read settings earlier a p).result ≡ Err refusal
+unfolding argument_read
+alone_refused settings earlier a place p e refusal is = ap (λ b. (argument_read settings earlier b p).result) e ∙ ap (λ (r : Refusal). Err r) (sym is)
+
+-- The variable with its term and its image was read.
+pub record IsVariableRead (s : Table) (v : TermsView) (settings : ProofSettings) (r : ReaderView) (name : List ℕ) (c : Value) (p : ProofState) (image : ℕ) (b : Var × Term) (q : ProofState) : Type 0 where
+  pub term : RefersTo s v c.term b.1
+  pub sort : b.0.sort ≡ c.sort
+  pub named : b.0.name ≡ name
+  pub image_there : RefersTo s v image (image_of p.scope.nesting b.1)
+  pub reader : IsReaderOf s v r q.script (place_in settings p.scope.nesting)
+  pub same : IsSameScope p q
 
 module _ (settings : ProofSettings) (earlier : List (List ℕ)) (place : ℕ) (x : Name) (o : Option Item) (i : Item) (p : ProofState) where
   -- the state once the name was judged
@@ -112,35 +126,24 @@ module _ (settings : ProofSettings) (earlier : List (List ℕ)) (place : ℕ) (x
       no_term N fault h = same_outcome to_term (stops (image_read place x.name wanted p.scope.nesting) (λ t. keeps_image place x.name wanted p.scope.nesting t) h)
 
       module _ (s : Table) (v mid w : TermsView) (r : ReaderView) (c : Value) (h : Answers s v mid (IsReadValue s mid settings p.scope.nesting r named_state) (term_in settings p.scope.nesting i named_state) (Ok c)) (keeps : KeepsTerms mid w) where
-        -- the variable with its term and its image was read
-        pub record IsVariableRead (image : ℕ) (b : Var × Term) (q : ProofState) : Type 0 where
-          pub term : RefersTo s w c.term b.1
-          pub sort : c.sort ≡ b.0.sort
-          pub name : b.0.name ≡ x.name
-          pub image_there : RefersTo s w image (image_of p.scope.nesting b.1)
-          pub reader : IsReaderOf s w r q.script (place_in settings p.scope.nesting)
-          pub same : IsSameScope p q
+        read_after : (t : Typed) (q : ProofState) → IsReadValue s mid settings p.scope.nesting r named_state c t q → (image : ℕ) (b : Var × Term) (z : ProofState) → IsImageRead s w x.name p.scope.nesting t q image b z
+            → IsVariableRead s w settings r x.name c p image b z
+        read_after t q m image b z g = record {
+          term = rw g.same (refers_stays s s mid w (adds_none s).keeps keeps c.term t.tree m.is.refers);
+          sort = rw g.same (sym m.is.sort);
+          named = rw g.same refl;
+          image_there = rw g.same g.refers;
+          reader = rw g.state (reader_more s w r q.script (place_in settings p.scope.nesting) (reader_stays s s mid w (adds_none s) keeps r q.script (place_in settings p.scope.nesting) m.behind.reader) (image_of p.scope.nesting t.tree));
+          same = rw g.state (record { scope = m.behind.scope; anchors = m.behind.anchors });
+        }
 
         pub variable_read : (result : Result ℕ ReadFault)
             → ((t : Typed) (q : ProofState) → IsReadValue s mid settings p.scope.nesting r named_state c t q → Answers s mid w (IsImageRead s w x.name p.scope.nesting t q) (image_read place x.name wanted p.scope.nesting t q) result)
-            → Answers s v w IsVariableRead (argument_read settings earlier (assigned place x o i) p) result
+            → Answers s v w (IsVariableRead s w settings r x.name c p) (argument_read settings earlier (assigned place x o i) p) result
         variable_read result k =
             same_outcome to_term
-            (goes (image_read place x.name wanted p.scope.nesting) (λ t. keeps_image place x.name wanted p.scope.nesting t) h (adds_none s).keeps keeps (λ t q m. go t q m result (k t q m)))
-          where
-            after : (t : Typed) (q : ProofState) → IsReadValue s mid settings p.scope.nesting r named_state c t q → (image : ℕ) (b : Var × Term) (z : ProofState) → IsImageRead s w x.name p.scope.nesting t q image b z → IsVariableRead image b z
-            after t q m image b z g = record {
-              term = rw g.same (refers_stays s s mid w (adds_none s).keeps keeps c.term t.tree m.is.refers);
-              sort = rw g.same m.is.sort;
-              name = rw g.same refl;
-              image_there = rw g.same g.refers;
-              reader = rw g.state (reader_more s w r q.script (place_in settings p.scope.nesting) (reader_stays s s mid w (adds_none s) keeps r q.script (place_in settings p.scope.nesting) m.behind.reader) (image_of p.scope.nesting t.tree));
-              same = rw g.state (record { scope = m.behind.scope; anchors = m.behind.anchors });
-            }
-
-            go : (t : Typed) (q : ProofState) → IsReadValue s mid settings p.scope.nesting r named_state c t q → (result : Result ℕ ReadFault) → Answers s mid w (IsImageRead s w x.name p.scope.nesting t q) (image_read place x.name wanted p.scope.nesting t q) result
-                → Answers s mid w IsVariableRead (image_read place x.name wanted p.scope.nesting t q) result
-            go t q m result g = Rattle.alethe_reader.proofs.Answering.answers_more IsVariableRead (λ image b z. after t q m image b z) g
+            (goes (image_read place x.name wanted p.scope.nesting) (λ t. keeps_image place x.name wanted p.scope.nesting t) h (adds_none s).keeps keeps
+            (λ t q m. answers_more (IsVariableRead s w settings r x.name c p) (λ image b z g. read_after t q m image b z g) (k t q m)))
 
 -- The argument's variable joins those that were read.
 module _ (s z : Table) (v w : TermsView) (settings : ProofSettings) (adds : AddsNoSymbols s z) (terms : KeepsTerms v w) (earlier : List (List ℕ)) (bs : List (Var × Term)) (p q : ProofState) (d e : BoundVariables) (r t : ReaderView) (opening : IsOpening s v settings r d earlier bs p) (same : IsSameScope p q) where
@@ -169,6 +172,24 @@ module _ (s z : Table) (v w : TermsView) (settings : ProofSettings) (adds : Adds
           append_assoc (images_in p.scope.nesting) (put_in_each (images (open_anchors p.scope.nesting)) bs) ((b.0, image_of p.scope.nesting b.1) ∷ [])
           ∙ ap (λ qs. images_in p.scope.nesting ++ qs) (sym (map-append (λ c. (c.0, Rattle.rule_model.specs.Substitution.put_in (images (open_anchors p.scope.nesting)) c.1)) bs (b ∷ [])))
 
+-- The variable has its leaf, and joins those that were read.
+module _ (s z y : Table) (v w : TermsView) (settings : ProofSettings) (earlier : List (List ℕ)) (bs : List (Var × Term)) (p : ProofState) (d e : BoundVariables) (r t : ReaderView) (opening : IsOpening s v settings r d earlier bs p) (symbols : AddsNoSymbols s z) (added : AddsNoSymbols z y) (terms : KeepsTerms v w) where
+  pub argument_done : {o : Outcome ProofState (Var × Term)} (n name : List ℕ) (c : Value) (leaf image : ℕ) → n ≡ name → is_among (map (λ u. u.id) d.names) n ≡ false → IsLeaf y leaf (variable_leaf (record { name = n; sort = c.sort }))
+      → map (λ u. u.id) e.names ≡ map (λ u. u.id) d.names ++ n ∷ [] → e.images.items ≡ d.images.items ++ (leaf, image) ∷ [] → e.opened.items ≡ d.opened.items ++ (leaf, c.term) ∷ []
+      → Answers z v w (IsVariableRead z w settings t name c p) o (Ok image) → Answers y v w (IsArgumentRead y w settings t e earlier bs p) o (Ok tt)
+  argument_done n name c leaf image same free is names images opened h =
+      ends_so (IsArgumentRead y w settings t e earlier bs p) tt added.keeps h (λ b q k. record { opening = joined b q k; same = k.same })
+    where
+      leaf_is : (b : Var × Term) → b.0.name ≡ n → b.0.sort ≡ c.sort → IsLeaf y leaf (variable_leaf b.0)
+      leaf_is b named sort = rw (named, sort) is
+
+      joined : (b : Var × Term) (q : ProofState) → IsVariableRead z w settings t name c p image b q → IsOpening y w settings t e (b.0.name ∷ earlier) (bs ++ b ∷ []) q
+      joined b q k =
+          opens_more s y v w settings (adds_then s z y symbols added) terms earlier bs p q d e r t opening k.same b n leaf c.term image
+          (reader_stays z y w w added (keeps_none w) t q.script (place_in settings p.scope.nesting) k.reader) (k.named ∙ sym same) free (leaf_is b (k.named ∙ sym same) k.sort)
+          (refers_stays z y w w added.keeps (keeps_none w) c.term b.1 k.term) (refers_stays z y w w added.keeps (keeps_none w) image (image_of p.scope.nesting b.1) k.image_there)
+          names images opened
+
 -- how many images there are around the anchor
 module _ (s : Table) (v : TermsView) (settings : ProofSettings) (r : ReaderView) (d : BoundVariables) (earlier : List (List ℕ)) (bs : List (Var × Term)) (p : ProofState) (h : IsOpening s v settings r d earlier bs p) where
   images_long : length d.images.items ≡ length (images_in p.scope.nesting) + length bs
@@ -184,3 +205,16 @@ module _ (s : Table) (v : TermsView) (settings : ProofSettings) (r : ReaderView)
 
   pub outer_images : AllZip (IsBindingOf s v) (take (length d.images.items - length d.opened.items) d.images.items) (images_in p.scope.nesting)
   outer_images = zip_front (IsBindingOf s v) d.images.items (images_in p.scope.nesting) (put_in_each (images (open_anchors p.scope.nesting)) bs) (length d.images.items - length d.opened.items) (omega (arith, images_long, opened_long)) h.images
+
+  -- what is judged of the name and the sort, and the reader behind the name
+  pub judged_here : (n : Named) (x : Name) → is_named n ≡ x → (result : Result ⊤ Refusal) → IsNameJudged (is_built_in n.name.now) (is_among (map (λ u. u.id) d.names) n.name.now) n.place result
+      → IsNameJudged (is_built_in x.name) (is_among earlier x.name || is_among (bound_names p.scope.nesting) x.name) x.place result
+  judged_here n x same result k =
+      subst (λ b. IsNameJudged (is_built_in x.name) b x.place result) (sym (h.judged x.name))
+      (subst (λ (y : Name). IsNameJudged (is_built_in y.name) (is_among (map (λ u. u.id) d.names) y.name) y.place result) same k)
+
+  pub given_here : (o : Option Item) (result : Result (Option Sort) Refusal) → result ≡ sort_given s.sorts o → sort_given p.script.sorts o ≡ result
+  given_here o result e = ap (λ sorts. sort_given sorts o) (sym h.reader.idle.script.sorts) ∙ sym e
+
+  pub reader_here : (name : List ℕ) → IsReaderOf s v r (with_let_name name p.script) (place_in settings p.scope.nesting)
+  reader_here name = reader_named s v r p.script (place_in settings p.scope.nesting) h.reader name

@@ -1,7 +1,7 @@
 -- The image of a variable, once its term was read.
-use Rattle.std.proofs.Common.{◌≡◌, ◌≤◌, ℕ, nat_le, Bool, true, false, List, [], ◌∷◌, ◌++◌, Option, inl, inr, Result, Ok, Err, refl, sym, ap, subst, ◌∙◌}
-use Rattle.std.specs.Prelude.{⊤, Contains}
+use Rattle.std.proofs.Common.{◌≡◌, ◌≤◌, ◌<◌, arith, ℕ, nat_le, Bool, true, false, List, [], ◌∷◌, Option, take, inl, inr, Ok, Err, refl, sym, ap, subst, ◌∙◌}
 use Rattle.std.specs.List.{AllZip}
+use Rattle.std.proofs.lemmas.Bool.{lt-leb, le-leb}
 use Rattle.std.proofs.lemmas.List.Elements.{Contains-push}
 use Rattle.pair_pool.specs.Views.{PassView, IsUnchanged}
 use Rattle.sexpr.specs.declared.causes.Cause.TheVariants.{SortMismatch, TooHigh}
@@ -11,24 +11,30 @@ use Rattle.term_model.specs.declared.symbols.Sort.{Sort}
 use Rattle.term_model.specs.Terms.{Var, Term}
 use Rattle.term_pool.specs.Views.{TermsView, RefersTo, KeepsTerms}
 use Rattle.term_pool.specs.declared.stop.TermStop.{TermStop}
+use Rattle.term_pool.specs.Heights.{height_of}
 use Rattle.rule_model.specs.Heights.{height}
 use Rattle.rule_model.specs.Replacement.{Replacement}
 use Rattle.rule_model.specs.Scopes.{Nesting}
+use Rattle.rule_model.specs.Substitution.{put_in}
 use Rattle.proof_store.specs.Meaning.{IsBindingOf}
 use Rattle.contexts.specs.PutIn.{StandForReplacement, PlacesTerm, LacksRoomFor}
 use Rattle.problem_text.specs.Limits.{most_height}
-use Rattle.problem_text.specs.Outcomes.{Outcome, done, refuse}
+use Rattle.problem_text.specs.Outcomes.{Outcome, done}
 use Rattle.problem_text.specs.Scripts.{with_term}
 use Rattle.problem_text.specs.TypedTerms.{Typed}
+use Rattle.term_expansion.specs.Values.{IsValue}
+use Rattle.term_expansion.specs.declared.values.Value.{Value}
+use Rattle.term_expansion.proofs.SameTerms.{height-is}
 use Rattle.term_names.specs.Faults.{fault_of}
 use Rattle.term_names.specs.Making.{PlacesCellsOf, LacksCellOf}
 use Rattle.term_names.specs.declared.faults.ReadFault.{ReadFault}
 use Rattle.term_reader.proofs.Staying.{places_none, places_then, table_keeps_none}
 use Rattle.alethe_text.specs.Anchors.{image_of, script_changed}
-use Rattle.alethe_text.specs.States.{ProofSettings, ProofState, Reading, ◌>>=◌, give, demand}
-use Rattle.alethe_reader.specs.Answers.{WasRead, IsAnswer, Answers, KeepsRead}
+use Rattle.alethe_text.specs.States.{ProofState, ◌>>=◌, give, demand}
+use Rattle.alethe_reader.specs.Answers.{WasRead, Answers, KeepsRead}
+use Rattle.alethe_reader.specs.Bound.{images_in, AreApart}
 use Rattle.alethe_reader.specs.Opening.{is_wanted, image_read, IsImageRead}
-use Rattle.alethe_reader.proofs.Answering.{refuses}
+use Rattle.alethe_reader.proofs.OuterImages.{image_same}
 use Rattle.alethe_reader.proofs.StillRead.{keeps_then, keeps_demand, keeps_give}
 use Rattle.alethe_reader.proofs.StillReadCommands.{keeps_more}
 
@@ -38,6 +44,30 @@ stand_for s v [] [] h = tt
 stand_for s v [] (c ∷ q) h = absurd h
 stand_for s v (b ∷ bs) [] h = absurd h
 stand_for s v (b ∷ bs) (c ∷ q) h = (h.0.variable, h.0.term, stand_for s v bs q h.1)
+
+pub outer_taken : (s : Table) (v : TermsView) (bs taken : List (ℕ × ℕ)) (q : Replacement) (m n : ℕ) → n ≡ m → taken ≡ bs → AllZip (IsBindingOf s v) (take m bs) q → AllZip (IsBindingOf s v) (take n taken) q
+outer_taken s v bs taken q m n same is h = rw (same, is) h
+
+-- What is put in for the images of the anchors makes the image.
+module _ (s : Table) (v w : TermsView) (bs : List (ℕ × ℕ)) (nesting : Nesting Var Term) (t : Typed) (c : Value) (is : IsValue s v c t) (apart : AreApart nesting) (zip : AllZip (IsBindingOf s v) bs (images_in nesting)) where
+  bindings_stand : StandForReplacement s v bs (images_in nesting)
+  bindings_stand = stand_for s v bs (images_in nesting) zip
+
+  pub image_refers : (image : ℕ) → ((t : Term) (q : Replacement) → RefersTo s v c.term t → StandForReplacement s v bs q → RefersTo s w image (put_in q t)) → RefersTo s w image (image_of nesting t.tree)
+  image_refers image h = subst (RefersTo s w image) (image_same nesting t.tree apart) (h t.tree (images_in nesting) is.refers bindings_stand)
+
+  pub image_placed : ((t : Term) (q : Replacement) → RefersTo s v c.term t → StandForReplacement s v bs q → PlacesTerm s v.pass w.pass (put_in q t)) → PlacesTerm s v.pass w.pass (image_of nesting t.tree)
+  image_placed h = subst (PlacesTerm s v.pass w.pass) (image_same nesting t.tree apart) (h t.tree (images_in nesting) is.refers bindings_stand)
+
+  pub image_lacks : ((t : Term) (q : Replacement) → RefersTo s v c.term t → StandForReplacement s v bs q → LacksRoomFor s w.pass (put_in q t)) → LacksRoomFor s w.pass (image_of nesting t.tree)
+  image_lacks h = subst (LacksRoomFor s w.pass) (image_same nesting t.tree apart) (h t.tree (images_in nesting) is.refers bindings_stand)
+
+-- the height of an image
+pub image_high : (h : ℕ) (t : Term) → h ≡ height_of t → most_height < h → nat_le (height t) most_height ≡ false
+image_high h t e high = lt-leb (height t) most_height (omega (arith, e, height-is t, high))
+
+pub image_low : (h : ℕ) (t : Term) → h ≡ height_of t → h ≤ most_height → nat_le (height t) most_height ≡ true
+image_low h t e low = le-leb (height t) most_height (omega (arith, e, height-is t, low))
 
 pub places_of : (s : Table) (old new : PassView) (t : Term) (P : Term → Type 0) → P t → PlacesTerm s old new t → PlacesCellsOf s old new P
 places_of s old new t P wanted h r a b e =

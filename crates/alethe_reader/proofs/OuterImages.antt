@@ -3,7 +3,7 @@ use Rattle.std.proofs.Common.{◌≡◌, ◌⊎◌, inl, inr, ℕ, List, [], ◌
 use Rattle.std.specs.Str.{bytes_eq}
 use Rattle.std.specs.List.{AllByRecursion}
 use Rattle.std.proofs.lemmas.Slice.Eq.{bytes_eq-Decides}
-use Rattle.term_model.specs.Terms.{Var, var_eq, Term, variable}
+use Rattle.term_model.specs.Terms.{Var, var_eq, Term}
 use Rattle.term_model.proofs.Basics.{else_branch}
 use Rattle.term_model.proofs.Tests.{var_eq_decides}
 use Rattle.rule_model.specs.Contexts.{put_in_each, images}

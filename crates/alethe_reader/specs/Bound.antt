@@ -1,5 +1,5 @@
 -- Public. The variables that the open anchors bind: their names, and their images.
-use Rattle.std.specs.Prelude.{◌≡◌, ℕ, false, List, [], ◌++◌, map, ⊤}
+use Rattle.std.specs.Prelude.{◌≡◌, false, [], ◌++◌, map, ⊤}
 use Rattle.std.specs.List.{AllByRecursion, AllZip}
 use Rattle.sym_table.specs.Table.{Table}
 use Rattle.term_model.specs.Terms.{Var, Term}

@@ -111,9 +111,7 @@ fn read_argument(
     ensures keeps { KeepsTerms terms.old terms.new }
 {
     match argument_at(text, nodes, k) {
-        AnchorArgument::Alone { place } => {
-            Err(ReadFault::Text(refused(Cause::LeftOut, place)))
-        }
+        AnchorArgument::Alone { place } => { Err(ReadFault::Text(refused(Cause::LeftOut, place))) }
         AnchorArgument::Assigned {
             place,
             variable,
@@ -221,8 +219,15 @@ fn image_at(
     if !is_wanted(wanted.sort, value.sort) {
         return Err(ReadFault::Text(refused(Cause::SortMismatch, wanted.place)));
     }
+    let _leaves = symbols.count();
     let outer = bound.images.len() - bound.opened.len();
-    let image = put_in(bound.alloc, &bound.images[..outer], symbols, terms, value.term)?;
+    let image = put_in(
+        bound.alloc,
+        &bound.images[..outer],
+        symbols,
+        terms,
+        value.term,
+    )?;
     if terms.height(bound.alloc, image)? > MOST_HEIGHT {
         return Err(ReadFault::Text(refused(Cause::TooHigh, wanted.place)));
     }
