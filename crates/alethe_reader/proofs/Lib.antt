@@ -15,6 +15,7 @@ mod ArgumentReading
 mod ArgumentLoop
 mod ArgumentNodes
 mod AssumeReading
+mod AnchorReading
 mod SpelledNames
 mod NamedCommands
 pub mod StillReadCommands

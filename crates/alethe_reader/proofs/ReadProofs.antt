@@ -1,5 +1,5 @@
 -- A whole proof that was read.
-use Rattle.std.proofs.Common.{◌≡◌, ◌≤◌, refl, sym, ◌∙◌, ap, subst, ℕ, zero, List, [], ◌∷◌, ◌++◌, map, length, arith, Bool, true, false, Option, Some, None, Result, Ok, Err, IfOk, inl, inr, if◌then◌else◌, slice_index_or}
+use Rattle.std.proofs.Common.{◌≡◌, ◌≤◌, refl, sym, ◌∙◌, ap, subst, ℕ, zero, List, [], ◌∷◌, ◌++◌, map, length, arith, Bool, true, false, Option, Some, None, Result, Ok, Err, IfOk, inl, inr, if◌then◌else◌, slice_index_or, slice_get}
 use Rattle.std.specs.Prelude.{⊤, Contains}
 use Rattle.std.proofs.lemmas.List.{length-append}
 use Rattle.pair_pool.specs.Views.{PassView}
@@ -13,7 +13,7 @@ use Rattle.sym_table.specs.Table.{Table}
 use Rattle.term_model.specs.Terms.{Var, Term}
 use Rattle.term_pool.specs.Views.{TermsView}
 use Rattle.rule_model.specs.Proofs.{ProofItems as Proof}
-use Rattle.rule_model.specs.Scopes.{Nesting, outermost, inside}
+use Rattle.rule_model.specs.Scopes.{Nesting, outermost, inside, Scope, at}
 use Rattle.rule_model.specs.Writing.{unwritten}
 use Rattle.proof_store.specs.Meaning.{StandForItems, no_items_stand}
 use Rattle.text_items.specs.ItemShapes.{excess}
@@ -31,13 +31,18 @@ use Rattle.alethe_items.specs.TextItems.{HasCommandItems, behind_list}
 use Rattle.alethe_reader.specs.Answers.{WasRead}
 use Rattle.alethe_reader.specs.Bound.{AreBound}
 use Rattle.alethe_reader.specs.CommandNames.{HaveNames}
+use Rattle.alethe_reader.specs.IdsInUse.{ids_in}
 use Rattle.alethe_reader.specs.Reading.{IsCounted, IsProofOf}
 use Rattle.alethe_reader.specs.Sessions.{StandForNesting, starts, IsSession}
-use Rattle.alethe_reader.specs.TextReading.{closing_from, left_from, AreLeft, NoneLeft, AreRead, ReadsAll, IsFinished}
+use Rattle.alethe_reader.specs.TextReading.{closing_from, left_from, AreLeft, NoneLeft, AreRead, ReadsAll, IsFinished, IsShort}
 use Rattle.alethe_reader.specs.declared.session.OpenAnchor.{OpenAnchor}
 use Rattle.alethe_reader.specs.declared.session.Session.{Session}
 use Rattle.alethe_reader.proofs.NamedCommands.{commands_named}
 use Rattle.alethe_reader.proofs.SpelledNames.{AreSpelled}
+
+-- a proof is read in which nothing is judged strictly
+abbrev pub lax_with : Bool → ProofSettings
+lax_with replaces_lets = record { replaces_lets = replaces_lets; is_strict = false }
 
 -- nothing was read of a proof
 pub is_new : (s : Table) (v : TermsView) (settings : ProofSettings) (d : Session) (before : Script) → settings.is_strict ≡ false → d.builder ≡ unwritten → d.ids ≡ [] → d.anchors.items ≡ []
@@ -81,7 +86,7 @@ module _ (settings : ProofSettings) (behind : Items) (p : ProofState) where
 
 starts_none : (n : Nesting ℕ ℕ) → starts n ≡ [] → n ≡ outermost
 starts_none outermost e = refl
-starts_none (inside around before anchor) e = absurd (let f = ap length e in let g = length-append (starts around) (_ ∷ []) in omega arith)
+starts_none (inside around before anchor) e = absurd (let f = ap length e in let g = length-append (starts around) (length (ids_in (at around before)) ∷ []) in omega (arith, f, g))
 
 some_starts : (n : Nesting ℕ ℕ) (k : ℕ) (ks : List ℕ) → k ∷ ks ≡ starts n → n ≡ outermost → ⊥
 some_starts n k ks e is = let f = e ∙ ap starts is in cc
@@ -96,6 +101,18 @@ not_outermost : (s : Table) (v : TermsView) (n : Nesting ℕ ℕ) (m : Nesting V
 not_outermost s v outermost m other h items places p = absurd (other refl)
 not_outermost s v (inside around before anchor) outermost other h items places p = absurd h
 not_outermost s v (inside around before anchor) (inside outer behind last) other h items places p = refl
+
+-- the first of the anchors that are open, where there is one
+pub first_there : (xs : List OpenAnchor) (a : OpenAnchor) → slice_get xs 0 ≡ Some a → (others : List OpenAnchor) × (xs ≡ a ∷ others)
+first_there [] a e = absurd (cc)
+first_there (b ∷ bs) a e = (bs, ap (λ c. c ∷ bs) (inner e))
+  where
+    inner : Some b ≡ Some a → b ≡ a
+    inner e = cc
+
+pub none_there : (xs : List OpenAnchor) → slice_get xs 0 ≡ None → xs ≡ []
+none_there [] e = refl
+none_there (b ∷ bs) e = absurd (cc)
 
 module _ (s : Table) (v : TermsView) (settings : ProofSettings) (d : Session) (p : ProofState) (behind : Items) (session : IsSession s v settings d p) where
   pub item_behind : (place : ℕ) → Some place ≡ excess behind → IsFinished s v p (closing_from settings behind tt p) (Err (ReadFault.Text (record { cause = BadCommand; at = place })))
@@ -121,27 +138,45 @@ module _ (s : Table) (v : TermsView) (settings : ProofSettings) (d : Session) (p
        then_closed settings behind p (sym e) ∙ ap (λ (n : Nesting Var Term). closed_proof n p.scope.items p.anchors p) closed,
        subst (λ (x : Proof ℕ ℕ). StandForItems s v x p.scope.items) (sym same) session.written.items)
 
--- at the start all commands of the text are left
-module _ (spelled : AreSpelled) (text : List ℕ) (settings : ProofSettings) (before : Script) (l m o : Lexer) (in_list : Bool) (whole : source l ≡ text) (start : position l ≡ 0) where
-  abbrev pub Skips : Type 0
-  Skips = (items : Items) → HasCommandItems (source l) false (position l) items no_items → HasCommandItems (source m) false (position m) (behind_answer items) no_items
-
-  abbrev pub Enters : Type 0
-  Enters = (items : Items) → HasCommandItems (source m) false (position m) items no_items → HasCommandItems (source o) in_list (position o) (unwrapped_commands items) (behind_list items)
-
-  pub all_items : (items : Items) → StandsForItems text items → HasCommandItems (source l) false (position l) items no_items
+-- at the start all items of the text are left
+module _ (text : List ℕ) (l : Lexer) (whole : source l ≡ text) (start : position l ≡ 0) where
+  all_items : (items : Items) → StandsForItems text items → HasCommandItems (source l) false (position l) items no_items
   all_items items h =
       subst (λ (x : List ℕ). HasCommandItems x false (position l) items no_items) (sym whole)
       (subst (λ (n : ℕ). HasCommandItems text false n items no_items) (sym start) (record { tokens = h.tokens; after = []; read = h.read; nested = h.nested; end = (refl, refl) }))
 
-  pub starts_here : Skips → Enters → (items : Items) → StandsForItems text items → AreLeft (source o) settings in_list (position o) (unread before) (proof_from settings items (unread before))
-  starts_here skips enters items h = record {
-    items = unwrapped_commands (behind_answer items);
-    behind = behind_list (behind_answer items);
-    here = enters (behind_answer items) (skips items (all_items items h));
-    named = commands_named spelled text items h;
-    comes = left_of settings items (unread before);
-  }
+  pub some_items : HasForm text → (items : Items) × HasCommandItems (source l) false (position l) items no_items
+  some_items (items, h) = (items, all_items items h)
+
+  -- and behind the answer and inside the list all commands
+  module _ (spelled : AreSpelled) (settings : ProofSettings) (before : Script) (m o : Lexer) (in_list : Bool) where
+    abbrev pub Skips : Type 0
+    Skips = (items : Items) → HasCommandItems (source l) false (position l) items no_items → HasCommandItems (source m) false (position m) (behind_answer items) no_items
+
+    abbrev pub Enters : Type 0
+    Enters = (items : Items) → HasCommandItems (source m) false (position m) items no_items → HasCommandItems (source o) in_list (position o) (unwrapped_commands items) (behind_list items)
+
+    pub starts_here : Skips → Enters → (items : Items) → StandsForItems text items → AreLeft (source o) settings in_list (position o) (unread before) (proof_from settings items (unread before))
+    starts_here skips enters items h = record {
+      items = unwrapped_commands (behind_answer items);
+      behind = behind_list (behind_answer items);
+      here = enters (behind_answer items) (skips items (all_items items h));
+      named = commands_named spelled text items h;
+      comes = left_of settings items (unread before);
+    }
+
+    pub some_start : Skips → Enters → HasForm text → (s : Table) (v : TermsView) (d : Session) → IsSession s v settings d (unread before)
+        → (settings : ProofSettings) × (p : ProofState) × (whole : Outcome ProofState (Proof Var Term)) × AreLeft (source o) settings in_list (position o) p whole × IsSession s v settings d p
+    some_start skips enters (items, h) s v d session = (settings, unread before, proof_from settings items (unread before), starts_here skips enters items h, session)
+
+-- the items that are left behind the answer
+pub some_behind : (l m : Lexer) → ((items : Items) → HasCommandItems (source l) false (position l) items no_items → HasCommandItems (source m) false (position m) (behind_answer items) no_items)
+    → (items : Items) × HasCommandItems (source l) false (position l) items no_items → (items : Items) × HasCommandItems (source m) false (position m) items no_items
+some_behind l m skips (items, h) = (behind_answer items, skips items h)
+
+-- nothing is written before any place
+pub short_later : (scope : Scope ℕ ℕ) (at : ℕ) → IsShort scope 0 → IsShort scope at
+short_later scope at h = record { commands = omega (arith, h.commands); scopes = omega (arith, h.scopes) }
 
 -- what reading all commands of the text has come to
 module _ (text : List ℕ) (settings : ProofSettings) (before : Script) (form : HasForm text) where
@@ -181,7 +216,7 @@ module _ (text : List ℕ) (settings : ProofSettings) (before : Script) (form : 
         (p, subst (λ (w : Outcome ProofState (Proof Var Term)). IsFinished s new p w result) none.comes (finishes p none.behind none.here session))
 
     proof_of : (result : Result (Proof ℕ ℕ) ReadFault) → (p : ProofState) × IsFinished s new p (whole_of form.0) result → IfOk result (IsProofOf text settings before s new)
-    proof_of (Ok refs) (p, proof, is, refer) = record {
+    proof_of (Ok refs) (p, (proof, is, refer)) = record {
       proof = proof;
       after = p.script;
       stands = record {

@@ -56,7 +56,7 @@ fn new_session<'a>(alloc: Global, problem: &'a Problem, flags: Flags) -> Session
 /// The proof that was read, where nothing stands behind the list of its commands and no anchor is open.
 fn finish(lexer: Lexer<'_>, session: Session<'_>) -> Result<Proof, ReadFault>
     requires { (s : Table) × (v : TermsView) × (settings : ProofSettings) × (p : ProofState) × (behind : Items) × HasCommandItems (at.source lexer) false (at.position lexer) behind no_items × IsSession s v settings session p }
-    ensures { (s : Table) (v : TermsView) (settings : ProofSettings) (p : ProofState) (behind : Items) → HasCommandItems (at.source lexer) false (at.position lexer) behind no_items → IsSession s v settings session p → IsFinished s v p (closing_from settings behind tt p) result }
+    ensures { (s : Table) (v : TermsView) (settings : ProofSettings) (p : ProofState) (behind : Items) → HasCommandItems (at.source lexer.entry) false (at.position lexer.entry) behind no_items → IsSession s v settings session.entry p → IsFinished s v p (closing_from settings behind tt p) result }
 {
     if let Some(place) = excess(lexer) {
         return Err(ReadFault::Text(refused(Cause::BadCommand, place)));

@@ -1,0 +1,192 @@
+-- What an anchor comes to.
+use Rattle.std.proofs.Common.{◌≡◌, ◌≢◌, ◌<◌, ℕ, zero, suc, List, [], ◌∷◌, ◌++◌, map, length, slice_index_or, Bool, false, ◌||◌, Result, Ok, Err, All, AllPairs, Contains, refl, sym, ap, subst, ◌∙◌, arith}
+use Rattle.std.specs.Prelude.{⊤}
+use Rattle.std.specs.List.{AllByRecursion, AllZip}
+use Rattle.std.proofs.lemmas.List.{map-append}
+use Rattle.std.proofs.lemmas.List.Elements.{All-from_recursion}
+use Rattle.std.proofs.lemmas.List.Kept.{AllPairs-cons}
+use Rattle.sexpr.specs.declared.causes.Cause.TheVariants.{Repeated}
+use Rattle.sexpr.specs.declared.causes.Refusal.{Refusal}
+use Rattle.sym_table.specs.Table.{Table, Keeps}
+use Rattle.term_model.specs.Terms.{Var, Term}
+use Rattle.term_pool.specs.Views.{TermsView, KeepsTerms}
+use Rattle.rule_model.specs.RuleNames.{IsSymbolName}
+use Rattle.rule_model.specs.Scopes.{Nesting, outermost, inside, Scope, next_scope}
+use Rattle.rule_model.specs.Visibility.{open_bindings}
+use Rattle.rule_model.specs.WellFormed.{MayOpen}
+use Rattle.rule_model.specs.Writing.{open_anchor}
+use Rattle.proof_store.specs.Meaning.{IsBindingOf, no_items_stand}
+use Rattle.proof_store.specs.Steps.{anchor_with}
+use Rattle.text_items.specs.declared.nodes.Node.{Node}
+use Rattle.text_items.specs.ItemShapes.{Name}
+use Rattle.text_items.specs.NameNodes.{IsNameNode}
+use Rattle.problem_text.specs.Names.{Place}
+use Rattle.problem_text.specs.Outcomes.{Outcome, given, and_then}
+use Rattle.problem_text.specs.Scripts.{Script}
+use Rattle.problem_text.specs.Words.{is_among}
+use Rattle.term_names.specs.declared.faults.ReadFault.{ReadFault}
+use Rattle.term_reader.specs.ProblemViews.{ReaderView, IsReaderOf}
+use Rattle.term_reader.proofs.Staying.{adds_none, keeps_none}
+use Rattle.alethe_commands.specs.CommandNodes.{AreArguments, SaysAnchor}
+use Rattle.alethe_text.proofs.Lists.{or_parts}
+use Rattle.alethe_text.specs.Anchors.{bound_names, arguments_read, with_anchor, anchor_read}
+use Rattle.alethe_text.specs.Commands.{Argument, anchor}
+use Rattle.alethe_text.specs.Ids.{id_judged}
+use Rattle.alethe_text.specs.ProofTerms.{place_in}
+use Rattle.alethe_text.specs.States.{ProofSettings, ProofState, Reading, ◌>>=◌, changed}
+use Rattle.alethe_reader.specs.declared.bound.BoundVariables.{BoundVariables}
+use Rattle.alethe_reader.specs.declared.ids.Role.TheVariants.{Anchor}
+use Rattle.alethe_reader.specs.declared.session.OpenAnchor.{OpenAnchor}
+use Rattle.alethe_reader.specs.declared.session.Session.{Session}
+use Rattle.alethe_reader.specs.Answers.{Answers, KeepsRead}
+use Rattle.alethe_reader.specs.Ids.{IsUnused}
+use Rattle.alethe_reader.specs.IdsInUse.{in_use, ids_in}
+use Rattle.alethe_reader.specs.Opening.{AreFresh, AreArgumentsRead, entered}
+use Rattle.alethe_reader.specs.Sessions.{StandForNesting, starts, counts, IsSession, IsWritten, StandsAfter}
+use Rattle.alethe_reader.proofs.Answering.{stops, goes, answers, refuses, no_memory, same_outcome}
+use Rattle.alethe_reader.proofs.BoundLemmas.{zip_joined}
+use Rattle.alethe_reader.proofs.IdsInUse.{ids_open, unused_new}
+use Rattle.alethe_reader.proofs.OpenedNames.{among_joined, fresh_apart, unbound_leaf}
+use Rattle.alethe_reader.proofs.ScopeReading.{reader_inside}
+use Rattle.alethe_reader.proofs.StillRead.{keeps_changed}
+use Rattle.alethe_reader.proofs.StillReadCommands.{keeps_each_argument}
+use Rattle.alethe_reader.proofs.WrittenStays.{nesting_stays, written_stays}
+
+-- The leaves of an anchor's variables differ from each other, and from those that open anchors bind.
+module _ (s : Table) (v : TermsView) where
+  open_stand : (n : Nesting ℕ ℕ) (m : Nesting Var Term) → StandForNesting s v n m → AllZip (IsBindingOf s v) (open_bindings n) (open_bindings m)
+  open_stand outermost outermost h = tt
+  open_stand outermost (inside around before anchor) h = absurd h
+  open_stand (inside around before anchor) outermost h = absurd h
+  open_stand (inside around before anchor) (inside outer behind other) h =
+      zip_joined (IsBindingOf s v) (open_bindings around) anchor.bindings (open_bindings outer) other.bindings (open_stand around outer h.0) h.3
+
+  unbound_leaves : (n : Nesting ℕ ℕ) (m : Nesting Var Term) → StandForNesting s v n m → (bs : List (ℕ × ℕ)) (cs : List (Var × Term)) → AllZip (IsBindingOf s v) bs cs
+      → AllByRecursion (λ c. is_among (bound_names m) c.0.name ≡ false) cs → AllByRecursion (λ x. ¬ Contains (map (λ b. b.0) (open_bindings n)) x) (map (λ b. b.0) bs)
+  unbound_leaves n m stand [] [] zip free = tt
+  unbound_leaves n m stand [] (c ∷ cs) zip free = absurd zip
+  unbound_leaves n m stand (b ∷ bs) [] zip free = absurd zip
+  unbound_leaves n m stand (b ∷ bs) (c ∷ cs) zip free =
+      (unbound_leaf s v (open_bindings n) (open_bindings m) c.0 b.0 (open_stand n m stand) zip.0.variable free.0, unbound_leaves n m stand bs cs zip.1 free.1)
+
+  -- the leaf of a variable differs from those of variables of other names
+  other_leaves : (names : List (List ℕ)) (b : ℕ × ℕ) (c : Var × Term) → IsBindingOf s v b c → (bs : List (ℕ × ℕ)) (cs : List (Var × Term)) → AllZip (IsBindingOf s v) bs cs
+      → AllByRecursion (λ d. is_among (names ++ c.0.name ∷ []) d.0.name ≡ false) cs → AllByRecursion (λ x. b.0 ≢ x) (map (λ b. b.0) bs)
+  other_leaves names b c binds [] [] zip free = tt
+  other_leaves names b c binds [] (d ∷ ds) zip free = absurd zip
+  other_leaves names b c binds (x ∷ xs) [] zip free = absurd zip
+  other_leaves names b c binds (x ∷ xs) (d ∷ ds) zip free =
+      let parts = or_parts (is_among names d.0.name) (is_among (c.0.name ∷ []) d.0.name) (sym (among_joined names (c.0.name ∷ []) d.0.name) ∙ free.0) in
+      (λ e. unbound_leaf s v (b ∷ []) (c ∷ []) d.0 x.0 (binds, tt) zip.0.variable parts.1 (zero, omega arith, e), other_leaves names b c binds xs ds zip.1 free.1)
+
+  distinct_leaves : (names : List (List ℕ)) (bs : List (ℕ × ℕ)) (cs : List (Var × Term)) → AllZip (IsBindingOf s v) bs cs → AreFresh names cs → AllPairs (λ x y. x ≢ y) (map (λ b. b.0) bs)
+  distinct_leaves names [] [] zip fresh = λ i j d below within. absurd (omega (arith, within))
+  distinct_leaves names [] (c ∷ cs) zip fresh = absurd zip
+  distinct_leaves names (b ∷ bs) [] zip fresh = absurd zip
+  distinct_leaves names (b ∷ bs) (c ∷ cs) zip fresh =
+      AllPairs-cons (λ x y. x ≢ y) b.0 (map (λ b. b.0) bs)
+      (All-from_recursion (λ x. b.0 ≢ x) (map (λ b. b.0) bs) (other_leaves names b c zip.0 bs cs zip.1 (fresh_apart (names ++ c.0.name ∷ []) cs fresh.1)))
+      (distinct_leaves (names ++ c.0.name ∷ []) bs cs zip.1 fresh.1)
+
+-- what the nodes of an anchor say of it
+module _ {source : List ℕ} {nodes : List Node} {place id first : ℕ} {n : Name} {others : List Argument} (h : SaysAnchor source nodes place id first (anchor place n others)) where
+  same_id : (m : Name) (more : List Argument) → anchor place n others ≡ anchor place m more → m ≡ n
+  same_id m more e = cc
+
+  same_arguments : (m : Name) (more : List Argument) → anchor place n others ≡ anchor place m more → more ≡ others
+  same_arguments m more e = cc
+
+  pub id_said : IsNameNode source nodes id n
+  id_said = subst (IsNameNode source nodes id) (same_id h.named h.others h.same) h.name_here
+
+  pub arguments_said : AreArguments source nodes first others (length nodes)
+  arguments_said = subst (λ (xs : List Argument). AreArguments source nodes first xs (length nodes)) (same_arguments h.named h.others h.same) h.arguments_here
+
+module _ (settings : ProofSettings) (place : ℕ) (n : Name) (others : List Argument) (p : ProofState) where
+  -- once the arguments were read
+  abbrev opened : List (Var × Term) → Reading ⊤
+  opened bs = changed (with_anchor place n.name bs)
+
+  keeps_opened : (bs : List (Var × Term)) → KeepsRead (opened bs)
+  keeps_opened bs = keeps_changed (with_anchor place n.name bs) (λ q. refl)
+
+  judged : (r : Result ⊤ Refusal) → id_judged Repeated n p ≡ given r p → anchor_read settings place n others p ≡ and_then (given r p) (λ _ q. and_then (arguments_read settings [] others q) opened)
+  unfolding anchor_read ◌>>=◌
+  judged r e = ap (λ (o : Outcome ProofState ⊤). and_then o (λ _ q. and_then (arguments_read settings [] others q) opened)) e
+
+  pub bad_id : (s : Table) (v : TermsView) (d : Session) (refusal : Refusal) → id_judged Repeated n p ≡ given (Err refusal) p → Answers s v v (StandsAfter s v settings d) (anchor_read settings place n others p) (Err (ReadFault.Text refusal))
+  bad_id s v d refusal e = same_outcome (judged (Err refusal) e) (refuses refl refl)
+
+  module _ (new_id : id_judged Repeated n p ≡ given (Ok tt) p) (z : Table) (v w : TermsView) (r : ReaderView) (b : BoundVariables) where
+    abbrev pub ReadsArguments : Result ⊤ ReadFault → Type 0
+    ReadsArguments result = Answers z v w (AreArgumentsRead z w settings r b p) (arguments_read settings [] others p) result
+
+    pub bad_argument : (d : Session) (fault : ReadFault) → ReadsArguments (Err fault) → Answers z v w (StandsAfter z w settings d) (anchor_read settings place n others p) (Err fault)
+    bad_argument d fault h = same_outcome (judged (Ok tt) new_id) (stops opened keeps_opened h)
+
+    module _ (h : ReadsArguments (Ok tt)) where
+      pub no_room : (d : Session) → Answers z v w (StandsAfter z w settings d) (anchor_read settings place n others p) (Err ReadFault.Memory)
+      no_room d = same_outcome (judged (Ok tt) new_id) (goes opened keeps_opened h (adds_none z).keeps (keeps_none w) (λ bs q k. no_memory refl))
+
+      module _ (s : Table) (e : Session) (session : IsSession s v settings e p) (table : Keeps s z) (terms : KeepsTerms v w) where
+        before : IsWritten z w e p
+        before = written_stays s z v w table terms e p session.written
+
+        -- the anchor may be opened where the proof is written
+        pub may_open : (id : List ℕ) → IsSymbolName id → IsUnused e.ids id → MayOpen e.builder.nesting e.builder.items (anchor_with id b.opened.items)
+        may_open id symbol unused =
+            let k = h.answer.after in
+            let bs = h.answer.value in
+            let names : bound_names h.answer.state.scope.nesting ≡ bound_names p.scope.nesting = ap (λ (c : Scope Var Term). bound_names c.nesting) k.same.scope in
+            let fresh : AreFresh (bound_names p.scope.nesting) bs = subst (λ ns. AreFresh ns bs) names k.opening.fresh in
+            record {
+              id = unused_new e.builder id symbol (subst (λ us. IsUnused us id) before.ids unused);
+              distinct = distinct_leaves z w (bound_names p.scope.nesting) b.opened.items bs k.opening.opened fresh;
+              unbound =
+                All-from_recursion (λ x. ¬ Contains (map (λ c. c.0) (open_bindings e.builder.nesting)) x) (map (λ c. c.0) b.opened.items)
+                (unbound_leaves z w e.builder.nesting p.scope.nesting before.nesting b.opened.items bs k.opening.opened (fresh_apart (bound_names p.scope.nesting) bs fresh));
+            }
+
+        -- The scope is opened, its id put in use, and its variables in scope.
+        pub is_opened : (d : Session)
+            → ((sc : Script) (at : Place) (bs : List (Var × Term)) → AllZip (IsBindingOf z w) b.opened.items bs → IsReaderOf z w r sc at → IsReaderOf z w d.reader sc (record at { scope = entered (length bs) bs at.scope }))
+            → d.builder ≡ open_anchor e.builder (anchor_with n.name b.opened.items) → d.ids ≡ e.ids ++ in_use n.name Anchor (next_scope e.builder) ∷ []
+            → d.anchors.items ≡ e.anchors.items ++ record { place = place; ids = length e.ids; variables = length b.opened.items } ∷ [] → d.bound ≡ b
+            → Answers z v w (StandsAfter z w settings d) (anchor_read settings place n others p) (Ok tt)
+        is_opened d enters built used anchors bound =
+            same_outcome (judged (Ok tt) new_id)
+            (goes opened keeps_opened h (adds_none z).keeps (keeps_none w) (λ bs q k. answers tt (with_anchor place n.name bs q) refl refl (record { session = after bs q k })))
+          where
+            last : OpenAnchor
+            last = record { place = place; ids = length e.ids; variables = length b.opened.items }
+
+            marked : (f : OpenAnchor → ℕ) (ks : List ℕ) → map f e.anchors.items ≡ ks → map f d.anchors.items ≡ ks ++ f last ∷ []
+            marked f ks is = ap (map f) anchors ∙ (map-append f e.anchors.items (last ∷ []) ∙ ap (λ l. l ++ f last ∷ []) is)
+
+            written : (bs : List (Var × Term)) (q : ProofState) → AreArgumentsRead z w settings r b p tt bs q → IsWritten z w d (with_anchor place n.name bs q)
+            written bs q k = record {
+              nesting = rw (built, k.same.scope) (before.nesting, before.items, refl, k.opening.opened);
+              items = rw built no_items_stand;
+              ids = used ∙ (ap (λ us. us ++ in_use n.name Anchor (next_scope e.builder) ∷ []) before.ids ∙ (sym (ids_open e.builder (anchor_with n.name b.opened.items)) ∙ ap ids_in (sym built)));
+              places = marked (λ a. a.place) p.anchors before.places ∙ ap (λ l. l ++ place ∷ []) (sym k.same.anchors);
+              starts_kept =
+                marked (λ a. a.ids) (starts e.builder.nesting) before.starts_kept
+                ∙ (ap (λ us. starts e.builder.nesting ++ length us ∷ []) before.ids ∙ ap (λ (c : Scope ℕ ℕ). starts c.nesting) (sym built));
+              counts_kept =
+                marked (λ a. a.variables) (counts e.builder.nesting) before.counts_kept
+                ∙ ap (λ (c : Scope ℕ ℕ). counts c.nesting) (sym built);
+              bound = rw bound (record {
+                names = k.opening.names ∙ sym (map-append (λ c. c.0.name) (open_bindings q.scope.nesting) bs);
+                images = k.opening.images;
+                apart = (k.opening.apart, fresh_apart (bound_names q.scope.nesting) bs k.opening.fresh);
+              });
+            }
+
+            after : (bs : List (Var × Term)) (q : ProofState) → AreArgumentsRead z w settings r b p tt bs q → IsSession z w settings d (with_anchor place n.name bs q)
+            after bs q k = record {
+              lax = session.lax;
+              reader =
+                reader_inside z w d.reader q.script settings q.scope.nesting q.scope.items (record { id = n.name; bindings = bs })
+                (enters q.script (place_in settings q.scope.nesting) bs k.opening.opened k.opening.reader);
+              written = written bs q k;
+            }
