@@ -9,7 +9,6 @@ use Rattle.rule_model.specs.declared.statuses.Verdict.{Verdict}
 use Rattle.rule_model.specs.Proofs.{ProofItems}
 use Rattle.problem_text.specs.Problems.{StandsForProblem}
 use Rattle.problem_text.specs.Scripts.{Script}
-use Rattle.alethe_text.specs.ProofTexts.{StandsForProof}
 use Rattle.alethe_reader.specs.Reading.{IsProofOf}
 use Rattle.file_ports.specs.declared.whole.ReadStop.{ReadStop}
 use Rattle.file_ports.specs.declared.whole.ReadStop.TheVariants as stops
@@ -26,7 +25,7 @@ use Rattle.carcara_cli.specs.Judgement.{IsCheckedAs, IsJudgement}
 use Rattle.carcara_cli.specs.Judging.{IsJudgedProof}
 use Rattle.carcara_cli.specs.Printed.{status_of}
 use Rattle.carcara_cli.specs.TopCall.{most_bytes, most_bits, IsWithinLimit, IsTooLong, IsJudgedIfTold, IsJudgedOfFiles, IsAnswerTo, IsUnsatisfiableIfTold, ShowsUnsatisfiable}
-use Rattle.carcara_cli.specs.Answering.{IsUnread, IsNamed}
+use Rattle.carcara_cli.specs.Answering.{IsUnread}
 use Rattle.carcara_cli.proofs.VerdictLemmas.{Corresponds, verdict_stands}
 
 -- the same commands have the same holes

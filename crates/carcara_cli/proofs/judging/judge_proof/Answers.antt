@@ -1,4 +1,4 @@
-use Rattle.std.proofs.Common.{rules, ◌≡◌, ◌^◌, ◌∙◌, ℕ, Err, ap, sym, subst, arith, inr}
+use Rattle.std.proofs.Common.{rules, ◌≡◌, ◌^◌, ◌∙◌, Err, ap, sym, subst, arith, inr}
 use Rattle.term_model.specs.Terms.{Term}
 use Rattle.term_names.specs.Making.{PlacesCellsOf, LacksCellOf}
 use Rattle.alethe_reader.specs.Reading.{IsCounted, IsProofOf}
