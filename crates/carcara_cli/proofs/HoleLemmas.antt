@@ -5,8 +5,7 @@ use Rattle.std.proofs.Math.Numerals.{add-one}
 use Rattle.rule_model.specs.declared.statuses.Status.{Status}
 use Rattle.rule_model.specs.Proofs.{ProofItems}
 use Rattle.rule_model.specs.Reading.{id_at, rule_name_at}
-use Rattle.carcara_cli.specs.declared.judgement.Hole as code
-use Rattle.carcara_cli.specs.Holes.{Hole, holes_from, told_hole}
+use Rattle.carcara_cli.specs.Holes.{holes_from}
 
 module _ {V T : Type 0} (proof : ProofItems V T) where
   -- behind the last command there is none

@@ -3,14 +3,12 @@ use Rattle.std.proofs.Common.{◌≡◌, ℕ, suc, ◌≤◌, Bool, List, [], �
 use Rattle.sym_table.specs.Table.{Table}
 use Rattle.term_model.specs.Terms.{Var, Term}
 use Rattle.term_model.specs.Unsatisfiable.{Unsatisfiable}
-use Rattle.term_pool.specs.Views.{TermsView, ReferToAll}
+use Rattle.term_pool.specs.Views.{TermsView}
 use Rattle.rule_model.specs.declared.statuses.Status.{Status}
 use Rattle.rule_model.specs.declared.statuses.Verdict.{Verdict}
 use Rattle.rule_model.specs.Proofs.{ProofItems}
 use Rattle.problem_text.specs.Problems.{StandsForProblem}
 use Rattle.problem_text.specs.Scripts.{Script}
-use Rattle.alethe_text.specs.ProofTexts.{StandsForProof}
-use Rattle.alethe_reader.specs.Reading.{IsProofOf}
 use Rattle.file_ports.specs.declared.whole.ReadStop.{ReadStop}
 use Rattle.file_ports.specs.declared.whole.ReadStop.TheVariants as stops
 use Rattle.file_ports.specs.Faults.{HasRisen}
@@ -20,14 +18,14 @@ use Rattle.carcara_cli.specs.declared.judgement.Judgement.TheVariants.{Valid, Ho
 use Rattle.carcara_cli.specs.declared.answer.Answer.{Answer}
 use Rattle.carcara_cli.specs.declared.answer.Answer.TheVariants.{Usage, ReadFault, TooLong, Judged}
 use Rattle.carcara_cli.specs.CommandLine.{Asked}
-use Rattle.carcara_cli.specs.Reading.{flags_of, settings_of}
+use Rattle.carcara_cli.specs.Reading.{flags_of}
 use Rattle.carcara_cli.specs.Holes.{holes_from}
 use Rattle.carcara_cli.specs.Judgement.{IsCheckedAs, IsJudgement}
-use Rattle.carcara_cli.specs.Judging.{IsJudgedProof}
+use Rattle.carcara_cli.specs.Judging.{Corresponds, IsJudgedProof, IsReadProof}
 use Rattle.carcara_cli.specs.Printed.{status_of}
 use Rattle.carcara_cli.specs.TopCall.{most_bytes, most_bits, IsWithinLimit, IsTooLong, IsJudgedIfTold, IsJudgedOfFiles, IsAnswerTo, IsUnsatisfiableIfTold, ShowsUnsatisfiable}
-use Rattle.carcara_cli.specs.Answering.{IsUnread, IsNamed}
-use Rattle.carcara_cli.proofs.VerdictLemmas.{Corresponds, verdict_stands}
+use Rattle.carcara_cli.specs.Answering.{IsUnread}
+use Rattle.carcara_cli.proofs.VerdictLemmas.{verdict_stands}
 
 -- the same commands have the same holes
 holes_stand : (refs : ProofItems ℕ ℕ) (proof : ProofItems Var Term) (s : Table) (v : TermsView) → Corresponds s v refs proof → (i : ℕ) (statuses : List Status) → holes_from refs i statuses ≡ holes_from proof i statuses
@@ -37,28 +35,24 @@ holes_stand refs proof s v same i (Status.Hole ∷ statuses) = rw (same.ids i, s
 holes_stand refs proof s v same i (Status.Faulty cause ∷ statuses) = holes_stand refs proof s v same (suc i) statuses
 holes_stand refs proof s v same i (Status.Wide ∷ statuses) = holes_stand refs proof s v same (suc i) statuses
 
-module _ (problem : List ℕ) (replaces_lets : Bool) (text : List ℕ) (bits : ℕ) (script : Script)
-    (s : Table) (v : TermsView) (asserted : List ℕ) (refs : ProofItems ℕ ℕ)
-    (problem_text : StandsForProblem problem replaces_lets script)
-    (assertions : ReferToAll s v asserted script.assertions)
-    (read : IsProofOf text (settings_of replaces_lets) script s v refs)
-    (same : Corresponds s v refs read.proof) where
+module _ (problem : List ℕ) (replaces_lets : Bool) (text : List ℕ) (bits : ℕ) (s : Table) (v : TermsView) (asserted : List ℕ) (refs : ProofItems ℕ ℕ)
+    (both : IsReadProof problem replaces_lets text s v asserted refs) (same : Corresponds s v refs both.read.proof) where
   checked_as : (j : Judgement) (h : IsJudgedProof (flags_of replaces_lets) s v asserted refs j) (of : Verdict) → h.of ≡ of → IsCheckedAs problem replaces_lets text of
   checked_as j h of e = record {
-    script = script;
-    commands = read.proof;
-    after = read.after;
+    script = both.script;
+    commands = both.read.proof;
+    after = both.read.after;
     statuses = h.statuses;
-    problem_text = problem_text;
-    proof_text = read.stands;
-    are = h.are read.proof script.assertions read.refer assertions;
-    verdict = rw e at (verdict_stands s v refs read.proof same h.statuses h.of h.verdict);
+    problem_text = both.problem_text;
+    proof_text = both.read.stands;
+    are = h.are both.read.proof both.script.assertions both.read.refer both.assertions;
+    verdict = rw e at (verdict_stands s v refs both.read.proof same h.statuses h.of h.verdict);
   }
 
   pub judged_proof : (j : Judgement) → IsJudgedProof (flags_of replaces_lets) s v asserted refs j → IsJudgement problem replaces_lets text bits j
   unfolding checked_as
   judged_proof Valid h = checked_as Valid h Verdict.Valid h.named
-  judged_proof (Holey holes) h = (checked_as (Holey holes) h Verdict.Holey h.named.0, h.named.1 ∙ holes_stand refs read.proof s v same 0 h.statuses)
+  judged_proof (Holey holes) h = (checked_as (Holey holes) h Verdict.Holey h.named.0, h.named.1 ∙ holes_stand refs both.read.proof s v same 0 h.statuses)
   judged_proof NoEmptyClause h = checked_as NoEmptyClause h Verdict.NoEmpty h.named
   judged_proof (Faulty id cause) h = (h.named.0, checked_as (Faulty id cause) h (Verdict.InvalidAt h.named.0 cause) h.named.1, h.named.2 ∙ same.ids h.named.0)
   judged_proof (TooWide id) h = (h.named.0, checked_as (TooWide id) h (Verdict.Unknown h.named.0) h.named.1, h.named.2 ∙ same.ids h.named.0)

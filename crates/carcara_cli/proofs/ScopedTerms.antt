@@ -1,5 +1,5 @@
 -- The terms that are read of a proof are well sorted, and the open anchors bind their free variables.
-use Rattle.std.proofs.Common.{◌≡◌, ◌⊎◌, inl, inr, ℕ, zero, suc, arith, List, [], ◌∷◌, ◌++◌, map, reverse, Bool, true, false, ◌&&◌, Option, Some, None, Result, Ok, Err, IfSome, IfOk, refl, sym, subst, if◌then◌else◌}
+use Rattle.std.proofs.Common.{◌≡◌, ◌⊎◌, inl, inr, ℕ, zero, suc, arith, List, [], ◌∷◌, ◌++◌, map, reverse, Bool, true, false, ◌&&◌, Option, Some, None, Result, Ok, Err, IfSome, IfOk, refl, subst, if◌then◌else◌}
 use Rattle.std.specs.Prelude.{⊤, bytes_eq, not, unwrap_or, find, Contains}
 use Rattle.std.specs.List.{AllByRecursion}
 use Rattle.std.proofs.lemmas.List.{reverse-append}
@@ -34,7 +34,7 @@ use Rattle.alethe_text.specs.Coefficients.{coefficients_from}
 use Rattle.alethe_text.specs.States.{ProofSettings, ProofState, ◌>>=◌, give, given}
 use Rattle.alethe_text.specs.Ids.{Standing, indices_of}
 use Rattle.alethe_text.specs.ProofTerms.{variables_in, place_in, term_in, formula_in, formulas_in}
-use Rattle.alethe_text.specs.Arguments.{takes_coefficients, takes_pivots, is_naming, named_in, named_among, truth_of, with_pivot, pivots_from, arguments_from}
+use Rattle.alethe_text.specs.Arguments.{takes_coefficients, takes_pivots, is_naming, named_in, named_among, pivots_from, arguments_from}
 use Rattle.alethe_text.specs.Steps.{attribute_read, attributes_read}
 use Rattle.alethe_text.proofs.Endings.{After, Ends, and_next, asked, found_one, given_next, always}
 

@@ -6,7 +6,7 @@ use Rattle.std.proofs.lemmas.List.Elements.{All-nil, All-cons}
 use Rattle.term_model.specs.declared.symbols.Sort.{Sort}
 use Rattle.term_model.specs.Sorts.{IsOf}
 use Rattle.term_model.specs.Terms.{Var, Term}
-use Rattle.rule_model.specs.Commands.{Line, Entry, entry_of, lines_in}
+use Rattle.rule_model.specs.Commands.{Line, entry_of, lines_in}
 use Rattle.rule_model.specs.Conditions.{IsClauseOfTruths}
 use Rattle.rule_model.specs.Proofs.{ProofItems, no_items, with_assume, with_step, with_subproof}
 use Rattle.rule_model.specs.Reading.{clause_of, clause_at}

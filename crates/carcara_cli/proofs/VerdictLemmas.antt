@@ -7,11 +7,11 @@ use Rattle.term_pool.specs.Views.{TermsView, RefersTo}
 use Rattle.rule_model.specs.declared.statuses.Status.{Status}
 use Rattle.rule_model.specs.declared.statuses.Verdict.{Verdict}
 use Rattle.rule_model.specs.Proofs.{ProofItems}
-use Rattle.rule_model.specs.Reading.{id_at, rule_name_at, clause_at, premises_at, scope_at}
-use Rattle.rule_model.specs.Scopes.{commands_in}
+use Rattle.rule_model.specs.Reading.{clause_at}
 use Rattle.rule_model.specs.Statuses.{ReachesEmpty, IsVerdict}
 use Rattle.rules_resolution.specs.Steps.{IsShort}
 use Rattle.carcara_cli.specs.Answering.{NamesOneOf}
+use Rattle.carcara_cli.specs.Judging.{Corresponds}
 
 module _ {A B : Type 0} (R : A → B → Type 0) where
   zip_nil : (xs : List A) (ys : List B) → AllZip R xs ys → xs ≡ [] → ys ≡ []
@@ -31,15 +31,6 @@ module _ {A B : Type 0} (R : A → B → Type 0) where
   zip_length [] (y ∷ ys) h = absurd h
   zip_length (x ∷ xs) [] h = absurd h
   zip_length (x ∷ xs) (y ∷ ys) h = let rest = zip_length xs ys h.1 in omega (arith, rest)
-
--- the two have the same commands
-pub record Corresponds (s : Table) (v : TermsView) (refs : ProofItems ℕ ℕ) (proof : ProofItems Var Term) : Type 0 where
-  pub count : commands_in refs ≡ commands_in proof
-  pub ids : (i : ℕ) → id_at refs i ≡ id_at proof i
-  pub rules : (i : ℕ) → rule_name_at refs i ≡ rule_name_at proof i
-  pub scopes : (i : ℕ) → scope_at refs i ≡ scope_at proof i
-  pub premises : (i : ℕ) → premises_at refs i ≡ premises_at proof i
-  pub clauses : (i : ℕ) → AllZip (RefersTo s v) (clause_at refs i) (clause_at proof i)
 
 module _ (s : Table) (v : TermsView) (refs : ProofItems ℕ ℕ) (proof : ProofItems Var Term) (same : Corresponds s v refs proof) where
   reaches : ReachesEmpty refs → ReachesEmpty proof

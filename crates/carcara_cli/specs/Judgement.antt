@@ -1,6 +1,5 @@
 -- Public. What the texts of a problem and of a proof come to.
 use Rattle.std.specs.Prelude.{◌≡◌, ℕ, ◌^◌, List, Bool, map}
-use Rattle.sexpr.specs.declared.causes.Refusal.{Refusal}
 use Rattle.term_model.specs.Terms.{Var, Term}
 use Rattle.rule_model.specs.declared.statuses.Status.{Status}
 use Rattle.rule_model.specs.declared.statuses.Verdict.{Verdict}

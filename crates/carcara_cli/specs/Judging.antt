@@ -1,15 +1,39 @@
 -- Private. What the judgement of a proof that was read comes to.
-use Rattle.std.specs.Prelude.{ℕ, List}
+use Rattle.std.specs.Prelude.{◌≡◌, ℕ, List, Bool}
+use Rattle.std.specs.List.{AllZip}
 use Rattle.sym_table.specs.Table.{Table}
-use Rattle.term_pool.specs.Views.{TermsView}
+use Rattle.term_model.specs.Terms.{Var, Term}
+use Rattle.term_pool.specs.Views.{TermsView, RefersTo, ReferToAll}
 use Rattle.rule_model.specs.declared.statuses.Status.{Status}
 use Rattle.rule_model.specs.declared.statuses.Verdict.{Verdict}
 use Rattle.rule_model.specs.Proofs.{ProofItems}
+use Rattle.rule_model.specs.Reading.{id_at, rule_name_at, clause_at, premises_at, scope_at}
+use Rattle.rule_model.specs.Scopes.{commands_in}
 use Rattle.rule_model.specs.Statuses.{IsVerdict}
+use Rattle.problem_text.specs.Problems.{StandsForProblem}
+use Rattle.problem_text.specs.Scripts.{Script}
+use Rattle.alethe_reader.specs.Reading.{IsProofOf}
 use Rattle.term_reader.specs.declared.flags.Flags.{Flags}
 use Rattle.step_check.specs.Statuses.{AreStatusesOf}
 use Rattle.carcara_cli.specs.declared.judgement.Judgement.{Judgement}
 use Rattle.carcara_cli.specs.Answering.{IsNamed}
+use Rattle.carcara_cli.specs.Reading.{settings_of}
+
+-- what was read of the two texts, in a table and a pool: the references of the assertions, and the proof over references
+pub record IsReadProof (problem : List ℕ) (replaces_lets : Bool) (text : List ℕ) (s : Table) (v : TermsView) (asserted : List ℕ) (refs : ProofItems ℕ ℕ) : Type 0 where
+  pub script : Script
+  pub problem_text : StandsForProblem problem replaces_lets script
+  pub assertions : ReferToAll s v asserted script.assertions
+  pub read : IsProofOf text (settings_of replaces_lets) script s v refs
+
+-- the two have the same commands
+pub record Corresponds (s : Table) (v : TermsView) (refs : ProofItems ℕ ℕ) (proof : ProofItems Var Term) : Type 0 where
+  pub count : commands_in refs ≡ commands_in proof
+  pub ids : (i : ℕ) → id_at refs i ≡ id_at proof i
+  pub rules : (i : ℕ) → rule_name_at refs i ≡ rule_name_at proof i
+  pub scopes : (i : ℕ) → scope_at refs i ≡ scope_at proof i
+  pub premises : (i : ℕ) → premises_at refs i ≡ premises_at proof i
+  pub clauses : (i : ℕ) → AllZip (RefersTo s v) (clause_at refs i) (clause_at proof i)
 
 -- The judgement of a proof over references, and the statuses and the verdict that it comes from.
 pub record IsJudgedProof (flags : Flags) (s : Table) (v : TermsView) (asserted : List ℕ) (refs : ProofItems ℕ ℕ) (j : Judgement) : Type 0 where

@@ -2,7 +2,9 @@
 ghost use Rattle.std.specs.Prelude.{◌≡◌, ◌≤◌, ◌+◌, ◌^◌, ℕ, [], length, false, IfOk};
 ghost use Rattle.proof_store.specs.Checks.{StandForSome};
 ghost use Rattle.proof_store.specs.Meaning.{StandForItems};
+ghost use Rattle.sym_table.specs.Table.{Table};
 ghost use Rattle.term_model.specs.Terms.{Var, Term};
+ghost use Rattle.term_pool.specs.Views.{TermsView};
 ghost use Rattle.rule_model.specs.Conditions.{IsClauseOfTruths};
 ghost use Rattle.rule_model.specs.Proofs.{ProofItems};
 ghost use Rattle.rule_model.specs.Reading.{clause_at};
@@ -12,7 +14,7 @@ ghost use Rattle.step_check.specs.Statuses.{AreAsserted, AreStatusesOf};
 ghost use Rattle.carcara_cli.specs.Reading.{flags_of, IsReadOf};
 ghost use Rattle.carcara_cli.specs.Pools.{HoldsOnly, IsReadProblem};
 ghost use Rattle.carcara_cli.specs.Judgement.{IsJudgement};
-ghost use Rattle.carcara_cli.specs.Judging.{IsJudgedProof};
+ghost use Rattle.carcara_cli.specs.Judging.{Corresponds, IsJudgedProof, IsReadProof};
 ghost use Rattle.carcara_cli.specs.TopCall.{most_bytes};
 
 use crate::judgement::Judgement;
@@ -79,6 +81,45 @@ fn judge_commands(
     Ok(named(alloc, verdict, &pieces[0], proof)?)
 }
 
+/// A law: a proof over references has the commands of the proof for which it stands, and their clauses stand for its own.
+fn proofs_correspond()
+    ensures { (s : Table) (v : TermsView) (refs : ProofItems ℕ ℕ) (proof : ProofItems Var Term) → StandForItems s v refs proof → Corresponds s v refs proof }
+{
+    commands_correspond();
+    terms_correspond();
+}
+
+/// What the texts come to where both were read.
+fn judge_read(
+    alloc: Global,
+    texts: &Texts<'_>,
+    problem: &Problem,
+    proof: &Proof,
+    symbols: &Symbols,
+    terms: &mut Terms<'_>,
+) -> Result<Judgement, Memory>
+    requires size { length texts.now.proof.now ≤ most_bytes }
+    requires read { IsReadProof texts.now.problem.now texts.now.replaces_lets texts.now.proof.now symbols.now terms.old problem.now.assertions proof.now }
+    ensures { (bits : ℕ) → IfOk result (IsJudgement texts.now.problem.now texts.now.replaces_lets texts.now.proof.now bits) }
+{
+    proofs_are_short();
+    scripts_are_well_sorted();
+    scripts_are_closed();
+    proofs_have_scoped_terms();
+    proofs_correspond();
+    proofs_stand_for_one();
+    let _leaves = symbols.count();
+    terms.one_to_one();
+    judge_commands(
+        alloc,
+        flags_of(texts.replaces_lets),
+        problem,
+        proof,
+        symbols,
+        terms,
+    )
+}
+
 /// What the texts come to where the problem was read: its proof is read, and judged.
 fn judge_proof(
     alloc: Global,
@@ -95,13 +136,6 @@ fn judge_proof(
     ensures { (bits : ℕ) → terms.entry.pass.places ≡ 2 ^ bits → IfOk result (IsJudgement texts.now.problem.now texts.now.replaces_lets texts.now.proof.now bits) }
 {
     problems_stay();
-    proofs_are_short();
-    scripts_are_well_sorted();
-    scripts_are_closed();
-    proofs_have_scoped_terms();
-    commands_correspond();
-    terms_correspond();
-    proofs_stand_for_one();
     let flags = flags_of(texts.replaces_lets);
     let proof = match read_proof(alloc, texts.proof, flags, problem, symbols, &mut terms) {
         Ok(proof) => proof,
@@ -109,9 +143,7 @@ fn judge_proof(
         Err(ReadFault::PoolFull) => return Ok(pool_full(symbols, terms)),
         Err(ReadFault::Memory) => return Err(Memory),
     };
-    let _leaves = symbols.count();
-    terms.one_to_one();
-    judge_commands(alloc, flags, problem, &proof, symbols, &mut terms)
+    judge_read(alloc, texts, problem, &proof, symbols, &mut terms)
 }
 
 /// What the texts come to, with a new table of symbols and terms of a pool in which nothing stands.

@@ -1,7 +1,6 @@
-use Rattle.std.proofs.Common.{◌≡◌, ◌∙◌, ℕ, length, sym, append-nil}
+use Rattle.std.proofs.Common.{◌≡◌, ◌∙◌, length, sym, append-nil}
 use Rattle.rule_model.specs.Scopes.{commands_in}
 use Rattle.rule_model.specs.Statuses.{IsVerdict}
-use Rattle.carcara_cli.specs.Answering.{NamesOneOf}
 use Rattle.carcara_cli.proofs.VerdictLemmas.{verdict_within}
 use Rattle.carcara_cli.proofs.judging.judge_commands.Goals as goal
 

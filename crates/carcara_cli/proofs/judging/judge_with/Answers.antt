@@ -1,6 +1,5 @@
-use Rattle.std.proofs.Common.{◌≡◌, ◌^◌, ◌∙◌, ℕ, Err, ap, refl, arith, inl}
+use Rattle.std.proofs.Common.{◌^◌, ◌∙◌, Err, ap, inl}
 use Rattle.term_model.specs.Terms.{Term}
-use Rattle.sym_table.specs.Leaf.{first_leaves}
 use Rattle.term_names.specs.Making.{PlacesCellsOf, LacksCellOf}
 use Rattle.term_reader.specs.ProblemViews.{IsCounted}
 use Rattle.term_reader.proofs.Staying.{lacks_more}

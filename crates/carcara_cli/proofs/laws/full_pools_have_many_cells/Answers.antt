@@ -1,6 +1,3 @@
-use Rattle.std.proofs.Common.{ℕ, List, inl, inr}
-use Rattle.std.specs.List.{Contains}
-use Rattle.term_model.specs.Terms.{Term}
 use Rattle.carcara_cli.proofs.CellSums.{more_in_sum}
 use Rattle.carcara_cli.proofs.TermsOfTexts.{among_both, among_problem}
 use Rattle.carcara_cli.proofs.laws.full_pools_have_many_cells.Goals as goal

@@ -3,7 +3,7 @@ use Rattle.std.specs.Prelude.{Some, map, string_bytes}
 use Rattle.carcara_cli.specs.CommandLine.{Asked, asked_of}
 use Rattle.carcara_cli.specs.Judgement.{IsJudgement}
 use Rattle.carcara_cli.specs.TopCall.{most_bits}
-use Rattle.carcara_cli.proofs.JudgementLemmas.{judged_of_files, answer_is, unread_is}
+use Rattle.carcara_cli.proofs.JudgementLemmas.{judged_of_files, answer_is}
 use Rattle.carcara_cli.proofs.top.answer_to.Goals as goal
 
 pub returns : goal.returns
