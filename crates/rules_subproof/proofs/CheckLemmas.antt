@@ -9,7 +9,7 @@ use Rattle.rule_model.specs.Judged.{Judged, judged_at}
 use Rattle.rule_model.specs.Proofs.{ProofItems}
 use Rattle.rule_model.specs.Reading.{rule_at, closes_at}
 
-abbrev IsClosingRule : Rule → Type 0
+abbrev pub IsClosingRule : Rule → Type 0
 IsClosingRule rule = (rule ≡ Rule.Subproof) ⊎ (rule ≡ Rule.Let)
 
 -- without a scope to close, these rules have no condition that a step meets

@@ -7,4 +7,10 @@ pub mod Begins
 pub mod EndLists
 pub mod ScopePlaces
 pub mod SubproofLemmas
+pub mod UnitClauses
+pub mod Linking
+pub mod Variables
+pub mod Firsts
+pub mod LetSides
+pub mod LetClosing
 pub mod CheckLemmas
