@@ -8,7 +8,9 @@ pub mod EndLists
 pub mod ScopePlaces
 pub mod SubproofLemmas
 pub mod UnitClauses
+pub mod InStep
 pub mod Linking
+pub mod SideTables
 pub mod Variables
 pub mod Firsts
 pub mod LetSides

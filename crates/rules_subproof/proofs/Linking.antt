@@ -1,23 +1,25 @@
--- How what a let binds its variables to hangs together with what an anchor does, looked at place by place.
+-- How what a let binds its variables to differs from what an anchor does, looked at place by place.
 use Rattle.std.proofs.Common.{◌≡◌, ◌≢◌, ◌<◌, ◌≤◌, ◌+◌, ◌↔◌, ◌⊎◌, inl, inr, ℕ, zero, suc, List, [], ◌∷◌, map, drop, length, get_or, refl, sym, ◌∙◌, ap, subst, arith}
 use Rattle.std.specs.List.{AllZip}
-use Rattle.std.proofs.lemmas.List.{drop_more}
 use Rattle.sym_table.specs.Table.{Table}
 use Rattle.term_model.specs.Flips.{equality}
 use Rattle.term_model.specs.Terms.{Var, Term}
 use Rattle.term_pool.specs.Views.{TermsView, RefersTo}
 use Rattle.rule_model.specs.Congruence.{AreDifferences}
+use Rattle.rule_model.specs.Proofs.{ProofItems}
 use Rattle.proof_store.specs.Meaning.{IsBindingOf}
-use Rattle.rules_subproof.specs.Lets.{IsEqualBy}
-
-pub drop_past : {X : Type 0} (n : ℕ) (xs : List X) → length xs ≤ n → drop n xs ≡ []
-drop_past zero [] h = refl
-drop_past zero (x ∷ xs) h = absurd (omega arith)
-drop_past (suc n) [] h = refl
-drop_past (suc n) (x ∷ xs) h = drop_past n xs (omega arith)
+use Rattle.rules_subproof.specs.Lets.{clauses_at}
+use Rattle.rules_subproof.proofs.InStep.{drop_past}
 
 abbrev pub images_of : List (Var × Term) → List Term
 images_of bound = map (λ (b : Var × Term). b.1) bound
+
+-- where no premise is left, all are used
+pub no_clause_left : (of : ProofItems Var Term) (js : List ℕ) (k : ℕ) → k ≤ length js → clauses_at of (drop k js) ≡ [] → k ≡ length js
+no_clause_left of [] zero h e = refl
+no_clause_left of [] (suc k) h e = absurd (omega arith)
+no_clause_left of (j ∷ js) zero h e = absurd cc
+no_clause_left of (j ∷ js) (suc k) h e = ap suc (no_clause_left of js k (omega arith) e)
 
 module _ (s : Table) (v : TermsView) where
   -- what is left of the values and of the anchor, and what is asked of it
@@ -32,11 +34,17 @@ module _ (s : Table) (v : TermsView) where
   left_start asked values anchor ts bound zip others =
       record { ts = ts; bound = bound; values_refer = zip; anchor_refers = others; same = (λ h. h, λ h. h) }
 
-  pub left_here : (asked : List Term → List Term → Type 0) (values : List ℕ) (anchor : List (ℕ × ℕ)) (k : ℕ) (goal : Type 0) → k < length values → k < length anchor → IsLeft asked (drop k values) (drop k anchor) goal
-      → IsLeft asked (get_or values k 0 ∷ drop (k + 1) values) (get_or anchor k (0, 0) ∷ drop (k + 1) anchor) goal
-  left_here asked values anchor k goal below under h =
-      subst (λ xs. IsLeft asked xs (get_or anchor k (0, 0) ∷ drop (k + 1) anchor) goal) (drop_more values k 0 below)
-      (subst (λ pairs. IsLeft asked (drop k values) pairs goal) (drop_more anchor k (0, 0) under) h)
+  pub left_here : (asked : List Term → List Term → Type 0) (values : List ℕ) (anchor : List (ℕ × ℕ)) (k x : ℕ) (a : ℕ × ℕ) (goal : Type 0) → drop k values ≡ x ∷ drop (k + 1) values → drop k anchor ≡ a ∷ drop (k + 1) anchor → IsLeft asked (drop k values) (drop k anchor) goal → IsLeft asked (x ∷ drop (k + 1) values) (a ∷ drop (k + 1) anchor) goal
+  left_here asked values anchor k x a goal here there h =
+      subst (λ xs. IsLeft asked xs (a ∷ drop (k + 1) anchor) goal) here (subst (λ pairs. IsLeft asked (drop k values) pairs goal) there h)
+
+  pub left_by : (of : ProofItems Var Term) (js ks : List ℕ) (values : List ℕ) (anchor : List (ℕ × ℕ)) (goal : Type 0) → js ≡ ks → IsLeft (AreDifferences (clauses_at of js)) values anchor goal → IsLeft (AreDifferences (clauses_at of ks)) values anchor goal
+  left_by of js ks values anchor goal same h =
+      subst (λ ls. IsLeft (AreDifferences (clauses_at of ls)) values anchor goal) same h
+
+  pub left_end : (asked : List Term → List Term → Type 0) (values : List ℕ) (anchor : List (ℕ × ℕ)) (k : ℕ) (goal : Type 0) → length values ≤ k → length anchor ≤ k → IsLeft asked (drop k values) (drop k anchor) goal → IsLeft asked [] [] goal
+  left_end asked values anchor k goal past beyond h =
+      subst (λ xs. IsLeft asked xs [] goal) (drop_past k values past) (subst (λ pairs. IsLeft asked (drop k values) pairs goal) (drop_past k anchor beyond) h)
 
   -- what is asked of the first value and the anchor's first term, and of the others
   record IsSplit (asked : List Term → List Term → Type 0) (x : ℕ) (xs : List ℕ) (a : ℕ × ℕ) (pairs : List (ℕ × ℕ)) (goal : Type 0) : Type 0 where
@@ -60,23 +68,6 @@ module _ (s : Table) (v : TermsView) where
           record { t = t; ts = ts; b = b; bound = bound; first = zip.0; values_refer = zip.1; image = others.0.term; anchor_refers = others.1; same = same }
 
   module _ (x : ℕ) (xs : List ℕ) (a : ℕ × ℕ) (pairs : List (ℕ × ℕ)) (goal : Type 0) where
-    -- check mode
-    pub linked_next : (cs : List (List Term)) → ((t u : Term) → RefersTo s v x t → RefersTo s v a.1 u → IsEqualBy cs t u) → IsLeft (AllZip (IsEqualBy cs)) (x ∷ xs) (a ∷ pairs) goal → IsLeft (AllZip (IsEqualBy cs)) xs pairs goal
-    linked_next cs linked h =
-        let p = split _ x xs a pairs goal h in
-        record {
-          ts = p.ts;
-          bound = p.bound;
-          values_refer = p.values_refer;
-          anchor_refers = p.anchor_refers;
-          same = (λ rest. p.same.0 (linked p.t p.b.1 p.first p.image, rest), λ g. (p.same.1 g).1);
-        }
-
-    pub linked_fails : (cs : List (List Term)) → ((t u : Term) → RefersTo s v x t → RefersTo s v a.1 u → ¬ IsEqualBy cs t u) → IsLeft (AllZip (IsEqualBy cs)) (x ∷ xs) (a ∷ pairs) goal → ¬ goal
-    linked_fails cs other h g =
-        let p = split _ x xs a pairs goal h in other p.t p.b.1 p.first p.image (p.same.1 g).0
-
-    -- strict mode
     pub same_next : (cs : List (List Term)) → ((t u : Term) → RefersTo s v x t → RefersTo s v a.1 u → t ≡ u) → IsLeft (AreDifferences cs) (x ∷ xs) (a ∷ pairs) goal → IsLeft (AreDifferences cs) xs pairs goal
     same_next cs equal h =
         let p = split _ x xs a pairs goal h in
@@ -134,14 +125,6 @@ module _ (s : Table) (v : TermsView) where
         heads f = cc
 
   module _ (goal : Type 0) where
-    pub linked_end : (cs : List (List Term)) → IsLeft (AllZip (IsEqualBy cs)) [] [] goal → goal
-    linked_end cs h = go h.ts h.bound h.values_refer h.anchor_refers h.same
-      where
-        go : (ts : List Term) (bound : List (Var × Term)) → AllZip (RefersTo s v) [] ts → AllZip (IsBindingOf s v) [] bound → AllZip (IsEqualBy cs) ts (images_of bound) ↔ goal → goal
-        go [] [] zip others same = same.0 tt
-        go (t ∷ ts) bound zip others same = absurd zip
-        go [] (b ∷ bound) zip others same = absurd others
-
     pub differences_end : (cs : List (List Term)) → IsLeft (AreDifferences cs) [] [] goal → (cs ≡ []) ↔ goal
     differences_end cs h = go h.ts h.bound h.values_refer h.anchor_refers h.same
       where

@@ -66,22 +66,3 @@ module _ (s : Table) (v : TermsView) where
         let a = (equal p.0 left unit.left t unit.left_refers l).0 e in
         let b = (equal p.1 right unit.right u unit.right_refers r).0 f in
         unit.is ∙ (ap (λ x. equality x unit.right ∷ []) a ∙ ap (λ y. equality t y ∷ []) b)
-
--- the sides of a premise, looked for from the first on
-pub no_sides : (t u : Term) → ¬ AreSides [] t u
-no_sides t u h = elim h [ inl a ↦ contains_none _ a | inr b ↦ contains_none _ b ]
-
-pub sides_first : (c : List Term) (cs : List (List Term)) (t u : Term) → c ≡ equality t u ∷ [] → AreSides (c ∷ cs) t u
-sides_first c cs t u e = inl (subst (λ d. Contains (d ∷ cs) (equality t u ∷ [])) (sym e) (contains_head (equality t u ∷ []) cs))
-
-pub sides_turned : (c : List Term) (cs : List (List Term)) (t u : Term) → c ≡ equality u t ∷ [] → AreSides (c ∷ cs) t u
-sides_turned c cs t u e = inr (subst (λ d. Contains (d ∷ cs) (equality u t ∷ [])) (sym e) (contains_head (equality u t ∷ []) cs))
-
-pub sides_later : (c : List Term) (cs : List (List Term)) (t u : Term) → c ≢ equality t u ∷ [] → c ≢ equality u t ∷ [] → AreSides (c ∷ cs) t u ↔ AreSides cs t u
-sides_later c cs t u first turned = (
-  λ h. elim h [
-    | inl a ↦ elim (contains_cases c (equality t u ∷ []) cs a) [ inl e ↦ absurd (first e) | inr k ↦ inl k ]
-    | inr b ↦ elim (contains_cases c (equality u t ∷ []) cs b) [ inl e ↦ absurd (turned e) | inr k ↦ inr k ]
-  ],
-  λ h. elim h [ inl a ↦ inl (contains_later c (equality t u ∷ []) cs a) | inr b ↦ inr (contains_later c (equality u t ∷ []) cs b) ],
-)

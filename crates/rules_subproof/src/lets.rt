@@ -16,6 +16,7 @@ ghost use Rattle.rules_subproof.specs.Lets.{EquatesLet, IsLetEquated, AreLeavesO
 
 use crate::assumes::are_among;
 use crate::links::{are_differences, are_linked};
+use crate::sides::sides_of_premises;
 use crate::units::{are_identical, unit_sides};
 use contexts::free_in;
 use pair_pool::{Memory, Ref};
@@ -167,8 +168,11 @@ pub(crate) fn is_let(
         return Ok(false);
     };
     let premises = proof.premises(i);
-    Ok(match mode {
-        Mode::Check => are_linked(proof, premises, symbols, terms, &values, anchor),
-        Mode::Strict => are_differences(proof, premises, symbols, terms, &values, anchor),
-    })
+    match mode {
+        Mode::Check => {
+            let table = sides_of_premises(alloc, proof, premises, symbols, terms)?;
+            Ok(are_linked(&table, &values, anchor))
+        }
+        Mode::Strict => Ok(are_differences(proof, premises, symbols, terms, &values, anchor)),
+    }
 }

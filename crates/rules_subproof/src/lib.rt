@@ -7,6 +7,7 @@ mod endings;
 mod lets;
 mod links;
 mod negations;
+mod sides;
 mod subproofs;
 mod units;
 

@@ -2,7 +2,6 @@
 
 ghost use Rattle.std.specs.Prelude.{◌≡◌, ◌≢◌, ◌↔◌, ◌<◌, ◌∷◌, [], List, All, IsTrue, IfSome, IfNone};
 ghost use Rattle.std.specs.List.{AllZip};
-ghost use Rattle.rule_model.specs.Congruence.{AreSides};
 ghost use Rattle.rule_model.specs.Proofs.{ProofItems};
 ghost use Rattle.rule_model.specs.Reading.{clause_at};
 ghost use Rattle.rule_model.specs.Scopes.{commands_in};
@@ -11,7 +10,7 @@ ghost use Rattle.term_model.specs.Terms.{Var, Term};
 ghost use Rattle.term_pool.specs.Views.{IsTerm, RefersTo};
 ghost use Rattle.proof_store.specs.Checks.{StandForSome};
 ghost use Rattle.proof_store.specs.Meaning.{StandForItems};
-ghost use Rattle.rules_subproof.specs.Lets.{IsUnitOf, IsEqualBy, clauses_at};
+ghost use Rattle.rules_subproof.specs.Lets.{IsUnitOf};
 
 use pair_pool::Ref;
 use proof_store::{Proof, terms_correspond};
@@ -68,53 +67,4 @@ pub(crate) fn equates(
         return false;
     }
     are_identical(sides.1, right)
-}
-
-/// Whether some premise has two terms as its sides, in either order.
-pub(crate) fn are_sides(
-    proof: &Proof,
-    premises: &[u32],
-    symbols: &Symbols,
-    terms: &mut Terms<'_>,
-    left: Ref,
-    right: Ref,
-) -> bool
-    requires premises { All (λ j. j < commands_in proof.now) premises.now }
-    requires stand { StandForSome symbols.now terms.old proof.now }
-    ensures sides { (of : ProofItems Var Term) (t u : Term) → StandForItems symbols.now terms.old proof.now of →
-        RefersTo symbols.now terms.old left t → RefersTo symbols.now terms.old right u → IsTrue result ↔ AreSides (clauses_at of premises.now) t u }
-    ensures same { terms.new ≡ terms.old }
-{
-    'premises: for premise in premises {
-        if equates(proof, *premise, symbols, terms, left, right) {
-            return true;
-        }
-        if equates(proof, *premise, symbols, terms, right, left) {
-            return true;
-        }
-    }
-    false
-}
-
-/// Whether two terms are equal, or the sides of a premise.
-pub(crate) fn are_equal_by(
-    proof: &Proof,
-    premises: &[u32],
-    symbols: &Symbols,
-    terms: &mut Terms<'_>,
-    left: Ref,
-    right: Ref,
-) -> bool
-    requires premises { All (λ j. j < commands_in proof.now) premises.now }
-    requires stand { StandForSome symbols.now terms.old proof.now }
-    ensures equal { (of : ProofItems Var Term) (t u : Term) → StandForItems symbols.now terms.old proof.now of →
-        RefersTo symbols.now terms.old left t → RefersTo symbols.now terms.old right u → IsTrue result ↔ IsEqualBy (clauses_at of premises.now) t u }
-    ensures same { terms.new ≡ terms.old }
-{
-    let _leaves = symbols.count();
-    terms.equal_exactly_where_terms_are();
-    if are_identical(left, right) {
-        return true;
-    }
-    are_sides(proof, premises, symbols, terms, left, right)
 }
