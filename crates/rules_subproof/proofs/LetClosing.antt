@@ -1,13 +1,19 @@
 -- The condition of let over terms, by what is read of references.
-use Rattle.std.proofs.Common.{◌≡◌, ◌<◌, ◌↔◌, ℕ, List, [], ◌∷◌, map, Bool, IsTrue, Contains, refl, sym, ◌∙◌, ap, subst, arith}
+use Rattle.std.proofs.Common.{◌≡◌, ◌<◌, ◌↔◌, ℕ, suc, List, [], ◌∷◌, map, length, Bool, false, Option, Some, IsTrue, Contains, refl, sym, ◌∙◌, ap, subst, arith}
+use Rattle.std.specs.List.{AllZip}
+use Rattle.std.proofs.lemmas.List.{length-map}
+use Rattle.sym_table.specs.Table.{Table}
 use Rattle.term_model.specs.Flips.{equality}
-use Rattle.term_model.specs.FreeVariables.{bound_terms}
-use Rattle.term_model.specs.Terms.{Var, Term, let_in, Bindings}
+use Rattle.term_model.specs.FreeVariables.{variables_of, bound_terms}
+use Rattle.term_model.specs.Terms.{Var, Term, let_in, Bindings, no_bindings, binding}
+use Rattle.term_pool.specs.Views.{TermsView, RefersTo}
 use Rattle.rule_model.specs.declared.rules.Mode.{Mode}
 use Rattle.rule_model.specs.Closings.{IsAssumeIn, AreLinkedTo, IsLetClosing}
 use Rattle.rule_model.specs.Proofs.{ProofItems}
 use Rattle.rule_model.specs.Reading.{rule_at, clause_at, premises_at, scope_at, bindings_at}
 use Rattle.rule_model.specs.RuleNames.{is_assume}
+use Rattle.proof_store.specs.Meaning.{IsBindingOf}
+use Rattle.rules_subproof.proofs.Zips.{zip_length}
 use Rattle.rules_subproof.specs.Lets.{EquatesLet, BindsAs, clauses_at}
 
 module _ (refs : ProofItems ℕ ℕ) (of : ProofItems Var Term) (i k : ℕ) (scope : (j : ℕ) → scope_at refs j ≡ scope_at of j) (rule : (j : ℕ) → rule_at refs j ≡ rule_at of j) where
@@ -19,6 +25,36 @@ module _ (refs : ProofItems ℕ ℕ) (of : ProofItems Var Term) (i k : ℕ) (sco
     where
       none : (j : ℕ) → Contains [] j → ⊥
       none j h = let below = h.1 in omega (arith, below)
+
+-- a let's values and the bindings of an anchor of the same variables are as many
+pub one_each : (s : Table) (v : TermsView) (anchor : List (ℕ × ℕ)) (bound : List (Var × Term)) (values : List ℕ) (bs : Bindings) → AllZip (IsBindingOf s v) anchor bound → AllZip (RefersTo s v) values (bound_terms bs) → map (λ (b : Var × Term). b.0) bound ≡ variables_of bs → length values ≡ length anchor
+one_each s v anchor bound values bs zip refer same =
+    zip_length s v values (bound_terms bs) refer ∙ (terms_count bs ∙ (sym (ap length same) ∙ (length-map bound (λ (b : Var × Term). b.0) ∙ bound_count anchor bound zip)))
+  where
+    terms_count : (bs : Bindings) → length (bound_terms bs) ≡ length (variables_of bs)
+    terms_count no_bindings = refl
+    terms_count (binding x t bs) = ap suc (terms_count bs)
+
+    bound_count : (anchor : List (ℕ × ℕ)) (bound : List (Var × Term)) → AllZip (IsBindingOf s v) anchor bound → length bound ≡ length anchor
+    bound_count [] [] h = refl
+    bound_count [] (b ∷ bound) h = absurd h
+    bound_count (a ∷ anchor) [] h = absurd h
+    bound_count (a ∷ anchor) (b ∷ bound) h = ap suc (bound_count anchor bound h.1)
+
+module _ (mode : Mode) (of : ProofItems Var Term) (i : ℕ) where
+  not_true : IsTrue false → ⊥
+  not_true e = cc
+
+  -- the scope is the one that the step closes
+  pub at_scope : (o : Option ℕ) (a k : ℕ) (met : Bool) → o ≡ Some a → o ≡ Some k → IsTrue met ↔ IsLetClosing mode of i a → IsTrue met ↔ IsLetClosing mode of i k
+  at_scope o a k met e f h =
+      subst (λ n. IsTrue met ↔ IsLetClosing mode of i n) (some_same (sym e ∙ f)) h
+    where
+      some_same : {m n : ℕ} → Some m ≡ Some n → m ≡ n
+      some_same g = cc
+
+  pub never_met : (k : ℕ) → ¬ IsLetClosing mode of i k → IsTrue false ↔ IsLetClosing mode of i k
+  never_met k none = (λ e. absurd (not_true e), λ h. absurd (none h))
 
 module _ (mode : Mode) (of : ProofItems Var Term) (i k : ℕ) where
   pub closing_equates : (h : IsLetClosing mode of i k) → EquatesLet of i k h.bindings h.body h.result

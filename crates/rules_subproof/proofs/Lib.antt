@@ -15,4 +15,5 @@ pub mod Variables
 pub mod Firsts
 pub mod LetSides
 pub mod LetClosing
+pub mod Premises
 pub mod CheckLemmas

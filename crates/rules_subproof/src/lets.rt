@@ -154,17 +154,19 @@ pub(crate) fn is_let(
     commands_correspond();
     terms_correspond();
     let _commands = proof.count();
+    let _leaves = symbols.count();
+    terms.equal_exactly_where_terms_are();
     let Some(scope) = proof.closes(i) else {
         return Ok(false);
     };
     if !are_among(proof, i, scope, &[]) {
         return Ok(false);
     }
-    let Some((term, right)) = let_sides(proof, i, scope, symbols, terms) else {
+    let Some(sides) = let_sides(proof, i, scope, symbols, terms) else {
         return Ok(false);
     };
     let anchor = proof.bindings(scope);
-    let Some(values) = let_values(alloc, symbols, terms, term, right, anchor)? else {
+    let Some(values) = let_values(alloc, symbols, terms, sides.0, sides.1, anchor)? else {
         return Ok(false);
     };
     let premises = proof.premises(i);
