@@ -1,5 +1,5 @@
 -- The condition of let over terms, by what is read of references.
-use Rattle.std.proofs.Common.{◌≡◌, ◌<◌, ◌↔◌, ℕ, suc, List, [], ◌∷◌, map, length, Bool, false, Option, Some, IsTrue, Contains, refl, sym, ◌∙◌, ap, subst, arith}
+use Rattle.std.proofs.Common.{◌≡◌, ◌↔◌, ℕ, suc, List, [], ◌∷◌, map, length, Bool, false, Option, Some, IsTrue, Contains, refl, sym, ◌∙◌, ap, subst, arith}
 use Rattle.std.specs.List.{AllZip}
 use Rattle.std.proofs.lemmas.List.{length-map}
 use Rattle.sym_table.specs.Table.{Table}
@@ -10,7 +10,7 @@ use Rattle.term_pool.specs.Views.{TermsView, RefersTo}
 use Rattle.rule_model.specs.declared.rules.Mode.{Mode}
 use Rattle.rule_model.specs.Closings.{IsAssumeIn, AreLinkedTo, IsLetClosing}
 use Rattle.rule_model.specs.Proofs.{ProofItems}
-use Rattle.rule_model.specs.Reading.{rule_at, clause_at, premises_at, scope_at, bindings_at}
+use Rattle.rule_model.specs.Reading.{rule_at, premises_at, scope_at, bindings_at}
 use Rattle.rule_model.specs.RuleNames.{is_assume}
 use Rattle.proof_store.specs.Meaning.{IsBindingOf}
 use Rattle.rules_subproof.proofs.Zips.{zip_length}

@@ -38,9 +38,6 @@ module _ (s : Table) (v : TermsView) (p : ℕ × ℕ) where
   no_application (Some k) some is table bs u refers = is s (let_in bs u) table refers
 
 module _ (of : ProofItems Var Term) (i k : ℕ) where
-  pub no_last : last_inside_at of k ≡ None → (bs : Bindings) (t u : Term) → ¬ EquatesLet of i k bs t u
-  no_last none bs t u h = let e = sym none ∙ h.ends.is_last in absurd cc
-
   module _ (last : ℕ) (is_last : last_inside_at of k ≡ Some last) where
     pub inner_clause : (bs : Bindings) (t u : Term) → EquatesLet of i k bs t u → clause_at of last ≡ equality t u ∷ []
     inner_clause bs t u h =

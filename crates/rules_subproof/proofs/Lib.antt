@@ -8,11 +8,10 @@ pub mod EndLists
 pub mod ScopePlaces
 pub mod SubproofLemmas
 pub mod UnitClauses
-pub mod InStep
+pub mod Rests
 pub mod Linking
 pub mod SideTables
 pub mod Variables
-pub mod Firsts
 pub mod LetSides
 pub mod LetClosing
 pub mod Premises

@@ -1,5 +1,5 @@
 -- How what a let binds its variables to differs from what an anchor does, looked at place by place.
-use Rattle.std.proofs.Common.{◌≡◌, ◌≢◌, ◌<◌, ◌≤◌, ◌+◌, ◌↔◌, ◌⊎◌, inl, inr, ℕ, zero, suc, List, [], ◌∷◌, map, drop, length, get_or, refl, sym, ◌∙◌, ap, subst, arith}
+use Rattle.std.proofs.Common.{◌≡◌, ◌≢◌, ◌≤◌, ◌+◌, ◌↔◌, inl, inr, ℕ, zero, suc, List, [], ◌∷◌, map, drop, length, refl, sym, ap, subst, arith}
 use Rattle.std.specs.List.{AllZip}
 use Rattle.sym_table.specs.Table.{Table}
 use Rattle.term_model.specs.Flips.{equality}
@@ -9,7 +9,7 @@ use Rattle.rule_model.specs.Congruence.{AreDifferences}
 use Rattle.rule_model.specs.Proofs.{ProofItems}
 use Rattle.proof_store.specs.Meaning.{IsBindingOf}
 use Rattle.rules_subproof.specs.Lets.{clauses_at}
-use Rattle.rules_subproof.proofs.InStep.{drop_past}
+use Rattle.rules_subproof.proofs.Rests.{drop_past}
 
 abbrev pub images_of : List (Var × Term) → List Term
 images_of bound = map (λ (b : Var × Term). b.1) bound

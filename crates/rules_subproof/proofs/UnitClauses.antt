@@ -1,15 +1,13 @@
 -- Clauses that are one equality.
-use Rattle.std.proofs.Common.{◌≡◌, ◌≢◌, ◌<◌, ◌+◌, ◌↔◌, ◌⊎◌, inl, inr, ℕ, zero, suc, List, [], ◌∷◌, map, drop, length, slice_index_or, get_or, Contains, Option, Some, None, IfNone, refl, sym, ◌∙◌, ap, subst, arith}
+use Rattle.std.proofs.Common.{◌≡◌, ◌≢◌, ◌↔◌, ℕ, List, [], ◌∷◌, length, slice_index_or, Option, Some, None, IfNone, sym, ◌∙◌, ap, arith}
 use Rattle.std.specs.List.{AllZip}
 use Rattle.sym_table.specs.Table.{Table}
 use Rattle.term_model.specs.Flips.{equality}
-use Rattle.term_model.specs.Terms.{Var, Term}
-use Rattle.term_pool.specs.Views.{TermsView, RefersTo, IsTerm}
+use Rattle.term_model.specs.Terms.{Term}
+use Rattle.term_pool.specs.Views.{TermsView, RefersTo}
 use Rattle.rule_model.specs.Clausal.{as_it_stands}
-use Rattle.rule_model.specs.Congruence.{AreSides}
-use Rattle.rule_model.proofs.Lists.{contains_none, contains_cases, contains_head, contains_later}
 use Rattle.term_parts.specs.Parts.{AreSidesOf}
-use Rattle.rules_subproof.specs.Lets.{IsUnitOf, IsEqualBy}
+use Rattle.rules_subproof.specs.Lets.{IsUnitOf}
 use Rattle.rules_subproof.proofs.Zips.{zip_length, zip_one}
 
 pub none_then : {X : Type 0} {P Q : Type 0} (o : Option X) → IfNone o P → (P → Q) → IfNone o Q
@@ -48,10 +46,6 @@ module _ (s : Table) (v : TermsView) where
     where
       heads : {x y : Term} → x ∷ [] ≡ y ∷ [] → x ≡ y
       heads f = cc
-
-  pub literal_refers : (rs : List ℕ) (l : ℕ) (ts : List Term) → length rs ≡ 1 → l ≡ slice_index_or rs 0 l → AllZip (RefersTo s v) rs ts → IsTerm s v l
-  literal_refers rs l ts one is zip =
-      let only = zip_one s v l rs ts (only_one rs l one is) zip in record { means = only.0; refers = only.2 }
 
   -- two references are the sides exactly where they stand for the two terms
   module _ (equal : (p q : ℕ) (t u : Term) → RefersTo s v p t → RefersTo s v q u → (p ≡ q) ↔ (t ≡ u)) (p : ℕ × ℕ) (left right : ℕ) (t u : Term) (ts : List Term) (unit : IsUnitOf s v p ts) (l : RefersTo s v left t) (r : RefersTo s v right u) where

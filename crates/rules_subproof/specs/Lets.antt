@@ -1,9 +1,9 @@
 -- Private. The parts of the closing of rule `let`, by references.
-use Rattle.std.specs.Prelude.{◌≡◌, ◌⊎◌, ◌<◌, ℕ, List, [], ◌∷◌, map, All}
+use Rattle.std.specs.Prelude.{◌≡◌, ◌⊎◌, ℕ, List, [], ◌∷◌, map, All}
 use Rattle.std.specs.List.{AllZip}
 use Rattle.sym_table.specs.Table.{Table, IsLeaf}
 use Rattle.term_model.specs.Flips.{equality}
-use Rattle.term_model.specs.FreeVariables.{IsFree, variables_of, bound_terms}
+use Rattle.term_model.specs.FreeVariables.{IsFree, variables_of}
 use Rattle.term_model.specs.Terms.{Var, Term, let_in, Bindings}
 use Rattle.term_pool.specs.StandsFor.{variable_leaf}
 use Rattle.term_pool.specs.Views.{TermsView, RefersTo}

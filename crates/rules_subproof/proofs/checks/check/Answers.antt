@@ -1,7 +1,6 @@
-use Rattle.std.proofs.Common.{◌≡◌, ◌∙◌, None, Some, inl, inr, sym, subst}
-use Rattle.rule_model.specs.declared.rules.Rule.{Rule}
+use Rattle.std.proofs.Common.{◌≡◌, ◌∙◌, None, sym, subst}
 use Rattle.rule_model.specs.Reading.{rule_at, closes_at}
-use Rattle.rules_subproof.proofs.CheckLemmas.{IsClosingRule, none_closed, subproof_answer, let_answer}
+use Rattle.rules_subproof.proofs.CheckLemmas.{IsClosingRule, none_closed}
 use Rattle.rules_subproof.proofs.checks.check.Goals as goal
 
 pub returns-in_default-clause-met : goal.returns-in_default-clause-met

@@ -1,7 +1,6 @@
-use Rattle.std.proofs.Common.{◌≡◌, ◌↔◌, ◌∙◌, ℕ, List, Some, None, map, IsTrue, false, sym, ap, subst}
+use Rattle.std.proofs.Common.{◌≡◌, ◌↔◌, ◌∙◌, Some, map, IsTrue, false, sym, subst}
 use Rattle.term_model.specs.FreeVariables.{bound_terms}
 use Rattle.term_model.specs.Terms.{Var, Term}
-use Rattle.rule_model.specs.declared.rules.Mode.{Mode}
 use Rattle.rule_model.specs.Closings.{AreLinkedTo}
 use Rattle.rule_model.specs.Reading.{closes_at, premises_at, bindings_at}
 use Rattle.rules_subproof.specs.Lets.{clauses_at}

@@ -1,4 +1,4 @@
-use Rattle.std.proofs.Common.{◌≡◌, ◌∙◌, ◌<◌, IsTrue, true, false, sym, subst, arith, rules}
+use Rattle.std.proofs.Common.{◌≡◌, ◌∙◌, IsTrue, true, false, sym, subst, arith, rules}
 use Rattle.std.specs.Option.{is_some}
 use Rattle.rule_model.specs.Reading.{clause_at}
 use Rattle.rules_subproof.proofs.LetSides.{is_let_term, no_application, none_holds, inner_clause, let_refers, right_same, body_same, let_found}

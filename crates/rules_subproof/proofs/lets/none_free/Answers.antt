@@ -1,6 +1,6 @@
-use Rattle.std.proofs.Common.{◌≡◌, ◌∙◌, ◌<◌, ◌≤◌, ◌+◌, ◌∷◌, [], ℕ, List, drop, length, get_or, IsTrue, true, false, refl, sym, subst, arith}
+use Rattle.std.proofs.Common.{◌∙◌, IsTrue, false, refl, subst, arith}
 use Rattle.std.proofs.lemmas.List.{drop_more}
-use Rattle.rules_subproof.proofs.InStep.{drop_past}
+use Rattle.rules_subproof.proofs.Rests.{drop_past}
 use Rattle.rules_subproof.proofs.Variables.{AreLeft, free_start, free_next, free_found, free_end}
 use Rattle.rules_subproof.proofs.lets.none_free.Goals as goal
 

@@ -1,10 +1,10 @@
-use Rattle.std.proofs.Common.{◌≡◌, ◌≢◌, ◌∙◌, ◌<◌, ◌≤◌, ◌+◌, drop, length, get_or, IsTrue, true, false, refl, sym, ap, subst, arith}
+use Rattle.std.proofs.Common.{◌∙◌, ◌+◌, drop, get_or, IsTrue, false, refl, sym, ap, subst, arith}
 use Rattle.std.proofs.lemmas.Bool.{eqb-true, eq-eqb}
 use Rattle.std.proofs.lemmas.List.{drop_more}
 use Rattle.rule_model.specs.Congruence.{AreDifferences}
 use Rattle.rule_model.specs.Reading.{clause_at}
 use Rattle.rules_subproof.specs.Lets.{clauses_at}
-use Rattle.rules_subproof.proofs.InStep.{drop_past, drop_here}
+use Rattle.rules_subproof.proofs.Rests.{drop_past, drop_here}
 use Rattle.rules_subproof.proofs.Linking.{left_start, left_here, left_by, left_end, same_next, used_next, none_left, other_used, no_clause_left, differences_end}
 use Rattle.rules_subproof.proofs.links.are_differences.Goals as goal
 

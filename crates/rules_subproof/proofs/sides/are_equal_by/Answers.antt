@@ -1,4 +1,4 @@
-use Rattle.std.proofs.Common.{◌≡◌, ◌∙◌, inl, inr, true, false, sym}
+use Rattle.std.proofs.Common.{◌∙◌, inl, inr, sym}
 use Rattle.std.proofs.lemmas.Bool.{eq-eqb}
 use Rattle.rules_subproof.specs.SideTables.{sides_are}
 use Rattle.rules_subproof.proofs.SideTables.{has_sides}

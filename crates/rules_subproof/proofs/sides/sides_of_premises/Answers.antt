@@ -1,9 +1,9 @@
-use Rattle.std.proofs.Common.{◌≡◌, ◌∙◌, ◌<◌, get_or, length, sym, subst, arith}
+use Rattle.std.proofs.Common.{◌∙◌, get_or, sym, subst, arith}
 use Rattle.std.proofs.lemmas.List.{take_all}
 use Rattle.rule_model.specs.Reading.{clause_at}
 use Rattle.rules_subproof.specs.Lets.{clauses_at}
 use Rattle.rules_subproof.specs.SideTables.{TellsSides}
-use Rattle.rules_subproof.proofs.SideTables.{told_none, clauses_next}
+use Rattle.rules_subproof.proofs.SideTables.{clauses_next}
 use Rattle.rules_subproof.proofs.Zips.{zip_terms}
 use Rattle.rules_subproof.proofs.sides.sides_of_premises.Goals as goal
 

@@ -1,4 +1,4 @@
-use Rattle.std.proofs.Common.{◌≡◌, ◌∙◌, IsTrue, subst, true, false}
+use Rattle.std.proofs.Common.{IsTrue, subst, false}
 use Rattle.rule_model.specs.Reading.{clause_at}
 use Rattle.rules_subproof.proofs.UnitClauses.{first_same, second_same, both_same}
 use Rattle.rules_subproof.proofs.Zips.{zip_terms}

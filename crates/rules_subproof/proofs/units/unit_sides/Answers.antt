@@ -1,4 +1,3 @@
-use Rattle.std.proofs.Common.{◌≡◌}
 use Rattle.std.proofs.lemmas.Option.{IfSome_then}
 use Rattle.rules_subproof.proofs.UnitClauses.{many_are_no_unit, unit_of, no_unit, none_then}
 use Rattle.rules_subproof.proofs.units.unit_sides.Goals as goal
