@@ -1,5 +1,5 @@
 -- What a check answers of a step that closes a scope, or closes none.
-use Rattle.std.proofs.Common.{◌≡◌, ◌↔◌, ◌⊎◌, inl, inr, ℕ, Bool, IsTrue, Option, Some, None, sym, ◌∙◌, subst}
+use Rattle.std.proofs.Common.{◌≡◌, ◌↔◌, ◌⊎◌, inl, inr, ℕ, Bool, IsTrue, Some, None, sym, subst}
 use Rattle.term_model.specs.Terms.{Var, Term}
 use Rattle.rule_model.specs.declared.rules.Mode.{Mode}
 use Rattle.rule_model.specs.declared.rules.Rule.{Rule}
@@ -9,7 +9,7 @@ use Rattle.rule_model.specs.Judged.{Judged, judged_at}
 use Rattle.rule_model.specs.Proofs.{ProofItems}
 use Rattle.rule_model.specs.Reading.{rule_at, closes_at}
 
-abbrev IsClosingRule : Rule → Type 0
+abbrev pub IsClosingRule : Rule → Type 0
 IsClosingRule rule = (rule ≡ Rule.Subproof) ⊎ (rule ≡ Rule.Let)
 
 -- without a scope to close, these rules have no condition that a step meets

@@ -1,13 +1,13 @@
 -- What a step discharges are assumes before it, whose clauses are one literal.
-use Rattle.std.proofs.Common.{◌≡◌, ◌<◌, ◌≤◌, ◌+◌, ℕ, zero, suc, List, [], ◌∷◌, ◌++◌, length, take, slice_get, slice_index_or, Option, Some, None, Contains, refl, sym, ◌∙◌, ap, subst, arith}
+use Rattle.std.proofs.Common.{◌≡◌, ◌<◌, ◌+◌, ℕ, List, [], ◌∷◌, ◌++◌, length, take, slice_get, Option, Some, None, Contains, refl, sym, ◌∙◌, ap, subst, arith}
 use Rattle.std.specs.List.{AllByRecursion}
 use Rattle.std.proofs.lemmas.List.{append_assoc}
 use Rattle.std.proofs.lemmas.List.Elements.{All-contains, All-from_recursion}
 use Rattle.std.proofs.lemmas.Option.{slice_get_within, slice_get-map}
 use Rattle.std.specs.Option.{option_map, option_map_or}
-use Rattle.rule_model.specs.Proofs.{Step, ProofItems, no_items, with_assume, with_step, with_subproof}
-use Rattle.rule_model.specs.Scopes.{Nesting, outermost, inside, Scope, at, inner, commands_in, first_index}
-use Rattle.rule_model.specs.Commands.{IndexedCommand, assume, step, closing, Line, Entry, entry_of, entries, lines_in, lines_around, lines_to}
+use Rattle.rule_model.specs.Proofs.{ProofItems, no_items, with_assume, with_step, with_subproof}
+use Rattle.rule_model.specs.Scopes.{Nesting, outermost, inside, at, inner, commands_in, first_index}
+use Rattle.rule_model.specs.Commands.{IndexedCommand, assume, step, closing, Line, Entry, entry_of, lines_in, lines_around, lines_to}
 use Rattle.rule_model.specs.Reading.{clause_of, discharged_of, clause_at, discharged_at}
 use Rattle.rule_model.specs.Visibility.{assumes_in}
 use Rattle.rule_model.specs.WellFormed.{AreWellFormed}

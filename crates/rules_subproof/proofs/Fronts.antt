@@ -1,5 +1,5 @@
 -- Clauses that begin with negations.
-use Rattle.std.proofs.Common.{◌≡◌, ◌<◌, ◌≤◌, ◌++◌, ℕ, zero, suc, List, [], ◌∷◌, map, flat_map, length, drop, slice_index_or, refl, sym, ◌∙◌, ap, subst, arith}
+use Rattle.std.proofs.Common.{◌≡◌, ◌<◌, ◌≤◌, ◌++◌, ℕ, zero, suc, List, [], ◌∷◌, map, flat_map, length, drop, slice_index_or, refl, sym, ◌∙◌, ap, arith}
 use Rattle.std.specs.List.{AllByRecursion}
 use Rattle.term_model.specs.Terms.{Term, not_of}
 use Rattle.rules_subproof.specs.Fronts.{HasFront}

@@ -7,4 +7,12 @@ pub mod Begins
 pub mod EndLists
 pub mod ScopePlaces
 pub mod SubproofLemmas
+pub mod UnitClauses
+pub mod Rests
+pub mod Linking
+pub mod SideTables
+pub mod Variables
+pub mod LetSides
+pub mod LetClosing
+pub mod Premises
 pub mod CheckLemmas

@@ -1,9 +1,8 @@
 -- Going back over the commands before a step.
-use Rattle.std.proofs.Common.{◌≡◌, ◌<◌, ◌≤◌, ◌⊎◌, inl, inr, ℕ, zero, suc, List, Contains, Some, refl, sym, ap, subst, arith, true}
+use Rattle.std.proofs.Common.{◌≡◌, ◌<◌, ◌≤◌, ◌⊎◌, inl, inr, ℕ, zero, suc, List, Contains, Some, refl, sym, ap, subst, arith}
 use Rattle.rule_model.specs.Closings.{IsAssumeIn}
 use Rattle.rule_model.specs.Proofs.{ProofItems}
-use Rattle.rule_model.specs.Reading.{closes_at, scope_at, rule_at}
-use Rattle.rule_model.specs.RuleNames.{is_assume}
+use Rattle.rule_model.specs.Reading.{closes_at, scope_at}
 use Rattle.rule_model.proofs.ScopeRanges.{together}
 
 same_or_later : (j n : ℕ) → n ≤ j → (j ≡ n) ⊎ (suc n ≤ j)
@@ -41,21 +40,3 @@ module _ (proof : ProofItems ℕ ℕ) (i k : ℕ) (list : List ℕ) where
       go : (j ≡ n) ⊎ (suc n ≤ j) → Contains list j
       go (inl e) = subst (Contains list) (sym e) (own (subst (IsAssumeIn proof i k) e a))
       go (inr later) = known j later a
-
-  pub known_skipped : (n : ℕ) → AreKnown (suc n) → ¬ ((scope_at proof n ≡ k) × (is_assume (rule_at proof n) ≡ true)) → AreKnown n
-  known_skipped n known not_one = known_more n known (λ a. absurd (not_one (a.scope, a.assume)))
-
-  pub known_found : (n : ℕ) → AreKnown (suc n) → Contains list n → AreKnown n
-  known_found n known found = known_more n known (λ a. found)
-
-  pub not_known : (n : ℕ) → n < i → ((scope_at proof n ≡ k) × (is_assume (rule_at proof n) ≡ true)) → ¬ Contains list n → ¬ ((j : ℕ) → IsAssumeIn proof i k j → Contains list j)
-  not_known n below one none all = none (all n (record { before = below; scope = one.0; assume = one.1 }))
-
-  -- what stands inside a scope that a command closes does not stand directly around it
-  pub known_back : (n b : ℕ) → k ≤ scope_at proof n → ((m : ℕ) → b ≤ m → m < n → scope_at proof n < scope_at proof m) → AreKnown n → AreKnown b
-  known_back n b inside skipped known j h a = go (below_or j n)
-    where
-      go : (n ≤ j) ⊎ (j < n) → Contains list j
-      go (inl later) = known j later a
-      go (inr earlier) =
-          let deeper = skipped j h earlier in let scope = a.scope in absurd (omega arith)

@@ -1,7 +1,7 @@
 -- A scope that a step closes has a number below the count, and its last command stands before the step.
-use Rattle.std.proofs.Common.{◌≡◌, ◌<◌, ◌≤◌, ℕ, suc, List, [], ◌∷◌, length, take, slice_get, Option, Some, None, refl, sym, ◌∙◌, ap, subst, arith}
+use Rattle.std.proofs.Common.{◌≡◌, ◌<◌, ◌≤◌, ℕ, take, slice_get, Option, Some, None, refl, sym, ◌∙◌, ap, subst, arith}
 use Rattle.std.proofs.lemmas.Option.{slice_get_within}
-use Rattle.rule_model.specs.Commands.{IndexedCommand, assume, step, closing, Line, lines_in, lines_to, closed_scope, scopes}
+use Rattle.rule_model.specs.Commands.{IndexedCommand, assume, step, closing, Line, lines_in, closed_scope, scopes}
 use Rattle.rule_model.specs.Proofs.{Step, ProofItems}
 use Rattle.rule_model.specs.Reading.{closes_at, last_inside_at}
 use Rattle.rule_model.specs.Scopes.{Nesting, outermost, at, subproofs_in, scope_number}

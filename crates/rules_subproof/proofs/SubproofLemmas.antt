@@ -1,5 +1,5 @@
 -- The condition of subproof over terms, by what is read of references.
-use Rattle.std.proofs.Common.{◌≡◌, ◌<◌, ◌++◌, ◌↔◌, ℕ, List, [], ◌∷◌, length, drop, Option, Some, None, Contains, refl, sym, ◌∙◌, ap, subst, arith}
+use Rattle.std.proofs.Common.{◌≡◌, ◌↔◌, ℕ, List, [], ◌∷◌, length, drop, Some, Contains, refl, sym, ◌∙◌, ap, subst}
 use Rattle.std.specs.List.{AllZip}
 use Rattle.term_model.specs.Terms.{Var, Term}
 use Rattle.rule_model.specs.Closings.{IsAssumeIn, AllDischarged, negations, IsEnding, IsSubproof}

@@ -1,6 +1,6 @@
 //! Whether a step that closes a scope meets the condition of its rule.
 
-ghost use Rattle.std.specs.Prelude.{◌≡◌, ◌≢◌, ◌↔◌, ◌<◌, IfErr, IfOk, IsTrue};
+ghost use Rattle.std.specs.Prelude.{◌≡◌, ◌≢◌, ◌↔◌, ◌<◌, ◌⊎◌, IfErr, IfOk, IsTrue};
 ghost use Rattle.rule_model.specs.declared.rules.Rule.TheVariants as Rule;
 ghost use Rattle.rule_model.specs.Conditions.{IsMetAt};
 ghost use Rattle.rule_model.specs.Proofs.{ProofItems};
@@ -12,9 +12,10 @@ ghost use Rattle.proof_store.specs.Meaning.{StandForItems};
 ghost use Rattle.proof_store.specs.declared.answers.Answer.TheVariants as Answer;
 ghost use Rattle.proof_store.specs.declared.answers.RuleStop.TheVariants as RuleStop;
 
+use crate::lets::is_let;
 use crate::subproofs::is_subproof;
 use proof_store::{Answer, Proof, RuleStop, commands_correspond};
-use rule_model::Mode;
+use rule_model::{Mode, Rule};
 use std::alloc::Global;
 use sym_table::Symbols;
 use term_pool::Terms;
@@ -27,10 +28,13 @@ fn answer(met: bool) -> Answer
     if met { Answer::Met } else { Answer::NotMet }
 }
 
-/// Whether the step at an index meets the condition of its rule, which is `subproof` (Alethe specification, "Subproofs" and
-/// "List of rules"). Both modes ask the same. A step that closes no scope doesn't meet it.
+/// Whether the step at an index meets the condition of its rule, which is `subproof` or `let` (Alethe specification,
+/// "Subproofs" and "List of rules"). A step that closes no scope meets neither. The modes differ for `let` alone: check
+/// mode takes the premises of a let in any order and direction and leaves others unused, strict mode asks for exactly
+/// those of the bindings that differ, in order.
 ///
-/// Takes no memory and places no cell, so it refuses nothing.
+/// A subproof takes no memory. A let takes some for its bindings, and for the cells of the other side of its equality,
+/// which it searches for each variable. Places no cell, and refuses want of memory alone.
 pub fn check(
     alloc: Global,
     proof: &Proof,
@@ -40,17 +44,22 @@ pub fn check(
     terms: &mut Terms<'_>,
 ) -> Result<Answer, RuleStop>
     requires index { i < commands_in proof.now }
-    requires subproof { rule_at proof.now i ≡ Rule.Subproof }
+    requires rule { (rule_at proof.now i ≡ Rule.Subproof) ⊎ (rule_at proof.now i ≡ Rule.Let) }
     requires stand { StandForSome symbols.now terms.old proof.now }
     ensures met { IfOk result (λ answer. (of : ProofItems Var Term) → StandForItems symbols.now terms.old proof.now of → (answer ≡ Answer.Met) ↔ IsMetAt mode of i) }
     ensures narrow { IfOk result (λ answer. answer ≢ Answer.TooWide) }
     ensures stop { IfErr result (λ stop. stop ≡ RuleStop.Memory) }
     ensures same { terms.new ≡ terms.old }
 {
-    let _ = (alloc, mode);
     commands_correspond();
     let Some(scope) = proof.closes(i) else {
         return Ok(Answer::NotMet);
     };
-    Ok(answer(is_subproof(proof, i, scope, symbols, terms)))
+    match proof.rule(i) {
+        Rule::Subproof => Ok(answer(is_subproof(proof, i, scope, symbols, terms))),
+        _ => {
+            let met = is_let(alloc, proof, i, mode, symbols, terms)?;
+            Ok(answer(met))
+        }
+    }
 }

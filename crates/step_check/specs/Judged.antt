@@ -20,9 +20,10 @@ is_clausal rule = is_some (schema_of rule) || is_over_list rule
 abbrev pub is_equality : Rule → Bool
 is_equality rule = is_of_equality rule
 
--- the rules that close a scope, but let
+-- the rules that close a scope
 abbrev pub is_closing : Rule → Bool
 is_closing Rule.Subproof = true
+is_closing Rule.Let = true
 is_closing _ = false
 
 abbrev pub is_judged : Rule → Bool

@@ -112,7 +112,7 @@ fn is_equality(rule: Rule) -> bool
 fn is_closing(rule: Rule) -> bool
     ensures { result ≡ is_closing rule }
 {
-    matches!(rule, Rule::Subproof)
+    matches!(rule, Rule::Subproof | Rule::Let)
 }
 
 /// The family of a rule, and nothing for a rule that is not judged by its condition.

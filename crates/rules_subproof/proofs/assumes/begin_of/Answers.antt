@@ -1,5 +1,4 @@
-use Rattle.std.proofs.Common.{◌<◌, ◌≤◌, arith}
-use Rattle.rule_model.specs.Reading.{scope_at}
+use Rattle.std.proofs.Common.{arith}
 use Rattle.rules_subproof.proofs.Deeper.{inside_on}
 use Rattle.rules_subproof.proofs.assumes.begin_of.Goals as goal
 

@@ -1,4 +1,4 @@
-use Rattle.std.proofs.Common.{◌≡◌, ◌<◌, ◌∷◌, [], ℕ, List, length, slice_index_or, ap, ◌∙◌, sym, subst, refl, arith}
+use Rattle.std.proofs.Common.{◌≡◌, ◌∷◌, [], ℕ, List, length, slice_index_or, ap, ◌∙◌, sym, arith}
 use Rattle.rules_subproof.proofs.Discharged.{discharged_assumed}
 use Rattle.rules_subproof.proofs.negations.assumed_term.Goals as goal
 

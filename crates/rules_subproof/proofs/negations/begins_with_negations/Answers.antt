@@ -1,9 +1,7 @@
-use Rattle.std.proofs.Common.{◌≡◌, ◌<◌, ◌≤◌, ◌⊎◌, inl, inr, ℕ, zero, suc, length, IsTrue, true, false, refl, sym, ◌∙◌, ap, subst, rules, arith}
-use Rattle.std.proofs.Math.Numerals.{add-one}
-use Rattle.term_pool.specs.Views.{IsTerm}
+use Rattle.std.proofs.Common.{IsTrue, false, refl, ◌∙◌, arith}
 use Rattle.rules_subproof.proofs.Begins.{count, too_few, step, begins, fails, literal_is_term, below_next}
 use Rattle.rules_subproof.proofs.Fronts.{Matches}
-use Rattle.rules_subproof.proofs.Zips.{zip_at, zip_one}
+use Rattle.rules_subproof.proofs.Zips.{zip_one}
 use Rattle.rule_model.specs.Reading.{clause_at, discharged_at}
 use Rattle.rules_subproof.proofs.negations.begins_with_negations.Goals as goal
 

@@ -1,11 +1,11 @@
-use Rattle.std.proofs.Common.{◌≡◌, ◌<◌, ◌≤◌, ◌∙◌, ◌∷◌, List, [], ℕ, Some, sym, ap, subst, length, true, false, IsTrue, refl, arith}
+use Rattle.std.proofs.Common.{◌≡◌, ◌∙◌, ◌∷◌, List, [], Some, sym, ap, length, false, IsTrue, refl, arith}
 use Rattle.std.proofs.lemmas.Bool.{eqb-true, eq-eqb}
 use Rattle.std.proofs.lemmas.List.{length-append}
 use Rattle.rule_model.specs.Closings.{negations}
 use Rattle.rule_model.specs.Reading.{premises_at, last_inside_at}
 use Rattle.proof_store.specs.Meaning.{IsBindingOf}
 use Rattle.rules_subproof.proofs.ScopePlaces.{scope_within, last_before}
-use Rattle.rules_subproof.proofs.SubproofLemmas.{empty_too, all_discharged_too, makes_subproof, front_of_subproof, ending_of_subproof}
+use Rattle.rules_subproof.proofs.SubproofLemmas.{empty_too, all_discharged_too, makes_subproof, ending_of_subproof}
 use Rattle.rules_subproof.proofs.Zips.{zip_length, zip_terms}
 use Rattle.rules_subproof.proofs.subproofs.is_subproof.Goals as goal
 
