@@ -1,12 +1,13 @@
 -- The image of a variable, once its term was read.
-use Rattle.std.proofs.Common.{◌≡◌, ◌≤◌, ◌<◌, arith, ℕ, nat_le, Bool, true, false, List, [], ◌∷◌, Option, take, inl, inr, Ok, Err, refl, sym, ap, subst, ◌∙◌}
+use Rattle.std.proofs.Common.{◌≡◌, ◌≤◌, ◌<◌, arith, ℕ, zero, suc, nat_le, Bool, true, false, List, [], ◌∷◌, ◌++◌, map, slice_get, Option, Some, take, inl, inr, Ok, Err, refl, sym, ap, subst, ◌∙◌}
 use Rattle.std.specs.List.{AllZip}
+use Rattle.std.specs.Option.{option_map}
 use Rattle.std.proofs.lemmas.Bool.{lt-leb, le-leb}
 use Rattle.std.proofs.lemmas.List.Elements.{Contains-push}
 use Rattle.pair_pool.specs.Views.{PassView, IsUnchanged}
 use Rattle.sexpr.specs.declared.causes.Cause.TheVariants.{SortMismatch, TooHigh}
 use Rattle.sexpr.specs.declared.causes.Refusal.{Refusal}
-use Rattle.sym_table.specs.Table.{Table}
+use Rattle.sym_table.specs.Table.{Table, IsTable}
 use Rattle.term_model.specs.declared.symbols.Sort.{Sort}
 use Rattle.term_model.specs.Terms.{Var, Term}
 use Rattle.term_pool.specs.Views.{TermsView, RefersTo, KeepsTerms}
@@ -17,7 +18,7 @@ use Rattle.rule_model.specs.Replacement.{Replacement}
 use Rattle.rule_model.specs.Scopes.{Nesting}
 use Rattle.rule_model.specs.Substitution.{put_in}
 use Rattle.proof_store.specs.Meaning.{IsBindingOf}
-use Rattle.contexts.specs.PutIn.{StandForReplacement, PlacesTerm, LacksRoomFor}
+use Rattle.contexts.specs.PutIn.{StandForReplacement, AreReplacementBy, PlacesTerm, LacksRoomFor}
 use Rattle.problem_text.specs.Limits.{most_height}
 use Rattle.problem_text.specs.Outcomes.{Outcome, done}
 use Rattle.problem_text.specs.Scripts.{with_term}
@@ -29,11 +30,14 @@ use Rattle.term_names.specs.Faults.{fault_of}
 use Rattle.term_names.specs.Making.{PlacesCellsOf, LacksCellOf}
 use Rattle.term_names.specs.declared.faults.ReadFault.{ReadFault}
 use Rattle.term_reader.proofs.Staying.{places_none, places_then, table_keeps_none}
-use Rattle.alethe_text.specs.Anchors.{image_of, script_changed}
+use Rattle.alethe_text.specs.Anchors.{bound_names, image_of, script_changed}
 use Rattle.alethe_text.specs.States.{ProofState, ◌>>=◌, give, demand}
 use Rattle.alethe_reader.specs.Answers.{WasRead, Answers, KeepsRead}
 use Rattle.alethe_reader.specs.Bound.{images_in, AreApart}
 use Rattle.alethe_reader.specs.Opening.{is_wanted, image_read, IsImageRead}
+use Rattle.alethe_reader.specs.NeededImages.{AreNeeded}
+use Rattle.alethe_reader.proofs.BoundLemmas.{images_named}
+use Rattle.alethe_reader.proofs.NeededImages.{put_in_needed}
 use Rattle.alethe_reader.proofs.OuterImages.{image_same}
 use Rattle.alethe_reader.proofs.StillRead.{keeps_then, keeps_demand, keeps_give}
 use Rattle.alethe_reader.proofs.StillReadCommands.{keeps_more}
@@ -45,22 +49,42 @@ stand_for s v [] (c ∷ q) h = absurd h
 stand_for s v (b ∷ bs) [] h = absurd h
 stand_for s v (b ∷ bs) (c ∷ q) h = (h.0.variable, h.0.term, stand_for s v bs q h.1)
 
-pub outer_taken : (s : Table) (v : TermsView) (bs taken : List (ℕ × ℕ)) (q : Replacement) (m n : ℕ) → n ≡ m → taken ≡ bs → AllZip (IsBindingOf s v) (take m bs) q → AllZip (IsBindingOf s v) (take n taken) q
-outer_taken s v bs taken q m n same is h = rw (same, is) h
+pub outer_taken : (s : Table) (v : TermsView) (bs : List (ℕ × ℕ)) (q : Replacement) (m n : ℕ) → n ≡ m → AllZip (IsBindingOf s v) (take m bs) q → AllZip (IsBindingOf s v) (take n bs) q
+outer_taken s v bs q m n same h = rw same h
 
--- What is put in for the images of the anchors makes the image.
-module _ (s : Table) (v w : TermsView) (bs : List (ℕ × ℕ)) (nesting : Nesting Var Term) (t : Typed) (c : Value) (is : IsValue s v c t) (apart : AreApart nesting) (zip : AllZip (IsBindingOf s v) bs (images_in nesting)) where
-  bindings_stand : StandForReplacement s v bs (images_in nesting)
-  bindings_stand = stand_for s v bs (images_in nesting) zip
+-- the names of the images
+names_at : (q : Replacement) (more : List (List ℕ)) (k : ℕ) (c : Var × Term) → slice_get q k ≡ Some c → slice_get (map (λ b. b.0.name) q ++ more) k ≡ Some c.0.name
+names_at [] more k c e = absurd (cc)
+names_at (b ∷ q) more zero c e = ap (λ (o : Option (Var × Term)). option_map (λ d. d.0.name) o) e
+names_at (b ∷ q) more (suc k) c e = names_at q more k c e
 
-  pub image_refers : (image : ℕ) → ((t : Term) (q : Replacement) → RefersTo s v c.term t → StandForReplacement s v bs q → RefersTo s w image (put_in q t)) → RefersTo s w image (image_of nesting t.tree)
-  image_refers image h = subst (RefersTo s w image) (image_same nesting t.tree apart) (h t.tree (images_in nesting) is.refers bindings_stand)
+-- What is put in for the images that the term needs makes the image.
+module _ (s : Table) (v w : TermsView) (names more : List (List ℕ)) (outer bs : List (ℕ × ℕ)) (nesting : Nesting Var Term) (t : Typed) (c : Value) (table : IsTable s) (is : IsValue s v c t) (zip : AllZip (IsBindingOf s v) outer (images_in nesting)) (named : names ≡ bound_names nesting ++ more) (needed : AreNeeded s v.pass names outer c.term bs) where
+  named_at : (k : ℕ) (b : Var × Term) → slice_get (images_in nesting) k ≡ Some b → slice_get names k ≡ Some b.0.name
+  named_at k b e =
+      subst (λ ns. slice_get ns k ≡ Some b.0.name) (ap (λ ns. ns ++ more) (images_named nesting) ∙ sym named) (names_at (images_in nesting) more k b e)
 
-  pub image_placed : ((t : Term) (q : Replacement) → RefersTo s v c.term t → StandForReplacement s v bs q → PlacesTerm s v.pass w.pass (put_in q t)) → PlacesTerm s v.pass w.pass (image_of nesting t.tree)
-  image_placed h = subst (PlacesTerm s v.pass w.pass) (image_same nesting t.tree apart) (h t.tree (images_in nesting) is.refers bindings_stand)
+  put_in_for : (r : Replacement) × AllZip (IsBindingOf s v) bs r × (put_in r t.tree ≡ put_in (images_in nesting) t.tree)
+  put_in_for = put_in_needed s v names outer (images_in nesting) zip named_at table needed.leaves bs needed.are t.tree is.refers.tree is.refers.stands (needed.among is.refers.tree is.refers.known)
 
-  pub image_lacks : ((t : Term) (q : Replacement) → RefersTo s v c.term t → StandForReplacement s v bs q → LacksRoomFor s w.pass (put_in q t)) → LacksRoomFor s w.pass (image_of nesting t.tree)
-  image_lacks h = subst (LacksRoomFor s w.pass) (image_same nesting t.tree apart) (h t.tree (images_in nesting) is.refers bindings_stand)
+  needed_stand : StandForReplacement s v bs put_in_for.0
+  needed_stand = stand_for s v bs put_in_for.0 put_in_for.1
+
+  pub needed_replace : AreReplacementBy s v bs
+  needed_replace = record { means = put_in_for.0; are = needed_stand }
+
+  module _ (apart : AreApart nesting) where
+    is_image : put_in put_in_for.0 t.tree ≡ image_of nesting t.tree
+    is_image = put_in_for.2 ∙ image_same nesting t.tree apart
+
+    pub image_refers : (image : ℕ) → ((t : Term) (q : Replacement) → RefersTo s v c.term t → StandForReplacement s v bs q → RefersTo s w image (put_in q t)) → RefersTo s w image (image_of nesting t.tree)
+    image_refers image h = subst (RefersTo s w image) is_image (h t.tree put_in_for.0 is.refers needed_stand)
+
+    pub image_placed : ((t : Term) (q : Replacement) → RefersTo s v c.term t → StandForReplacement s v bs q → PlacesTerm s v.pass w.pass (put_in q t)) → PlacesTerm s v.pass w.pass (image_of nesting t.tree)
+    image_placed h = subst (PlacesTerm s v.pass w.pass) is_image (h t.tree put_in_for.0 is.refers needed_stand)
+
+    pub image_lacks : ((t : Term) (q : Replacement) → RefersTo s v c.term t → StandForReplacement s v bs q → LacksRoomFor s w.pass (put_in q t)) → LacksRoomFor s w.pass (image_of nesting t.tree)
+    image_lacks h = subst (LacksRoomFor s w.pass) is_image (h t.tree put_in_for.0 is.refers needed_stand)
 
 -- the height of an image
 pub image_high : (h : ℕ) (t : Term) → h ≡ height_of t → most_height < h → nat_le (height t) most_height ≡ false

@@ -7,6 +7,8 @@ mod JudgedIds
 pub mod WrittenStays
 pub mod BoundLemmas
 mod OuterImages
+mod CellWalks
+mod NeededImages
 mod ImageReading
 mod OpenedNames
 mod JudgedNames

@@ -1,5 +1,5 @@
 //! The arguments of anchors: variables with their terms (Alethe specification, "The Proof Format": contexts).
-ghost use Rattle.std.specs.Prelude.{◌≡◌, ◌≤◌, ◌<◌, ◌^◌, ◌+◌, ◌-◌, ℕ, List, [], map, length, take, Option, None, OnOk};
+ghost use Rattle.std.specs.Prelude.{◌≡◌, ◌≤◌, ◌<◌, ◌^◌, ◌+◌, ◌-◌, ℕ, List, [], ◌++◌, map, length, take, Option, None, OnOk};
 ghost use Rattle.std.specs.List.{AllZip};
 ghost use Rattle.sexpr.specs.Items.{Item};
 ghost use Rattle.sexpr.specs.Source.{source};
@@ -16,7 +16,7 @@ ghost use Rattle.term_names.specs.Standing.{AddsNoSymbols};
 ghost use Rattle.term_expansion.specs.Values.{IsValue};
 ghost use Rattle.term_reader.specs.ProblemViews.{IsReaderOf};
 ghost use Rattle.alethe_commands.specs.CommandNodes.{IsSortNode, AreArguments};
-ghost use Rattle.alethe_text.specs.Anchors.{sort_given, argument_read, arguments_read};
+ghost use Rattle.alethe_text.specs.Anchors.{bound_names, sort_given, argument_read, arguments_read};
 ghost use Rattle.alethe_text.specs.Commands as shape;
 ghost use Rattle.alethe_text.specs.ProofTerms.{place_in};
 ghost use Rattle.alethe_text.specs.States.{ProofSettings, ProofState};
@@ -26,6 +26,7 @@ ghost use Rattle.alethe_reader.specs.Opening.{IsOpening, IsArgumentRead, AreArgu
 
 use crate::bound::{BoundVariables, OpenedVariable};
 use crate::judging::{Named, named_at};
+use crate::needed_images::images_needed;
 use alethe_commands::{AnchorArgument, argument_at};
 use contexts::put_in;
 use pair_pool::Ref;
@@ -199,7 +200,9 @@ fn sort_wanted(
     }
 }
 
-/// The image of a variable, whose term this is: the term with the images of the outer anchors put in.
+/// The image of a variable, whose term this is: the term with the images of the outer anchors put in. Only the images of the
+/// variables that stand in the term are handed on, so it costs the distinct cells of the term and of the image, however many
+/// variables the open anchors bind.
 ///
 /// Refused where the term has not the sort that the text gives, where the image is too high, for want of memory, and where the
 /// pool had no room for a cell of the image.
@@ -212,8 +215,8 @@ fn image_at(
 ) -> Result<Ref, ReadFault>
     requires value { (t : Typed) × IsValue symbols.now terms.old value t }
     requires outer { length bound.now.opened.items ≤ length bound.now.images.items }
-    requires images { (nesting : Nesting Var Term) × AllZip (IsBindingOf symbols.now terms.old) (take (length bound.now.images.items - length bound.now.opened.items) bound.now.images.items) (images_in nesting) }
-    ensures read { (name : List ℕ) (t : Typed) (nesting : Nesting Var Term) (q : ProofState) → IsValue symbols.now terms.old value t → AreApart nesting → AllZip (IsBindingOf symbols.now terms.old) (take (length bound.now.images.items - length bound.now.opened.items) bound.now.images.items) (images_in nesting) → Answers symbols.now terms.old terms.new (IsImageRead symbols.now terms.new name nesting t q) (image_read wanted.place name wanted.sort nesting t q) result }
+    requires images { (nesting : Nesting Var Term) × (more : List (List ℕ)) × AllZip (IsBindingOf symbols.now terms.old) (take (length bound.now.images.items - length bound.now.opened.items) bound.now.images.items) (images_in nesting) × (map (λ u. u.id) bound.now.names ≡ bound_names nesting ++ more) }
+    ensures read { (name : List ℕ) (t : Typed) (nesting : Nesting Var Term) (more : List (List ℕ)) (q : ProofState) → IsValue symbols.now terms.old value t → AreApart nesting → AllZip (IsBindingOf symbols.now terms.old) (take (length bound.now.images.items - length bound.now.opened.items) bound.now.images.items) (images_in nesting) → map (λ u. u.id) bound.now.names ≡ bound_names nesting ++ more → Answers symbols.now terms.old terms.new (IsImageRead symbols.now terms.new name nesting t q) (image_read wanted.place name wanted.sort nesting t q) result }
     ensures keeps { KeepsTerms terms.old terms.new }
 {
     if !is_wanted(wanted.sort, value.sort) {
@@ -221,13 +224,8 @@ fn image_at(
     }
     let _leaves = symbols.count();
     let outer = bound.images.len() - bound.opened.len();
-    let image = put_in(
-        bound.alloc,
-        &bound.images[..outer],
-        symbols,
-        terms,
-        value.term,
-    )?;
+    let needed = images_needed(bound, outer, symbols, terms, value.term)?;
+    let image = put_in(bound.alloc, &needed, symbols, terms, value.term)?;
     if terms.height(bound.alloc, image)? > MOST_HEIGHT {
         return Err(ReadFault::Text(refused(Cause::TooHigh, wanted.place)));
     }

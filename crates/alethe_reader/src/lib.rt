@@ -18,6 +18,7 @@ pub mod bound;
 mod formulas;
 pub mod ids;
 mod judging;
+mod needed_images;
 pub mod laws;
 mod performing;
 mod proof_reading;

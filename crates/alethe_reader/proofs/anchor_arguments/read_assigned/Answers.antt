@@ -42,7 +42,7 @@ image_at-requires-clause-outer c = let (settings, earlier, bs, p, opening) = c.r
 pub image_at-requires-clause-images : goal.image_at-requires-clause-images
 image_at-requires-clause-images c =
     let (settings, earlier, bs, p, opening) = c.requires.opening in
-    (p.scope.nesting, bindings_stay _ _ _ _ c.value_at.ensures.symbols.keeps c.value_at.ensures.keeps _ _ (outer_images _ _ settings _ _ earlier bs p opening))
+    (p.scope.nesting, _, bindings_stay _ _ _ _ c.value_at.ensures.symbols.keeps c.value_at.ensures.keeps _ _ (outer_images _ _ settings _ _ earlier bs p opening), opening.names)
 
 pub returns-in_err-image-clause-read : goal.returns-in_err-image-clause-read
 returns-in_err-image-clause-read c x o i m settings earlier bs p name sort node opening =
@@ -52,7 +52,7 @@ returns-in_err-image-clause-read c x o i m settings earlier bs p name sort node 
     let images = bindings_stay _ _ _ _ c.value_at.ensures.symbols.keeps c.value_at.ensures.keeps _ _ (outer_images _ _ settings _ _ earlier bs p opening) in
     rw (is.1, is.2) (fails _ c.in_err-image.field-0.0
     (variable_read settings earlier c.args.assigned.place x o i p free.0 free.1 c.in_ok-sort_wanted.field-0 (given_here _ _ settings _ _ earlier bs p opening o _ (c.in_ok-sort_wanted.ensures o sort)) _ _ _ _ _ _ read c.image_at.ensures.keeps _
-    (λ t q k. c.in_err-image.ensures.read x.name t p.scope.nesting q k.is opening.apart images)))
+    (λ t q k. c.in_err-image.ensures.read x.name t p.scope.nesting _ q k.is opening.apart images opening.names)))
 
 pub returns-in_err-leaf-clause-read : goal.returns-in_err-leaf-clause-read
 returns-in_err-leaf-clause-read c x o i m settings earlier bs p name sort node opening =
@@ -62,7 +62,7 @@ returns-in_err-leaf-clause-read c x o i m settings earlier bs p name sort node o
     let images = bindings_stay _ _ _ _ c.value_at.ensures.symbols.keeps c.value_at.ensures.keeps _ _ (outer_images _ _ settings _ _ earlier bs p opening) in
     rw (is.1, is.2) (lacks_memory _ c.variable.ensures.keeps
     (variable_read settings earlier c.args.assigned.place x o i p free.0 free.1 c.in_ok-sort_wanted.field-0 (given_here _ _ settings _ _ earlier bs p opening o _ (c.in_ok-sort_wanted.ensures o sort)) _ _ _ _ _ _ read c.image_at.ensures.keeps _
-    (λ t q k. c.in_ok-image.ensures.read x.name t p.scope.nesting q k.is opening.apart images)))
+    (λ t q k. c.in_ok-image.ensures.read x.name t p.scope.nesting _ q k.is opening.apart images opening.names)))
 
 pub returns-in_err-push-clause-read : goal.returns-in_err-push-clause-read
 returns-in_err-push-clause-read c x o i m settings earlier bs p name sort node opening =
@@ -72,7 +72,7 @@ returns-in_err-push-clause-read c x o i m settings earlier bs p name sort node o
     let images = bindings_stay _ _ _ _ c.value_at.ensures.symbols.keeps c.value_at.ensures.keeps _ _ (outer_images _ _ settings _ _ earlier bs p opening) in
     rw (is.1, is.2) (lacks_memory _ c.variable.ensures.keeps
     (variable_read settings earlier c.args.assigned.place x o i p free.0 free.1 c.in_ok-sort_wanted.field-0 (given_here _ _ settings _ _ earlier bs p opening o _ (c.in_ok-sort_wanted.ensures o sort)) _ _ _ _ _ _ read c.image_at.ensures.keeps _
-    (λ t q k. c.in_ok-image.ensures.read x.name t p.scope.nesting q k.is opening.apart images)))
+    (λ t q k. c.in_ok-image.ensures.read x.name t p.scope.nesting _ q k.is opening.apart images opening.names)))
 
 pub returns-in_err-push-clause-few : goal.returns-in_err-push-clause-few
 returns-in_err-push-clause-few c = omega (arith, leaf_more _ _ _ _ c.in_ok-leaf.ensures.found_or_new, c.value_at.ensures.few)
@@ -91,7 +91,7 @@ returns-clause-read c x o i m settings earlier bs p name sort node opening =
     c.named_at-variable.result.name.now x.name c.in_ok-value.value c.in_ok-leaf.leaf c.in_ok-image.image (ap (λ (n : Name). n.name) named) (name_free _ _ _ _ c.in_ok-judge_variable.ensures).1 c.in_ok-leaf.ensures.leaf
     c.in_ok-push.ensures.names c.in_ok-push.ensures.images c.in_ok-push.ensures.opened
     (variable_read settings earlier c.args.assigned.place x o i p free.0 free.1 c.in_ok-sort_wanted.field-0 (given_here _ _ settings _ _ earlier bs p opening o _ (c.in_ok-sort_wanted.ensures o sort)) _ _ _ _ _ _ read c.image_at.ensures.keeps _
-    (λ t q k. c.in_ok-image.ensures.read x.name t p.scope.nesting q k.is opening.apart images))
+    (λ t q k. c.in_ok-image.ensures.read x.name t p.scope.nesting _ q k.is opening.apart images opening.names))
 
 pub returns-clause-spent : goal.returns-clause-spent
 returns-clause-spent c i m node = omega (arith, leaf_more _ _ _ _ c.in_ok-leaf.ensures.found_or_new, c.in_ok-value.ensures.spent i m node)
