@@ -144,8 +144,8 @@ module _ (settings : ProofSettings) (place : ℕ) (n : Name) (others : List Argu
               id = unused_new e.builder id symbol (subst (λ us. IsUnused us id) before.ids unused);
               distinct = distinct_leaves z w (bound_names p.scope.nesting) b.opened.items bs k.opening.opened fresh;
               unbound =
-                All-from_recursion (λ x. ¬ Contains (map (λ c. c.0) (open_bindings e.builder.nesting)) x) (map (λ c. c.0) b.opened.items)
-                (unbound_leaves z w e.builder.nesting p.scope.nesting before.nesting b.opened.items bs k.opening.opened (fresh_apart (bound_names p.scope.nesting) bs fresh));
+                  All-from_recursion (λ x. ¬ Contains (map (λ c. c.0) (open_bindings e.builder.nesting)) x) (map (λ c. c.0) b.opened.items)
+                  (unbound_leaves z w e.builder.nesting p.scope.nesting before.nesting b.opened.items bs k.opening.opened (fresh_apart (bound_names p.scope.nesting) bs fresh));
             }
 
         -- The scope is opened, its id put in use, and its variables in scope.
@@ -171,11 +171,11 @@ module _ (settings : ProofSettings) (place : ℕ) (n : Name) (others : List Argu
               ids = used ∙ (ap (λ us. us ++ in_use n.name Anchor (next_scope e.builder) ∷ []) before.ids ∙ (sym (ids_open e.builder (anchor_with n.name b.opened.items)) ∙ ap ids_in (sym built)));
               places = marked (λ a. a.place) p.anchors before.places ∙ ap (λ l. l ++ place ∷ []) (sym k.same.anchors);
               starts_kept =
-                marked (λ a. a.ids) (starts e.builder.nesting) before.starts_kept
-                ∙ (ap (λ k. starts e.builder.nesting ++ k ∷ []) (ids_are ∙ ap (λ us. length us) before.ids) ∙ ap (λ (c : Scope ℕ ℕ). starts c.nesting) (sym built));
+                  marked (λ a. a.ids) (starts e.builder.nesting) before.starts_kept
+                  ∙ (ap (λ k. starts e.builder.nesting ++ k ∷ []) (ids_are ∙ ap (λ us. length us) before.ids) ∙ ap (λ (c : Scope ℕ ℕ). starts c.nesting) (sym built));
               counts_kept =
-                marked (λ a. a.variables) (counts e.builder.nesting) before.counts_kept
-                ∙ (ap (λ k. counts e.builder.nesting ++ k ∷ []) variables_are ∙ ap (λ (c : Scope ℕ ℕ). counts c.nesting) (sym built));
+                  marked (λ a. a.variables) (counts e.builder.nesting) before.counts_kept
+                  ∙ (ap (λ k. counts e.builder.nesting ++ k ∷ []) variables_are ∙ ap (λ (c : Scope ℕ ℕ). counts c.nesting) (sym built));
               bound = rw bound (record {
                 names = k.opening.names ∙ sym (map-append (λ c. c.0.name) (open_bindings q.scope.nesting) bs);
                 images = k.opening.images;
@@ -187,7 +187,7 @@ module _ (settings : ProofSettings) (place : ℕ) (n : Name) (others : List Argu
             after bs q k = record {
               lax = session.lax;
               reader =
-                reader_inside z w d.reader q.script settings q.scope.nesting q.scope.items (record { id = n.name; bindings = bs })
-                (enters q.script (place_in settings q.scope.nesting) bs k.opening.opened k.opening.reader);
+                  reader_inside z w d.reader q.script settings q.scope.nesting q.scope.items (record { id = n.name; bindings = bs })
+                  (enters q.script (place_in settings q.scope.nesting) bs k.opening.opened k.opening.reader);
               written = written bs q k;
             }
