@@ -30,7 +30,8 @@ use Rattle.term_reader.proofs.Staying.{adds_none, keeps_none}
 use Rattle.alethe_commands.specs.CommandNodes.{AreArguments, SaysAnchor}
 use Rattle.alethe_text.proofs.Lists.{or_parts}
 use Rattle.alethe_text.specs.Anchors.{bound_names, arguments_read, with_anchor, anchor_read}
-use Rattle.alethe_text.specs.Commands.{Argument, anchor}
+use Rattle.alethe_text.specs.Commands as shape
+use Rattle.alethe_text.specs.Commands.{Argument}
 use Rattle.alethe_text.specs.Ids.{id_judged}
 use Rattle.alethe_text.specs.ProofTerms.{place_in}
 use Rattle.alethe_text.specs.States.{ProofSettings, ProofState, Reading, ◌>>=◌, changed}
@@ -89,11 +90,11 @@ module _ (s : Table) (v : TermsView) where
       (distinct_leaves (names ++ c.0.name ∷ []) bs cs zip.1 fresh.1)
 
 -- what the nodes of an anchor say of it
-module _ {source : List ℕ} {nodes : List Node} {place id first : ℕ} {n : Name} {others : List Argument} (h : SaysAnchor source nodes place id first (anchor place n others)) where
-  same_id : (m : Name) (more : List Argument) → anchor place n others ≡ anchor place m more → m ≡ n
+module _ {source : List ℕ} {nodes : List Node} {place id first : ℕ} {n : Name} {others : List Argument} (h : SaysAnchor source nodes place id first (shape.anchor place n others)) where
+  same_id : (m : Name) (more : List Argument) → shape.anchor place n others ≡ shape.anchor place m more → m ≡ n
   same_id m more e = cc
 
-  same_arguments : (m : Name) (more : List Argument) → anchor place n others ≡ anchor place m more → more ≡ others
+  same_arguments : (m : Name) (more : List Argument) → shape.anchor place n others ≡ shape.anchor place m more → more ≡ others
   same_arguments m more e = cc
 
   pub id_said : IsNameNode source nodes id n
@@ -143,22 +144,22 @@ module _ (settings : ProofSettings) (place : ℕ) (n : Name) (others : List Argu
               id = unused_new e.builder id symbol (subst (λ us. IsUnused us id) before.ids unused);
               distinct = distinct_leaves z w (bound_names p.scope.nesting) b.opened.items bs k.opening.opened fresh;
               unbound =
-                All-from_recursion (λ x. ¬ Contains (map (λ c. c.0) (open_bindings e.builder.nesting)) x) (map (λ c. c.0) b.opened.items)
-                (unbound_leaves z w e.builder.nesting p.scope.nesting before.nesting b.opened.items bs k.opening.opened (fresh_apart (bound_names p.scope.nesting) bs fresh));
+                  All-from_recursion (λ x. ¬ Contains (map (λ c. c.0) (open_bindings e.builder.nesting)) x) (map (λ c. c.0) b.opened.items)
+                  (unbound_leaves z w e.builder.nesting p.scope.nesting before.nesting b.opened.items bs k.opening.opened (fresh_apart (bound_names p.scope.nesting) bs fresh));
             }
 
         -- The scope is opened, its id put in use, and its variables in scope.
-        pub is_opened : (d : Session)
+        pub is_opened : (d : Session) (ids variables : ℕ) → ids ≡ length e.ids → variables ≡ length b.opened.items
             → ((sc : Script) (at : Place) (bs : List (Var × Term)) → AllZip (IsBindingOf z w) b.opened.items bs → IsReaderOf z w r sc at → IsReaderOf z w d.reader sc (record at { scope = entered (length bs) bs at.scope }))
             → d.builder ≡ open_anchor e.builder (anchor_with n.name b.opened.items) → d.ids ≡ e.ids ++ in_use n.name Anchor (next_scope e.builder) ∷ []
-            → d.anchors.items ≡ e.anchors.items ++ record { place = place; ids = length e.ids; variables = length b.opened.items } ∷ [] → d.bound ≡ b
+            → d.anchors.items ≡ e.anchors.items ++ record { place = place; ids = ids; variables = variables } ∷ [] → d.bound ≡ b
             → Answers z v w (StandsAfter z w settings d) (anchor_read settings place n others p) (Ok tt)
-        is_opened d enters built used anchors bound =
+        is_opened d ids variables ids_are variables_are enters built used anchors bound =
             same_outcome (judged (Ok tt) new_id)
             (goes opened keeps_opened h (adds_none z).keeps (keeps_none w) (λ bs q k. answers tt (with_anchor place n.name bs q) refl refl (record { session = after bs q k })))
           where
             last : OpenAnchor
-            last = record { place = place; ids = length e.ids; variables = length b.opened.items }
+            last = record { place = place; ids = ids; variables = variables }
 
             marked : (f : OpenAnchor → ℕ) (ks : List ℕ) → map f e.anchors.items ≡ ks → map f d.anchors.items ≡ ks ++ f last ∷ []
             marked f ks is = ap (map f) anchors ∙ (map-append f e.anchors.items (last ∷ []) ∙ ap (λ l. l ++ f last ∷ []) is)
@@ -170,11 +171,11 @@ module _ (settings : ProofSettings) (place : ℕ) (n : Name) (others : List Argu
               ids = used ∙ (ap (λ us. us ++ in_use n.name Anchor (next_scope e.builder) ∷ []) before.ids ∙ (sym (ids_open e.builder (anchor_with n.name b.opened.items)) ∙ ap ids_in (sym built)));
               places = marked (λ a. a.place) p.anchors before.places ∙ ap (λ l. l ++ place ∷ []) (sym k.same.anchors);
               starts_kept =
-                marked (λ a. a.ids) (starts e.builder.nesting) before.starts_kept
-                ∙ (ap (λ us. starts e.builder.nesting ++ length us ∷ []) before.ids ∙ ap (λ (c : Scope ℕ ℕ). starts c.nesting) (sym built));
+                  marked (λ a. a.ids) (starts e.builder.nesting) before.starts_kept
+                  ∙ (ap (λ k. starts e.builder.nesting ++ k ∷ []) (ids_are ∙ ap (λ us. length us) before.ids) ∙ ap (λ (c : Scope ℕ ℕ). starts c.nesting) (sym built));
               counts_kept =
-                marked (λ a. a.variables) (counts e.builder.nesting) before.counts_kept
-                ∙ ap (λ (c : Scope ℕ ℕ). counts c.nesting) (sym built);
+                  marked (λ a. a.variables) (counts e.builder.nesting) before.counts_kept
+                  ∙ (ap (λ k. counts e.builder.nesting ++ k ∷ []) variables_are ∙ ap (λ (c : Scope ℕ ℕ). counts c.nesting) (sym built));
               bound = rw bound (record {
                 names = k.opening.names ∙ sym (map-append (λ c. c.0.name) (open_bindings q.scope.nesting) bs);
                 images = k.opening.images;
@@ -186,7 +187,7 @@ module _ (settings : ProofSettings) (place : ℕ) (n : Name) (others : List Argu
             after bs q k = record {
               lax = session.lax;
               reader =
-                reader_inside z w d.reader q.script settings q.scope.nesting q.scope.items (record { id = n.name; bindings = bs })
-                (enters q.script (place_in settings q.scope.nesting) bs k.opening.opened k.opening.reader);
+                  reader_inside z w d.reader q.script settings q.scope.nesting q.scope.items (record { id = n.name; bindings = bs })
+                  (enters q.script (place_in settings q.scope.nesting) bs k.opening.opened k.opening.reader);
               written = written bs q k;
             }

@@ -133,10 +133,11 @@ module _ (s : Table) (v : TermsView) (settings : ProofSettings) (d : Session) (p
 
   pub proof_finished : None ≡ excess behind → d.anchors.items ≡ [] → (refs : Proof ℕ ℕ) → refs ≡ d.builder.items → IsFinished s v p (closing_from settings behind tt p) (Ok refs)
   proof_finished e is refs same =
-      let closed = both_outermost s v d.builder.nesting p.scope.nesting (none_open is) session.written.nesting in
-      (p.scope.items,
-       then_closed settings behind p (sym e) ∙ ap (λ (n : Nesting Var Term). closed_proof n p.scope.items p.anchors p) closed,
-       subst (λ (x : Proof ℕ ℕ). StandForItems s v x p.scope.items) (sym same) session.written.items)
+      let closed = both_outermost s v d.builder.nesting p.scope.nesting (none_open is) session.written.nesting in (
+        p.scope.items,
+        then_closed settings behind p (sym e) ∙ ap (λ (n : Nesting Var Term). closed_proof n p.scope.items p.anchors p) closed,
+        subst (λ (x : Proof ℕ ℕ). StandForItems s v x p.scope.items) (sym same) session.written.items,
+      )
 
 -- at the start all items of the text are left
 module _ (text : List ℕ) (l : Lexer) (whole : source l ≡ text) (start : position l ≡ 0) where

@@ -109,10 +109,11 @@ module _ (settings : ProofSettings) (in_list : Bool) (p : ProofState) (whole : O
       → HasCommandItems source in_list at others behind → HaveNames others → then_rest settings others behind o ≡ whole
       → Answers s old new (StandsAfter s new settings d) o (Ok u) → ReadsCommand source s old new settings d in_list at whole (Ok true)
   performs_well {source} {s} {old} {new} others behind o here named comes h = record {
-    outcome =
-      (h.answer.state,
-       record { items = others; behind = behind; here = here; named = named; comes = sym (ap (then_rest settings others behind) h.answer.comes) ∙ comes },
-       h.answer.after.session);
+    outcome = (
+      h.answer.state,
+      record { items = others; behind = behind; here = here; named = named; comes = sym (ap (then_rest settings others behind) h.answer.comes) ∙ comes },
+      h.answer.after.session,
+    );
     placed = places_more s old.pass new.pass (WasRead o) (WasRead whole) (read_by_whole others behind o comes) h.placed;
   }
 

@@ -16,9 +16,6 @@ use Rattle.alethe_reader.proofs.WrittenStays.{written_ids}
 use Rattle.alethe_reader.proofs.AnchorReading.{id_said, arguments_said, bad_id, bad_argument, no_room, may_open, is_opened}
 use Rattle.alethe_reader.proofs.anchors.read_anchor.Goals as goal
 
-pub named_at-requires : goal.named_at-requires
-named_at-requires c = let (n, others, says, symbol) = c.requires.says in (n, id_said says)
-
 pub returns-in_err-judge_id-clause-read : goal.returns-in_err-judge_id-clause-read
 returns-in_err-judge_id-clause-read c n others settings p says session =
     let is = err_from_is_err_and c.from_residual.result c.from_residual.ensures.1 in
@@ -84,7 +81,7 @@ returns-clause-read c n others settings p says session =
     is_opened settings c.args.anchor.place n others p new_id _ _ _ c.read_arguments.new.reader c.read_arguments.new.bound
     (c.in_ok-read_arguments.ensures.read others settings p (arguments_said says) session.reader session.written.bound)
     c.args.symbols.now c.args.session.now session c.read_arguments.ensures.symbols.keeps c.read_arguments.ensures.keeps
-    (record c.args.session.now { reader = c.enter_variables.new.reader; builder = c.anchor.new.self; ids = c.push.new.self; anchors = c.push-2.new.self; bound = c.read_arguments.new.bound })
+    (record c.args.session.now { reader = c.enter_variables.new.reader; builder = c.anchor.new.self; ids = c.push.new.self; anchors = c.push-2.new.self; bound = c.read_arguments.new.bound }) c.len.result c.len-2.result c.len.ensures (c.len-2.ensures ∙ c.read_arguments.new.bound.opened.ok.0)
     (λ sc at bs zip reads. c.in_ok-enter_variables.ensures _ _ sc at bs (rw c.deref.ensures.value zip) reads)
     (c.in_ok-scope.ensures.written ∙ (ap (λ (xs : List (ℕ × ℕ)). open_anchor c.args.session.now.builder (anchor_with c.named_at-id.result.name.now xs)) c.deref-2.ensures.value ∙ ap (λ x. open_anchor c.args.session.now.builder (anchor_with x c.read_arguments.new.bound.opened.items)) name))
     (c.in_ok-push.ensures.pushed ∙ (ap (λ x. c.args.session.now.ids ++ in_use x Anchor c.in_ok-scope.scope ∷ []) name ∙ ap (λ x. c.args.session.now.ids ++ in_use n.name Anchor x ∷ []) c.in_ok-scope.ensures.number))

@@ -51,10 +51,10 @@ finish-requires c =
     let (before, problem) = c.requires.problem in
     let settings = lax_with c.args.flags.expand_lets in
     let (p, behind, here, session) =
-        some_end c.args.bytes.now settings before c.in_ok-form.ensures.formed _ _ _ _ _ _
-        (λ items h. c.in_ok-read_commands.ensures.reads settings (unread before) (proof_from settings items (unread before))
-        (starts_here c.args.bytes.now c.new-lexer.result c.new-lexer.ensures.whole c.new-lexer.ensures.start c.tokens_are_spelled.ensures.spelled settings before _ _ _ c.skip_answer.ensures.items c.enter_list-in_list.ensures.items items h)
-        (c.new_session-session.ensures.session _ _ before problem)) in
+    some_end c.args.bytes.now settings before c.in_ok-form.ensures.formed _ _ _ _ _ _
+    (λ items h. c.in_ok-read_commands.ensures.reads settings (unread before) (proof_from settings items (unread before))
+    (starts_here c.args.bytes.now c.new-lexer.result c.new-lexer.ensures.whole c.new-lexer.ensures.start c.tokens_are_spelled.ensures.spelled settings before _ _ _ c.skip_answer.ensures.items c.enter_list-in_list.ensures.items items h)
+    (c.new_session-session.ensures.session _ _ before problem)) in
     (_, _, settings, p, behind, here, session)
 
 pub returns-clause-proof : goal.returns-clause-proof
