@@ -1,13 +1,11 @@
 -- A whole proof that was read.
-use Rattle.std.proofs.Common.{◌≡◌, ◌≤◌, refl, sym, ◌∙◌, ap, subst, ℕ, zero, List, [], ◌∷◌, ◌++◌, map, length, arith, Bool, true, false, Option, Some, None, Result, Ok, Err, IfOk, inl, inr, if◌then◌else◌, slice_index_or, slice_get}
-use Rattle.std.specs.Prelude.{⊤, Contains}
+use Rattle.std.proofs.Common.{◌≡◌, refl, sym, ◌∙◌, ap, subst, ℕ, List, [], ◌∷◌, map, length, arith, Bool, true, false, Option, Some, None, Result, Ok, Err, IfOk, inr, if◌then◌else◌, slice_index_or, slice_get}
 use Rattle.std.proofs.lemmas.List.{length-append}
-use Rattle.pair_pool.specs.Views.{PassView}
 use Rattle.sexpr.specs.declared.causes.Cause.TheVariants.{BadCommand, BadAnchor}
 use Rattle.sexpr.specs.declared.causes.Refusal.{Refusal}
 use Rattle.sexpr.specs.declared.lexing.Lexer.{Lexer}
 use Rattle.sexpr.specs.Form.{HasForm}
-use Rattle.sexpr.specs.Items.{Item, Items, no_items, item, StandsForItems}
+use Rattle.sexpr.specs.Items.{Items, no_items, item, StandsForItems}
 use Rattle.sexpr.specs.Source.{source, position}
 use Rattle.sym_table.specs.Table.{Table}
 use Rattle.term_model.specs.Terms.{Var, Term}
@@ -17,7 +15,7 @@ use Rattle.rule_model.specs.Scopes.{Nesting, outermost, inside, at}
 use Rattle.rule_model.specs.Writing.{unwritten}
 use Rattle.proof_store.specs.Meaning.{StandForItems, no_items_stand}
 use Rattle.text_items.specs.ItemShapes.{excess}
-use Rattle.problem_text.specs.Outcomes.{Outcome, done}
+use Rattle.problem_text.specs.Outcomes.{Outcome}
 use Rattle.problem_text.specs.Scripts.{Script}
 use Rattle.term_names.specs.Making.{PlacesCellsOf, LacksCellOf}
 use Rattle.term_names.specs.declared.faults.ReadFault.{ReadFault}
@@ -30,11 +28,10 @@ use Rattle.alethe_text.specs.States.{ProofSettings, ProofState, unread, ◌>>=�
 use Rattle.alethe_items.specs.TextItems.{HasCommandItems, behind_list}
 use Rattle.alethe_reader.specs.Answers.{WasRead}
 use Rattle.alethe_reader.specs.Bound.{AreBound}
-use Rattle.alethe_reader.specs.CommandNames.{HaveNames}
 use Rattle.alethe_reader.specs.IdsInUse.{ids_in}
 use Rattle.alethe_reader.specs.Reading.{IsCounted, IsProofOf}
 use Rattle.alethe_reader.specs.Sessions.{StandForNesting, starts, IsSession}
-use Rattle.alethe_reader.specs.TextReading.{closing_from, left_from, AreLeft, NoneLeft, AreRead, ReadsAll, IsFinished}
+use Rattle.alethe_reader.specs.TextReading.{closing_from, left_from, AreLeft, ReadsAll, IsFinished}
 use Rattle.alethe_reader.specs.declared.session.OpenAnchor.{OpenAnchor}
 use Rattle.alethe_reader.specs.declared.session.Session.{Session}
 use Rattle.alethe_reader.proofs.NamedCommands.{commands_named}
