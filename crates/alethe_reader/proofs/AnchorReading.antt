@@ -1,5 +1,5 @@
 -- What an anchor comes to.
-use Rattle.std.proofs.Common.{◌≡◌, ◌≢◌, ◌<◌, ℕ, zero, suc, List, [], ◌∷◌, ◌++◌, map, length, slice_index_or, Bool, false, ◌||◌, Result, Ok, Err, All, AllPairs, Contains, refl, sym, ap, subst, ◌∙◌, arith}
+use Rattle.std.proofs.Common.{◌≡◌, ◌≢◌, ℕ, zero, List, [], ◌∷◌, ◌++◌, map, length, false, Result, Ok, Err, All, AllPairs, Contains, refl, sym, ap, subst, ◌∙◌, arith}
 use Rattle.std.specs.Prelude.{⊤}
 use Rattle.std.specs.List.{AllByRecursion, AllZip}
 use Rattle.std.proofs.lemmas.List.{map-append}
@@ -50,8 +50,7 @@ use Rattle.alethe_reader.proofs.IdsInUse.{ids_open, unused_new}
 use Rattle.alethe_reader.proofs.OpenedNames.{among_joined, fresh_apart, unbound_leaf}
 use Rattle.alethe_reader.proofs.ScopeReading.{reader_inside}
 use Rattle.alethe_reader.proofs.StillRead.{keeps_changed}
-use Rattle.alethe_reader.proofs.StillReadCommands.{keeps_each_argument}
-use Rattle.alethe_reader.proofs.WrittenStays.{nesting_stays, written_stays}
+use Rattle.alethe_reader.proofs.WrittenStays.{written_stays}
 
 -- The leaves of an anchor's variables differ from each other, and from those that open anchors bind.
 module _ (s : Table) (v : TermsView) where

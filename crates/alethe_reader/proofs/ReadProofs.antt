@@ -1,23 +1,21 @@
 -- A whole proof that was read.
-use Rattle.std.proofs.Common.{◌≡◌, ◌≤◌, refl, sym, ◌∙◌, ap, subst, ℕ, zero, List, [], ◌∷◌, ◌++◌, map, length, arith, Bool, true, false, Option, Some, None, Result, Ok, Err, IfOk, inl, inr, if◌then◌else◌, slice_index_or, slice_get}
-use Rattle.std.specs.Prelude.{⊤, Contains}
+use Rattle.std.proofs.Common.{◌≡◌, refl, sym, ◌∙◌, ap, subst, ℕ, List, [], ◌∷◌, map, length, arith, Bool, true, false, Option, Some, None, Result, Ok, Err, IfOk, inr, if◌then◌else◌, slice_index_or, slice_get}
 use Rattle.std.proofs.lemmas.List.{length-append}
-use Rattle.pair_pool.specs.Views.{PassView}
 use Rattle.sexpr.specs.declared.causes.Cause.TheVariants.{BadCommand, BadAnchor}
 use Rattle.sexpr.specs.declared.causes.Refusal.{Refusal}
 use Rattle.sexpr.specs.declared.lexing.Lexer.{Lexer}
 use Rattle.sexpr.specs.Form.{HasForm}
-use Rattle.sexpr.specs.Items.{Item, Items, no_items, item, StandsForItems}
+use Rattle.sexpr.specs.Items.{Items, no_items, item, StandsForItems}
 use Rattle.sexpr.specs.Source.{source, position}
 use Rattle.sym_table.specs.Table.{Table}
 use Rattle.term_model.specs.Terms.{Var, Term}
 use Rattle.term_pool.specs.Views.{TermsView}
 use Rattle.rule_model.specs.Proofs.{ProofItems as Proof}
-use Rattle.rule_model.specs.Scopes.{Nesting, outermost, inside, Scope, at}
+use Rattle.rule_model.specs.Scopes.{Nesting, outermost, inside, at}
 use Rattle.rule_model.specs.Writing.{unwritten}
 use Rattle.proof_store.specs.Meaning.{StandForItems, no_items_stand}
 use Rattle.text_items.specs.ItemShapes.{excess}
-use Rattle.problem_text.specs.Outcomes.{Outcome, done}
+use Rattle.problem_text.specs.Outcomes.{Outcome}
 use Rattle.problem_text.specs.Scripts.{Script}
 use Rattle.term_names.specs.Making.{PlacesCellsOf, LacksCellOf}
 use Rattle.term_names.specs.declared.faults.ReadFault.{ReadFault}
@@ -30,11 +28,10 @@ use Rattle.alethe_text.specs.States.{ProofSettings, ProofState, unread, ◌>>=�
 use Rattle.alethe_items.specs.TextItems.{HasCommandItems, behind_list}
 use Rattle.alethe_reader.specs.Answers.{WasRead}
 use Rattle.alethe_reader.specs.Bound.{AreBound}
-use Rattle.alethe_reader.specs.CommandNames.{HaveNames}
 use Rattle.alethe_reader.specs.IdsInUse.{ids_in}
 use Rattle.alethe_reader.specs.Reading.{IsCounted, IsProofOf}
 use Rattle.alethe_reader.specs.Sessions.{StandForNesting, starts, IsSession}
-use Rattle.alethe_reader.specs.TextReading.{closing_from, left_from, AreLeft, NoneLeft, AreRead, ReadsAll, IsFinished, IsShort}
+use Rattle.alethe_reader.specs.TextReading.{closing_from, left_from, AreLeft, ReadsAll, IsFinished}
 use Rattle.alethe_reader.specs.declared.session.OpenAnchor.{OpenAnchor}
 use Rattle.alethe_reader.specs.declared.session.Session.{Session}
 use Rattle.alethe_reader.proofs.NamedCommands.{commands_named}
@@ -149,35 +146,41 @@ module _ (text : List ℕ) (l : Lexer) (whole : source l ≡ text) (start : posi
   pub some_items : HasForm text → (items : Items) × HasCommandItems (source l) false (position l) items no_items
   some_items (items, h) = (items, all_items items h)
 
-  -- and behind the answer and inside the list all commands
-  module _ (spelled : AreSpelled) (settings : ProofSettings) (before : Script) (m o : Lexer) (in_list : Bool) where
-    abbrev pub Skips : Type 0
-    Skips = (items : Items) → HasCommandItems (source l) false (position l) items no_items → HasCommandItems (source m) false (position m) (behind_answer items) no_items
+-- Nothing was read of the text, and all its commands are left.
+pub record IsBegun (text : List ℕ) (settings : ProofSettings) (before : Script) (l : Lexer) (in_list : Bool) (s : Table) (v : TermsView) (d : Session) : Type 0 where
+  pub left : (items : Items) → StandsForItems text items → AreLeft (source l) settings in_list (position l) (unread before) (proof_from settings items (unread before))
+  pub session : IsSession s v settings d (unread before)
 
-    abbrev pub Enters : Type 0
-    Enters = (items : Items) → HasCommandItems (source m) false (position m) items no_items → HasCommandItems (source o) in_list (position o) (unwrapped_commands items) (behind_list items)
+-- behind the answer and inside the list
+pub begun : AreSpelled → (text : List ℕ) (settings : ProofSettings) (before : Script) (l m o : Lexer) (in_list : Bool) (s : Table) (v : TermsView) (d : Session) → source l ≡ text → position l ≡ 0
+    → ((items : Items) → HasCommandItems (source l) false (position l) items no_items → HasCommandItems (source m) false (position m) (behind_answer items) no_items)
+    → ((items : Items) → HasCommandItems (source m) false (position m) items no_items → HasCommandItems (source o) in_list (position o) (unwrapped_commands items) (behind_list items))
+    → IsSession s v settings d (unread before) → IsBegun text settings before o in_list s v d
+begun spelled text settings before l m o in_list s v d whole start skips enters session = record {
+  left = λ items h. record {
+    items = unwrapped_commands (behind_answer items);
+    behind = behind_list (behind_answer items);
+    here = enters (behind_answer items) (skips items (all_items text l whole start items h));
+    named = commands_named spelled text items h;
+    comes = left_of settings items (unread before);
+  };
+  session = session;
+}
 
-    pub starts_here : Skips → Enters → (items : Items) → StandsForItems text items → AreLeft (source o) settings in_list (position o) (unread before) (proof_from settings items (unread before))
-    starts_here skips enters items h = record {
-      items = unwrapped_commands (behind_answer items);
-      behind = behind_list (behind_answer items);
-      here = enters (behind_answer items) (skips items (all_items items h));
-      named = commands_named spelled text items h;
-      comes = left_of settings items (unread before);
-    }
+module _ {text : List ℕ} {settings : ProofSettings} {before : Script} {l : Lexer} {in_list : Bool} {s : Table} {v : TermsView} {d : Session} (b : IsBegun text settings before l in_list s v d) where
+  pub some_left : HasForm text → (settings : ProofSettings) × (p : ProofState) × (whole : Outcome ProofState (Proof Var Term)) × AreLeft (source l) settings in_list (position l) p whole × IsSession s v settings d p
+  some_left (items, h) = (settings, unread before, proof_from settings items (unread before), b.left items h, b.session)
 
-    pub some_start : Skips → Enters → HasForm text → (s : Table) (v : TermsView) (d : Session) → IsSession s v settings d (unread before)
-        → (settings : ProofSettings) × (p : ProofState) × (whole : Outcome ProofState (Proof Var Term)) × AreLeft (source o) settings in_list (position o) p whole × IsSession s v settings d p
-    some_start skips enters (items, h) s v d session = (settings, unread before, proof_from settings items (unread before), starts_here skips enters items h, session)
+  -- so the reading of all commands is that of the whole text
+  pub all_read : {text_after : List ℕ} {z : Table} {w : TermsView} {e : Session} {at : ℕ} {result : Result Unit ReadFault}
+      → ((settings : ProofSettings) (p : ProofState) (whole : Outcome ProofState (Proof Var Term)) → AreLeft (source l) settings in_list (position l) p whole → IsSession s v settings d p → ReadsAll text_after z v w settings e at whole result)
+      → (items : Items) → StandsForItems text items → ReadsAll text_after z v w settings e at (proof_from settings items (unread before)) result
+  all_read reads items h = reads settings (unread before) (proof_from settings items (unread before)) (b.left items h) b.session
 
 -- the items that are left behind the answer
 pub some_behind : (l m : Lexer) → ((items : Items) → HasCommandItems (source l) false (position l) items no_items → HasCommandItems (source m) false (position m) (behind_answer items) no_items)
     → (items : Items) × HasCommandItems (source l) false (position l) items no_items → (items : Items) × HasCommandItems (source m) false (position m) items no_items
 some_behind l m skips (items, h) = (behind_answer items, skips items h)
-
--- nothing is written before any place
-pub short_later : (scope : Scope ℕ ℕ) (at : ℕ) → IsShort scope 0 → IsShort scope at
-short_later scope at h = record { commands = omega (arith, h.commands); scopes = omega (arith, h.scopes) }
 
 -- what reading all commands of the text has come to
 module _ (text : List ℕ) (settings : ProofSettings) (before : Script) (form : HasForm text) where

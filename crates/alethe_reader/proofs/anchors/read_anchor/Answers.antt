@@ -1,9 +1,7 @@
 -- The id, then the arguments, and what is opened.
 use Rattle.std.proofs.Common.{◌≡◌, ◌++◌, ◌∷◌, [], List, ℕ, Ok, Err, refl, sym, ◌∙◌, ap, subst}
-use Rattle.std.specs.List.{AllZip}
 use Rattle.std.proofs.lemmas.Result.{err_from_is_err_and}
 use Rattle.sexpr.specs.declared.causes.Cause.TheVariants.{Repeated}
-use Rattle.proof_store.specs.Meaning.{IsBindingOf}
 use Rattle.proof_store.specs.Steps.{anchor_with}
 use Rattle.rule_model.specs.RuleNames.{IsSymbolName}
 use Rattle.rule_model.specs.Writing.{open_anchor}

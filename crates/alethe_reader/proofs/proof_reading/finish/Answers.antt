@@ -1,5 +1,5 @@
 -- What stands behind the commands, then an anchor that is open, then the proof.
-use Rattle.std.proofs.Common.{◌≡◌, ◌∙◌, sym, ap, slice_get}
+use Rattle.std.proofs.Common.{◌∙◌, sym, ap, slice_get}
 use Rattle.std.proofs.lemmas.Result.{err_from_is_err_and}
 use Rattle.alethe_reader.proofs.ReadProofs.{first_there, none_there, item_behind, anchor_open, none_open, proof_finished}
 use Rattle.alethe_reader.proofs.proof_reading.finish.Goals as goal
