@@ -7,7 +7,7 @@ use Rattle.sexpr.specs.declared.lexing.TokenKind.TheVariants.{Close}
 use Rattle.sexpr.specs.Source.{source, position}
 use Rattle.sexpr.specs.Tokens.{Read, ReadsAs, AreTokens, IsSpanFrom, next_token}
 use Rattle.sexpr.specs.Items.{Item, word, quoted, string, list, Items, no_items, item, IsItem, AreItems}
-use Rattle.smtlib_reader.specs.Lexers.{IsFirstOfItem, GoesOnWith}
+use Rattle.text_items.specs.Lexers.{IsFirstOfItem, GoesOnWith}
 use Rattle.carcara.specs.TermTexts.{StandsBehind}
 
 -- the tokens end with the rest

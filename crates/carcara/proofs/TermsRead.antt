@@ -9,13 +9,13 @@ use Rattle.sexpr.specs.Source.{source, position}
 use Rattle.sexpr.specs.Tokens.{AreTokens}
 use Rattle.sym_table.specs.Table.{Table}
 use Rattle.term_pool.specs.Views.{TermsView}
-use Rattle.smtlib_reader.specs.Lexers.{IsFirstOfItem, GoesOnWith}
-use Rattle.smtlib_reader.specs.Names.{Place}
-use Rattle.smtlib_reader.specs.ProblemViews.{ReaderView, IsReaderOf, ReadsTerm}
-use Rattle.smtlib_reader.specs.TypedTerms.{Typed}
-use Rattle.smtlib_reader.specs.Outcomes.{Outcome}
-use Rattle.smtlib_reader.specs.Scripts.{Script}
-use Rattle.smtlib_reader.specs.Terms.{read_term}
+use Rattle.text_items.specs.Lexers.{IsFirstOfItem, GoesOnWith}
+use Rattle.problem_text.specs.Names.{Place}
+use Rattle.term_reader.specs.ProblemViews.{ReaderView, IsReaderOf, ReadsTerm}
+use Rattle.problem_text.specs.TypedTerms.{Typed}
+use Rattle.problem_text.specs.Outcomes.{Outcome}
+use Rattle.problem_text.specs.Scripts.{Script}
+use Rattle.problem_text.specs.Terms.{read_term}
 use Rattle.term_names.specs.declared.faults.ReadFault.{ReadFault}
 use Rattle.carcara.specs.TermTexts.{StandsInItems, StandsAt}
 use Rattle.carcara.proofs.ItemTokens.{stands_behind}

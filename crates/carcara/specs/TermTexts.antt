@@ -5,9 +5,9 @@ use Rattle.sexpr.specs.declared.lexing.Token.{Token}
 use Rattle.sexpr.specs.Form.{HasForm}
 use Rattle.sexpr.specs.Source.{source, position}
 use Rattle.sexpr.specs.Tokens.{ReadsAs, next_token}
-use Rattle.smtlib_reader.specs.Names.{Place}
-use Rattle.smtlib_reader.specs.ProblemViews.{ReaderView, IsReaderOf}
-use Rattle.smtlib_reader.specs.Scripts.{Script}
+use Rattle.problem_text.specs.Names.{Place}
+use Rattle.term_reader.specs.ProblemViews.{ReaderView, IsReaderOf}
+use Rattle.problem_text.specs.Scripts.{Script}
 use Rattle.sym_table.specs.Table.{Table}
 use Rattle.term_pool.specs.Views.{TermsView}
 

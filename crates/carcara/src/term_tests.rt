@@ -4,8 +4,8 @@ ghost use Rattle.std.specs.Prelude.{◌≡◌, ℕ, IfOk, IfSome};
 ghost use Rattle.carcara.specs.TermTexts.{StandsInItems, StandsAt};
 ghost use Rattle.pair_pool.specs.Views.{IsKnown};
 ghost use Rattle.sexpr.specs.Source as at;
-ghost use Rattle.smtlib_reader.specs.Lexers.{IsFirstOfItem};
-ghost use Rattle.smtlib_reader.specs.Names.{Place};
+ghost use Rattle.text_items.specs.Lexers.{IsFirstOfItem};
+ghost use Rattle.problem_text.specs.Names.{Place};
 ghost use Rattle.sym_table.specs.Table.{Keeps};
 
 use pair_pool::{Pool, Ref};

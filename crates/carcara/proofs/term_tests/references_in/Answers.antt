@@ -1,4 +1,4 @@
-use Rattle.std.proofs.Common.{Result, IfOk, subst}
+use Rattle.std.proofs.Common.{IfOk, subst}
 use Rattle.carcara.specs.TermTexts.{StandsAt}
 use Rattle.carcara.proofs.term_tests.references_in.Goals as goal
 
