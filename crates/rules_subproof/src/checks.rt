@@ -33,8 +33,9 @@ fn answer(met: bool) -> Answer
 /// mode takes the premises of a let in any order and direction and leaves others unused, strict mode asks for exactly
 /// those of the bindings that differ, in order.
 ///
-/// A subproof takes no memory. A let takes some for its bindings, and for the cells of the other side of its equality,
-/// which it searches for each variable. Places no cell, and refuses want of memory alone.
+/// A subproof takes no memory. A let takes some for its bindings, in check mode for the sides of its premises, each of which
+/// it looks at once, and for the cells of the other side of its equality, which it searches once for each variable. Places
+/// no cell, and refuses want of memory alone.
 pub fn check(
     alloc: Global,
     proof: &Proof,
