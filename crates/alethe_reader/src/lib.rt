@@ -10,26 +10,26 @@
 //! answers, and the outcome of its definition).
 #![tactic(auto)]
 
-mod anchors;
 mod anchor_arguments;
+mod anchors;
 mod arguments;
 mod assuming;
 pub mod bound;
 mod formulas;
 pub mod ids;
 mod judging;
-mod needed_images;
 pub mod laws;
+mod needed_images;
 mod performing;
+mod premises;
 mod proof_reading;
+mod rules;
 mod scopes;
 pub mod session;
-mod stepping;
-mod text_reading;
-mod premises;
-mod rules;
 mod standing;
 mod step_attributes;
+mod stepping;
+mod text_reading;
 
 pub use assuming::read_assume;
 pub use ids::Ids;
