@@ -1,13 +1,17 @@
-//! The reader of proofs (Alethe), as far as it stands: what was read of a proof, and what assumes do to it.
+//! The reader of proofs (Alethe): what the text of a proof stands for behind a problem, or its first fault.
 //!
-//! What a text stands for, or which fault is its first, is defined in `alethe_text`.
+//! Both are defined in `alethe_text`.
 //!
+//! - `proof_reading`: [`read_proof`], the whole text. `text_reading`: from command to command. `performing`: what a command does.
+//! - `assuming`: assumes. `stepping`: steps, with `standing` (how a step stands by its id), `premises`, `rules`,
+//!   `step_attributes`, and `arguments` (the terms in arguments that get a name). `anchors`: anchors, with `anchor_arguments`,
+//!   `needed_images` (the images that an argument needs), `scopes` and `bound` (the variables that open anchors bind).
+//!   `formulas`: formulas in a scope. `judging`: the id of a command.
 //! - `session`: what was read of a proof. [`Ids`] has the ids of the visible commands and of the open anchors, by name, with no
-//!   copy of a scope; `laws` ties them to the proof that is written, as `rule_model` has it. `judging`: the id of a command.
-//! - `formulas`: formulas in a scope. `arguments`: the terms in arguments that get a name. `assuming`: assumes.
+//!   copy of a scope; `laws` ties them to the proof that is written, as `rule_model` has it.
 //!
-//! What a contract sees: `specs/Sessions` (which state a session stands for) and `specs/Answers` (what a part of the reader
-//! answers, and the outcome of its definition).
+//! What a contract sees: `specs/Reading` (the proof that is answered, and which terms count as read), `specs/Sessions` (which
+//! state a session stands for) and `specs/Answers` (what a part of the reader answers, and the outcome of its definition).
 #![tactic(auto)]
 
 mod anchor_arguments;
