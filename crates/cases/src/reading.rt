@@ -2,7 +2,7 @@
 
 ghost use Rattle.std.specs.Prelude.{◌≡◌, ◌≤◌, ◌-◌, length, slice_get, Some, IfSome};
 ghost use Rattle.pair_pool.specs.Views.{IsKnown};
-ghost use Rattle.smtlib_reader.specs.ProblemViews.{IsNewTable};
+ghost use Rattle.term_reader.specs.ProblemViews.{IsNewTable};
 
 use crate::case::{Measures, Reading};
 use anyhow::{Result, anyhow};
