@@ -1,7 +1,6 @@
 -- Cited by crates above. Answers of one part of the reader after another.
-use Rattle.std.proofs.Common.{◌≡◌, ℕ, Bool, true, false, Option, Some, None, Result, Ok, Err, refl, sym, ap, subst, ◌∙◌}
-use Rattle.std.specs.Prelude.{⊤, Contains}
-use Rattle.sexpr.specs.declared.causes.Cause.{Cause}
+use Rattle.std.proofs.Common.{◌≡◌, Result, Ok, Err, sym, ap, subst}
+use Rattle.std.specs.Prelude.{Contains}
 use Rattle.sexpr.specs.declared.causes.Refusal.{Refusal}
 use Rattle.sym_table.specs.Table.{Table, Keeps}
 use Rattle.term_model.specs.Terms.{Term}
@@ -11,7 +10,7 @@ use Rattle.term_names.specs.Making.{PlacesCellsOf}
 use Rattle.term_names.specs.declared.faults.ReadFault.{ReadFault}
 use Rattle.term_reader.proofs.Staying.{places_none, places_more, places_then, lacks_more}
 use Rattle.alethe_text.specs.States.{ProofState, Reading}
-use Rattle.alethe_reader.specs.Answers.{WasRead, Comes, IsAnswer, Answers, KeepsRead}
+use Rattle.alethe_reader.specs.Answers.{WasRead, IsAnswer, Answers, KeepsRead}
 
 -- a term that was read is one of the whole
 pub read_on : {A B : Type 0} (o : Outcome ProofState A) (next : A → Reading B) → ((a : A) → KeepsRead (next a)) → (x : Term) → WasRead o x → WasRead (and_then o next) x

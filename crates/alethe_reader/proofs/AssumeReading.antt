@@ -1,5 +1,5 @@
 -- What an assume comes to.
-use Rattle.std.proofs.Common.{◌≡◌, ℕ, List, [], ◌∷◌, ◌++◌, Result, Ok, Err, refl, sym, ap, subst, ◌∙◌}
+use Rattle.std.proofs.Common.{◌≡◌, ℕ, [], ◌∷◌, ◌++◌, Result, Ok, Err, refl, sym, ap, ◌∙◌}
 use Rattle.std.specs.Prelude.{⊤}
 use Rattle.sexpr.specs.declared.causes.Cause.TheVariants.{BadAnchor}
 use Rattle.sexpr.specs.declared.causes.Refusal.{Refusal}
@@ -12,19 +12,18 @@ use Rattle.rule_model.specs.Writing.{add_assume}
 use Rattle.proof_store.specs.Meaning.{assume_stands}
 use Rattle.text_items.specs.ItemShapes.{Name}
 use Rattle.problem_text.specs.Outcomes.{Outcome, given, and_then}
-use Rattle.term_names.specs.Standing.{AddsNoSymbols}
 use Rattle.term_names.specs.declared.faults.ReadFault.{ReadFault}
 use Rattle.term_reader.proofs.Staying.{adds_none, keeps_none}
 use Rattle.alethe_text.specs.Ids.{id_judged}
 use Rattle.alethe_text.specs.ProofTerms.{formula_in}
-use Rattle.alethe_text.specs.States.{ProofSettings, ProofState, Reading, ◌>>=◌, changed, seen_in}
+use Rattle.alethe_text.specs.States.{ProofSettings, ProofState, Reading, ◌>>=◌, changed}
 use Rattle.alethe_text.specs.Steps.{assume_read}
 use Rattle.alethe_reader.specs.declared.ids.Role.TheVariants.{Assume}
 use Rattle.alethe_reader.specs.declared.session.Session.{Session}
 use Rattle.alethe_reader.specs.Answers.{Answers, KeepsRead}
 use Rattle.alethe_reader.specs.IdsInUse.{in_use, ids_in}
 use Rattle.alethe_reader.specs.ReadTerms.{IsReadFormula}
-use Rattle.alethe_reader.specs.Sessions.{IsSession, IsWritten, IsBehind, StandsAfter}
+use Rattle.alethe_reader.specs.Sessions.{IsSession, IsWritten, StandsAfter}
 use Rattle.alethe_reader.proofs.Answering.{stops, goes, answers, refuses, no_memory, same_outcome}
 use Rattle.alethe_reader.proofs.IdsInUse.{ids_assume}
 use Rattle.alethe_reader.proofs.StillRead.{keeps_changed}

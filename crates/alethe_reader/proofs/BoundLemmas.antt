@@ -1,5 +1,5 @@
 -- Cited by crates above. The names and the images of the variables that open anchors bind.
-use Rattle.std.proofs.Common.{◌≡◌, ◌≢◌, ◌≤◌, ◌+◌, ◌-◌, ℕ, zero, suc, List, [], ◌∷◌, ◌++◌, map, length, take, slice_get, Bool, true, false, ◌||◌, Option, Some, None, is_some, refl, sym, ap, subst, ◌∙◌, arith}
+use Rattle.std.proofs.Common.{◌≡◌, ◌≤◌, ◌+◌, ◌-◌, ℕ, zero, suc, List, [], ◌∷◌, ◌++◌, map, length, take, slice_get, Bool, true, false, ◌||◌, Option, Some, None, is_some, refl, sym, ap, subst, ◌∙◌, arith}
 use Rattle.std.specs.Str.{bytes_eq}
 use Rattle.std.specs.List.{AllZip}
 use Rattle.std.proofs.lemmas.List.{length-append, length-map, map-append, take_at, take-map}
@@ -17,8 +17,8 @@ use Rattle.rule_model.specs.Visibility.{open_bindings}
 use Rattle.proof_store.specs.Meaning.{IsBindingOf}
 use Rattle.problem_text.specs.Words.{is_among}
 use Rattle.alethe_text.specs.Anchors.{bound_names}
-use Rattle.alethe_reader.specs.Bound.{images_in, AreApart, AreBound}
-use Rattle.alethe_reader.specs.Ids.{Used, IsUnused, IsUsedAt, IsFound}
+use Rattle.alethe_reader.specs.Bound.{images_in, AreBound}
+use Rattle.alethe_reader.specs.Ids.{Used, IsUnused, IsFound}
 use Rattle.alethe_reader.specs.declared.bound.BoundVariables.{BoundVariables}
 use Rattle.alethe_reader.specs.declared.ids.Found.{Found}
 

@@ -1,16 +1,15 @@
 -- The ids and rules of the commands of a proof's text are names of symbols.
 use Rattle.std.proofs.Common.{ℕ, List, [], ◌∷◌, Bool, true, false, Option, Some, None, Result, Ok, IfOk, if◌then◌else◌, ◌≡◌, refl, subst}
-use Rattle.std.specs.Prelude.{⊤, codes}
+use Rattle.std.specs.Prelude.{codes}
 use Rattle.std.specs.List.{AllByRecursion}
 use Rattle.std.specs.Str.{bytes_eq}
 use Rattle.sexpr.specs.declared.causes.Refusal.{Refusal}
 use Rattle.sexpr.specs.Words.{is_symbol}
 use Rattle.sexpr.specs.Items.{Item, word, quoted, string, list, Items, no_items, item, StandsForItems}
-use Rattle.rule_model.specs.RuleNames.{IsSymbolName}
 use Rattle.text_items.specs.ItemShapes.{name_at, items_of}
 use Rattle.text_items.specs.Keywords.{is_spelled}
 use Rattle.problem_text.proofs.Outcomes.{all_joined}
-use Rattle.alethe_text.specs.Commands.{Attribute, rule, premises, arguments, discharge, Command, assume, step, anchor, is_symbol_of, shaped, names_in, attribute_of, attribute_with, attributes_of, assume_shape, step_shape, anchor_shape, command_named, command_of}
+use Rattle.alethe_text.specs.Commands.{rule, premises, arguments, discharge, Command, is_symbol_of, shaped, names_in, attribute_of, attribute_with, attributes_of, assume_shape, step_shape, anchor_shape, command_named, command_of}
 use Rattle.alethe_text.specs.ProofTexts.{behind_answer, unwrapped_commands, is_list_of_commands}
 use Rattle.alethe_reader.specs.CommandNames.{HasNames, HaveNames, IsRuleNamed, IsNamed}
 use Rattle.alethe_reader.proofs.SpelledNames.{AreSpelled, text_named, name_is}

@@ -1,6 +1,6 @@
 -- The names of a text's symbols have neither a bar nor a backslash.
 use Rattle.std.proofs.Common.{◌≡◌, ◌≢◌, ◌-◌, ℕ, take, List, [], ◌∷◌, ◌++◌, Bool, true, false, Some, None, length, sym, ◌∙◌, ap, subst, arith, if◌then◌else◌, unwrap_or}
-use Rattle.std.specs.Prelude.{⊤, Ok}
+use Rattle.std.specs.Prelude.{Ok}
 use Rattle.std.specs.List.{AllByRecursion}
 use Rattle.std.proofs.Math.Seq.{take-append_seam}
 use Rattle.std.proofs.lemmas.List.{length-append}

@@ -1,6 +1,6 @@
 -- Cited by crates above. The terms that were read stay read.
-use Rattle.std.proofs.Common.{◌≡◌, ℕ, Bool, true, false, List, [], ◌∷◌, Option, Some, None, Result, Ok, Err, refl, sym, subst, find, if◌then◌else◌}
-use Rattle.std.specs.Prelude.{⊤, Contains, bytes_eq}
+use Rattle.std.proofs.Common.{◌≡◌, ℕ, Bool, true, false, List, [], ◌∷◌, Option, Some, None, Result, sym, subst, find, if◌then◌else◌}
+use Rattle.std.specs.Prelude.{Contains, bytes_eq}
 use Rattle.sexpr.specs.declared.causes.Cause.{Cause}
 use Rattle.sexpr.specs.declared.causes.Cause.TheVariants.{NoStep, SortMismatch}
 use Rattle.sexpr.specs.declared.causes.Refusal.{Refusal}
@@ -11,14 +11,11 @@ use Rattle.rule_model.specs.Scopes.{Nesting}
 use Rattle.rule_model.specs.Visibility.{Sight}
 use Rattle.text_items.specs.ItemShapes.{Name}
 use Rattle.problem_text.specs.Forms.{form_of}
-use Rattle.problem_text.specs.Outcomes.{Outcome, going_on}
-use Rattle.problem_text.specs.Scripts.{Script}
-use Rattle.problem_text.specs.Terms.{read_term}
 use Rattle.problem_text.proofs.Growing as growing
-use Rattle.alethe_text.specs.States.{ProofSettings, ProofState, Reading, ◌>>=◌, give, refuse, demand, given, found, seen_in, changed, in_script}
+use Rattle.alethe_text.specs.States.{ProofSettings, ProofState, Reading, ◌>>=◌, give, refuse, demand, given, found, seen_in, changed}
 use Rattle.alethe_text.specs.Ids.{indices_of}
 use Rattle.alethe_text.specs.ProofTerms.{place_in, term_in, formula_in, formulas_in}
-use Rattle.alethe_reader.specs.Answers.{WasRead, KeepsRead}
+use Rattle.alethe_reader.specs.Answers.{KeepsRead}
 use Rattle.alethe_reader.proofs.Answering.{read_on}
 
 pub keeps_give : {A : Type 0} (a : A) → KeepsRead (give a)

@@ -1,5 +1,5 @@
 -- Cited by crates above. The terms that were read stay read by the commands of a proof.
-use Rattle.std.proofs.Common.{◌≡◌, refl, ℕ, List, [], ◌∷◌, Option, Some, None}
+use Rattle.std.proofs.Common.{refl, ℕ, List, [], ◌∷◌, Option, Some, None}
 use Rattle.std.specs.Prelude.{⊤}
 use Rattle.std.proofs.lemmas.List.Elements.{Contains-append_left}
 use Rattle.sexpr.specs.declared.causes.Cause.{Cause}
@@ -8,13 +8,13 @@ use Rattle.term_model.specs.Terms.{Var, Term}
 use Rattle.rule_model.specs.Proofs.{Step, ProofItems as Proof}
 use Rattle.rule_model.specs.Scopes.{Nesting, outermost, inside}
 use Rattle.text_items.specs.ItemShapes.{Name, excess}
-use Rattle.problem_text.specs.Scripts.{with_term, with_let_name}
+use Rattle.problem_text.specs.Scripts.{with_term}
 use Rattle.alethe_text.specs.Anchors.{script_changed, argument_read, arguments_read, with_anchor, anchor_read}
 use Rattle.alethe_text.specs.Arguments.{is_naming, named_in, named_among, pivots_from, arguments_from}
 use Rattle.alethe_text.specs.Commands.{Attribute, rule, premises, arguments, discharge, Argument, variable_alone, assigned, Command, assume, step, anchor}
 use Rattle.alethe_text.specs.Ids.{Standing, id_judged, standing_of}
-use Rattle.alethe_text.specs.ProofTexts.{performed, commands, none_behind, closed_proof, finished}
-use Rattle.alethe_text.specs.States.{ProofSettings, ProofState, ◌>>=◌}
+use Rattle.alethe_text.specs.ProofTexts.{performed, commands, none_behind, closed_proof}
+use Rattle.alethe_text.specs.States.{ProofSettings}
 use Rattle.alethe_text.specs.Steps.{assume_read, attribute_read, attributes_read, with_step, step_read}
 use Rattle.alethe_reader.specs.Answers.{KeepsRead}
 use Rattle.alethe_reader.specs.TextReading.{closing_from, left_from}

@@ -1,9 +1,8 @@
 -- Cited by crates above. What the reader of terms answers is what a term in a scope comes to.
-use Rattle.std.proofs.Common.{◌≡◌, ℕ, Bool, true, false, List, [], ◌∷◌, Result, Ok, Err, refl, sym, ap, subst, ◌∙◌}
-use Rattle.std.specs.Prelude.{⊤}
+use Rattle.std.proofs.Common.{◌≡◌, true, false, Result, Ok, Err, refl, sym, ap, ◌∙◌}
 use Rattle.sexpr.specs.declared.causes.Cause.TheVariants.{SortMismatch}
 use Rattle.sexpr.specs.declared.causes.Refusal.{Refusal}
-use Rattle.sexpr.specs.Items.{Item, Items, no_items, item, place_of}
+use Rattle.sexpr.specs.Items.{Item, place_of}
 use Rattle.sym_table.specs.Table.{Table}
 use Rattle.term_model.specs.declared.symbols.Sort.{Sort}
 use Rattle.term_model.specs.Terms.{Var, Term, sort_eq}
@@ -19,7 +18,7 @@ use Rattle.term_reader.specs.ProblemViews.{ReaderView, ReadsValue}
 use Rattle.term_reader.proofs.Staying.{adds_none, keeps_none}
 use Rattle.alethe_text.specs.ProofTerms.{place_in, term_in, formula_in}
 use Rattle.alethe_text.specs.States.{ProofSettings, ProofState, Reading, ◌>>=◌, give, demand}
-use Rattle.alethe_reader.specs.Answers.{IsAnswer, Answers, KeepsRead}
+use Rattle.alethe_reader.specs.Answers.{Answers, KeepsRead}
 use Rattle.alethe_reader.specs.ReadTerms.{IsReadValue, IsReadFormula}
 use Rattle.alethe_reader.proofs.Answering.{stops, goes, answers, refuses}
 use Rattle.alethe_reader.proofs.StillRead.{keeps_then, keeps_demand, keeps_give}

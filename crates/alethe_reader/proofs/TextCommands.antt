@@ -1,6 +1,6 @@
 -- The commands of a proof's text, the first one after the other.
 use Rattle.std.proofs.Common.{◌≡◌, refl, sym, ◌∙◌, ap, subst, ℕ, List, length, Bool, true, false, Result, Ok, Err}
-use Rattle.std.specs.Prelude.{⊤, Contains}
+use Rattle.std.specs.Prelude.{⊤}
 use Rattle.sexpr.specs.declared.causes.Refusal.{Refusal}
 use Rattle.sexpr.specs.Items.{Item, Items, no_items, item}
 use Rattle.sym_table.specs.Table.{Table}
@@ -9,7 +9,7 @@ use Rattle.term_pool.specs.Views.{TermsView}
 use Rattle.rule_model.specs.Proofs.{ProofItems as Proof}
 use Rattle.text_items.specs.Nodes.{IsNode}
 use Rattle.text_items.specs.declared.nodes.Node.{Node}
-use Rattle.problem_text.specs.Outcomes.{Outcome, done, going_on, and_then}
+use Rattle.problem_text.specs.Outcomes.{Outcome, going_on, and_then}
 use Rattle.term_names.specs.declared.faults.ReadFault.{ReadFault}
 use Rattle.term_reader.proofs.Staying.{places_none, places_more}
 use Rattle.alethe_text.specs.Commands.{Command, command_of}

@@ -1,6 +1,5 @@
 -- The commands of a proof's text, until none is left.
-use Rattle.std.proofs.Common.{◌≡◌, ◌≤◌, ◌+◌, refl, ◌∙◌, ap, arith, length, Bool, true, false, Ok, Err}
-use Rattle.std.specs.Prelude.{⊤}
+use Rattle.std.proofs.Common.{◌≡◌, ◌≤◌, refl, ◌∙◌, ap, arith, length, Bool, true, false, Ok, Err}
 use Rattle.sexpr.specs.declared.lexing.Lexer.{Lexer}
 use Rattle.sexpr.specs.Source.{source, position}
 use Rattle.sym_table.specs.Table.{Table}

@@ -1,22 +1,19 @@
 -- Cited by crates above. What is written of a proof stands for the same as the table and the pool grow, and has the ids of the
 -- proof over terms.
-use Rattle.std.proofs.Common.{◌≡◌, ℕ, List, [], ◌∷◌, ◌++◌, length, map, refl, sym, ap, subst, ◌∙◌, suc, ◌+◌}
+use Rattle.std.proofs.Common.{◌≡◌, ℕ, List, [], ◌∷◌, refl, ◌∙◌}
 use Rattle.std.specs.List.{AllZip}
 use Rattle.sym_table.specs.Table.{Table, Keeps}
 use Rattle.term_model.specs.Terms.{Var, Term}
-use Rattle.term_pool.specs.Views.{TermsView, RefersTo, KeepsTerms}
-use Rattle.rule_model.specs.Proofs.{Step as ProofStep, ProofItems, no_items, with_assume, with_step, with_subproof}
-use Rattle.rule_model.specs.Scopes.{Nesting, outermost, inside, Scope, at, first_index, scope_number, commands_in, subproofs_in}
-use Rattle.proof_store.specs.Meaning.{IsBindingOf, IsStepOf, StandForItems, no_items_stand, assume_stands, step_stands, subproof_stands}
+use Rattle.term_pool.specs.Views.{TermsView, KeepsTerms}
+use Rattle.rule_model.specs.Proofs.{ProofItems, with_assume, with_step, with_subproof}
+use Rattle.rule_model.specs.Scopes.{Nesting, outermost, inside, Scope, first_index, scope_number, commands_in}
+use Rattle.proof_store.specs.Meaning.{IsBindingOf, StandForItems, no_items_stand, assume_stands, step_stands, subproof_stands}
 use Rattle.term_reader.proofs.Staying.{refers_stays}
 use Rattle.alethe_text.specs.States.{ProofState}
-use Rattle.alethe_reader.specs.declared.ids.Role.{Role}
-use Rattle.alethe_reader.specs.declared.ids.Role.TheVariants.{Assume, Step, Anchor}
 use Rattle.alethe_reader.specs.declared.session.Session.{Session}
 use Rattle.alethe_reader.specs.Bound.{AreBound, images_in}
 use Rattle.alethe_reader.specs.declared.bound.BoundVariables.{BoundVariables}
-use Rattle.alethe_reader.specs.Ids.{Used}
-use Rattle.alethe_reader.specs.IdsInUse.{in_use, own_ids, ids_around, ids_in}
+use Rattle.alethe_reader.specs.IdsInUse.{own_ids, ids_around, ids_in}
 use Rattle.alethe_reader.specs.Sessions.{StandForNesting, IsWritten}
 use Rattle.alethe_reader.proofs.StoredItems.{commands_same, subproofs_same, items_stay}
 

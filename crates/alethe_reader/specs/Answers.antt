@@ -1,5 +1,5 @@
 -- Public. What a part of the reader answers, and the outcome of its definition.
-use Rattle.std.specs.Prelude.{◌≡◌, ⊤, Contains, Result, Ok, Err}
+use Rattle.std.specs.Prelude.{◌≡◌, Contains, Result, Ok, Err}
 use Rattle.pair_pool.specs.Views.{PassView}
 use Rattle.sym_table.specs.Table.{Table}
 use Rattle.term_model.specs.Terms.{Term}

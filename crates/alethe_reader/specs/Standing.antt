@@ -1,8 +1,8 @@
 -- Private. How a step stands by its id.
-use Rattle.std.specs.Prelude.{◌≡◌, ℕ, Bool, true, false, List, length, take, Option, Some, None, Result, Ok, Err}
+use Rattle.std.specs.Prelude.{◌≡◌, ℕ, true, false, List, length, take, Option, Some, None, Result, Ok, Err}
 use Rattle.sexpr.specs.declared.causes.Refusal.{Refusal}
 use Rattle.term_model.specs.Terms.{Var, Term}
-use Rattle.rule_model.specs.Scopes.{Nesting, outermost, inside, at, own_bindings}
+use Rattle.rule_model.specs.Scopes.{Nesting, outermost, inside, at}
 use Rattle.rule_model.specs.WellFormed.{IsNewId}
 use Rattle.rule_model.specs.Writing.{is_open_id}
 use Rattle.text_items.specs.ItemShapes.{Name}

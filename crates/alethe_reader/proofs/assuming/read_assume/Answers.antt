@@ -1,5 +1,5 @@
 -- The id, then the formula, and what is added.
-use Rattle.std.proofs.Common.{refl, sym, ◌∙◌, ap, subst, Ok, Err, ◌∷◌, [], ◌++◌, ◌≡◌, List, ℕ}
+use Rattle.std.proofs.Common.{refl, sym, ◌∙◌, ap, subst, Ok, Err, ◌∷◌, [], ◌++◌, ◌≡◌}
 use Rattle.std.proofs.lemmas.Result.{err_from_is_err_and}
 use Rattle.sexpr.specs.declared.causes.Cause.TheVariants.{BadAnchor}
 use Rattle.rule_model.specs.RuleNames.{IsSymbolName}
