@@ -126,12 +126,7 @@ fn repeat(text: &mut Vec<u8>, bytes: &[u8], count: u32) -> Result<(), Fault> {
 }
 
 // Adds the bytes once for each number: `%` stands for the number, and `~` for the one above it.
-fn number(
-    alloc: Global,
-    text: &mut Vec<u8>,
-    bytes: &[u8],
-    numbers: Numbers,
-) -> Result<(), Fault> {
+fn number(alloc: Global, text: &mut Vec<u8>, bytes: &[u8], numbers: Numbers) -> Result<(), Fault> {
     let mut number = 0u32;
     for _ in 0..numbers.count {
         add_numbered(alloc, text, bytes, number)?;
@@ -143,12 +138,7 @@ fn number(
     Ok(())
 }
 
-fn add_numbered(
-    alloc: Global,
-    text: &mut Vec<u8>,
-    bytes: &[u8],
-    number: u32,
-) -> Result<(), Fault> {
+fn add_numbered(alloc: Global, text: &mut Vec<u8>, bytes: &[u8], number: u32) -> Result<(), Fault> {
     let above = number.saturating_add(1);
     for byte in bytes {
         match *byte {
