@@ -1,5 +1,5 @@
 -- What the clausal rules ask of premises.
-use Rattle.std.proofs.Common.{◌≡◌, List, [], ◌∷◌, true, refl}
+use Rattle.std.proofs.Common.{◌≡◌, List, ◌∷◌, true, refl}
 use Rattle.term_model.specs.Terms.{Term}
 use Rattle.rule_model.specs.declared.rules.Rule.{Rule}
 use Rattle.rule_model.specs.Clausal.{schema_of, Begins, IsOnlyPremise, Changes, MeetsClausal}

@@ -1,6 +1,5 @@
 -- An instance of one of some schemas, which are tried one after the other.
-use Rattle.std.proofs.Common.{◌≡◌, ◌↔◌, ◌<◌, ◌≤◌, ◌+◌, ℕ, zero, suc, inl, inr, List, [], ◌∷◌, length, drop, get_or, Bool, true, false, IsTrue, refl, sym, ap, subst, arith, add-one, drop-cons}
-use Rattle.std.proofs.lemmas.List.{drop_all}
+use Rattle.std.proofs.Common.{◌≡◌, ◌↔◌, ◌<◌, ◌≤◌, ◌+◌, ℕ, zero, suc, inl, inr, List, [], ◌∷◌, length, drop, get_or, Bool, true, false, IsTrue, refl, sym, subst, arith, add-one}
 use Rattle.term_model.specs.Terms.{Term}
 use Rattle.rule_model.specs.Schemas.{Schema, IsInstance}
 use Rattle.schema_match.specs.declared.instances.SchemaParts.{SchemaParts}

@@ -3,8 +3,8 @@ use Rattle.std.specs.Option.{is_some}
 use Rattle.rule_model.specs.Judged.{judged_at}
 use Rattle.rule_model.specs.Reading.{rule_at}
 use Rattle.rule_model.specs.Clausal.{MeetsClausal}
-use Rattle.schema_match.proofs.StepAnswers.{met_at, condition_met, closing_is_not_met}
-use Rattle.rules_clausal.proofs.CheckAnswers.{case_of, closes_nothing}
+use Rattle.schema_match.proofs.StepAnswers.{met_at, condition_met}
+use Rattle.rules_clausal.proofs.CheckAnswers.{case_of}
 use Rattle.rules_clausal.proofs.checks.check.Goals as goal
 
 pub returns-then-branch-clause-met : goal.returns-then-branch-clause-met
