@@ -6,11 +6,11 @@ use Rattle.std.proofs.lemmas.List.{take_more, take_all, map-append, get_or-map}
 use Rattle.sym_table.specs.Table.{Table}
 use Rattle.term_model.specs.Terms.{Term, numeral}
 use Rattle.term_pool.specs.Views.{TermsView, RefersTo, ReferToAll}
-use Rattle.rules_clausal.specs.declared.signs.Sign.{Sign}
+use Rattle.schema_match.specs.declared.signs.Sign.{Sign}
 use Rattle.rules_clausal.specs.ArgumentRules.{IsOneOf}
-use Rattle.rules_clausal.specs.Signs.{sign_of, IsSigned}
-use Rattle.rules_clausal.proofs.ArgumentLemmas.{one_term}
-use Rattle.rules_clausal.proofs.ReferLemmas.{AreOne, contains_terms, contains_references, refer_length, refer_at}
+use Rattle.schema_match.specs.Signs.{sign_of, IsSigned}
+use Rattle.schema_match.proofs.ArgumentLemmas.{one_term}
+use Rattle.schema_match.proofs.ReferLemmas.{AreOne, contains_terms, contains_references, refer_length, refer_at}
 
 module _ (s : Table) (v : TermsView) (sign : Sign) (arguments literals : List ℕ) (us ts : List Term) (refer_arguments : ReferToAll s v arguments us) (refer_literals : ReferToAll s v literals ts) where
   -- there are two literals or more, or none

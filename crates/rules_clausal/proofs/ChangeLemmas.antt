@@ -10,8 +10,8 @@ use Rattle.term_model.specs.Terms.{Term, numeral}
 use Rattle.term_pool.specs.Views.{TermsView, RefersTo, ReferToAll}
 use Rattle.rule_model.specs.Clausal.{Changes, HasEach, HasEachOnce}
 use Rattle.rules_clausal.specs.Sorting.{HasAllOnce}
-use Rattle.rules_clausal.specs.Steps.{ReferToClauses}
-use Rattle.rules_clausal.proofs.ReferLemmas.{AreOne, contains_terms, contains_references, refer_length, refer_at}
+use Rattle.schema_match.specs.Steps.{ReferToClauses}
+use Rattle.schema_match.proofs.ReferLemmas.{AreOne, contains_terms, contains_references, refer_length, refer_at}
 
 abbrev some_term : Term
 some_term = numeral 0

@@ -1,22 +1,23 @@
 -- What rules over arguments ask.
-use Rattle.std.proofs.Common.{◌≡◌, ◌≢◌, ◌↔◌, ◌∷◌, [], List, ℕ, map, length, Bool, false, IsTrue, Contains, All, refl, sym, ◌∙◌, ap, subst}
-use Rattle.std.proofs.lemmas.List.Elements.{All-head}
+use Rattle.std.proofs.Common.{◌≡◌, ◌≢◌, ◌↔◌, ◌∷◌, [], List, ℕ, map, length, Bool, false, IsTrue, Contains, refl, sym, ◌∙◌, ap, subst}
 use Rattle.std.specs.Borrow.{Bor}
 use Rattle.sym_table.specs.Table.{Table}
 use Rattle.term_model.specs.declared.symbols.Op.{Op}
 use Rattle.term_model.specs.Terms.{Term, Terms, operation, list_of, terms_of}
-use Rattle.term_pool.specs.Views.{TermsView, RefersTo, ReferToAll, IsTerm}
+use Rattle.term_pool.specs.Views.{TermsView, RefersTo, ReferToAll}
 use Rattle.rule_model.specs.Clausal.{Begins, IsOnlyPremise}
 use Rattle.rule_model.proofs.ArgumentLists.{list_of-terms_of}
 use Rattle.rule_model.proofs.Lists.{contains_none}
 use Rattle.rules_clausal.specs.declared.argument_rules.Which.{Which}
-use Rattle.rules_clausal.specs.declared.signs.Sign.{Sign}
-use Rattle.rules_clausal.specs.ArgumentRules.{Gives, HasArguments, HasNoArguments, IsOneOf}
-use Rattle.rules_clausal.specs.Premises.{IsOneUnit, IsNoUnit}
-use Rattle.rules_clausal.specs.Signs.{sign_of}
-use Rattle.rules_clausal.specs.Steps.{ReferToClauses}
-use Rattle.rules_clausal.proofs.ArgumentLemmas.{one_term}
-use Rattle.rules_clausal.proofs.ReferLemmas.{refer_length}
+use Rattle.schema_match.specs.declared.signs.Sign.{Sign}
+use Rattle.rules_clausal.specs.ArgumentRules.{Gives, IsOneOf}
+use Rattle.schema_match.specs.Arguments.{HasArguments, HasNoArguments}
+use Rattle.schema_match.specs.Premises.{IsOneUnit, IsNoUnit}
+use Rattle.schema_match.specs.Signs.{sign_of}
+use Rattle.schema_match.specs.Steps.{ReferToClauses}
+use Rattle.schema_match.proofs.ArgumentLemmas.{one_term}
+use Rattle.schema_match.proofs.PremiseLemmas.{no_premises, some_premises, unit_term, no_unit}
+use Rattle.schema_match.proofs.ReferLemmas.{refer_length}
 
 same_terms : (op : Op) (us ws : Terms) → operation op us ≡ operation op ws → us ≡ ws
 same_terms op us ws e = cc
@@ -56,65 +57,13 @@ gives_all s v op sign each t ts items b h test = (
   λ g. test.1 (g.rest_is ∙ ap (map (sign_of each)) (sym (same_arguments op sign (h.first ∷ h.others) (g.first ∷ g.others) (sym h.is ∙ g.whole_is)))),
 )
 
--- the premises' references and clauses
 module _ (s : Table) (v : TermsView) where
-  pub no_premises : (premises : List (Bor (List ℕ))) (ps : List (List Term)) → length premises ≡ 0 → ReferToClauses s v premises ps → ps ≡ []
-  no_premises [] [] e h = refl
-  no_premises [] (p ∷ ps) e h = absurd h
-  no_premises (q ∷ premises) ps e h = absurd cc
-
-  pub some_premises : (premises : List (Bor (List ℕ))) (ps : List (List Term)) → length premises ≢ 0 → ReferToClauses s v premises ps → ps ≢ []
-  some_premises [] ps some h e = some refl
-  some_premises (q ∷ premises) [] some h e = h
-  some_premises (q ∷ premises) (p ∷ ps) some h e = cc
-
-  inner : (q : List ℕ) (r : ℕ) (p : List Term) → q ≡ r ∷ [] → ReferToAll s v q p → (t : Term) × (p ≡ t ∷ []) × RefersTo s v r t
-  inner q r [] e h = absurd (subst (λ rs. ReferToAll s v rs []) e h)
-  inner q r (t ∷ []) e h = (t, refl, (subst (λ rs. ReferToAll s v rs (t ∷ [])) e h).0)
-  inner q r (t ∷ u ∷ p) e h = absurd (subst (λ rs. ReferToAll s v rs (t ∷ u ∷ p)) e h).1
-
-  pub unit_term : (premises : List (Bor (List ℕ))) (r : ℕ) (ps : List (List Term)) → IsOneUnit premises r → ReferToClauses s v premises ps → (t : Term) × (ps ≡ (t ∷ []) ∷ []) × RefersTo s v r t
-  unit_term [] r ps e h = absurd cc
-  unit_term (q ∷ []) r [] e h = absurd h
-  unit_term (q ∷ []) r (p ∷ []) e h = go (inner q.now r p (first_is e) h.0)
-    where
-      first_is : q.now ∷ [] ≡ (r ∷ []) ∷ [] → q.now ≡ r ∷ []
-      first_is e = cc
-
-      go : ((t : Term) × (p ≡ t ∷ []) × RefersTo s v r t) → (t : Term) × (p ∷ [] ≡ (t ∷ []) ∷ []) × RefersTo s v r t
-      go (t, same, refers) = (t, ap (λ x. x ∷ []) same, refers)
-  unit_term (q ∷ []) r (p ∷ x ∷ ps) e h = absurd h.1
-  unit_term (q ∷ x ∷ premises) r ps e h = absurd cc
-
-  pub unit_is_term : (premises : List (Bor (List ℕ))) (r : ℕ) → IsOneUnit premises r → All (λ p. All (IsTerm s v) p.now) premises → IsTerm s v r
-  unit_is_term [] r e h = absurd cc
-  unit_is_term (q ∷ []) r e h = All-head (IsTerm s v) r [] (subst (All (IsTerm s v)) (first_is e) (All-head (λ p. All (IsTerm s v) p.now) q [] h))
-    where
-      first_is : q.now ∷ [] ≡ (r ∷ []) ∷ [] → q.now ≡ r ∷ []
-      first_is e = cc
-  unit_is_term (q ∷ x ∷ premises) r e h = absurd cc
-
-  pub no_unit : (premises : List (Bor (List ℕ))) (ps : List (List Term)) (t : Term) → IsNoUnit premises → ReferToClauses s v premises ps → ps ≢ (t ∷ []) ∷ []
-  no_unit [] ps t none h e = absurd (let no_clause = no_premises [] ps refl h in cc)
-  no_unit (q ∷ premises) [] t none h e = h
-  no_unit (q ∷ []) (p ∷ ps) t none h e = one_literal q.now p (first_clause e) h.0 (λ r same. none r (ap (λ x. x ∷ []) same))
-    where
-      first_clause : p ∷ ps ≡ (t ∷ []) ∷ [] → p ≡ t ∷ []
-      first_clause e = cc
-
-      one_literal : (rs : List ℕ) (p : List Term) → p ≡ t ∷ [] → ReferToAll s v rs p → ((r : ℕ) → rs ≢ r ∷ []) → ⊥
-      one_literal [] p e h none = absurd (subst (ReferToAll s v []) e h)
-      one_literal (r ∷ []) p e h none = none r refl
-      one_literal (r ∷ x ∷ rs) p e h none = absurd (subst (ReferToAll s v (r ∷ x ∷ rs)) e h).1
-  no_unit (q ∷ x ∷ premises) (p ∷ []) t none h e = h.1
-  no_unit (q ∷ x ∷ premises) (p ∷ y ∷ ps) t none h e = absurd cc
-
   module _ (G : Term → List Term → Type 0) (premises : List (Bor (List ℕ))) (clause : List ℕ) (ps : List (List Term)) (ts : List Term) (premises_are : ReferToClauses s v premises ps) (clause_is : ReferToAll s v clause ts) where
     pub no_literal : length clause ≡ 0 → IsTrue false ↔ Begins G ps ts
     no_literal e = (λ f. absurd cc, λ b. absurd (let count = refer_length s v clause ts clause_is in let some = ap length b.literals in cc))
 
     pub with_premises : length premises ≢ 0 → IsTrue false ↔ Begins G ps ts
-    with_premises some = (λ f. absurd cc, λ b. absurd (some_premises premises ps some premises_are b.none))
+    with_premises some = (λ f. absurd cc, λ b. absurd (some_premises s v premises ps some premises_are b.none))
 
     pub begins_is : (r : ℕ) (rest : List ℕ) (b : Bool) → clause ≡ r ∷ rest → length premises ≡ 0 → ((t : Term) (us : List Term) → RefersTo s v r t → ReferToAll s v rest us → IsTrue b ↔ G t us) → IsTrue b ↔ Begins G ps ts
     begins_is r rest b is empty test = go ts (subst (λ rs. ReferToAll s v rs ts) is clause_is)
@@ -122,7 +71,7 @@ module _ (s : Table) (v : TermsView) where
         go : (xs : List Term) → ReferToAll s v (r ∷ rest) xs → IsTrue b ↔ Begins G ps xs
         go [] h = absurd h
         go (t ∷ us) h = (
-          λ e. record { whole = t; rest = us; none = no_premises premises ps empty premises_are; literals = refl; given = (test t us h.0 h.1).0 e },
+          λ e. record { whole = t; rest = us; none = no_premises s v premises ps empty premises_are; literals = refl; given = (test t us h.0 h.1).0 e },
           λ begins.
               (let first : t ≡ begins.whole = (let e = begins.literals in cc) in
               let others : us ≡ begins.rest = (let e = begins.literals in cc) in
@@ -130,10 +79,10 @@ module _ (s : Table) (v : TermsView) where
         )
 
     pub not_given : IsNoUnit premises → IsTrue false ↔ IsOnlyPremise G ps ts
-    not_given none = (λ f. absurd cc, λ g. absurd (no_unit premises ps g.whole none premises_are g.unit))
+    not_given none = (λ f. absurd cc, λ g. absurd (no_unit s v premises ps g.whole none premises_are g.unit))
 
     pub given_is : (r : ℕ) (b : Bool) → IsOneUnit premises r → ((t : Term) (us : List Term) → RefersTo s v r t → ReferToAll s v clause us → IsTrue b ↔ G t us) → IsTrue b ↔ IsOnlyPremise G ps ts
-    given_is r b is test = go (unit_term premises r ps is premises_are)
+    given_is r b is test = go (unit_term s v premises r ps is premises_are)
       where
         go : ((t : Term) × (ps ≡ (t ∷ []) ∷ []) × RefersTo s v r t) → IsTrue b ↔ IsOnlyPremise G ps ts
         go (t, same, refers) = (

@@ -1,17 +1,7 @@
-pub mod Counts
-pub mod OverLemmas
-pub mod ReferLemmas
-pub mod Steps
-pub mod Shapes
-pub mod Loops
-pub mod ArgumentCells
-pub mod StackLemmas
 pub mod SortingLemmas
 pub mod ChangeLemmas
 pub mod CheckLemmas
 pub mod CheckAnswers
 pub mod OppositeLemmas
-pub mod ArgumentLemmas
 pub mod ArgumentAnswers
 pub mod GivesLemmas
-pub mod InstanceLemmas

@@ -8,15 +8,15 @@ use Rattle.term_model.specs.declared.symbols.Op.{Op}
 use Rattle.term_model.specs.Terms.{Term, numeral, operation, no_terms, not_of}
 use Rattle.term_pool.specs.Views.{TermsView, RefersTo, ReferToAll}
 use Rattle.rule_model.specs.Clausal.{IsTautology}
-use Rattle.rules_clausal.specs.declared.signs.Sign.TheVariants.{Negation}
+use Rattle.schema_match.specs.declared.signs.Sign.TheVariants.{Negation}
 use Rattle.rules_clausal.specs.Changes.{HasOpposites, NegatesOne}
-use Rattle.rules_clausal.specs.Over.{IsOver}
-use Rattle.rules_clausal.specs.Signs.{IsSigned}
+use Rattle.term_parts.specs.Parts.{IsOver}
+use Rattle.schema_match.specs.Signs.{IsSigned}
 use Rattle.rules_clausal.specs.Sorting.{IsInOrder}
-use Rattle.rules_clausal.proofs.ArgumentLemmas.{one_term}
-use Rattle.rules_clausal.proofs.Counts.{none}
-use Rattle.rules_clausal.proofs.OverLemmas.{over_term}
-use Rattle.rules_clausal.proofs.ReferLemmas.{AreOne, contains_terms, contains_references, refer_length, refer_at}
+use Rattle.schema_match.proofs.ArgumentLemmas.{one_term}
+use Rattle.schema_match.proofs.Counts.{none}
+use Rattle.schema_match.proofs.OverLemmas.{over_term}
+use Rattle.schema_match.proofs.ReferLemmas.{AreOne, contains_terms, contains_references, refer_length, refer_at}
 
 abbrev some_term : Term
 some_term = numeral 0

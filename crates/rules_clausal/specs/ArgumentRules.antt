@@ -1,16 +1,14 @@
 -- Private. The rules over the arguments of `and` and `or`.
-use Rattle.std.specs.Prelude.{◌≡◌, ◌≢◌, ◌↔◌, ℕ, Bool, true, false, List, [], ◌∷◌, Contains, Option, Some, None}
-use Rattle.sym_table.specs.Table.{Table}
+use Rattle.std.specs.Prelude.{◌≡◌, ◌↔◌, Bool, true, false, List, [], ◌∷◌, Contains, Option, Some, None}
 use Rattle.term_model.specs.declared.symbols.Op.{Op}
-use Rattle.term_model.specs.Terms.{Term, operation, terms_of}
-use Rattle.term_pool.specs.Views.{TermsView, ReferToAll}
+use Rattle.term_model.specs.Terms.{Term}
 use Rattle.rule_model.specs.declared.rules.Rule.{Rule}
 use Rattle.rule_model.specs.Clausal.{GivesOne, GivesAll, Begins, IsOnlyPremise, MeetsClausal}
 use Rattle.rules_clausal.specs.declared.argument_rules.ArgumentRule.{ArgumentRule}
 use Rattle.rules_clausal.specs.declared.argument_rules.Place.{Place}
 use Rattle.rules_clausal.specs.declared.argument_rules.Which.{Which}
-use Rattle.rules_clausal.specs.declared.signs.Sign.{Sign}
-use Rattle.rules_clausal.specs.Signs.{sign_of}
+use Rattle.schema_match.specs.declared.signs.Sign.{Sign}
+use Rattle.schema_match.specs.Signs.{sign_of}
 
 -- what the application and the other literals have to be
 abbrev pub Gives : Which → Op → Sign → Sign → Term → List Term → Type 0
@@ -42,17 +40,6 @@ abbrev pub HasCondition : Rule → Option ArgumentRule → Type 0
 HasCondition rule (Some row) =
     (premises : List (List Term)) (clause : List Term) → MeetsClausal rule premises clause ↔ Asks row premises clause
 HasCondition rule None = is_over_arguments rule ≡ false
-
--- the literal is the application with a sign, and the references are those of its arguments
-pub record HasArguments (s : Table) (v : TermsView) (op : Op) (sign : Sign) (literal : Term) (items : List ℕ) : Type 0 where
-  pub first : Term
-  pub others : List Term
-  pub is : literal ≡ sign_of sign (operation op (terms_of (first ∷ others)))
-  pub refer : ReferToAll s v items (first ∷ others)
-
-abbrev pub HasNoArguments : Op → Sign → Term → Type 0
-HasNoArguments op sign literal =
-    (first : Term) (others : List Term) → literal ≢ sign_of sign (operation op (terms_of (first ∷ others)))
 
 -- one of the terms, with a sign
 pub record IsOneOf (sign : Sign) (terms literals : List Term) : Type 0 where

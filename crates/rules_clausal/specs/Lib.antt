@@ -1,13 +1,3 @@
-pub mod Steps
-pub mod Matching
-pub mod Letters
-pub mod Over
-pub mod Arguments
-pub mod Stack
-pub mod Reads
-pub mod Schemas
-pub mod Signs
-pub mod Premises
 pub mod ArgumentRules
 pub mod Sorting
 pub mod Changes

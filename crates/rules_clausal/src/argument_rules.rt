@@ -1,23 +1,18 @@
 //! The rules over the arguments of `and` and `or`.
 
 ghost use Rattle.std.specs.Prelude.{◌≡◌, ◌↔◌, List, All, IsTrue, IfOk, map, Some};
-ghost use Rattle.std.specs.Bool.{OnTrue, OnFalse};
 ghost use Rattle.term_model.specs.Terms.{Term};
 ghost use Rattle.term_pool.specs.Views.{IsTerm, RefersTo, ReferToAll};
-ghost use Rattle.rules_clausal.specs.ArgumentRules.{Asks, Gives, HasCondition, HasArguments, HasNoArguments, IsOneOf};
-ghost use Rattle.rules_clausal.specs.Signs.{sign_of};
-ghost use Rattle.rules_clausal.specs.Steps.{ReferToClauses};
+ghost use Rattle.rules_clausal.specs.ArgumentRules.{Asks, Gives, HasCondition, IsOneOf};
+ghost use Rattle.schema_match.specs.Signs.{sign_of};
+ghost use Rattle.schema_match.specs.Steps.{ReferToClauses};
 
 use crate::argument_rules::Place::{Begins, Given};
 use crate::argument_rules::Which::{All, One};
-use crate::arguments::read_arguments;
-use crate::over::over;
-use crate::premises::unit;
-use crate::scratch::{Scratch, Slot, slot_of};
-use crate::signs::Sign::{self, Itself, Negation};
-use crate::signs::unsigned;
 use pair_pool::{Memory, Ref};
 use rule_model::Rule;
+use schema_match::Sign::{self, Itself, Negation};
+use schema_match::{Scratch, Slot, load_arguments, slot_of, unit, unsigned};
 use sym_table::Symbols;
 use term_model::Op;
 use term_pool::Terms;
@@ -60,33 +55,6 @@ pub(crate) fn argument_rule(rule: Rule) -> Option<ArgumentRule>
         Rule::NotAnd => Some(ArgumentRule(Given, All, Op::And, Negation, Negation)), // not_and
         _ => None,
     }
-}
-
-/// Whether a literal is an application of an operator to one argument or more, with a sign. Where it is, only its
-/// arguments are in the list afterwards, in order.
-fn load(
-    symbols: &Symbols,
-    terms: &mut Terms<'_>,
-    op: Op,
-    sign: Sign,
-    literal: Ref,
-    arguments: &mut Scratch,
-) -> Result<bool, Memory>
-    requires { IsTerm symbols.now terms.old literal }
-    ensures loaded { IfOk result (λ yes. OnTrue yes ((t : Term) → RefersTo symbols.now terms.old literal t →
-        HasArguments symbols.now terms.old op sign t arguments.new.items)) }
-    ensures other { IfOk result (λ yes. OnFalse yes ((t : Term) → RefersTo symbols.now terms.old literal t → HasNoArguments op sign t)) }
-    ensures same { terms.new ≡ terms.old }
-{
-    let Some(whole) = unsigned(symbols, terms, sign, literal) else {
-        return Ok(false);
-    };
-    let count = over(symbols, terms, op, whole).unwrap_or(0);
-    if count == 0 {
-        return Ok(false);
-    }
-    read_arguments(terms, whole, count, arguments)?;
-    Ok(true)
 }
 
 /// Whether the literals are one of the arguments, with a sign.
@@ -155,7 +123,7 @@ fn gives(
     ensures same { terms.new ≡ terms.old }
 {
     let ArgumentRule(_, which, op, sign, each) = row;
-    if !load(symbols, terms, op, sign, whole, arguments)? {
+    if !load_arguments(symbols, terms, op, sign, whole, arguments)? {
         return Ok(false);
     }
     match which {

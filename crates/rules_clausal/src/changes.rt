@@ -7,14 +7,12 @@ ghost use Rattle.term_pool.specs.Views.{IsTerm, RefersTo, ReferToAll};
 ghost use Rattle.rule_model.specs.Clausal.{Changes, IsTautology};
 ghost use Rattle.rules_clausal.specs.Changes.{HasOpposites, IsChangeOf, NegatesOne, relation_of};
 ghost use Rattle.rules_clausal.specs.Sorting.{HasAllOnce, IsInOrder};
-ghost use Rattle.rules_clausal.specs.Steps.{ReferToClauses};
+ghost use Rattle.schema_match.specs.Steps.{ReferToClauses};
 
-use crate::over::over;
-use crate::scratch::Slot;
-use crate::signs::under_not;
 use crate::sorting::{has, has_each, has_no_repeat, sorted};
 use pair_pool::{Memory, Ref};
 use rule_model::Rule;
+use schema_match::{Slot, over, under_not};
 use std::alloc::Global;
 use sym_table::Symbols;
 use term_model::Op;

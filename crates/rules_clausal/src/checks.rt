@@ -12,17 +12,16 @@ ghost use Rattle.proof_store.specs.Checks.{KeepsTruthAt, StandForSome};
 ghost use Rattle.proof_store.specs.Meaning.{StandForItems};
 ghost use Rattle.proof_store.specs.declared.answers.Answer.TheVariants as Answer;
 ghost use Rattle.proof_store.specs.declared.answers.RuleStop.TheVariants as RuleStop;
-ghost use Rattle.rules_clausal.specs.Steps.{MeetsAt, ReferToClauses};
+ghost use Rattle.schema_match.specs.Steps.{MeetAt, ReferToClauses};
 
 use crate::argument_rules::{argument_rule, meets_argument_rule};
 use crate::changes::{change_of, meets_change};
-use crate::instances::is_instance;
 use crate::schemas::schema;
-use crate::scratch::Scratch;
 use pair_pool::{Memory, Ref};
 use proof_store::{Answer, Proof, RuleStop, commands_correspond, terms_correspond};
 use rule_model::laws::conditions::conditions_keep_truth;
 use rule_model::{Mode, Rule};
+use schema_match::{Scratch, is_instance};
 use smallvec::SmallVec;
 use std::alloc::Global;
 use sym_table::Symbols;
@@ -67,7 +66,7 @@ fn meets_at(
 ) -> Result<bool, Memory>
     requires index { i < commands_in proof.now }
     requires stand { StandForSome symbols.now terms.old proof.now }
-    ensures meets { IfOk result (λ yes. (of : ProofItems Var Term) → StandForItems symbols.now terms.old proof.now of → IsTrue yes ↔ MeetsAt of i) }
+    ensures meets { IfOk result (λ yes. (of : ProofItems Var Term) → StandForItems symbols.now terms.old proof.now of → IsTrue yes ↔ MeetAt MeetsClausal of i) }
     ensures same { terms.new ≡ terms.old }
 {
     commands_correspond();

@@ -5,19 +5,9 @@
 #![tactic(auto)]
 
 mod argument_rules;
-mod arguments;
 mod changes;
 mod checks;
-mod instances;
-mod letters;
-mod matching;
-mod over;
-mod part;
-mod premises;
 mod schemas;
-mod scratch;
-mod signs;
 mod sorting;
-mod stack;
 
 pub use checks::check;

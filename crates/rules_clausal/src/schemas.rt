@@ -1,20 +1,11 @@
 //! The schemas of the clausal rules, in prefix order.
 
 ghost use Rattle.rule_model.specs.Clausal.{schema_of};
-ghost use Rattle.rules_clausal.specs.Schemas.{AreSchemaParts};
+ghost use Rattle.schema_match.specs.Schemas.{AreSchemaParts};
 
-use crate::part::Part;
 use rule_model::{Letter, Rule};
+use schema_match::{Part, SchemaParts};
 use term_model::Op;
-
-/// The parts of a schema: of its clause, or of its premise and then its clause.
-#[derive(Clone, Copy)]
-pub(crate) enum SchemaParts {
-    /// A rule without premises.
-    Tautology(&'static [Part]),
-    /// A rule with one premise, which is a unit clause.
-    From(&'static [Part]),
-}
 
 const A: Part = Part::Any(Letter::A);
 

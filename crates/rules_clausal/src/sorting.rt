@@ -4,8 +4,8 @@ ghost use Rattle.std.specs.Prelude.{◌≡◌, ◌≢◌, ◌↔◌, All, AllPai
 ghost use Rattle.std.specs.List.Sorted.{IsNonDecreasing};
 ghost use Rattle.rules_clausal.specs.Sorting.{IsInOrder};
 
-use crate::scratch::{Scratch, Slot, push, slot_of};
 use pair_pool::{Memory, Ref};
+use schema_match::{Scratch, Slot, push, slot_of};
 use smallvec::SmallVec;
 use std::alloc::Global;
 

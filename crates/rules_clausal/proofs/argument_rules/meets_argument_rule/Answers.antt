@@ -4,7 +4,8 @@ use Rattle.std.proofs.lemmas.List.Elements.{All-rest}
 use Rattle.std.proofs.lemmas.Result.{IfOk-weaker}
 use Rattle.term_pool.specs.Views.{IsTerm}
 use Rattle.rules_clausal.specs.ArgumentRules.{Gives}
-use Rattle.rules_clausal.proofs.GivesLemmas.{no_literal, with_premises, begins_is, not_given, given_is, unit_is_term}
+use Rattle.schema_match.proofs.PremiseLemmas.{unit_is_term}
+use Rattle.rules_clausal.proofs.GivesLemmas.{no_literal, with_premises, begins_is, not_given, given_is}
 use Rattle.rules_clausal.proofs.argument_rules.meets_argument_rule.Goals as goal
 
 pub returns-in_default-clause-meets : goal.returns-in_default-clause-meets

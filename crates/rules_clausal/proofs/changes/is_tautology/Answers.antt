@@ -1,8 +1,8 @@
 use Rattle.std.proofs.Common.{arith}
 use Rattle.term_model.specs.declared.symbols.Op.{Op}
-use Rattle.rules_clausal.proofs.CheckLemmas.{one_is_it}
+use Rattle.schema_match.proofs.StepLemmas.{one_is_it}
 use Rattle.rules_clausal.proofs.OppositeLemmas.{many_are_not_true, other_is_not_true, tautology_is}
-use Rattle.rules_clausal.proofs.OverLemmas.{so_many, not_so_many}
+use Rattle.schema_match.proofs.OverLemmas.{so_many, not_so_many}
 use Rattle.rules_clausal.proofs.changes.is_tautology.Goals as goal
 
 pub returns-in_default-2-clause-tautology : goal.returns-in_default-2-clause-tautology

@@ -3,7 +3,7 @@ use Rattle.std.proofs.lemmas.Result.{IfOk-weaker}
 use Rattle.rules_clausal.specs.Changes.{relation_of}
 use Rattle.rules_clausal.specs.declared.changes.Change.{Change}
 use Rattle.rules_clausal.proofs.ChangeLemmas.{no_change, one_change, weakened, contracted, reordered}
-use Rattle.rules_clausal.proofs.CheckLemmas.{one_is_it}
+use Rattle.schema_match.proofs.StepLemmas.{one_is_it}
 use Rattle.rules_clausal.proofs.changes.meets_change.Goals as goal
 
 pub returns-in_default-2-clause-meets : goal.returns-in_default-2-clause-meets

@@ -3,8 +3,11 @@ use Rattle.std.proofs.lemmas.List.{nil_from_length}
 use Rattle.std.proofs.lemmas.List.Elements.{All-cons}
 use Rattle.std.proofs.lemmas.Result.{IfOk-weaker}
 use Rattle.term_pool.specs.Views.{IsTerm}
-use Rattle.rules_clausal.proofs.CheckAnswers.{meets_given, many_meet_none}
-use Rattle.rules_clausal.proofs.CheckLemmas.{first_premise, only, zip_refers, zip_terms}
+use Rattle.rule_model.specs.Clausal.{MeetsClausal}
+use Rattle.rule_model.specs.Reading.{clause_at, rule_at}
+use Rattle.schema_match.proofs.StepAnswers.{meets_given, many_meet_none}
+use Rattle.schema_match.proofs.StepLemmas.{first_premise, only, zip_refers, zip_terms}
+use Rattle.rules_clausal.proofs.CheckLemmas.{many_premises}
 use Rattle.rules_clausal.proofs.checks.meets_at.Goals as goal
 
 pub meets-requires-clause-clause : goal.meets-requires-clause-clause
@@ -40,7 +43,7 @@ returns-in-empty-clause-meets c =
     let few = c.in-empty.len_below in
     let empty : c.premises.result.now ≡ [] = nil_from_length c.premises.result.now (omega (arith, few)) in
     IfOk-weaker c.meets.result _ _ (λ b test of stand.
-    meets_given of i s v [] c.clause-clause.result.now [] c.rule-rule.result b (c.rule-rule.ensures ∙ c.commands_correspond.ensures.rule s v refs of i stand)
+    meets_given MeetsClausal of i s v [] c.clause-clause.result.now [] c.rule-rule.result b (c.rule-rule.ensures ∙ c.commands_correspond.ensures.rule s v refs of i stand)
     (sym empty ∙ (c.premises.ensures ∙ c.commands_correspond.ensures.premises s v refs of i stand)) tt
     (rw c.clause-clause.ensures (zip_refers s v _ _ (c.terms_correspond.ensures.clause s v refs of i stand))) test) c.meets.ensures.meets
 
@@ -54,7 +57,7 @@ returns-in-len1-clause-meets c =
     let many = c.in-len1.len_at_least in
     let few = c.in-len1.len_below in
     IfOk-weaker c.meets-in-len1.result _ _ (λ b test of stand.
-    meets_given of i s v (c.clause.result ∷ []) c.clause-clause.result.now (j ∷ []) c.rule-rule.result b (c.rule-rule.ensures ∙ c.commands_correspond.ensures.rule s v refs of i stand)
+    meets_given MeetsClausal of i s v (c.clause.result ∷ []) c.clause-clause.result.now (j ∷ []) c.rule-rule.result b (c.rule-rule.ensures ∙ c.commands_correspond.ensures.rule s v refs of i stand)
     (sym (only c.premises.result.now many few) ∙ (c.premises.ensures ∙ c.commands_correspond.ensures.premises s v refs of i stand))
     (rw c.clause.ensures (zip_refers s v _ _ (c.terms_correspond.ensures.clause s v refs of j stand)), tt)
     (rw c.clause-clause.ensures (zip_refers s v _ _ (c.terms_correspond.ensures.clause s v refs of i stand))) test) c.meets-in-len1.ensures.meets
@@ -65,4 +68,5 @@ returns-in_default-clause-meets c of stand =
     let v = c.args.terms.now in
     let refs = c.args.proof.now in
     let i = c.args.i in
-    many_meet_none of i c.premises.result.now c.in_default.len_at_least (c.premises.ensures ∙ c.commands_correspond.ensures.premises s v refs of i stand)
+    many_meet_none MeetsClausal of i c.premises.result.now c.in_default.len_at_least (c.premises.ensures ∙ c.commands_correspond.ensures.premises s v refs of i stand)
+    (λ p q ps. many_premises p q ps (clause_at of i) (rule_at of i))

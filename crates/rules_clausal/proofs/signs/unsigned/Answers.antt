@@ -1,4 +1,0 @@
-use Rattle.rules_clausal.proofs.signs.unsigned.Goals as goal
-
-pub returns-in-Negation-clause-other : goal.returns-in-Negation-clause-other
-returns-in-Negation-clause-other c = rw c.in-Negation.is c.under_not.ensures.other

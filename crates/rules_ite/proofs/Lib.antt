@@ -1,0 +1,13 @@
+pub mod CheckLemmas
+pub mod RuleLemmas
+pub mod IntroductionLemmas
+pub mod ApartLemmas
+pub mod EachTwoLemmas
+pub mod ConnectiveLemmas
+pub mod DistinctLemmas
+pub mod PlaceLemmas
+pub mod FactLemmas
+pub mod StandingLemmas
+pub mod EquationLemmas
+pub mod SeveralLemmas
+pub mod EachLemmas

@@ -1,0 +1,6 @@
+pub mod Families
+pub mod Truths
+pub mod Steps
+pub mod Connectives
+pub mod Distinct
+pub mod Facts

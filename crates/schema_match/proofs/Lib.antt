@@ -1,0 +1,16 @@
+pub mod Counts
+pub mod OverLemmas
+pub mod ReferLemmas
+pub mod Steps
+pub mod Shapes
+pub mod Loops
+pub mod ArgumentCells
+pub mod ArgumentLemmas
+pub mod StackLemmas
+pub mod PremiseLemmas
+pub mod InstanceLemmas
+pub mod StepLemmas
+pub mod StepAnswers
+pub mod OneInstance
+pub mod FewPremises
+pub mod EquationLemmas

@@ -1,0 +1,120 @@
+-- What a term is an application of.
+use Rattle.std.proofs.Common.{◌≡◌, ◌≢◌, ◌<◌, ℕ, suc, length, Bool, true, false, not, nat_eq, Option, Some, None, refl, sym, ◌∙◌, ap, subst, arith}
+use Rattle.std.specs.List.{slice_get}
+use Rattle.std.specs.Option.{IfSome, IfNone, option_eq}
+use Rattle.std.proofs.lemmas.Bool.{eqb-true, eq-eqb}
+use Rattle.sym_table.specs.Leaf.{operator}
+use Rattle.sym_table.specs.Table.{Table, IsTable, IsLeaf}
+use Rattle.term_model.specs.declared.symbols.Op.{Op}
+use Rattle.term_model.specs.Terms.{Term, Terms, numeral, variable, operation, call, let_in, list_of, not_of}
+use Rattle.term_pool.specs.Building.{IsAppliedLeaf}
+use Rattle.term_pool.specs.Reading.{arguments_of, IsLet, HasArgument}
+use Rattle.term_pool.specs.Views.{TermsView, RefersTo, IsTerm}
+use Rattle.schema_match.specs.declared.signs.Sign.TheVariants.{Negation}
+use Rattle.schema_match.specs.Arguments.{HasSoMany}
+use Rattle.term_parts.specs.Parts.{IsOver}
+use Rattle.schema_match.specs.Signs.{IsSigned}
+use Rattle.schema_match.proofs.Counts.{one}
+
+-- a head that is the operator's leaf
+pub over_is : (s : Table) (k n : ℕ) (op : Op) (t : Term) → IsLeaf s k (operator op) → IsAppliedLeaf s k (arguments_of t) t → ((IsLet t → ⊥) → n ≡ length (arguments_of t)) → IsOver op n t
+over_is s k n op (numeral z) leaf app count = absurd (let e = app.0 in cc)
+over_is s k n op (variable x) leaf app count = absurd (let e = app.0 in cc)
+over_is s k n op (operation o ts) leaf app count = (let e = app.0 in cc, sym (count (λ h. h)))
+over_is s k n op (call f ts) leaf app count = absurd (let e = app.0 in cc)
+over_is s k n op (let_in bs u) leaf app count = absurd app
+
+-- a head that is another leaf
+pub other_head : (s : Table) (j k n : ℕ) (op : Op) (t : Term) → IsTable s → IsLeaf s j (operator op) → k ≢ j → IsAppliedLeaf s k (arguments_of t) t → ¬ IsOver op n t
+other_head s j k n op (numeral z) table leaf other app h = h
+other_head s j k n op (variable x) table leaf other app h = h
+other_head s j k n op (operation o ts) table leaf other app h =
+    other (table.apart k j (operator op) (operator op) (rw (← h.0) app.0) leaf refl refl)
+other_head s j k n op (call f ts) table leaf other app h = h
+other_head s j k n op (let_in bs u) table leaf other app h = h
+
+pub let_is_not_over : (n : ℕ) (op : Op) (t : Term) → IsLet t → ¬ IsOver op n t
+let_is_not_over n op (numeral z) is h = h
+let_is_not_over n op (variable x) is h = h
+let_is_not_over n op (operation o ts) is h = is
+let_is_not_over n op (call f ts) is h = h
+let_is_not_over n op (let_in bs u) is h = h
+
+-- an application to so many arguments
+pub over_term : (op : Op) (n : ℕ) (t : Term) → IsOver op n t → (us : Terms) × (t ≡ operation op us) × (length (list_of us) ≡ n) × (arguments_of t ≡ list_of us) × (IsLet t → ⊥)
+over_term op n (operation o us) h = (us, ap (λ o. operation o us) h.0, h.1, refl, λ is. is)
+over_term op n (numeral z) h = absurd h
+over_term op n (variable x) h = absurd h
+over_term op n (call f us) h = absurd h
+over_term op n (let_in bs u) h = absurd h
+
+pub is_over : (op : Op) (n : ℕ) (t : Term) (us : Terms) → t ≡ operation op us → length (list_of us) ≡ n → IsOver op n t
+is_over op n t us e h = rw e (refl, h)
+
+-- the count is another, or it is this one
+one_count : (m n : ℕ) (op : Op) (t : Term) → IsOver op m t → IsOver op n t → m ≡ n
+one_count m n op (operation o us) h k = sym h.1 ∙ k.1
+one_count m n op (numeral z) h k = absurd h
+one_count m n op (variable x) h k = absurd h
+one_count m n op (call f us) h k = absurd h
+one_count m n op (let_in bs u) h k = absurd h
+
+pub not_so_many : (s : Table) (v : TermsView) (r n : ℕ) (op : Op) (found : Option ℕ) → IfSome found (λ m. (t : Term) → RefersTo s v r t → IsOver op m t) → IfNone found ((t : Term) → RefersTo s v r t → (m : ℕ) → ¬ IsOver op m t) → true ≡ not (option_eq nat_eq found (Some n)) → (t : Term) → RefersTo s v r t → ¬ IsOver op n t
+not_so_many s v r n op None some none other t refers h = none t refers n h
+not_so_many s v r n op (Some m) some none other t refers h =
+    absurd (let same = eq-eqb m n (one_count m n op t (some t refers) h) in cc)
+
+pub so_many : (s : Table) (v : TermsView) (r n : ℕ) (op : Op) (found : Option ℕ) → IfSome found (λ m. (t : Term) → RefersTo s v r t → IsOver op m t) → false ≡ not (option_eq nat_eq found (Some n)) → (t : Term) → RefersTo s v r t → IsOver op n t
+so_many s v r n op None some same t refers = absurd cc
+so_many s v r n op (Some m) some same t refers =
+    subst (λ k. IsOver op k t) (eqb-true m n (double (nat_eq m n) same)) (some t refers)
+  where
+    double : (b : Bool) → false ≡ not b → b ≡ true
+    double true e = refl
+    double false e = absurd cc
+
+-- a negation
+pub over_not : (t : Term) → IsOver Op.Not 1 t → (u : Term) × (t ≡ not_of u)
+over_not (operation o ts) h =
+    (let is = one ts h.1 in
+    (is.0, ap (λ o. operation o ts) h.0 ∙ ap (operation Op.Not) is.1))
+over_not (numeral z) h = absurd h
+over_not (variable x) h = absurd h
+over_not (call f ts) h = absurd h
+over_not (let_in bs u) h = absurd h
+
+-- a term with so many arguments has a first one
+pub has_first : (s : Table) (v w : TermsView) (r n : ℕ) (op : Op) → w ≡ v → IsTerm s v r → ((t : Term) → RefersTo s v r t → IsOver op (suc n) t) → HasArgument w r 0
+has_first s v w r n op same is over =
+    rw same
+    (let argument : HasArgument v r 0 = record {
+      symbols = s;
+      means = is.means;
+      refers = is.refers;
+      there = at_least (over_term op (suc n) is.means (over is.means is.refers));
+    } in
+    argument)
+  where
+    at_least : ((us : Terms) × (is.means ≡ operation op us) × (length (list_of us) ≡ suc n) × (arguments_of is.means ≡ list_of us) × (IsLet is.means → ⊥)) → 0 < length (arguments_of is.means)
+    at_least (us, e, count, arguments, no_let) = rw arguments (omega arith)
+
+-- a term that has so many arguments
+pub has_so_many : (s : Table) (v w : TermsView) (r n : ℕ) (op : Op) → w ≡ v → IsTerm s v r → ((t : Term) → RefersTo s v r t → IsOver op n t) → HasSoMany w r n
+has_so_many s v w r n op same is over =
+    rw same
+    (let here = over_term op n is.means (over is.means is.refers) in
+    let many : HasSoMany v r n = record { symbols = s; means = is.means; refers = is.refers; many = ap length here.3 ∙ here.2 } in
+    many)
+
+first_of : (t u : Term) → t ≡ not_of u → slice_get (arguments_of t) 0 ≡ Some u
+first_of t u e = rw e refl
+
+-- the argument of a negation is what it negates
+pub negated_is : (s : Table) (v w : TermsView) (r a : ℕ) (t : Term) → w ≡ v → IsOver Op.Not 1 t → RefersTo s v r t → ((x b : Term) → RefersTo s w r x → slice_get (arguments_of x) 0 ≡ Some b → RefersTo s w a b) → IsSigned s v Negation a t
+negated_is s v w r a t same is refers argument =
+    let inner = over_not t is in
+    record {
+      means = inner.0;
+      refers = (rw same at argument) t inner.0 refers (first_of t inner.0 inner.1);
+      is = inner.1;
+    }

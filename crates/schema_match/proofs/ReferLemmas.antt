@@ -1,0 +1,74 @@
+-- References to terms in lists and on stacks.
+use Rattle.std.proofs.Common.{◌≡◌, ◌↔◌, ◌<◌, ℕ, zero, suc, List, [], ◌∷◌, ◌++◌, length, get_or, reverse, Contains, inl, inr, refl, sym, ◌∙◌, ap, subst, arith}
+use Rattle.std.proofs.lemmas.List.{reverse-append, reverse-reverse}
+use Rattle.rule_model.proofs.Lists.{contains_none, contains_cases, contains_head, contains_later}
+use Rattle.sym_table.specs.Table.{Table}
+use Rattle.term_model.specs.Terms.{Term}
+use Rattle.term_pool.specs.Views.{TermsView, RefersTo, ReferToAll}
+use Rattle.schema_match.specs.Stack.{StackOf}
+
+-- references are equal exactly where their terms are
+abbrev pub AreOne : Table → TermsView → Type 0
+AreOne s v = (p q : ℕ) (t u : Term) → RefersTo s v p t → RefersTo s v q u → (p ≡ q) ↔ (t ≡ u)
+
+-- a list that is not empty
+pub record TopOf (s : Table) (v : TermsView) (items : List ℕ) (r : ℕ) (ts : List Term) : Type 0 where
+  pub top : Term
+  pub below : List Term
+  pub is : ts ≡ top ∷ below
+  pub top_refers : RefersTo s v r top
+  pub below_refer : StackOf s v items below
+
+pub stack_top : (s : Table) (v : TermsView) (items : List ℕ) (r : ℕ) (ts : List Term) → StackOf s v (items ++ r ∷ []) ts → TopOf s v items r ts
+stack_top s v items r ts h = go ts (subst (λ rs. ReferToAll s v rs ts) (reverse-append items (r ∷ [])) h)
+  where
+    go : (ts : List Term) → ReferToAll s v (r ∷ reverse items) ts → TopOf s v items r ts
+    go [] h = absurd h
+    go (t ∷ ts) h = record { top = t; below = ts; is = refl; top_refers = h.0; below_refer = h.1 }
+
+pub stack_push : (s : Table) (v : TermsView) (items : List ℕ) (r : ℕ) (t : Term) (ts : List Term) → RefersTo s v r t → StackOf s v items ts → StackOf s v (items ++ r ∷ []) (t ∷ ts)
+stack_push s v items r t ts h k = subst (λ rs. ReferToAll s v rs (t ∷ ts)) (sym (reverse-append items (r ∷ []))) (h, k)
+
+pub refer_append : (s : Table) (v : TermsView) (rs qs : List ℕ) (ts us : List Term) → ReferToAll s v rs ts → ReferToAll s v qs us → ReferToAll s v (rs ++ qs) (ts ++ us)
+refer_append s v [] qs [] us h k = k
+refer_append s v [] qs (t ∷ ts) us h k = absurd h
+refer_append s v (r ∷ rs) qs [] us h k = absurd h
+refer_append s v (r ∷ rs) qs (t ∷ ts) us h k = (h.0, refer_append s v rs qs ts us h.1 k)
+
+-- items that are put on a stack, the first at the top
+pub stack_more : (s : Table) (v : TermsView) (items more : List ℕ) (ts us : List Term) → ReferToAll s v more us → StackOf s v items ts → StackOf s v (items ++ reverse more) (us ++ ts)
+stack_more s v items more ts us h k =
+    subst (λ rs. ReferToAll s v rs (us ++ ts)) (sym (reverse-append items (reverse more) ∙ ap (λ rs. rs ++ reverse items) (reverse-reverse more)))
+    (refer_append s v more (reverse items) us ts h k)
+
+-- a reference is in a list where its term is among the list's terms
+pub contains_terms : (s : Table) (v : TermsView) → AreOne s v → (rs : List ℕ) (ts : List Term) (r : ℕ) (t : Term) → ReferToAll s v rs ts → RefersTo s v r t → Contains rs r → Contains ts t
+contains_terms s v one [] ts r t h refers c = absurd (contains_none r c)
+contains_terms s v one (q ∷ rs) [] r t h refers c = absurd h
+contains_terms s v one (q ∷ rs) (u ∷ ts) r t h refers c =
+    elim (contains_cases q r rs c) [
+      | inl e ↦ rw (← (one q r u t h.0 refers).0 e) (contains_head u ts)
+      | inr later ↦ contains_later u t ts (contains_terms s v one rs ts r t h.1 refers later)
+    ]
+
+pub contains_references : (s : Table) (v : TermsView) → AreOne s v → (rs : List ℕ) (ts : List Term) (r : ℕ) (t : Term) → ReferToAll s v rs ts → RefersTo s v r t → Contains ts t → Contains rs r
+contains_references s v one [] [] r t h refers c = absurd (contains_none t c)
+contains_references s v one [] (u ∷ ts) r t h refers c = absurd h
+contains_references s v one (q ∷ rs) [] r t h refers c = absurd h
+contains_references s v one (q ∷ rs) (u ∷ ts) r t h refers c =
+    elim (contains_cases u t ts c) [
+      | inl e ↦ rw (← (one q r u t h.0 refers).1 e) (contains_head q rs)
+      | inr later ↦ contains_later q r rs (contains_references s v one rs ts r t h.1 refers later)
+    ]
+
+pub refer_length : (s : Table) (v : TermsView) (rs : List ℕ) (ts : List Term) → ReferToAll s v rs ts → length rs ≡ length ts
+refer_length s v [] [] h = refl
+refer_length s v [] (t ∷ ts) h = absurd h
+refer_length s v (r ∷ rs) [] h = absurd h
+refer_length s v (r ∷ rs) (t ∷ ts) h = ap suc (refer_length s v rs ts h.1)
+
+pub refer_at : (s : Table) (v : TermsView) (rs : List ℕ) (ts : List Term) → ReferToAll s v rs ts → (i d : ℕ) (e : Term) → i < length rs → RefersTo s v (get_or rs i d) (get_or ts i e)
+refer_at s v [] ts h i d e below = absurd (omega arith)
+refer_at s v (r ∷ rs) [] h i d e below = absurd h
+refer_at s v (r ∷ rs) (t ∷ ts) h zero d e below = h.0
+refer_at s v (r ∷ rs) (t ∷ ts) h (suc i) d e below = refer_at s v rs ts h.1 i d e (omega arith)

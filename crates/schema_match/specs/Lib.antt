@@ -1,0 +1,12 @@
+pub mod Steps
+pub mod Letters
+pub mod Matching
+pub mod Arguments
+pub mod ArgumentCells
+pub mod Stack
+pub mod Pushing
+pub mod Reads
+pub mod Schemas
+pub mod Signs
+pub mod Premises
+pub mod Equations
