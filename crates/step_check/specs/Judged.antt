@@ -5,6 +5,7 @@ use Rattle.std.specs.Option.{is_some}
 use Rattle.rule_model.specs.declared.rules.Rule.{Rule}
 use Rattle.rule_model.specs.Clausal.{schema_of, is_over_list}
 use Rattle.rule_model.specs.Congruence.{is_of_equality}
+use Rattle.rules_ite.specs.Families.{is_of_definition}
 
 -- resolution, in both its names
 abbrev pub is_resolution : Rule → Bool
@@ -15,6 +16,10 @@ is_resolution _ = false
 -- the clausal rules, but those over `ite`
 abbrev pub is_clausal : Rule → Bool
 is_clausal rule = is_some (schema_of rule) || is_over_list rule
+
+-- the rules over `ite`, and those that say what connectives stand for
+abbrev pub is_definition : Rule → Bool
+is_definition rule = is_of_definition rule
 
 -- the rules of equality, but refl
 abbrev pub is_equality : Rule → Bool
@@ -30,5 +35,6 @@ abbrev pub is_judged : Rule → Bool
 is_judged rule =
     is_resolution rule
     || (is_clausal rule
+    || (is_definition rule
     || (is_equality rule
-    || is_closing rule))
+    || is_closing rule)))

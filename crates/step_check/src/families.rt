@@ -3,7 +3,7 @@
 ghost use Rattle.std.specs.Prelude.{◌≡◌};
 ghost use Rattle.std.specs.Option.{is_some};
 ghost use Rattle.rule_model.specs.Clausal.{is_over_list, schema_of};
-ghost use Rattle.step_check.specs.Judged.{is_resolution, is_clausal, is_equality, is_closing};
+ghost use Rattle.step_check.specs.Judged.{is_resolution, is_clausal, is_definition, is_equality, is_closing};
 ghost use Rattle.step_check.specs.Steps.{IsFamilyOf};
 
 use rule_model::Rule;
@@ -15,6 +15,8 @@ pub(crate) enum Family {
     Resolution,
     /// `rules_clausal`
     Clausal,
+    /// `rules_ite`
+    Definition,
     /// `rules_congruence`
     Equality,
     /// `rules_subproof`
@@ -90,6 +92,26 @@ fn is_clausal(rule: Rule) -> bool
     has_schema(rule) || is_over_list(rule)
 }
 
+/// Whether a rule is one over `ite`, or says what connectives stand for.
+fn is_definition(rule: Rule) -> bool
+    ensures { result ≡ is_definition rule }
+{
+    match rule {
+        Rule::ConnectiveDef => true,
+        Rule::IteIntro => true,
+        Rule::DistinctElim => true,
+        Rule::ItePos1 => true,
+        Rule::ItePos2 => true,
+        Rule::IteNeg1 => true,
+        Rule::IteNeg2 => true,
+        Rule::Ite1 => true,
+        Rule::Ite2 => true,
+        Rule::NotIte1 => true,
+        Rule::NotIte2 => true,
+        _ => false,
+    }
+}
+
 /// Whether a rule is one of equality, but refl.
 fn is_equality(rule: Rule) -> bool
     ensures { result ≡ is_equality rule }
@@ -124,6 +146,9 @@ pub(crate) fn family_of(rule: Rule) -> Option<Family>
     }
     if is_clausal(rule) {
         return Some(Family::Clausal);
+    }
+    if is_definition(rule) {
+        return Some(Family::Definition);
     }
     if is_equality(rule) {
         return Some(Family::Equality);

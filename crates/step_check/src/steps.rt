@@ -69,6 +69,7 @@ fn answer_at(
     match family {
         Family::Resolution => resolution.check(proof, i, Mode::Check, symbols, terms),
         Family::Clausal => rules_clausal::check(alloc, proof, i, Mode::Check, symbols, terms),
+        Family::Definition => rules_ite::check(alloc, proof, i, Mode::Check, symbols, terms),
         Family::Equality => rules_congruence::check(alloc, proof, i, Mode::Check, symbols, terms),
         Family::Closing => rules_subproof::check(alloc, proof, i, Mode::Check, symbols, terms),
     }
