@@ -12,7 +12,7 @@ use Rattle.rule_model.specs.Statuses.{assumed, hole, unknown, conditional, kind_
 use Rattle.rules_resolution.specs.Steps.{IsResolutionRule, MeetsResolutionAt}
 use Rattle.term_reader.specs.declared.flags.Flags.{Flags}
 use Rattle.step_check.specs.declared.families.Family.{Family}
-use Rattle.step_check.specs.Judged.{is_resolution, is_clausal, is_equality, is_closing, is_judged}
+use Rattle.step_check.specs.Judged.{is_resolution, is_clausal, is_equality, is_closing, is_reflexivity, is_judged}
 use Rattle.step_check.specs.Statuses.{checking}
 use Rattle.step_check.specs.declared.kinds.Kind.{Kind as KindOfCommand}
 use Rattle.step_check.specs.Steps.{IsOfFamily, IsKind, IsKindOfStep}
@@ -24,35 +24,26 @@ if_true test x y e = rw e refl
 pub if_false : {X : Type 0} (test : Bool) (x y : X) → test ≡ false → (if test then x else y) ≡ y
 if_false test x y e = rw e refl
 
--- one of four
-first_of : (a b c d : Bool) → IsTrue a → a || (b || (c || d)) ≡ true
-first_of true b c d h = refl
-first_of false b c d h = absurd cc
+-- one of several
+either : (a b : Bool) → IsTrue a → a || b ≡ true
+either true b h = refl
+either false b h = absurd cc
 
-second_of : (a b c d : Bool) → IsTrue b → a || (b || (c || d)) ≡ true
-second_of true b c d h = refl
-second_of false true c d h = refl
-second_of false false c d h = absurd cc
+later_of : (a b : Bool) → b ≡ true → a || b ≡ true
+later_of true b h = refl
+later_of false b h = h
 
-third_of : (a b c d : Bool) → IsTrue c → a || (b || (c || d)) ≡ true
-third_of true b c d h = refl
-third_of false true c d h = refl
-third_of false false true d h = refl
-third_of false false false d h = absurd cc
-
-fourth_of : (a b c d : Bool) → IsTrue d → a || (b || (c || d)) ≡ true
-fourth_of true b c d h = refl
-fourth_of false true c d h = refl
-fourth_of false false true d h = refl
-fourth_of false false false true h = refl
-fourth_of false false false false h = absurd cc
+is_true : (a : Bool) → IsTrue a → a ≡ true
+is_true true h = refl
+is_true false h = absurd cc
 
 -- the rules of each family are judged
 pub family_is_judged : (family : Family) (rule : Rule) → IsOfFamily family rule → is_judged rule ≡ true
-family_is_judged Family.Resolution rule h = first_of (is_resolution rule) (is_clausal rule) (is_equality rule) (is_closing rule) h
-family_is_judged Family.Clausal rule h = second_of (is_resolution rule) (is_clausal rule) (is_equality rule) (is_closing rule) h
-family_is_judged Family.Equality rule h = third_of (is_resolution rule) (is_clausal rule) (is_equality rule) (is_closing rule) h
-family_is_judged Family.Closing rule h = fourth_of (is_resolution rule) (is_clausal rule) (is_equality rule) (is_closing rule) h
+family_is_judged Family.Resolution rule h = either (is_resolution rule) _ h
+family_is_judged Family.Clausal rule h = later_of (is_resolution rule) _ (either (is_clausal rule) _ h)
+family_is_judged Family.Equality rule h = later_of (is_resolution rule) _ (later_of (is_clausal rule) _ (either (is_equality rule) _ h))
+family_is_judged Family.Closing rule h = later_of (is_resolution rule) _ (later_of (is_clausal rule) _ (later_of (is_equality rule) _ (either (is_closing rule) _ h)))
+family_is_judged Family.Reflexivity rule h = later_of (is_resolution rule) _ (later_of (is_clausal rule) _ (later_of (is_equality rule) _ (later_of (is_closing rule) _ (is_true (is_reflexivity rule) h))))
 
 -- rules that are judged have a condition, and the others leave a hole where the flags say so
 pub judged_is_conditional : (flags : Flags) (ts : List Term) (rule : Rule) → is_judged rule ≡ true → kind_of_rule (checking flags ts) rule ≡ conditional
@@ -124,3 +115,7 @@ pub resolution_rule : (rule : Rule) → IsTrue (is_resolution rule) → IsResolu
 resolution_rule Rule.Resolution h = inl refl
 resolution_rule Rule.ThResolution h = inr refl
 resolution_rule _ h = absurd cc
+
+pub reflexivity_rule : (rule : Rule) → IsTrue (is_reflexivity rule) → rule ≡ Rule.Refl
+reflexivity_rule Rule.Refl h = refl
+reflexivity_rule _ h = absurd cc

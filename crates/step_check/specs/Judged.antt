@@ -25,9 +25,15 @@ abbrev pub is_closing : Rule → Bool
 is_closing Rule.Subproof = true
 is_closing _ = false
 
+-- refl
+abbrev pub is_reflexivity : Rule → Bool
+is_reflexivity Rule.Refl = true
+is_reflexivity _ = false
+
 abbrev pub is_judged : Rule → Bool
 is_judged rule =
     is_resolution rule
     || (is_clausal rule
     || (is_equality rule
-    || is_closing rule))
+    || (is_closing rule
+    || is_reflexivity rule)))

@@ -15,7 +15,7 @@ use Rattle.rule_model.specs.Statuses.{Kind as KindOfRule, assumed, hole, unknown
 use Rattle.proof_store.specs.declared.answers.Answer.{Answer}
 use Rattle.proof_store.specs.Meaning.{StandForItems}
 use Rattle.term_reader.specs.declared.flags.Flags.{Flags}
-use Rattle.step_check.specs.Judged.{is_resolution, is_clausal, is_equality, is_closing, is_judged}
+use Rattle.step_check.specs.Judged.{is_resolution, is_clausal, is_equality, is_closing, is_reflexivity, is_judged}
 use Rattle.step_check.specs.Statuses.{checking}
 use Rattle.step_check.specs.declared.families.Family.{Family}
 use Rattle.step_check.specs.declared.kinds.Kind.{Kind}
@@ -26,6 +26,7 @@ IsOfFamily Family.Resolution rule = IsTrue (is_resolution rule)
 IsOfFamily Family.Clausal rule = IsTrue (is_clausal rule)
 IsOfFamily Family.Equality rule = IsTrue (is_equality rule)
 IsOfFamily Family.Closing rule = IsTrue (is_closing rule)
+IsOfFamily Family.Reflexivity rule = IsTrue (is_reflexivity rule)
 
 -- the family of a rule that is judged
 abbrev pub IsFamilyOf : Rule → Option Family → Type 0

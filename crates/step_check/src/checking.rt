@@ -10,12 +10,13 @@ ghost use Rattle.rule_model.specs.Reading.{clause_at};
 ghost use Rattle.rules_resolution.specs.Steps.{IsShort};
 ghost use Rattle.term_model.specs.Terms.{Var, Term};
 ghost use Rattle.term_pool.specs.Views.{KeepsTerms};
-ghost use Rattle.step_check.specs.Statuses.{AreAsserted, AreStatusesOf};
+ghost use Rattle.step_check.specs.Statuses.{AreAsserted, AreStatusesOf, LacksRoomForPlaced};
 
-use crate::steps::{Kept, Subject, status_at};
+use crate::steps::{Kept, Rules, Subject, status_at};
 use flip_keys::Assertions;
 use pair_pool::{Memory, Ref};
-use proof_store::{Proof, RuleStop, Status, commands_correspond};
+use proof_contexts::OpenScopes;
+use proof_store::{Proof, RuleStop, Status, commands_correspond, proofs_stand_for_one, proofs_stay};
 use rules_resolution::Scratch;
 use std::alloc::Global;
 use sym_table::Symbols;
@@ -44,7 +45,9 @@ fn add(list: &mut Vec<Status>, status: Status) -> Result<(), Memory>
 /// condition, and else faulty. Any other rule is an unknown one, and its steps are holes where the flags say so.
 ///
 /// The proof's terms and the assertions are known to the pass, literals are terms of Bool, and no clause and no list of
-/// premises has 2^32 items. Refuses want of memory alone, and places no cell. It takes the time that the rules take.
+/// premises has 2^32 items. It places cells of what `refl` compares: the sides of a step after substitution, and images of
+/// variables that anchors bind. Refuses where the pool had no room for such a cell, and for want of memory. It takes the
+/// time that the rules take.
 pub fn statuses(
     alloc: Global,
     proof: &Proof,
@@ -59,22 +62,29 @@ pub fn statuses(
     requires short { IsShort proof.now }
     requires sorted { (of : ProofItems Var Term) (i : ℕ) → StandForItems symbols.now terms.old proof.now of → IsClauseOfTruths (clause_at of i) }
     ensures statuses { IfOk result (λ list. AreStatusesOf flags symbols.now terms.old problem.now.assertions proof.now list.items) }
-    ensures stop { IfErr result (λ stop. stop ≡ RuleStop.Memory) }
+    ensures full { IfErr result (λ stop. stop ≡ RuleStop.PoolFull → LacksRoomForPlaced symbols.now terms.old terms.new proof.now) }
     ensures keeps { KeepsTerms terms.old terms.new }
 {
+    let _leaves = symbols.count();
     commands_correspond();
+    proofs_stand_for_one();
+    proofs_stay();
     let subject = Subject {
         proof,
         symbols,
         flags,
     };
-    let mut kept = Kept {
+    let scopes = OpenScopes::new(alloc, proof, symbols, terms)?;
+    let rules = Rules {
         alloc,
         resolution: Scratch::new(alloc),
-        asserted: Assertions::new(alloc, terms, assertions_of(problem))?,
+        scopes,
     };
+    let asserted = Assertions::new(alloc, terms, assertions_of(problem))?;
+    let mut kept = Kept { rules, asserted };
     let mut list = Vec::new(alloc);
     'commands: for i in 0..proof.count() {
+        terms.one_to_one();
         let status = status_at(&subject, i, &mut kept, terms)?;
         add(&mut list, status)?;
     }

@@ -3,7 +3,7 @@
 ghost use Rattle.std.specs.Prelude.{◌≡◌};
 ghost use Rattle.std.specs.Option.{is_some};
 ghost use Rattle.rule_model.specs.Clausal.{is_over_list, schema_of};
-ghost use Rattle.step_check.specs.Judged.{is_resolution, is_clausal, is_equality, is_closing};
+ghost use Rattle.step_check.specs.Judged.{is_resolution, is_clausal, is_equality, is_closing, is_reflexivity};
 ghost use Rattle.step_check.specs.Steps.{IsFamilyOf};
 
 use rule_model::Rule;
@@ -19,6 +19,8 @@ pub(crate) enum Family {
     Equality,
     /// `rules_subproof`
     Closing,
+    /// `rules_refl`
+    Reflexivity,
 }
 
 /// Whether a rule is one of the two names of resolution.
@@ -115,6 +117,13 @@ fn is_closing(rule: Rule) -> bool
     matches!(rule, Rule::Subproof)
 }
 
+/// Whether a rule is refl.
+fn is_reflexivity(rule: Rule) -> bool
+    ensures { result ≡ is_reflexivity rule }
+{
+    matches!(rule, Rule::Refl)
+}
+
 /// The family of a rule, and nothing for a rule that is not judged by its condition.
 pub(crate) fn family_of(rule: Rule) -> Option<Family>
     ensures { IsFamilyOf rule result }
@@ -130,6 +139,9 @@ pub(crate) fn family_of(rule: Rule) -> Option<Family>
     }
     if is_closing(rule) {
         return Some(Family::Closing);
+    }
+    if is_reflexivity(rule) {
+        return Some(Family::Reflexivity);
     }
     None
 }

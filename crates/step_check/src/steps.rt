@@ -13,15 +13,20 @@ ghost use Rattle.rule_model.specs.Reading.{clause_at, rule_at};
 ghost use Rattle.rule_model.specs.Scopes.{commands_in};
 ghost use Rattle.rules_resolution.specs.Steps.{IsShort};
 ghost use Rattle.term_model.specs.Terms.{Var, Term};
+ghost use Rattle.term_pool.specs.Views.{KeepsTerms};
+ghost use Rattle.proof_contexts.specs.OpenAnchors.{AreKept};
+ghost use Rattle.step_check.specs.Statuses.{LacksRoomForPlaced};
 ghost use Rattle.step_check.specs.Steps.{IsOfFamily, IsStatusOf, IsStatusOfAnswer, TellsAssume, TellsMet};
 
 use crate::assumes::are_asserted;
 use crate::families::Family;
 use crate::kinds::{Kind, kind_of};
-use flip_keys::Assertions;
+use flip_keys::{Assertions, keys_stay};
 use pair_pool::Memory;
-use proof_store::{Answer, Proof, RuleStop, Status, commands_correspond, terms_correspond};
+use proof_contexts::{OpenScopes, commands_stand_in_scopes};
+use proof_store::{Answer, Proof, RuleStop, Status, commands_correspond, proofs_stay, terms_correspond};
 use rule_model::{Mode, StepCause};
+use rules_refl::refused;
 use rules_resolution::Scratch;
 use std::alloc::Global;
 use sym_table::Symbols;
@@ -36,12 +41,47 @@ pub(crate) struct Subject<'a> {
     pub(crate) flags: Flags,
 }
 
+/// What the rules keep from step to step.
+#[derive(Drop)]
+pub(crate) struct Rules {
+    pub(crate) alloc: Global,
+    pub(crate) resolution: Scratch,
+    pub(crate) scopes: OpenScopes,
+}
+
 /// What a check keeps from step to step.
 #[derive(Drop)]
 pub(crate) struct Kept {
-    pub(crate) alloc: Global,
-    pub(crate) resolution: Scratch,
+    pub(crate) rules: Rules,
     pub(crate) asserted: Assertions,
+}
+
+/// Whether the step at an index, whose rule is refl, meets its condition. The scope to which it belongs is entered first.
+fn refl_at(
+    subject: &Subject<'_>,
+    i: u32,
+    scopes: &mut OpenScopes,
+    terms: &mut Terms<'_>,
+) -> Result<Answer, RuleStop>
+    requires index { i < commands_in subject.now.proof.now }
+    requires refl { rule_at subject.now.proof.now i ≡ Rule.Refl }
+    requires kept { AreKept subject.now.symbols.now terms.old subject.now.proof.now scopes.old }
+    ensures met { IfOk result (λ answer. TellsMet subject.now.symbols.now terms.old subject.now.proof.now i answer) }
+    ensures narrow { IfOk result (λ answer. answer ≢ Answer.TooWide) }
+    ensures full { IfErr result (λ stop. stop ≡ RuleStop.PoolFull → LacksRoomForPlaced subject.now.symbols.now terms.old terms.new subject.now.proof.now) }
+    ensures keeps { KeepsTerms terms.old terms.new }
+    ensures kept { AreKept subject.now.symbols.now terms.new subject.now.proof.now scopes.new }
+{
+    commands_stand_in_scopes();
+    commands_correspond();
+    proofs_stay();
+    let proof = subject.proof;
+    let symbols = subject.symbols;
+    let scope = proof.scope_of(i);
+    if let Err(stop) = scopes.enter(proof, scope, symbols, terms) {
+        return Err(refused(stop));
+    }
+    rules_refl::check(proof, i, Mode::Check, symbols, terms, scopes)
 }
 
 /// Whether the step at an index, whose rule is of a family, meets its condition.
@@ -49,28 +89,31 @@ fn answer_at(
     subject: &Subject<'_>,
     family: Family,
     i: u32,
-    alloc: Global,
-    resolution: &mut Scratch,
+    rules: &mut Rules,
     terms: &mut Terms<'_>,
 ) -> Result<Answer, RuleStop>
     requires index { i < commands_in subject.now.proof.now }
     requires family { IsOfFamily family (rule_at subject.now.proof.now i) }
     requires stand { StandForSome subject.now.symbols.now terms.old subject.now.proof.now }
+    requires kept { AreKept subject.now.symbols.now terms.old subject.now.proof.now rules.old.scopes }
     requires short { IsShort subject.now.proof.now }
     requires sorted { (of : ProofItems Var Term) → StandForItems subject.now.symbols.now terms.old subject.now.proof.now of → IsClauseOfTruths (clause_at of i) }
     ensures met { IfOk result (λ answer. TellsMet subject.now.symbols.now terms.old subject.now.proof.now i answer) }
     ensures narrow { IfOk result (λ answer. answer ≢ Answer.TooWide) }
-    ensures stop { IfErr result (λ stop. stop ≡ RuleStop.Memory) }
-    ensures same { terms.new ≡ terms.old }
+    ensures full { IfErr result (λ stop. stop ≡ RuleStop.PoolFull → LacksRoomForPlaced subject.now.symbols.now terms.old terms.new subject.now.proof.now) }
+    ensures keeps { KeepsTerms terms.old terms.new }
+    ensures kept { AreKept subject.now.symbols.now terms.new subject.now.proof.now rules.new.scopes }
 {
     commands_correspond();
+    let alloc = rules.alloc;
     let proof = subject.proof;
     let symbols = subject.symbols;
     match family {
-        Family::Resolution => resolution.check(proof, i, Mode::Check, symbols, terms),
+        Family::Resolution => rules.resolution.check(proof, i, Mode::Check, symbols, terms),
         Family::Clausal => rules_clausal::check(alloc, proof, i, Mode::Check, symbols, terms),
         Family::Equality => rules_congruence::check(alloc, proof, i, Mode::Check, symbols, terms),
         Family::Closing => rules_subproof::check(alloc, proof, i, Mode::Check, symbols, terms),
+        Family::Reflexivity => refl_at(subject, i, &mut rules.scopes, terms),
     }
 }
 
@@ -142,16 +185,19 @@ pub(crate) fn status_at(
 ) -> Result<Status, RuleStop>
     requires index { i < commands_in subject.now.proof.now }
     requires stand { StandForSome subject.now.symbols.now terms.old subject.now.proof.now }
+    requires kept { AreKept subject.now.symbols.now terms.old subject.now.proof.now kept.old.rules.scopes }
     requires ready { AreAssertionsReady terms.old kept.old.asserted }
     requires short { IsShort subject.now.proof.now }
     requires sorted { (of : ProofItems Var Term) → StandForItems subject.now.symbols.now terms.old subject.now.proof.now of → IsClauseOfTruths (clause_at of i) }
     ensures status { IfOk result (λ status. IsStatusOf subject.now.flags subject.now.symbols.now terms.old (references_of kept.old.asserted) subject.now.proof.now i status) }
-    ensures stop { IfErr result (λ stop. stop ≡ RuleStop.Memory) }
+    ensures full { IfErr result (λ stop. stop ≡ RuleStop.PoolFull → LacksRoomForPlaced subject.now.symbols.now terms.old terms.new subject.now.proof.now) }
     ensures references { references_of kept.new.asserted ≡ references_of kept.old.asserted }
     ensures ready { OnOk result (AreAssertionsReady terms.new kept.new.asserted) }
-    ensures same { terms.new ≡ terms.old }
+    ensures keeps { KeepsTerms terms.old terms.new }
+    ensures kept { OnOk result (AreKept subject.now.symbols.now terms.new subject.now.proof.now kept.new.rules.scopes) }
 {
     commands_correspond();
+    keys_stay();
     match kind_of(subject.proof.rule(i), subject.flags) {
         Kind::Assumed => Ok(status_of_assume(&mut kept.asserted, subject, i, terms)?),
         Kind::Hole => Ok(Status::Hole),
@@ -160,8 +206,7 @@ pub(crate) fn status_at(
             subject,
             family,
             i,
-            kept.alloc,
-            &mut kept.resolution,
+            &mut kept.rules,
             terms,
         )?)),
     }
