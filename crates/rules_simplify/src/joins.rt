@@ -14,7 +14,6 @@ use smallvec::SmallVec;
 use std::alloc::Global;
 use sym_table::Symbols;
 use term_model::Op;
-use term_parts::is_over;
 use term_pool::Terms;
 
 /// An operator over a list of arguments: the constant that may be left out of the list, and the one to which the list comes
@@ -168,7 +167,7 @@ pub(crate) fn joins(
         IsTrue yes ↔ IsJoined junction t u) }
     ensures same { terms.new ≡ terms.old }
 {
-    if is_over(symbols, terms, junction.op, 0, left) {
+    if is_constant(symbols, terms, junction.op, left) {
         return comes_to(alloc, symbols, terms, junction, &[], right);
     }
     let mut arguments: Scratch = SmallVec::new(alloc);

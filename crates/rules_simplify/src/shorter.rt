@@ -89,9 +89,10 @@ pub(crate) fn once_each(
     let mut seen = IndexSet::new(alloc);
     let mut kept: Scratch = SmallVec::new(alloc);
     for item in list {
-        if meet(&mut seen, item.get())? {
-            push(&mut kept, item.get())?;
+        if !meet(&mut seen, item.get())? {
+            continue;
         }
+        push(&mut kept, item.get())?;
     }
     Ok(kept)
 }
