@@ -1,5 +1,5 @@
 -- Lists of terms that are shortened: one more item behind, and no second result.
-use Rattle.std.proofs.Common.{◌≡◌, ◌≢◌, ◌⊎◌, inl, inr, List, [], ◌∷◌, ◌++◌, Contains, refl, sym, ap, subst}
+use Rattle.std.proofs.Common.{◌≡◌, ◌≢◌, ◌⊎◌, inl, inr, List, [], ◌∷◌, ◌++◌, Contains, refl, sym, ◌∙◌, ap, subst}
 use Rattle.rule_model.proofs.Lists.{contains_none, contains_cases, contains_head, contains_later}
 use Rattle.term_model.specs.Terms.{Term}
 use Rattle.rule_model.specs.Simplification.{IsWithout, end, drop, keep, IsOnceEach, end_of, repeat, fresh}
@@ -32,17 +32,46 @@ once_first _ _ _ t (fresh before u ts us new more) none other =
     (λ h. elim (contains_cases u t before h) [ inl e ↦ other (subst (Contains (u ∷ us)) e (contains_head u us)) | inr later ↦ none later ])
     (λ h. other (contains_later u t us h)))
 
--- there is one list without the term, and one without later repeats
+-- what the first item of a list says of the list without the term
+abbrev WithoutFirst : Term → List Term → List Term → Type 0
+WithoutFirst c [] us = us ≡ []
+WithoutFirst c (t ∷ ts) us = ((t ≡ c) × IsWithout c ts us) ⊎ ((ws : List Term) × (us ≡ t ∷ ws) × (t ≢ c) × IsWithout c ts ws)
+
+without_first : (c : Term) (ts us : List Term) → IsWithout c ts us → WithoutFirst c ts us
+without_first c _ _ end = refl
+without_first c _ _ (drop ts us more) = inl (refl, more)
+without_first c _ _ (keep t ts us apart more) = inr (us, refl, apart, more)
+
+-- there is one list without the term
 pub without_one : (c : Term) (ts us vs : List Term) → IsWithout c ts us → IsWithout c ts vs → us ≡ vs
-without_one c _ _ _ end end = refl
-without_one c _ _ _ (drop ts us more) (drop _ vs others) = without_one c ts us vs more others
-without_one c _ _ _ (drop ts us more) (keep _ _ vs apart others) = absurd (apart refl)
-without_one c _ _ _ (keep _ ts us apart more) (drop _ vs others) = absurd (apart refl)
-without_one c _ _ _ (keep t ts us apart more) (keep _ _ vs other others) = ap (λ ws. t ∷ ws) (without_one c ts us vs more others)
+without_one c [] us vs h k = without_first c [] us h ∙ sym (without_first c [] vs k)
+without_one c (t ∷ ts) us vs h k = go (without_first c (t ∷ ts) us h) (without_first c (t ∷ ts) vs k)
+  where
+    go : WithoutFirst c (t ∷ ts) us → WithoutFirst c (t ∷ ts) vs → us ≡ vs
+    go (inl (e, more)) (inl (f, others)) = without_one c ts us vs more others
+    go (inl (e, more)) (inr (ws, same, apart, others)) = absurd (apart e)
+    go (inr (ws, same, apart, more)) (inl (f, others)) = absurd (apart f)
+    go (inr (ws, same, apart, more)) (inr (xs, alike, other, others)) =
+        same ∙ (ap (λ (l : List Term). t ∷ l) (without_one c ts ws xs more others) ∙ sym alike)
+
+-- the same of the list without later repeats
+abbrev OnceFirst : List Term → List Term → List Term → Type 0
+OnceFirst before [] us = us ≡ []
+OnceFirst before (t ∷ ts) us =
+    (Contains before t × IsOnceEach before ts us) ⊎ ((ws : List Term) × (us ≡ t ∷ ws) × (¬ Contains before t) × IsOnceEach (t ∷ before) ts ws)
+
+each_first : (before ts us : List Term) → IsOnceEach before ts us → OnceFirst before ts us
+each_first _ _ _ (end_of before) = refl
+each_first _ _ _ (repeat before t ts us met more) = inl (met, more)
+each_first _ _ _ (fresh before t ts us new more) = inr (us, refl, new, more)
 
 pub once_one : (before ts us vs : List Term) → IsOnceEach before ts us → IsOnceEach before ts vs → us ≡ vs
-once_one _ _ _ _ (end_of before) (end_of _) = refl
-once_one _ _ _ _ (repeat before t ts us met more) (repeat _ _ _ vs again others) = once_one before ts us vs more others
-once_one _ _ _ _ (repeat before t ts us met more) (fresh _ _ _ vs new others) = absurd (new met)
-once_one _ _ _ _ (fresh before t ts us new more) (repeat _ _ _ vs met others) = absurd (new met)
-once_one _ _ _ _ (fresh before t ts us new more) (fresh _ _ _ vs other others) = ap (λ ws. t ∷ ws) (once_one (t ∷ before) ts us vs more others)
+once_one before [] us vs h k = each_first before [] us h ∙ sym (each_first before [] vs k)
+once_one before (t ∷ ts) us vs h k = go (each_first before (t ∷ ts) us h) (each_first before (t ∷ ts) vs k)
+  where
+    go : OnceFirst before (t ∷ ts) us → OnceFirst before (t ∷ ts) vs → us ≡ vs
+    go (inl (met, more)) (inl (again, others)) = once_one before ts us vs more others
+    go (inl (met, more)) (inr (ws, same, new, others)) = absurd (new met)
+    go (inr (ws, same, new, more)) (inl (met, others)) = absurd (new met)
+    go (inr (ws, same, new, more)) (inr (xs, alike, other, others)) =
+        same ∙ (ap (λ (l : List Term). t ∷ l) (once_one (t ∷ before) ts ws xs more others) ∙ sym alike)

@@ -30,6 +30,14 @@ without_start s v c ts kept e = rw e (record { kept = []; refer = tt; is = end }
 pub once_start : (s : Table) (v : TermsView) (ts : List Term) (kept : List ℕ) → kept ≡ [] → AreOnceEach s v (take 0 ts) kept
 once_start s v ts kept e = rw e (record { kept = []; refer = tt; is = end_of [] })
 
+-- the keys that are met stay those that are kept
+pub keys_again : (kept seen more : List ℕ) (r : ℕ) (new : Bool) → seen ≡ kept → IsMet seen more r new → new ≡ false → more ≡ kept
+keys_again kept seen more r new same met old = (met_again seen more r new met old).1 ∙ same
+
+pub keys_first : (kept seen more longer : List ℕ) (r : ℕ) (new : Bool) → seen ≡ kept → IsMet seen more r new → new ≡ true → longer ≡ kept ++ r ∷ [] → more ≡ longer
+keys_first kept seen more longer r new same met first pushed =
+    (met_first seen more r new met first).1 ∙ (ap (λ (ks : List ℕ). ks ++ r ∷ []) same ∙ sym pushed)
+
 module _ (s : Table) (v : TermsView) (rs : List ℕ) (ts : List Term) (refer : ReferToAll s v rs ts) (i : ℕ) where
   -- the item at a place is tested for a constant
   module _ (c : Term) (r : ℕ) (told : Bool) (below : i < length rs) (is : r ≡ get_or rs i r) (test : (t : Term) → RefersTo s v r t → IsTrue told ↔ (t ≡ c)) where
@@ -67,33 +75,30 @@ module _ (s : Table) (v : TermsView) (rs : List ℕ) (ts : List Term) (refer : R
 
   -- the item at a place is met
   module _ (one : AreOne s v) (r : ℕ) (new : Bool) (below : i < length rs) (is : r ≡ get_or rs i r) (kept seen more : List ℕ) (same : seen ≡ kept) (met : IsMet seen more r new) where
-    pub met_before : new ≡ false → AreOnceEach s v (take i ts) kept → (more ≡ kept) × AreOnceEach s v (take (i + 1) ts) kept
-    met_before old h =
-        let again = met_again seen more r new met old in
-        let there = contains_terms s v one kept h.kept r (item s v rs ts refer i) h.refer (item_refers s v rs ts refer i r below is) (subst (λ (ks : List ℕ). Contains ks r) same again.0) in (
-          again.1 ∙ same,
-          record {
-            kept = h.kept;
-            refer = h.refer;
-            is = rw (one_more s v rs ts refer i r below is) (once_again [] (take i ts) h.kept (item s v rs ts refer i) h.is (inr there));
-          },
-        )
+    refers : RefersTo s v r (item s v rs ts refer i)
+    refers = item_refers s v rs ts refer i r below is
 
-    pub met_now : new ≡ true → (longer : List ℕ) → longer ≡ kept ++ r ∷ [] → AreOnceEach s v (take i ts) kept → (more ≡ longer) × AreOnceEach s v (take (i + 1) ts) longer
-    met_now fresh longer pushed h =
-        let first = met_first seen more r new met fresh in
-        let refers = item_refers s v rs ts refer i r below is in (
-          first.1 ∙ (ap (λ (ks : List ℕ). ks ++ r ∷ []) same ∙ sym pushed),
-          rw pushed
-          (record {
-            kept = h.kept ++ item s v rs ts refer i ∷ [];
-            refer = refer_append s v kept (r ∷ []) h.kept (item s v rs ts refer i ∷ []) h.refer (refers, tt);
-            is =
-                rw (one_more s v rs ts refer i r below is)
-                (once_first [] (take i ts) h.kept (item s v rs ts refer i) h.is (contains_none (item s v rs ts refer i))
-                (λ there. first.0 (subst (λ (ks : List ℕ). Contains ks r) (sym same) (contains_references s v one kept h.kept r (item s v rs ts refer i) h.refer refers there))));
-          }),
-        )
+    pub met_before : new ≡ false → AreOnceEach s v (take i ts) kept → AreOnceEach s v (take (i + 1) ts) kept
+    met_before old h =
+        let there = subst (λ (ks : List ℕ). Contains ks r) same (met_again seen more r new met old).0 in
+        let term_there = contains_terms s v one kept h.kept r (item s v rs ts refer i) h.refer refers there in
+        record {
+          kept = h.kept;
+          refer = h.refer;
+          is = rw (one_more s v rs ts refer i r below is) (once_again [] (take i ts) h.kept (item s v rs ts refer i) h.is (inr term_there));
+        }
+
+    pub met_now : new ≡ true → (longer : List ℕ) → longer ≡ kept ++ r ∷ [] → AreOnceEach s v (take i ts) kept → AreOnceEach s v (take (i + 1) ts) longer
+    met_now first longer pushed h = rw pushed
+        (record {
+          kept = h.kept ++ item s v rs ts refer i ∷ [];
+          refer = refer_append s v kept (r ∷ []) h.kept (item s v rs ts refer i ∷ []) h.refer (refers, tt);
+          is =
+              rw (one_more s v rs ts refer i r below is)
+              (once_first [] (take i ts) h.kept (item s v rs ts refer i) h.is (contains_none (item s v rs ts refer i))
+              (λ there. (met_first seen more r new met first).0
+              (subst (λ (ks : List ℕ). Contains ks r) (sym same) (contains_references s v one kept h.kept r (item s v rs ts refer i) h.refer refers there))));
+        })
 
   -- the whole list is taken
   module _ (past : length rs ≤ i) where

@@ -51,5 +51,5 @@ IsAdded old new r = (k : ℕ) → Contains new k ↔ (Contains old k ⊎ (k ≡ 
 
 -- the term is noted behind its kind of number of negations, and the answer says whether it stood behind the other kind
 abbrev pub IsMetOtherwise : List ℕ → List ℕ → List ℕ → List ℕ → ℕ → Bool → Bool → Type 0
-IsMetOtherwise even odd new_even new_odd r true yes = IsAdded odd new_odd r × (new_even ≡ even) × (IsTrue yes ↔ Contains even r)
-IsMetOtherwise even odd new_even new_odd r false yes = IsAdded even new_even r × (new_odd ≡ odd) × (IsTrue yes ↔ Contains odd r)
+IsMetOtherwise even odd new_even new_odd r true told = IsAdded odd new_odd r × (new_even ≡ even) × (IsTrue told ↔ Contains even r)
+IsMetOtherwise even odd new_even new_odd r false told = IsAdded even new_even r × (new_odd ≡ odd) × (IsTrue told ↔ Contains odd r)

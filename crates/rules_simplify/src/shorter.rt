@@ -68,7 +68,7 @@ pub(crate) fn without(
 
 /// Meets a reference, and says whether it is met for the first time.
 fn meet(met: &mut IndexSet<u32>, r: Ref) -> Result<bool, Memory>
-    ensures met { IfOk result (λ new. IsMet met.old.keys met.new.keys r new) }
+    ensures { IfOk result (λ new. IsMet met.old.keys met.new.keys r new) }
 {
     let new = met.insert(r.number())?;
     Ok(new)
@@ -81,7 +81,7 @@ pub(crate) fn once_each(
     terms: &Terms<'_>,
     list: &[Slot],
 ) -> Result<Scratch, Memory>
-    ensures once { IfOk result (λ kept. (ts : List Term) → ReferToAll symbols.now terms.now list.now ts →
+    ensures { IfOk result (λ kept. (ts : List Term) → ReferToAll symbols.now terms.now list.now ts →
         AreOnceEach symbols.now terms.now ts kept.items) }
 {
     let _leaves = symbols.count();
