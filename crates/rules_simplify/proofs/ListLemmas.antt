@@ -45,14 +45,15 @@ without_first c _ _ (keep t ts us apart more) = inr (us, refl, apart, more)
 -- there is one list without the term
 pub without_one : (c : Term) (ts us vs : List Term) → IsWithout c ts us → IsWithout c ts vs → us ≡ vs
 without_one c [] us vs h k = without_first c [] us h ∙ sym (without_first c [] vs k)
-without_one c (t ∷ ts) us vs h k = go (without_first c (t ∷ ts) us h) (without_first c (t ∷ ts) vs k)
+without_one c (t ∷ ts) us vs h k =
+    go (λ ws xs more others. without_one c ts ws xs more others) (without_first c (t ∷ ts) us h) (without_first c (t ∷ ts) vs k)
   where
-    go : WithoutFirst c (t ∷ ts) us → WithoutFirst c (t ∷ ts) vs → us ≡ vs
-    go (inl (e, more)) (inl (f, others)) = without_one c ts us vs more others
-    go (inl (e, more)) (inr (ws, same, apart, others)) = absurd (apart e)
-    go (inr (ws, same, apart, more)) (inl (f, others)) = absurd (apart f)
-    go (inr (ws, same, apart, more)) (inr (xs, alike, other, others)) =
-        same ∙ (ap (λ (l : List Term). t ∷ l) (without_one c ts ws xs more others) ∙ sym alike)
+    go : ((ws xs : List Term) → IsWithout c ts ws → IsWithout c ts xs → ws ≡ xs) → WithoutFirst c (t ∷ ts) us → WithoutFirst c (t ∷ ts) vs → us ≡ vs
+    go rest (inl (e, more)) (inl (f, others)) = rest us vs more others
+    go rest (inl (e, more)) (inr (ws, same, apart, others)) = absurd (apart e)
+    go rest (inr (ws, same, apart, more)) (inl (f, others)) = absurd (apart f)
+    go rest (inr (ws, same, apart, more)) (inr (xs, alike, other, others)) =
+        same ∙ (ap (λ (l : List Term). t ∷ l) (rest ws xs more others) ∙ sym alike)
 
 -- the same of the list without later repeats
 abbrev OnceFirst : List Term → List Term → List Term → Type 0
@@ -67,11 +68,12 @@ each_first _ _ _ (fresh before t ts us new more) = inr (us, refl, new, more)
 
 pub once_one : (before ts us vs : List Term) → IsOnceEach before ts us → IsOnceEach before ts vs → us ≡ vs
 once_one before [] us vs h k = each_first before [] us h ∙ sym (each_first before [] vs k)
-once_one before (t ∷ ts) us vs h k = go (each_first before (t ∷ ts) us h) (each_first before (t ∷ ts) vs k)
+once_one before (t ∷ ts) us vs h k =
+    go (λ met ws xs more others. once_one met ts ws xs more others) (each_first before (t ∷ ts) us h) (each_first before (t ∷ ts) vs k)
   where
-    go : OnceFirst before (t ∷ ts) us → OnceFirst before (t ∷ ts) vs → us ≡ vs
-    go (inl (met, more)) (inl (again, others)) = once_one before ts us vs more others
-    go (inl (met, more)) (inr (ws, same, new, others)) = absurd (new met)
-    go (inr (ws, same, new, more)) (inl (met, others)) = absurd (new met)
-    go (inr (ws, same, new, more)) (inr (xs, alike, other, others)) =
-        same ∙ (ap (λ (l : List Term). t ∷ l) (once_one (t ∷ before) ts ws xs more others) ∙ sym alike)
+    go : ((met ws xs : List Term) → IsOnceEach met ts ws → IsOnceEach met ts xs → ws ≡ xs) → OnceFirst before (t ∷ ts) us → OnceFirst before (t ∷ ts) vs → us ≡ vs
+    go rest (inl (met, more)) (inl (again, others)) = rest before us vs more others
+    go rest (inl (met, more)) (inr (ws, same, new, others)) = absurd (new met)
+    go rest (inr (ws, same, new, more)) (inl (met, others)) = absurd (new met)
+    go rest (inr (ws, same, new, more)) (inr (xs, alike, other, others)) =
+        same ∙ (ap (λ (l : List Term). t ∷ l) (rest (t ∷ before) ws xs more others) ∙ sym alike)

@@ -11,23 +11,23 @@ use Rattle.rules_simplify.proofs.ItemLemmas.{item, item_refers, one_more, all_ta
 use Rattle.rules_simplify.proofs.OpposedLemmas.{IsNoted, noted_found, noted_more, none_opposed, opposed_wider}
 
 module _ (s : Table) (v : TermsView) (rs : List ℕ) (ts : List Term) (refer : ReferToAll s v rs ts) (i : ℕ) (even odd : List ℕ) (noted : IsNoted s v (take i ts) even odd) where
-  module _ (one : AreOne s v) (r bare : ℕ) (b yes : Bool) (new_even new_odd : List ℕ) (below : i < length rs) (is : r ≡ get_or rs i r) (stripped : (t : Term) → RefersTo s v r t → IsStripped s v t bare b) (met : IsMetOtherwise even odd new_even new_odd bare b yes) where
+  module _ (one : AreOne s v) (r bare : ℕ) (b told : Bool) (new_even new_odd : List ℕ) (below : i < length rs) (is : r ≡ get_or rs i r) (stripped : (t : Term) → RefersTo s v r t → IsStripped s v t bare b) (met : IsMetOtherwise even odd new_even new_odd bare b told) where
     here : IsStripped s v (item s v rs ts refer i) bare b
     here = stripped (item s v rs ts refer i) (item_refers s v rs ts refer i r below is)
 
-    pub found : yes ≡ true → IsTrue true ↔ AreOpposed ts
+    pub found : told ≡ true → IsTrue true ↔ AreOpposed ts
     found holds = (
       λ e.
           opposed_wider (take (i + 1) ts) ts (λ t there. contains_taken (i + 1) ts t there)
           (rw (one_more s v rs ts refer i r below is)
-          (noted_found s v one (take i ts) (item s v rs ts refer i) here.inner bare here.refers b yes even odd new_even new_odd here.strips noted met holds)),
+          (noted_found s v one (take i ts) (item s v rs ts refer i) here.inner bare here.refers b told even odd new_even new_odd here.strips noted met holds)),
       λ h. refl,
     )
 
-    pub not_found : yes ≡ false → IsNoted s v (take (i + 1) ts) new_even new_odd
+    pub not_found : told ≡ false → IsNoted s v (take (i + 1) ts) new_even new_odd
     not_found fails =
         rw (one_more s v rs ts refer i r below is)
-        (noted_more s v one (take i ts) (item s v rs ts refer i) here.inner bare here.refers b yes even odd new_even new_odd here.strips noted met fails)
+        (noted_more s v one (take i ts) (item s v rs ts refer i) here.inner bare here.refers b told even odd new_even new_odd here.strips noted met fails)
 
   pub nowhere : length rs ≤ i → IsTrue false ↔ AreOpposed ts
   nowhere past = (

@@ -36,14 +36,14 @@ stands_last ts t u odd h = record { whole = t; there = Contains-push ts t; strip
 -- opposed items are one term that stands both ways
 pub opposed_are : (ts : List Term) (u : Term) → Stands ts u false → Stands ts u true → AreOpposed ts
 opposed_are ts u h k =
-    let even = even_count h.strips.nots h.strips.parity in
-    let odd = odd_count k.strips.nots k.strips.parity in
+    let twice = even_count h.strips.nots h.strips.parity in
+    let once_more = odd_count k.strips.nots k.strips.parity in
     record {
       same = u;
-      m = even.0;
-      n = odd.0;
-      even = subst (Contains ts) (h.strips.whole ∙ (negated_is h.strips.nots u ∙ ap (λ (n : ℕ). negated n u) even.1)) h.there;
-      odd = subst (Contains ts) (k.strips.whole ∙ (negated_is k.strips.nots u ∙ ap (λ (n : ℕ). negated n u) odd.1)) k.there;
+      m = twice.0;
+      n = once_more.0;
+      even = subst (Contains ts) (h.strips.whole ∙ (negated_is h.strips.nots u ∙ ap (λ (n : ℕ). negated n u) twice.1)) h.there;
+      odd = subst (Contains ts) (k.strips.whole ∙ (negated_is k.strips.nots u ∙ ap (λ (n : ℕ). negated n u) once_more.1)) k.there;
     }
 
 pub record StandsBothWays (ts : List Term) : Type 0 where
@@ -115,15 +115,15 @@ module _ (s : Table) (v : TermsView) where
     )
 
     -- the term stood the other way before
-    pub noted_found : (b yes : Bool) (even odd new_even new_odd : List ℕ) → Strips t u b → IsNoted ts even odd → IsMetOtherwise even odd new_even new_odd bare b yes → yes ≡ true → AreOpposed (ts ++ t ∷ [])
-    noted_found true yes even odd new_even new_odd strips noted met holds =
+    pub noted_found : (b told : Bool) (even odd new_even new_odd : List ℕ) → Strips t u b → IsNoted ts even odd → IsMetOtherwise even odd new_even new_odd bare b told → told ≡ true → AreOpposed (ts ++ t ∷ [])
+    noted_found true told even odd new_even new_odd strips noted met holds =
         opposed_are (ts ++ t ∷ []) u (stands_before ts t u false ((noted.evens bare u refers).0 (met.2.0 holds))) (stands_last ts t u true strips)
-    noted_found false yes even odd new_even new_odd strips noted met holds =
+    noted_found false told even odd new_even new_odd strips noted met holds =
         opposed_are (ts ++ t ∷ []) u (stands_last ts t u false strips) (stands_before ts t u true ((noted.odds bare u refers).0 (met.2.0 holds)))
 
     -- it did not
-    pub noted_more : (b yes : Bool) (even odd new_even new_odd : List ℕ) → Strips t u b → IsNoted ts even odd → IsMetOtherwise even odd new_even new_odd bare b yes → yes ≡ false → IsNoted (ts ++ t ∷ []) new_even new_odd
-    noted_more true yes even odd new_even new_odd strips noted met fails = record {
+    pub noted_more : (b told : Bool) (even odd new_even new_odd : List ℕ) → Strips t u b → IsNoted ts even odd → IsMetOtherwise even odd new_even new_odd bare b told → told ≡ false → IsNoted (ts ++ t ∷ []) new_even new_odd
+    noted_more true told even odd new_even new_odd strips noted met fails = record {
       evens = other_kind true false even new_even strips (λ e. cc) met.1 noted.evens;
       odds = same_kind true odd new_odd strips met.0 noted.odds;
       apart = λ w h k. elim (stands_push ts t w false h) [
@@ -137,7 +137,7 @@ module _ (s : Table) (v : TermsView) where
         | inr last ↦ (let wrong = (one_strips t w u false true last strips).1 in absurd cc)
       ];
     }
-    noted_more false yes even odd new_even new_odd strips noted met fails = record {
+    noted_more false told even odd new_even new_odd strips noted met fails = record {
       evens = same_kind false even new_even strips met.0 noted.evens;
       odds = other_kind false true odd new_odd strips (λ e. cc) met.1 noted.odds;
       apart = λ w h k. elim (stands_push ts t w true k) [
