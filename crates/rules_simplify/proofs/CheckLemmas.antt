@@ -1,0 +1,72 @@
+-- What the rules of this family ask of the step at an index.
+use Rattle.std.proofs.Common.{◌≡◌, ◌↔◌, ◌≤◌, ℕ, List, [], ◌∷◌, length, map, Bool, false, IsTrue, refl, sym, ap, ◌∙◌, subst, arith}
+use Rattle.sym_table.specs.Table.{Table}
+use Rattle.term_model.specs.Flips.{equality}
+use Rattle.term_model.specs.Terms.{Var, Term, operation, terms_of}
+use Rattle.term_pool.specs.Views.{TermsView, ReferToAll}
+use Rattle.rule_model.specs.declared.rules.Rule.{Rule}
+use Rattle.rule_model.specs.Conditions.{MeetsRule}
+use Rattle.rule_model.specs.Judged.{Judged}
+use Rattle.rule_model.specs.Proofs.{ProofItems}
+use Rattle.rule_model.specs.Reading.{rule_at, clause_at, premises_at}
+use Rattle.rule_model.specs.Simplification.{MeetsJoining}
+use Rattle.schema_match.specs.Equations.{StatesEquality}
+use Rattle.schema_match.specs.Steps.{MeetAt, ReferToClauses}
+use Rattle.rules_simplify.specs.declared.joins.Junction.{Junction}
+use Rattle.rules_simplify.specs.Families.{IsOfSimplification}
+use Rattle.rules_simplify.specs.Joins.{constant, IsJoined}
+use Rattle.rules_simplify.specs.Steps.{MeetsSimplify}
+
+-- what a clause meets under a junction
+abbrev pub MeetsUnder : Junction → List Term → Type 0
+MeetsUnder j ts = MeetsJoining j.op (constant j.neutral) (constant j.absorbing) [] ts
+
+same_sides : (x y z w : Term) → equality x y ∷ [] ≡ equality z w ∷ [] → (x ≡ z) × (y ≡ w)
+same_sides x y z w e = (let f : x ≡ z = cc in f, let f : y ≡ w = cc in f)
+
+pub joining_is : (s : Table) (v : TermsView) (p : ℕ × ℕ) (j : Junction) (ts : List Term) (told : Bool) (is : StatesEquality s v p [] ts) → IsTrue told ↔ IsJoined j is.left is.right → IsTrue told ↔ MeetsUnder j ts
+joining_is s v p j ts told is test = (
+  λ e.
+      (let h = test.0 e in
+      record { arguments = h.arguments; right = is.right; none = refl; literal = is.literal ∙ ap (λ z. equality z is.right ∷ []) h.is; joins = h.joins }),
+  λ m.
+      (let sides = same_sides is.left is.right (operation j.op (terms_of m.arguments)) m.right (sym is.literal ∙ m.literal) in
+      test.1 (record { arguments = m.arguments; is = sides.0; joins = rw sides.1 m.joins })),
+)
+
+pub no_joining : (j : Junction) (ts : List Term) → ((u w : Term) → ts ≡ equality u w ∷ [] → ⊥) → IsTrue false ↔ MeetsUnder j ts
+no_joining j ts other = (λ e. absurd cc, λ m. absurd (other (operation j.op (terms_of m.arguments)) m.right m.literal))
+
+-- a rule of this family asks what its case asks
+rule_meets : (rule : Rule) (j : Judged) → IsOfSimplification rule → MeetsRule rule j ↔ MeetsSimplify rule j.premises j.clause
+rule_meets Rule.AndSimplify j is = (λ h. h, λ h. h)
+rule_meets Rule.OrSimplify j is = (λ h. h, λ h. h)
+rule_meets _ j is = absurd cc
+
+pub some_premise : (p : List Term) (ps : List (List Term)) (ts : List Term) (rule : Rule) → MeetsSimplify rule (p ∷ ps) ts → ⊥
+some_premise p ps ts Rule.AndSimplify met = absurd (let e = met.none in cc)
+some_premise p ps ts Rule.OrSimplify met = absurd (let e = met.none in cc)
+some_premise p ps ts rule met = absurd met
+
+pub other_rule : (ts : List Term) (rule : Rule) → (rule ≡ Rule.AndSimplify → ⊥) → (rule ≡ Rule.OrSimplify → ⊥) → IsTrue false ↔ MeetsSimplify rule [] ts
+other_rule ts Rule.AndSimplify no_and no_or = absurd (no_and refl)
+other_rule ts Rule.OrSimplify no_and no_or = absurd (no_or refl)
+other_rule ts rule no_and no_or = (λ e. absurd cc, λ met. absurd met)
+
+module _ (of : ProofItems Var Term) (i : ℕ) (rule : Rule) (simplification : IsOfSimplification rule) (same : rule ≡ rule_at of i) where
+  pub case_of : (j : Judged) → MeetsRule (rule_at of i) j ↔ MeetsSimplify (rule_at of i) j.premises j.clause
+  case_of j = rule_meets (rule_at of i) j (subst IsOfSimplification same simplification)
+
+-- without premises and with some
+pub no_premises : (s : Table) (v : TermsView) (rule : Rule) (told : Bool) (clause : List ℕ) → ((ts : List Term) → ReferToAll s v clause ts → IsTrue told ↔ MeetsSimplify rule [] ts) → (ps : List (List Term)) (ts : List Term) → ReferToClauses s v [] ps → ReferToAll s v clause ts → IsTrue told ↔ MeetsSimplify rule ps ts
+no_premises s v rule told clause test [] ts premises refer = test ts refer
+no_premises s v rule told clause test (p ∷ ps) ts premises refer = absurd premises
+
+pub some_meet_none : (of : ProofItems Var Term) (i : ℕ) (js : List ℕ) → 1 ≤ length js → js ≡ premises_at of i → IsTrue false ↔ MeetAt MeetsSimplify of i
+some_meet_none of i [] some same = absurd (omega (arith, some))
+some_meet_none of i (j ∷ js) some same = (
+  λ e. absurd cc,
+  λ met.
+      absurd (some_premise (clause_at of j) (map (clause_at of) js) (clause_at of i) (rule_at of i)
+      (subst (λ (ks : List ℕ). MeetsSimplify (rule_at of i) (map (clause_at of) ks) (clause_at of i)) (sym same) met)),
+)

@@ -1,0 +1,10 @@
+pub mod SetLemmas
+pub mod ListLemmas
+pub mod ItemLemmas
+pub mod ShorterLemmas
+pub mod NegationLemmas
+pub mod OpposedLemmas
+pub mod OpposedItems
+pub mod ViewLemmas
+pub mod JoinLemmas
+pub mod CheckLemmas

@@ -1,0 +1,45 @@
+-- Sets of numbers by the lists of what they have.
+use Rattle.std.proofs.Common.{◌≡◌, ◌↔◌, inl, inr, ℕ, List, [], ◌∷◌, ◌++◌, Bool, true, false, not, nat_eq, cond, refl, sym, subst, Contains}
+use Rattle.std.specs.List.{list_any}
+use Rattle.std.specs.Cmp.{nat_eq_equiv}
+use Rattle.std.proofs.lemmas.Bool.{eqb-true}
+use Rattle.std.proofs.lemmas.List.Elements.{Contains-push, Contains-push_cases, Contains-append_left}
+use Rattle.std.proofs.lemmas.Map.Views.{list_any-from_Contains, Contains-from_any}
+use Rattle.indexmap.specs.IndexSet.{insert_key}
+use Rattle.rules_simplify.specs.Joins.{IsMet, IsAdded}
+
+pub has_number : (ks : List ℕ) (k : ℕ) → (list_any (nat_eq k) ks ≡ true) ↔ Contains ks k
+has_number ks k = (λ e. Contains-from_any (λ x y f. eqb-true x y f) k ks e, λ h. list_any-from_Contains nat_eq_equiv k ks h)
+
+pub met_is : (old new : List ℕ) (k r : ℕ) (b : Bool) → k ≡ r → b ≡ not (list_any (nat_eq k) old) → new ≡ insert_key nat_eq old k → IsMet old new r b
+met_is old new k r b e f g = subst (λ q. IsMet old new q b) e (go (list_any (nat_eq k) old) refl f g)
+  where
+    go : (t : Bool) → list_any (nat_eq k) old ≡ t → b ≡ not t → new ≡ cond t old (old ++ k ∷ []) → IsMet old new k b
+    go true h f g = subst (IsMet old new k) (sym f) ((has_number old k).0 h, g)
+    go false h f g = subst (IsMet old new k) (sym f) (λ c. absurd (let i = (has_number old k).1 c in cc), g)
+
+pub met_first : (old new : List ℕ) (r : ℕ) (b : Bool) → IsMet old new r b → b ≡ true → IsMet old new r true
+met_first old new r b h e = subst (IsMet old new r) e h
+
+pub met_again : (old new : List ℕ) (r : ℕ) (b : Bool) → IsMet old new r b → b ≡ false → IsMet old new r false
+met_again old new r b h e = subst (IsMet old new r) e h
+
+pub added_is : (old new : List ℕ) (k r : ℕ) → k ≡ r → new ≡ insert_key nat_eq old k → IsAdded old new r
+added_is old new k r e g = subst (IsAdded old new) e (go (list_any (nat_eq k) old) refl g)
+  where
+    go : (t : Bool) → list_any (nat_eq k) old ≡ t → new ≡ cond t old (old ++ k ∷ []) → IsAdded old new k
+    go true h g j = (
+      λ c. inl (subst (λ (ks : List ℕ). Contains ks j) g c),
+      λ c.
+          subst (λ (ks : List ℕ). Contains ks j) (sym g)
+          (elim c [ inl there ↦ there | inr same ↦ subst (Contains old) (sym same) ((has_number old k).0 h) ]),
+    )
+    go false h g j = (
+      λ c. elim (Contains-push_cases old k j (subst (λ (ks : List ℕ). Contains ks j) g c)) [ inl there ↦ inl there | inr same ↦ inr (sym same) ],
+      λ c.
+          subst (λ (ks : List ℕ). Contains ks j) (sym g)
+          (elim c [
+            | inl there ↦ Contains-append_left old (k ∷ []) j there
+            | inr same ↦ subst (Contains (old ++ k ∷ [])) (sym same) (Contains-push old k)
+          ]),
+    )

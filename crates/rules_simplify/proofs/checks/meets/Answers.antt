@@ -1,0 +1,18 @@
+use Rattle.std.proofs.Common.{◌↔◌, [], IsTrue, sym, subst}
+use Rattle.std.proofs.lemmas.Result.{IfOk-weaker}
+use Rattle.rules_simplify.specs.Steps.{MeetsSimplify}
+use Rattle.rules_simplify.proofs.CheckLemmas.{other_rule}
+use Rattle.rules_simplify.proofs.checks.meets.Goals as goal
+
+pub returns-in-AndSimplify-clause-meets : goal.returns-in-AndSimplify-clause-meets
+returns-in-AndSimplify-clause-meets c =
+    IfOk-weaker c.meets_joining.result _ _ (λ b test ts clause.
+    subst (λ rule. IsTrue b ↔ MeetsSimplify rule [] ts) (sym c.in-AndSimplify.is) (test ts clause)) c.meets_joining.ensures.meets
+
+pub returns-in-OrSimplify-clause-meets : goal.returns-in-OrSimplify-clause-meets
+returns-in-OrSimplify-clause-meets c =
+    IfOk-weaker c.meets_joining-in-OrSimplify.result _ _ (λ b test ts clause.
+    subst (λ rule. IsTrue b ↔ MeetsSimplify rule [] ts) (sym c.in-OrSimplify.is) (test ts clause)) c.meets_joining-in-OrSimplify.ensures.meets
+
+pub returns-in_default-clause-meets : goal.returns-in_default-clause-meets
+returns-in_default-clause-meets c ts clause = other_rule ts c.args.rule c.in_default.not-AndSimplify c.in_default.not-OrSimplify

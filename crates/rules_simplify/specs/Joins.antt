@@ -1,0 +1,55 @@
+-- Private. Lists of arguments that are shortened, by their references.
+use Rattle.std.specs.Prelude.{◌≡◌, ◌↔◌, ◌⊎◌, ◌++◌, ℕ, Bool, true, false, List, [], ◌∷◌, Contains, IsTrue}
+use Rattle.sym_table.specs.Table.{Table}
+use Rattle.term_model.specs.declared.symbols.Op.{Op}
+use Rattle.term_model.specs.Terms.{Term, operation, no_terms, terms_of}
+use Rattle.term_pool.specs.Views.{TermsView, ReferToAll}
+use Rattle.rule_model.specs.Simplification.{AreOpposed, IsWithout, IsOnceEach, IsShortened, StandsAs, JoinsTo}
+use Rattle.rules_simplify.specs.declared.joins.Junction.{Junction}
+
+-- the constant of an operator
+abbrev pub constant : Op → Term
+constant op = operation op no_terms
+
+-- the references stand for the list without the constant, and for the list without later repeats
+pub record AreWithout (s : Table) (v : TermsView) (left_out : Term) (ts : List Term) (references : List ℕ) : Type 0 where
+  pub kept : List Term
+  pub refer : ReferToAll s v references kept
+  pub is : IsWithout left_out ts kept
+
+pub record AreOnceEach (s : Table) (v : TermsView) (ts : List Term) (references : List ℕ) : Type 0 where
+  pub kept : List Term
+  pub refer : ReferToAll s v references kept
+  pub is : IsOnceEach [] ts kept
+
+-- the term is the absorbing constant, which the list has or comes to by two opposed items
+abbrev pub IsAbsorbed : Op → List Term → Term → Type 0
+IsAbsorbed absorbing ts t = (t ≡ constant absorbing) × (Contains ts (constant absorbing) ⊎ AreOpposed ts)
+
+-- the term is what a shorter list stands as
+abbrev pub IsShorter : Junction → List Term → Term → Type 0
+IsShorter j ts t = (us : List Term) × IsShortened (constant j.neutral) ts us × StandsAs j.op (constant j.neutral) us t
+
+-- what the arguments come to under a junction
+abbrev pub Joins : Junction → List Term → Term → Type 0
+Joins j = JoinsTo j.op (constant j.neutral) (constant j.absorbing)
+
+-- the left side is an application of the junction's operator, whose arguments come to the right side
+pub record IsJoined (j : Junction) (left right : Term) : Type 0 where
+  pub arguments : List Term
+  pub is : left ≡ operation j.op (terms_of arguments)
+  pub joins : Joins j arguments right
+
+-- r was not in the list and stands at its end now, or it was there and the list is as before
+abbrev pub IsMet : List ℕ → List ℕ → ℕ → Bool → Type 0
+IsMet old new r true = (¬ Contains old r) × (new ≡ old ++ r ∷ [])
+IsMet old new r false = Contains old r × (new ≡ old)
+
+-- the keys have come to have this number besides
+abbrev pub IsAdded : List ℕ → List ℕ → ℕ → Type 0
+IsAdded old new r = (k : ℕ) → Contains new k ↔ (Contains old k ⊎ (k ≡ r))
+
+-- the term is noted behind its kind of number of negations, and the answer says whether it stood behind the other kind
+abbrev pub IsMetOtherwise : List ℕ → List ℕ → List ℕ → List ℕ → ℕ → Bool → Bool → Type 0
+IsMetOtherwise even odd new_even new_odd r true told = IsAdded odd new_odd r × (new_even ≡ even) × (IsTrue told ↔ Contains even r)
+IsMetOtherwise even odd new_even new_odd r false told = IsAdded even new_even r × (new_odd ≡ odd) × (IsTrue told ↔ Contains odd r)

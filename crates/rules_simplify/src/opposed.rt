@@ -1,0 +1,74 @@
+//! Terms that stand in a list both behind an even and behind an odd number of negations.
+
+ghost use Rattle.std.specs.Prelude.{◌≡◌, ◌↔◌, List, All, IsTrue, IfOk, OnOk};
+ghost use Rattle.term_model.specs.Terms.{Term};
+ghost use Rattle.term_pool.specs.Nots.{IsStripped};
+ghost use Rattle.term_pool.specs.Views.{IsTerm, RefersTo, ReferToAll};
+ghost use Rattle.rule_model.specs.Simplification.{AreOpposed};
+ghost use Rattle.rules_simplify.specs.Joins.{IsAdded, IsMetOtherwise};
+
+use indexmap::IndexSet;
+use pair_pool::{Memory, Ref};
+use schema_match::Slot;
+use std::alloc::Global;
+use sym_table::Symbols;
+use term_pool::Terms;
+
+/// Adds a reference to a set.
+fn add(set: &mut IndexSet<u32>, r: Ref) -> Result<(), Memory>
+    ensures { OnOk result (IsAdded set.old.keys set.new.keys r) }
+{
+    set.insert(r.number())?;
+    Ok(())
+}
+
+/// Takes note of a term that stands behind negations, and says whether it stood behind the other kind of number before.
+fn is_met_otherwise(
+    even: &mut IndexSet<u32>,
+    odd: &mut IndexSet<u32>,
+    bare: Ref,
+    negated: bool,
+) -> Result<bool, Memory>
+    ensures { IfOk result (λ yes. IsMetOtherwise even.old.keys odd.old.keys even.new.keys odd.new.keys bare negated yes) }
+{
+    if negated {
+        add(odd, bare)?;
+        return Ok(even.contains(&bare.number()));
+    }
+    add(even, bare)?;
+    Ok(odd.contains(&bare.number()))
+}
+
+/// A term without its leading negations, and whether their number is odd.
+fn strip(symbols: &Symbols, terms: &mut Terms<'_>, r: Ref) -> (Ref, bool)
+    requires { IsTerm symbols.now terms.old r }
+    ensures stripped { (t : Term) → RefersTo symbols.now terms.old r t → IsStripped symbols.now terms.old t result.0 result.1 }
+    ensures same { terms.new ≡ terms.old }
+{
+    terms.strip_not(symbols, r)
+}
+
+/// Whether two items of a list are one term, one behind an even and the other behind an odd number of negations. Takes
+/// memory for each item.
+pub(crate) fn has_opposed(
+    alloc: Global,
+    symbols: &Symbols,
+    terms: &mut Terms<'_>,
+    list: &[Slot],
+) -> Result<bool, Memory>
+    requires { All (IsTerm symbols.now terms.old) list.now }
+    ensures opposed { IfOk result (λ yes. (ts : List Term) → ReferToAll symbols.now terms.old list.now ts → IsTrue yes ↔ AreOpposed ts) }
+    ensures same { terms.new ≡ terms.old }
+{
+    let _leaves = symbols.count();
+    terms.equal_exactly_where_terms_are();
+    let mut even = IndexSet::new(alloc);
+    let mut odd = IndexSet::new(alloc);
+    for item in list {
+        let (bare, negated) = strip(symbols, terms, item.get());
+        if is_met_otherwise(&mut even, &mut odd, bare, negated)? {
+            return Ok(true);
+        }
+    }
+    Ok(false)
+}
