@@ -1,22 +1,23 @@
 -- The numbers of assertions.
-use Rattle.std.proofs.Common.{◌≡◌, ◌↔◌, ◌⊎◌, inl, inr, zero, suc, ℕ, Bool, true, false, ◌||◌, if◌then◌else◌, nat_eq, List, [], ◌∷◌, ◌++◌, Contains, Any, IsTrue, refl, sym, subst, arith}
+use Rattle.std.proofs.Common.{◌≡◌, ◌↔◌, ◌⊎◌, inl, inr, zero, suc, ℕ, Bool, true, false, ◌||◌, if◌then◌else◌, nat_eq, List, [], ◌∷◌, ◌++◌, Contains, All, Any, IsTrue, refl, sym, subst, arith}
 use Rattle.std.specs.List.{list_any}
 use Rattle.std.proofs.lemmas.Bool.{eqb-true, eq-eqb}
-use Rattle.std.proofs.lemmas.List.Elements.{Contains-push, Contains-push_cases}
+use Rattle.std.proofs.lemmas.List.Elements.{All-weaker, Contains-push, Contains-push_cases}
 use Rattle.indexmap.specs.IndexSet.{insert_key}
-use Rattle.pair_pool.specs.Views.{PassView, Knows, IsOneToOne, Grows}
+use Rattle.pair_pool.specs.Views.{PassView, Knows, IsKnown, IsOneToOne, Grows}
 use Rattle.sym_table.specs.Leaf.{operator}
 use Rattle.sym_table.specs.Table.{Table, IsTable}
 use Rattle.term_model.specs.declared.symbols.Op.{Op}
-use Rattle.term_model.specs.Flips.{EqualUpToFlips}
+use Rattle.term_model.specs.Flips.{EqualUpToFlips, same as itself}
 use Rattle.term_model.specs.Terms.{Term}
 use Rattle.term_model.proofs.Basics.{any_here, any_later, any_cases}
 use Rattle.term_pool.specs.Pairs.{same_terms}
 use Rattle.term_pool.specs.Views.{TermsView, RefersTo, ReferToAll}
 use Rattle.term_pool.proofs.FlipLemmas.{flips_are}
+use Rattle.term_pool.proofs.OneTerm.{one_term}
 use Rattle.flip_keys.specs.declared.memory.Item.TheVariants as Item
 use Rattle.flip_keys.specs.declared.numbering.Keys.{Keys}
-use Rattle.flip_keys.specs.KeyTables.{AreClassKeys, HasKeyNumber, HasMore, InsertsNumber, IsOfOne, HasFoundNumber, AreFound}
+use Rattle.flip_keys.specs.KeyTables.{AreClassKeys, HasKeyNumber, HasMore, InsertsNumber, IsOfOne, HasFoundNumber, HasJust, AreFound}
 use Rattle.flip_keys.proofs.EqualNumbers.{terms_both}
 use Rattle.flip_keys.proofs.Walking.{has_later}
 
@@ -40,13 +41,6 @@ contains_before (z ∷ xs) y x h =
       | inl e ↦ subst (Contains (z ∷ (xs ++ y ∷ []))) e (contains_head z (xs ++ y ∷ []))
       | inr later ↦ contains_later z x (xs ++ y ∷ []) (contains_before xs y x later)
     ]
-
--- no numbers, and one more
-pub none_found : (p : PassView) (keys : Keys) (numbers : List ℕ) → numbers ≡ [] → AreFound p keys [] numbers
-none_found p keys numbers e = record {
-  each = λ r h. absurd (contains_none r h);
-  only = λ k h. absurd (contains_none k (subst (λ ks. Contains ks k) e h));
-}
 
 module _ (p q : PassView) (old new : Keys) (grows : Grows p q) (more : HasMore old new) where
   numbered_later : (r k : ℕ) → HasKeyNumber p old r k → HasKeyNumber q new r k
@@ -112,6 +106,31 @@ module _ (s : Table) (v : TermsView) where
         let same = (one_number table one keys good x r f.number k f.numbered numbered a t left right).1 flips in
         test.1 (subst (Contains numbers) same f.found)),
   )
+
+  -- an assertion, asked for as it stands
+  pub stands_there : IsTable s → IsOneToOne v.pass → (references placed : List ℕ) → HasJust references placed → (r : ℕ) → Contains placed r → (ts : List Term) (t : Term) → ReferToAll s v references ts → RefersTo s v r t → Any (λ a. EqualUpToFlips a t) ts
+  stands_there table one references placed just r there ts t refer right =
+      term_at references ts (λ a. EqualUpToFlips a t) r refer (just.only r there) (λ u left.
+      let same_tree = one.one_tree r right.tree left.tree right.known left.known in
+      let e = one_term s table left.tree t u (rw same_tree at right.stands) left.stands in
+      rw e (itself u))
+
+-- references stay known
+pub all_known_later : (p q : PassView) → Grows p q → (rs : List ℕ) → All (IsKnown p) rs → All (IsKnown q) rs
+all_known_later p q grows = All-weaker (IsKnown p) (IsKnown q) (λ r h. record { tree = h.tree; stands = grows r h.tree h.stands })
+
+-- a set of references, and one reference more
+pub just_more : (references before after : List ℕ) (r : ℕ) → HasJust references before → InsertsNumber before r after → HasJust (references ++ r ∷ []) after
+just_more references before after r just inserts = record {
+  each = λ x there. elim (Contains-push_cases references r x there) [
+    | inl earlier ↦ inserts.stays x (just.each x earlier)
+    | inr e ↦ subst (Contains after) e inserts.here
+  ];
+  only = λ x there. elim (inserts.only x there) [
+    | inl earlier ↦ contains_before references r x (just.only x earlier)
+    | inr e ↦ subst (Contains (references ++ r ∷ [])) (sym e) (Contains-push references r)
+  ];
+}
 
 -- one number more in a set
 any_of : (k : ℕ) (ks : List ℕ) → list_any (nat_eq k) ks ≡ true → Contains ks k

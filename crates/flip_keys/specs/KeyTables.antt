@@ -34,6 +34,11 @@ pub record InsertsNumber (old : List ℕ) (k : ℕ) (new : List ℕ) : Type 0 wh
   pub here : Contains new k
   pub only : (n : ℕ) → Contains new n → Contains old n ⊎ (n ≡ k)
 
+-- the set has these references and no other
+pub record HasJust (references placed : List ℕ) : Type 0 where
+  pub each : (r : ℕ) → Contains references r → Contains placed r
+  pub only : (r : ℕ) → Contains placed r → Contains references r
+
 -- the number is that of one of the references
 pub record IsOfOne (pass : PassView) (keys : Keys) (references : List ℕ) (k : ℕ) : Type 0 where
   pub reference : ℕ

@@ -1,11 +1,11 @@
 //! The assertions of a problem, up to flips.
 
-ghost use Rattle.std.specs.Prelude.{◌≡◌, ◌↔◌, List, All, Any, IsTrue, IfOk, OnOk};
+ghost use Rattle.std.specs.Prelude.{◌≡◌, ◌↔◌, List, All, Any, Contains, IsTrue, IfOk, OnOk};
 ghost use Rattle.pair_pool.specs.Views.{IsKnown};
 ghost use Rattle.term_model.specs.Flips.{EqualUpToFlips};
 ghost use Rattle.term_model.specs.Terms.{Term};
 ghost use Rattle.term_pool.specs.Views.{RefersTo, ReferToAll};
-ghost use Rattle.flip_keys.specs.KeyTables.{AreClassKeys, InsertsNumber, AreFound};
+ghost use Rattle.flip_keys.specs.KeyTables.{AreClassKeys, InsertsNumber, HasJust, AreFound};
 ghost use Rattle.flip_keys.specs.Assertions.{references_of, AreAssertionsReady};
 
 use crate::numbering::Keys;
@@ -15,13 +15,42 @@ use std::alloc::Global;
 use sym_table::Symbols;
 use term_pool::Terms;
 
-/// The assertions of a problem, with the numbers that they have up to flips.
+/// The assertions of a problem. They get their numbers up to flips when a term is asked for that is none of them as it
+/// stands.
 #[derive(Drop)]
 pub struct Assertions {
     alloc: Global,
     references: Vec<Ref>,
+    placed: IndexSet<u32>,
     keys: Keys,
     numbers: IndexSet<usize>,
+    is_numbered: bool,
+}
+
+/// Adds a reference to a set.
+fn place(placed: &mut IndexSet<u32>, r: Ref) -> Result<(), Memory>
+    ensures { OnOk result (InsertsNumber placed.old.keys r placed.new.keys) }
+{
+    placed.insert(r.number())?;
+    Ok(())
+}
+
+/// Whether a reference is in a set.
+fn is_placed(placed: &IndexSet<u32>, r: Ref) -> bool
+    ensures { IsTrue result ↔ Contains placed.now.keys r }
+{
+    placed.contains(&r.number())
+}
+
+/// References, as a set.
+fn place_all(alloc: Global, references: &[Ref]) -> Result<IndexSet<u32>, Memory>
+    ensures { IfOk result (λ placed. HasJust references.now placed.keys) }
+{
+    let mut placed = IndexSet::new(alloc);
+    'references: for r in references {
+        place(&mut placed, *r)?;
+    }
+    Ok(placed)
 }
 
 /// Adds a number to a set.
@@ -56,8 +85,7 @@ fn number_all(
 impl Assertions {
     /// The assertions that these references stand for.
     ///
-    /// Takes time and memory in proportion to the distinct cells of the terms. It places no cell, and refuses want of memory
-    /// alone.
+    /// Takes time and memory in proportion to the number of references. It places no cell, and refuses want of memory alone.
     pub fn new(
         alloc: Global,
         terms: &mut Terms<'_>,
@@ -68,22 +96,45 @@ impl Assertions {
         ensures ready { IfOk result (AreAssertionsReady terms.new) }
         ensures same { terms.new ≡ terms.old }
     {
-        let mut keys = Keys::new(alloc);
-        let numbers = number_all(alloc, terms, &mut keys, references)?;
+        let placed = place_all(alloc, references)?;
         let owned = Vec::from_slice(alloc, references)?;
         Ok(Assertions {
             alloc,
             references: owned,
-            keys,
-            numbers,
+            placed,
+            keys: Keys::new(alloc),
+            numbers: IndexSet::new(alloc),
+            is_numbered: false,
         })
+    }
+
+    /// Gives the assertions their numbers, where they have none yet.
+    fn number_once(&mut self, terms: &mut Terms<'_>) -> Result<(), Memory>
+        requires ready { AreAssertionsReady terms.old self.old }
+        ensures numbered { OnOk result (IsTrue self.new.is_numbered) }
+        ensures references { references_of self.new ≡ references_of self.old }
+        ensures ready { OnOk result (AreAssertionsReady terms.old self.new) }
+        ensures same { terms.new ≡ terms.old }
+    {
+        if self.is_numbered {
+            return Ok(());
+        }
+        self.numbers = number_all(
+            self.alloc,
+            terms,
+            &mut self.keys,
+            self.references.as_slice(),
+        )?;
+        self.is_numbered = true;
+        Ok(())
     }
 
     /// Whether a term is an assertion up to flips: where the order of the two sides of an equality does not count, at any
     /// depth outside lets.
     ///
-    /// Takes time and memory in proportion to those distinct cells of the term that were in no term before it. It places no
-    /// cell, and refuses want of memory alone.
+    /// A term that is an assertion as it stands costs one look-up. The first other term costs also time and memory in
+    /// proportion to the distinct cells of all assertions, and each other term those of its distinct cells that were in no
+    /// numbered term before it. It places no cell, and refuses want of memory alone.
     pub fn is_asserted(
         &mut self,
         symbols: &Symbols,
@@ -100,6 +151,10 @@ impl Assertions {
     {
         let _leaves = symbols.count();
         terms.one_to_one();
+        if is_placed(&self.placed, r) {
+            return Ok(true);
+        }
+        self.number_once(terms)?;
         let number = self.keys.number(self.alloc, terms, r)?;
         Ok(self.numbers.contains(&number))
     }

@@ -4,6 +4,7 @@
 //! A walk over the cells of a term numbers each cell once, its parts before it. What a cell comes to is a class: a leaf or a
 //! let by itself, an equality by the numbers of its sides, the lower one first, any other application by its head and the
 //! number of its list of arguments. Equal classes have one number. So a term costs its cells that no term before it had.
+//! A term that is an assertion as it stands is known by its reference, and asks for no numbers.
 #![tactic(auto)]
 
 mod assertions;
