@@ -1,10 +1,8 @@
 -- What a clausal rule asks of the step at an index.
 use Rattle.std.proofs.Common.{◌≡◌, ◌↔◌, ℕ, subst}
 use Rattle.term_model.specs.Terms.{Var, Term}
-use Rattle.rule_model.specs.declared.rules.Mode.{Mode}
 use Rattle.rule_model.specs.declared.rules.Rule.{Rule}
 use Rattle.rule_model.specs.Clausal.{IsClausal, MeetsClausal}
-use Rattle.rule_model.specs.Closings.{MeetsClosing}
 use Rattle.rule_model.specs.Conditions.{MeetsRule}
 use Rattle.rule_model.specs.Judged.{Judged}
 use Rattle.rule_model.specs.Proofs.{ProofItems}
@@ -54,15 +52,6 @@ rule_meets Rule.LaRwEq j is = absurd cc
 rule_meets Rule.LaGeneric j is = absurd cc
 rule_meets rule j is = (λ h. h, λ h. h)
 
-module _ (of : ProofItems Var Term) (i : ℕ) (mode : Mode) where
-  closing_meets_none : (rule : Rule) (k : ℕ) → IsClausal rule → MeetsClosing mode rule of i k → ⊥
-  closing_meets_none Rule.Subproof k is h = absurd cc
-  closing_meets_none Rule.Let k is h = absurd cc
-  closing_meets_none rule k is h = h
-
-  module _ (rule : Rule) (clausal : IsClausal rule) (same : rule ≡ rule_at of i) where
-    pub closes_nothing : (k : ℕ) → MeetsClosing mode (rule_at of i) of i k → ⊥
-    closes_nothing k h = closing_meets_none (rule_at of i) k (subst IsClausal same clausal) h
-
-    pub case_of : (j : Judged) → MeetsRule (rule_at of i) j ↔ MeetsClausal (rule_at of i) j.premises j.clause
-    case_of j = rule_meets (rule_at of i) j (subst IsClausal same clausal)
+module _ (of : ProofItems Var Term) (i : ℕ) (rule : Rule) (clausal : IsClausal rule) (same : rule ≡ rule_at of i) where
+  pub case_of : (j : Judged) → MeetsRule (rule_at of i) j ↔ MeetsClausal (rule_at of i) j.premises j.clause
+  case_of j = rule_meets (rule_at of i) j (subst IsClausal same clausal)

@@ -6,9 +6,7 @@ use Rattle.term_model.specs.declared.symbols.Sort.{Sort}
 use Rattle.term_model.specs.Sorts.{IsOf}
 use Rattle.term_model.specs.Terms.{Var, Term}
 use Rattle.term_pool.specs.Views.{TermsView, IsTerm, ReferToAll}
-use Rattle.rule_model.specs.declared.rules.Mode.{Mode}
 use Rattle.rule_model.specs.declared.rules.Rule.{Rule}
-use Rattle.rule_model.specs.Closings.{MeetsClosing}
 use Rattle.rule_model.specs.Conditions.{IsClauseOfTruths, MeetsRule}
 use Rattle.rule_model.specs.Definitions.{choice_schema_of}
 use Rattle.rule_model.specs.Judged.{Judged}
@@ -46,18 +44,9 @@ many_premises p q ps ts Rule.IteIntro met = absurd (let e = met.none in cc)
 many_premises p q ps ts Rule.DistinctElim met = absurd (let e = met.none in cc)
 many_premises p q ps ts rule met = few_instance p q ps ts (choice_schema_of rule) (few_of rule) met
 
-module _ (of : ProofItems Var Term) (i : ℕ) (mode : Mode) where
-  closing_meets_none : (rule : Rule) (k : ℕ) → IsOfDefinition rule → MeetsClosing mode rule of i k → ⊥
-  closing_meets_none Rule.Subproof k is h = absurd cc
-  closing_meets_none Rule.Let k is h = absurd cc
-  closing_meets_none rule k is h = h
-
-  module _ (rule : Rule) (definition : IsOfDefinition rule) (same : rule ≡ rule_at of i) where
-    pub closes_nothing : (k : ℕ) → MeetsClosing mode (rule_at of i) of i k → ⊥
-    closes_nothing k h = closing_meets_none (rule_at of i) k (subst IsOfDefinition same definition) h
-
-    pub case_of : (j : Judged) → MeetsRule (rule_at of i) j ↔ MeetsDefinition (rule_at of i) j.premises j.clause
-    case_of j = rule_meets (rule_at of i) j (subst IsOfDefinition same definition)
+module _ (of : ProofItems Var Term) (i : ℕ) (rule : Rule) (definition : IsOfDefinition rule) (same : rule ≡ rule_at of i) where
+  pub case_of : (j : Judged) → MeetsRule (rule_at of i) j ↔ MeetsDefinition (rule_at of i) j.premises j.clause
+  case_of j = rule_meets (rule_at of i) j (subst IsOfDefinition same definition)
 
 -- clauses of references of terms of Bool
 module _ (s : Table) (v : TermsView) where

@@ -1,5 +1,5 @@
 -- What a check answers of the step of a proof at an index, by what the rules of a family ask of a step's clauses.
-use Rattle.std.proofs.Common.{◌≡◌, ◌↔◌, ℕ, ◌≤◌, List, [], ◌∷◌, map, length, Bool, true, false, IsTrue, Option, Some, None, sym, subst, arith}
+use Rattle.std.proofs.Common.{◌≡◌, ◌↔◌, ℕ, ◌≤◌, List, [], ◌∷◌, map, length, Bool, false, IsTrue, Option, Some, None, sym, subst, arith}
 use Rattle.std.specs.Borrow.{Bor}
 use Rattle.std.specs.Option.{is_some}
 use Rattle.sym_table.specs.Table.{Table}
@@ -7,7 +7,6 @@ use Rattle.term_model.specs.Terms.{Var, Term}
 use Rattle.term_pool.specs.Views.{TermsView, ReferToAll}
 use Rattle.rule_model.specs.declared.rules.Mode.{Mode}
 use Rattle.rule_model.specs.declared.rules.Rule.{Rule}
-use Rattle.rule_model.specs.Closings.{MeetsClosing}
 use Rattle.rule_model.specs.Conditions.{MeetsRule, MeetsWhere, IsMetAt, Met}
 use Rattle.rule_model.specs.Judged.{Judged, judged_at}
 use Rattle.rule_model.specs.Proofs.{ProofItems}
@@ -31,11 +30,6 @@ module _ (Meets : Rule → List (List Term) → List Term → Type 0) (of : Proo
       go few (j ∷ k ∷ js) many met = few (clause_at of j) (clause_at of k) (map (clause_at of) js) met
 
 module _ (of : ProofItems Var Term) (i : ℕ) (mode : Mode) where
-  -- a step that closes a scope, of a rule by which none is closed
-  pub closing_is_not_met : (o : Option ℕ) → is_some o ≡ true → o ≡ closes_at of i → ((k : ℕ) → MeetsClosing mode (rule_at of i) of i k → ⊥) → IsMetAt mode of i → ⊥
-  closing_is_not_met None some same none met = absurd cc
-  closing_is_not_met (Some k) some same none met = none k (subst (MeetsWhere mode of i) (sym same) met)
-
   -- one that closes none meets its rule where its clauses do
   closes_none : (o : Option ℕ) → is_some o ≡ false → o ≡ closes_at of i → IsMetAt mode of i ↔ MeetsWhere mode of i None
   closes_none None none same = (subst (MeetsWhere mode of i) (sym same), subst (MeetsWhere mode of i) same)

@@ -12,7 +12,7 @@ use Rattle.rule_model.specs.Statuses.{assumed, hole, unknown, conditional, kind_
 use Rattle.rules_resolution.specs.Steps.{IsResolutionRule, MeetsResolutionAt}
 use Rattle.term_reader.specs.declared.flags.Flags.{Flags}
 use Rattle.step_check.specs.declared.families.Family.{Family}
-use Rattle.step_check.specs.Judged.{is_resolution, is_clausal, is_definition, is_equality, is_closing, is_judged}
+use Rattle.step_check.specs.Judged.{is_resolution, is_clausal, is_definition, is_equality, is_judged}
 use Rattle.step_check.specs.Statuses.{checking}
 use Rattle.step_check.specs.declared.kinds.Kind.{Kind as KindOfCommand}
 use Rattle.step_check.specs.Steps.{IsOfFamily, IsKind, IsKindOfStep}

@@ -15,7 +15,7 @@ returns-then-branch-clause-met c of stand =
     let i = c.args.i in
     let laws = c.commands_correspond.ensures in
     let none : is_some c.closes.result ≡ false = search rules in
-    let met = met_at of i c.args.mode MeetsClausal c.closes.result c.in_ok-meets_at.field-0 none (c.closes.ensures ∙ laws.closes s v refs of i stand) (case_of of i c.args.mode (rule_at refs i) c.requires.clausal (laws.rule s v refs of i stand)) (c.in_ok-meets_at.ensures.meets of stand) in
+    let met = met_at of i c.args.mode MeetsClausal c.closes.result c.in_ok-meets_at.field-0 none (c.closes.ensures ∙ laws.closes s v refs of i stand) (case_of of i (rule_at refs i) c.requires.clausal (laws.rule s v refs of i stand)) (c.in_ok-meets_at.ensures.meets of stand) in
     (λ e. met.0 c.if-branch.true, λ h. refl)
 
 pub returns-then-branch-clause-sound : goal.returns-then-branch-clause-sound
@@ -27,7 +27,7 @@ returns-then-branch-clause-sound c e of stand I r sorted =
     let laws = c.commands_correspond.ensures in
     let none : is_some c.closes.result ≡ false = search rules in
     let closes = c.closes.ensures ∙ laws.closes s v refs of i stand in
-    let met = met_at of i c.args.mode MeetsClausal c.closes.result c.in_ok-meets_at.field-0 none closes (case_of of i c.args.mode (rule_at refs i) c.requires.clausal (laws.rule s v refs of i stand)) (c.in_ok-meets_at.ensures.meets of stand) in
+    let met = met_at of i c.args.mode MeetsClausal c.closes.result c.in_ok-meets_at.field-0 none closes (case_of of i (rule_at refs i) c.requires.clausal (laws.rule s v refs of i stand)) (c.in_ok-meets_at.ensures.meets of stand) in
     c.conditions_keep_truth.ensures (judged_at c.args.mode of i) (condition_met of i c.args.mode c.closes.result none closes (met.0 c.if-branch.true)) I r sorted
 
 pub returns-else-branch-clause-met : goal.returns-else-branch-clause-met
@@ -38,5 +38,5 @@ returns-else-branch-clause-met c of stand =
     let i = c.args.i in
     let laws = c.commands_correspond.ensures in
     let none : is_some c.closes.result ≡ false = search rules in
-    let met = met_at of i c.args.mode MeetsClausal c.closes.result c.in_ok-meets_at.field-0 none (c.closes.ensures ∙ laws.closes s v refs of i stand) (case_of of i c.args.mode (rule_at refs i) c.requires.clausal (laws.rule s v refs of i stand)) (c.in_ok-meets_at.ensures.meets of stand) in
+    let met = met_at of i c.args.mode MeetsClausal c.closes.result c.in_ok-meets_at.field-0 none (c.closes.ensures ∙ laws.closes s v refs of i stand) (case_of of i (rule_at refs i) c.requires.clausal (laws.rule s v refs of i stand)) (c.in_ok-meets_at.ensures.meets of stand) in
     (λ e. absurd cc, λ h. let yes = met.1 h in let no = c.if-branch.false in absurd cc)
