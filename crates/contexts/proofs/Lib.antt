@@ -14,3 +14,4 @@ pub mod SearchSteps
 pub mod LeavingValues
 pub mod Links
 mod TestTerms
+pub mod Keeping

@@ -147,18 +147,18 @@ on_later o p q images before after old new root whole k keeps root_inside x same
 }
 
 -- the walk begins
-pub walk_start : (o : PassView) (images : Images) (lists : Lists) (memo : Memory) (r : ℕ) (way : List Place) → memo.entries ≡ [] → length lists ≡ 1 → (h : IsShaped o r) → 2 ^ 30 ≤ r → way ≡ [] → IsWalk o o images lists memo (Term r 0) h.tree (way ++ Term r 0 ∷ [])
+pub walk_start : (o : PassView) (images : Images) (lists : Lists) (memo : Memory) (r : ℕ) (way : List Place) → remembered memo (Term r 0) ≡ None → 0 < length lists → (h : IsShaped o r) → 2 ^ 30 ≤ r → way ≡ [] → IsWalk o o images lists memo (Term r 0) h.tree (way ++ Term r 0 ∷ [])
 unfolding Descends Starts
-walk_start o images lists memo r way empty one h high none = rw none (record {
-  root_inside = omega arith;
+walk_start o images lists memo r way unmet some h high none = rw none (record {
+  root_inside = some;
   on = (
     record {
       tree = h.tree;
       known = h.known;
       shape = h.shape;
       high = high;
-      inside = omega arith;
-      unmet = rw empty;
+      inside = some;
+      unmet = unmet;
       part = λ f are. part-refl (becomes_there f lists (Term r 0) h.tree);
     },
     tt,
@@ -167,9 +167,9 @@ walk_start o images lists memo r way empty one h high none = rw none (record {
   starts = refl;
 })
 
-pub right_start : (o : PassView) (f : ℕ → Tree) (lists : Lists) (memo : Memory) (root : Place) (whole : Tree) → memo.entries ≡ [] → GoesRight o o f lists memo root whole
-right_start o f lists memo root whole empty = record {
-  right = λ place r found. absurd (let none : remembered memo place ≡ None = rw empty in cc);
+pub right_start : (o : PassView) (f : ℕ → Tree) (lists : Lists) (memo : Memory) (root : Place) (whole : Tree) → IsMemory o f lists memo → GoesRight o o f lists memo root whole
+right_start o f lists memo root whole right = record {
+  right = right;
   placed = placed-none o o (becomes_there f lists root whole) refl;
 }
 
@@ -300,13 +300,6 @@ ready_of o p k images lists memo root whole has right = record {
   are = images_later o p k images has.trees has.are;
   right = (right has.trees has.are).right;
 }
-
-pub leaf_done : (p : PassView) → IsOneToOne p → HasPartsOfTrees p → (images : Images) (f : ℕ → Tree) → AreImages p images f → (r d : ℕ) → r < 2 ^ 30 → d ≡ image_of_leaf images [] r → (t : Tree) → Knows p r t → Knows p d (becomes f [] t)
-leaf_done p one parts images f are r d low e t known =
-    let is = leaf_of p one parts r t known low in
-    subst (λ n. Knows p n (becomes f [] t)) (sym e)
-    (subst (λ (u : Tree). Knows p (image_of_leaf images [] r) (becomes f [] u)) (sym is)
-    (image_known p images f are [] r (subst (Knows p r) is known)))
 
 pub root_done : (p q : PassView) (f : ℕ → Tree) (lists : Lists) (at : Place) (r : ℕ) (whole : Tree) (d : ℕ) → at ≡ Term r 0 → ((t : Tree) → Knows p (reference_of at) t → Knows q d (becomes_there f lists at t)) → Knows p r whole → Knows q d (becomes_there f lists (Term r 0) whole)
 root_done p q f lists at r whole d same done known =

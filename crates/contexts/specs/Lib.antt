@@ -7,3 +7,4 @@ pub mod Places
 pub mod Hiding
 pub mod PutIn
 pub mod Firsts
+pub mod Kept

@@ -1,5 +1,5 @@
 -- Private. The places that the walk visits, what it remembers of them, and what a visit comes to.
-use Rattle.std.specs.Prelude.{◌≡◌, ◌≢◌, ◌<◌, ◌≤◌, ◌+◌, ◌^◌, ℕ, List, length, Option, Some, None, Result, IfOk, IfErr, nat_eq, if◌then◌else◌, Vec, Bool}
+use Rattle.std.specs.Prelude.{◌≡◌, ◌≢◌, ◌<◌, ◌≤◌, ◌+◌, ◌^◌, ℕ, List, [], length, Option, Some, None, Result, IfOk, IfErr, nat_eq, if◌then◌else◌, Vec, Bool}
 use Rattle.std.specs.HashMap.{HashMap, get, hash_map_len}
 use Rattle.std.specs.List.{list_any}
 use Rattle.std.specs.declared.alloc.Global.{Global}
@@ -115,6 +115,12 @@ pub record IsReady (pass : PassView) (images : Images) (lists : Lists) (memo : M
   pub trees : ℕ → Tree
   pub are : AreImages pass images trees
   pub right : IsMemory pass trees lists memo
+
+-- the same, where no leaf is hidden by the first list
+pub record IsWalked (pass : PassView) (images : Images) (lists : Lists) (memo : Memory) : Type 0 where
+  pub ready : IsReady pass images lists memo
+  pub first : shadowed lists 0 ≡ []
+  pub some : 0 < length lists
 
 -- what a visit of the place comes to, where the lists have become more
 pub record Visits (old new : PassView) (images : Images) (before after : Lists) (memo : Memory) (place : Place) (result : Result Visit TermStop) : Type 0 where

@@ -6,6 +6,7 @@
 
 mod free;
 mod hiding;
+mod kept;
 mod layers;
 mod leaves;
 mod places;
@@ -13,6 +14,8 @@ mod putting;
 mod substitution;
 #[cfg(test)]
 mod tests;
+mod walked;
 
 pub use free::free_in;
+pub use kept::{Substitution, substitutions_stay};
 pub use substitution::put_in;

@@ -7,18 +7,18 @@ ghost use Rattle.pair_pool.specs.Views.{IsKnown, Knows};
 ghost use Rattle.term_pool.specs.Building.{PlacesOnlyIn, IsFullIn};
 ghost use Rattle.term_pool.specs.Views.{KeepsTerms};
 ghost use Rattle.term_pool.specs.declared.stop.TermStop.TheVariants as TermStop;
-ghost use Rattle.contexts.specs.Becoming.{AreImages, becomes, HasImages};
+ghost use Rattle.contexts.specs.Becoming.{AreImages, becomes};
 ghost use Rattle.contexts.specs.Layers.{KeepsLayers};
-ghost use Rattle.contexts.specs.Places.{HasLetHead, IsReady, IsSpot, Visits};
+ghost use Rattle.contexts.specs.Places.{HasLetHead, IsReady, IsSpot, IsWalked, Visits};
 ghost use Rattle.contexts.specs.Shapes.{IsShaped};
 ghost use Rattle.contexts.specs.declared.places.Place.TheVariants as Place;
 
 use crate::hiding::under_let;
 use crate::layers::Layers;
 use crate::leaves::LET;
-use crate::places::{Place, Visit, look, note, of_leaf};
+use crate::places::{Place, Visit, look, note};
+use crate::walked::Walked;
 use pair_pool::Ref;
-use std::alloc::Global;
 use std::collections::HashMap;
 use term_pool::{TermStop, Terms};
 
@@ -144,39 +144,39 @@ fn visit(
     }
 }
 
-/// What a term becomes: each cell below it is visited once for each list of hidden leaves, the parts before the cell. The
-/// places on the way down to where the walk is stand in a list, so the walk takes no stack.
+/// What a term becomes: each cell below it is visited once for each list of hidden leaves, the parts before the cell, and
+/// none that was walked before. The places on the way down to where the walk is stand in a list, so the walk takes no
+/// stack.
 pub(crate) fn put(
-    alloc: Global,
     terms: &mut Terms<'_>,
     images: &HashMap<u32, Ref>,
+    walked: &mut Walked,
     r: Ref,
 ) -> Result<Ref, TermStop>
     requires shaped { IsShaped terms.old.pass r }
-    requires images { HasImages terms.old.pass images.now }
+    requires walked { IsWalked terms.old.pass images.now walked.old.layers.lists.items walked.old.memo }
     ensures image { IfOk result (λ i. (f : ℕ → Tree) (t : Tree) → AreImages terms.old.pass images.now f → Knows terms.old.pass r t → Knows terms.new.pass i (becomes f [] t)) }
     ensures placed { (f : ℕ → Tree) (t : Tree) → AreImages terms.old.pass images.now f → Knows terms.old.pass r t → PlacesOnlyIn terms.old.pass terms.new.pass (becomes f [] t) }
     ensures full { IfErr result (λ e. e ≡ TermStop.PoolFull → (f : ℕ → Tree) (t : Tree) → AreImages terms.old.pass images.now f → Knows terms.old.pass r t → IsFullIn terms.new.pass (becomes f [] t)) }
+    ensures walked { IsWalked terms.new.pass images.now walked.new.layers.lists.items walked.new.memo }
     ensures keeps { KeepsTerms terms.old terms.new }
 {
     terms.one_to_one();
     terms.parts_of_trees();
-    if r.is_leaf() {
-        return Ok(of_leaf(images, &[], r));
-    }
-    let mut layers = Layers::new(alloc)?;
-    let mut memo = HashMap::new(alloc);
     let mut at = Place::Term(r, 0);
-    let mut way = Vec::new(alloc);
+    if let Some(made) = look(images, &walked.layers, &walked.memo, &at) {
+        return Ok(made);
+    }
+    let mut way = Vec::new(walked.layers.alloc);
     'places: loop {
         terms.one_to_one();
-        match visit(terms, images, &mut layers, &memo, &at)? {
+        match visit(terms, images, &mut walked.layers, &walked.memo, &at)? {
             Visit::Part(part) => {
                 way.push(at)?;
                 at = part;
             }
             Visit::Done(made) => {
-                note(&mut memo, &at, made)?;
+                note(&mut walked.memo, &at, made)?;
                 match way.pop() {
                     Some(above) => at = above,
                     None => return Ok(made),

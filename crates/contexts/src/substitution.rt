@@ -12,6 +12,7 @@ ghost use Rattle.contexts.specs.PutIn.{AreReplacementBy, LacksRoomFor, PlacesTer
 ghost use Rattle.contexts.specs.Firsts.{first_for};
 
 use crate::putting::put;
+use crate::walked::Walked;
 use pair_pool::{Memory, Ref};
 use std::alloc::Global;
 use std::collections::HashMap;
@@ -28,7 +29,7 @@ fn put_image(images: &mut HashMap<u32, Ref>, leaf: u32, term: Ref) -> Result<(),
 }
 
 /// What the bindings put in for leaves. Of two for one leaf the first counts, so they are gone through from their end.
-fn images_of(alloc: Global, bindings: &[(u32, Ref)]) -> Result<HashMap<u32, Ref>, Memory>
+pub(crate) fn images_of(alloc: Global, bindings: &[(u32, Ref)]) -> Result<HashMap<u32, Ref>, Memory>
     ensures { IfOk result (λ images. (k : ℕ) → get nat_eq images k ≡ first_for bindings.now k) }
 {
     let mut images = HashMap::new(alloc);
@@ -68,5 +69,6 @@ pub fn put_in(
 {
     let _leaves = symbols.count();
     let images = images_of(alloc, bindings)?;
-    put(alloc, terms, &images, r)
+    let mut walked = Walked::new(alloc)?;
+    put(terms, &images, &mut walked, r)
 }

@@ -5,38 +5,39 @@ use Rattle.contexts.specs.declared.places.Place.TheVariants.{Term}
 use Rattle.contexts.proofs.CellBuilding.{terms-refl, terms-trans}
 use Rattle.contexts.proofs.PlaceKeys.{same_place}
 use Rattle.contexts.proofs.Results.{handed_on}
-use Rattle.contexts.proofs.Walking.{images_later, walk_start, right_start, walk_spot, walk_unmet, walk_down, walk_up, walk_root, no_places, places_more, lacks_more, memory_kept, memory_more, right_lists, at_root, ready_of, leaf_done, root_done}
+use Rattle.contexts.proofs.Walking.{images_later, walk_start, right_start, walk_spot, walk_unmet, walk_down, walk_up, walk_root, no_places, places_more, lacks_more, memory_kept, memory_more, right_lists, at_root, ready_of, root_done}
+use Rattle.contexts.proofs.Keeping.{found_done, none_high, none_unmet, right_for, have_images}
 use Rattle.contexts.proofs.putting.put.Goals as goal
 
-pub returns-then-is_leaf-clause-image : goal.returns-then-is_leaf-clause-image
-returns-then-is_leaf-clause-image c =
-    let low : c.args.r < 2 ^ 30 = grind arith in
-    λ f t are known. leaf_done _ c.one_to_one.ensures c.parts_of_trees.ensures c.args.images.now f are _ _ low c.of_leaf.ensures t known
+pub returns-in-Some-clause-image : goal.returns-in-Some-clause-image
+returns-in-Some-clause-image c =
+    found_done _ c.args.images.now _ _ c.args.r c.look.result c.look.ensures.leaf c.look.ensures.cell c.one_to_one.ensures c.parts_of_trees.ensures c.requires.walked _ c.in-Some.is
 
 pub places-init : goal.places-init
 places-init c =
-    let high : 2 ^ 30 ≤ c.args.r = grind arith in
+    let high : 2 ^ 30 ≤ c.args.r = none_high _ c.args.images.now _ _ c.args.r c.look.result c.look.ensures.leaf c.look.ensures.cell c.look.is_none in
     record {
       keeps = terms-refl _;
-      first = c.in_ok-layers.ensures.first;
+      first = c.requires.walked.first;
+      some = c.requires.walked.some;
       whole = c.requires.shaped.tree;
       whole_known = c.requires.shaped.known;
-      walk = walk_start _ c.args.images.now _ _ _ _ c.new-memo.ensures.empty c.in_ok-layers.ensures.one c.requires.shaped high c.new-way.ensures.items;
-      right = λ f are. right_start _ f _ _ _ _ c.new-memo.ensures.empty;
+      walk = walk_start _ c.args.images.now _ _ _ _ (none_unmet _ c.args.images.now _ _ c.args.r c.look.result c.look.ensures.leaf c.look.ensures.cell c.look.is_none) c.requires.walked.some c.requires.shaped high c.new-way.ensures.items;
+      right = λ f are. right_start _ f _ _ _ _ (right_for _ c.one_to_one.ensures c.args.images.now _ _ c.requires.walked.ready f are);
     }
 
 pub visit-requires-clause-spot : goal.visit-requires-clause-spot
-visit-requires-clause-spot c = walk_spot _ _ c.one_to_one-in-places.ensures c.args.images.now _ c.places.memo _ _ _ _ c.places.invariant.walk
+visit-requires-clause-spot c = walk_spot _ _ c.one_to_one-in-places.ensures c.args.images.now _ c.places.walked.memo _ _ _ _ c.places.invariant.walk
 
 pub visit-requires-clause-ready : goal.visit-requires-clause-ready
-visit-requires-clause-ready c = ready_of _ _ c.places.invariant.keeps.pass _ _ _ _ _ c.requires.images c.places.invariant.right
+visit-requires-clause-ready c = ready_of _ _ c.places.invariant.keeps.pass _ _ _ _ _ (have_images _ _ _ _ c.requires.walked.ready) c.places.invariant.right
 
 pub returns-in_err-part-clause-placed : goal.returns-in_err-part-clause-placed
 returns-in_err-part-clause-placed c =
     let h = c.places.invariant in
     λ f t are known.
-    at_root _ c.one_to_one.ensures _ c.places.layers.lists.items f h.whole t h.whole_known known h.first (PlacesOnlyIn c.args.terms.now.pass c.visit.new.terms.pass)
-    (places_more _ _ c.one_to_one-in-places.ensures c.args.images.now _ c.places.memo _ _ _ _ h.walk _ f c.visit.ensures.keeps.pass are (h.right f are).placed
+    at_root _ c.one_to_one.ensures _ c.places.walked.layers.lists.items f h.whole t h.whole_known known h.first (PlacesOnlyIn c.args.terms.now.pass c.visit.new.terms.pass)
+    (places_more _ _ c.one_to_one-in-places.ensures c.args.images.now _ c.places.walked.memo _ _ _ _ h.walk _ f c.visit.ensures.keeps.pass are (h.right f are).placed
     (c.visit.ensures.visits.placed f (images_later _ _ h.keeps.pass c.args.images.now f are) (h.right f are).right))
 
 pub returns-in_err-part-clause-full : goal.returns-in_err-part-clause-full
@@ -44,32 +45,32 @@ returns-in_err-part-clause-full c =
     let h = c.places.invariant in
     handed_on c.from_residual-in_err-part.result _ _ c.from_residual-in_err-part.ensures.1
     (λ is f t are known.
-    at_root _ c.one_to_one.ensures _ c.places.layers.lists.items f h.whole t h.whole_known known h.first (IsFullIn c.visit.new.terms.pass)
-    (lacks_more _ _ c.one_to_one-in-places.ensures c.args.images.now _ c.places.memo _ _ _ _ h.walk _ f are
+    at_root _ c.one_to_one.ensures _ c.places.walked.layers.lists.items f h.whole t h.whole_known known h.first (IsFullIn c.visit.new.terms.pass)
+    (lacks_more _ _ c.one_to_one-in-places.ensures c.args.images.now _ c.places.walked.memo _ _ _ _ h.walk _ f are
     (c.in_err-part.ensures.visits.full is f (images_later _ _ h.keeps.pass c.args.images.now f are) (h.right f are).right)))
 
 pub returns-in_err-push-in-Part-clause-placed : goal.returns-in_err-push-in-Part-clause-placed
 returns-in_err-push-in-Part-clause-placed c =
     let h = c.places.invariant in
     λ f t are known.
-    at_root _ c.one_to_one.ensures _ c.places.layers.lists.items f h.whole t h.whole_known known h.first (PlacesOnlyIn c.args.terms.now.pass c.visit.new.terms.pass)
-    (places_more _ _ c.one_to_one-in-places.ensures c.args.images.now _ c.places.memo _ _ _ _ h.walk _ f c.visit.ensures.keeps.pass are (h.right f are).placed
+    at_root _ c.one_to_one.ensures _ c.places.walked.layers.lists.items f h.whole t h.whole_known known h.first (PlacesOnlyIn c.args.terms.now.pass c.visit.new.terms.pass)
+    (places_more _ _ c.one_to_one-in-places.ensures c.args.images.now _ c.places.walked.memo _ _ _ _ h.walk _ f c.visit.ensures.keeps.pass are (h.right f are).placed
     (c.visit.ensures.visits.placed f (images_later _ _ h.keeps.pass c.args.images.now f are) (h.right f are).right))
 
 pub returns-in_err-note-in-Done-clause-placed : goal.returns-in_err-note-in-Done-clause-placed
 returns-in_err-note-in-Done-clause-placed c =
     let h = c.places.invariant in
     λ f t are known.
-    at_root _ c.one_to_one.ensures _ c.places.layers.lists.items f h.whole t h.whole_known known h.first (PlacesOnlyIn c.args.terms.now.pass c.visit.new.terms.pass)
-    (places_more _ _ c.one_to_one-in-places.ensures c.args.images.now _ c.places.memo _ _ _ _ h.walk _ f c.visit.ensures.keeps.pass are (h.right f are).placed
+    at_root _ c.one_to_one.ensures _ c.places.walked.layers.lists.items f h.whole t h.whole_known known h.first (PlacesOnlyIn c.args.terms.now.pass c.visit.new.terms.pass)
+    (places_more _ _ c.one_to_one-in-places.ensures c.args.images.now _ c.places.walked.memo _ _ _ _ h.walk _ f c.visit.ensures.keeps.pass are (h.right f are).placed
     (c.visit.ensures.visits.placed f (images_later _ _ h.keeps.pass c.args.images.now f are) (h.right f are).right))
 
 pub returns-in-None-clause-placed : goal.returns-in-None-clause-placed
 returns-in-None-clause-placed c =
     let h = c.places.invariant in
     λ f t are known.
-    at_root _ c.one_to_one.ensures _ c.places.layers.lists.items f h.whole t h.whole_known known h.first (PlacesOnlyIn c.args.terms.now.pass c.visit.new.terms.pass)
-    (places_more _ _ c.one_to_one-in-places.ensures c.args.images.now _ c.places.memo _ _ _ _ h.walk _ f c.visit.ensures.keeps.pass are (h.right f are).placed
+    at_root _ c.one_to_one.ensures _ c.places.walked.layers.lists.items f h.whole t h.whole_known known h.first (PlacesOnlyIn c.args.terms.now.pass c.visit.new.terms.pass)
+    (places_more _ _ c.one_to_one-in-places.ensures c.args.images.now _ c.places.walked.memo _ _ _ _ h.walk _ f c.visit.ensures.keeps.pass are (h.right f are).placed
     (c.visit.ensures.visits.placed f (images_later _ _ h.keeps.pass c.args.images.now f are) (h.right f are).right))
 
 pub places-preserved-in-Part : goal.places-preserved-in-Part
@@ -79,20 +80,21 @@ places-preserved-in-Part c =
     record {
       keeps = terms-trans _ _ _ h.keeps c.visit.ensures.keeps;
       first = c.visit.ensures.layers.same 0 h.walk.root_inside ∙ h.first;
+      some = let more = c.visit.ensures.layers.more in let some = h.some in omega arith;
       whole = h.whole;
       whole_known = h.whole_known;
       walk = rw c.in_ok-push-in-Part.ensures.items
-          (walk_down _ _ c.one_to_one-in-places.ensures c.args.images.now _ c.places.memo _ _ _ _ h.walk _ _ _ h.keeps.pass c.visit.ensures.keeps.pass c.visit.ensures.layers visits.visit);
+          (walk_down _ _ c.one_to_one-in-places.ensures c.args.images.now _ c.places.walked.memo _ _ _ _ h.walk _ _ _ h.keeps.pass c.visit.ensures.keeps.pass c.visit.ensures.layers visits.visit);
       right = λ f are. record {
-        right = memory_kept _ _ c.one_to_one-in-places.ensures c.args.images.now _ c.places.memo _ _ _ _ h.walk _ f _ c.visit.ensures.keeps.pass c.visit.ensures.layers (h.right f are).right;
+        right = memory_kept _ _ c.one_to_one-in-places.ensures c.args.images.now _ c.places.walked.memo _ _ _ _ h.walk _ f _ c.visit.ensures.keeps.pass c.visit.ensures.layers (h.right f are).right;
         placed = right_lists c.args.terms.now.pass c.visit.new.terms.pass f _ _ (Term c.args.r 0) h.whole c.visit.ensures.layers h.walk.root_inside
-            (places_more _ _ c.one_to_one-in-places.ensures c.args.images.now _ c.places.memo _ _ _ _ h.walk _ f c.visit.ensures.keeps.pass are (h.right f are).placed
+            (places_more _ _ c.one_to_one-in-places.ensures c.args.images.now _ c.places.walked.memo _ _ _ _ h.walk _ f c.visit.ensures.keeps.pass are (h.right f are).placed
             (c.visit.ensures.visits.placed f (images_later _ _ h.keeps.pass c.args.images.now f are) (h.right f are).right));
       };
     }
 
 pub note-requires : goal.note-requires
-note-requires c = walk_unmet _ _ c.one_to_one-in-places.ensures c.args.images.now _ c.places.memo _ _ _ _ c.places.invariant.walk
+note-requires c = walk_unmet _ _ c.one_to_one-in-places.ensures c.args.images.now _ c.places.walked.memo _ _ _ _ c.places.invariant.walk
 
 pub places-preserved : goal.places-preserved
 places-preserved c =
@@ -101,15 +103,16 @@ places-preserved c =
     record {
       keeps = terms-trans _ _ _ h.keeps c.visit.ensures.keeps;
       first = c.visit.ensures.layers.same 0 h.walk.root_inside ∙ h.first;
+      some = let more = c.visit.ensures.layers.more in let some = h.some in omega arith;
       whole = h.whole;
       whole_known = h.whole_known;
-      walk = walk_up _ _ _ c.one_to_one-in-places.ensures c.args.images.now _ _ c.places.memo c.note.new.memo _ _ _ _ _ _ c.visit.ensures.keeps.pass c.visit.ensures.layers c.in_ok-note-in-Done.ensures.noted
+      walk = walk_up _ _ _ c.one_to_one-in-places.ensures c.args.images.now _ _ c.places.walked.memo c.note.new.memo _ _ _ _ _ _ c.visit.ensures.keeps.pass c.visit.ensures.layers c.in_ok-note-in-Done.ensures.noted
           (rw c.in-Some.ensures.items at h.walk);
       right = λ f are. record {
-        right = memory_more _ _ c.one_to_one-in-places.ensures c.args.images.now _ c.places.memo _ _ _ _ h.walk _ f _ c.note.new.memo _ c.visit.ensures.keeps.pass c.visit.ensures.layers same_place (h.right f are).right c.in_ok-note-in-Done.ensures.noted
+        right = memory_more _ _ c.one_to_one-in-places.ensures c.args.images.now _ c.places.walked.memo _ _ _ _ h.walk _ f _ c.note.new.memo _ c.visit.ensures.keeps.pass c.visit.ensures.layers same_place (h.right f are).right c.in_ok-note-in-Done.ensures.noted
             (visits.done f (images_later _ _ h.keeps.pass c.args.images.now f are) (h.right f are).right);
         placed = right_lists c.args.terms.now.pass c.visit.new.terms.pass f _ _ (Term c.args.r 0) h.whole c.visit.ensures.layers h.walk.root_inside
-            (places_more _ _ c.one_to_one-in-places.ensures c.args.images.now _ c.places.memo _ _ _ _ h.walk _ f c.visit.ensures.keeps.pass are (h.right f are).placed
+            (places_more _ _ c.one_to_one-in-places.ensures c.args.images.now _ c.places.walked.memo _ _ _ _ h.walk _ f c.visit.ensures.keeps.pass are (h.right f are).placed
             (c.visit.ensures.visits.placed f (images_later _ _ h.keeps.pass c.args.images.now f are) (h.right f are).right));
       };
     }
@@ -118,8 +121,8 @@ pub returns-in-None-clause-image : goal.returns-in-None-clause-image
 returns-in-None-clause-image c =
     let h = c.places.invariant in
     let visits = rw c.in-Done.is at c.in_ok-part.ensures.visits in
-    let root = walk_root _ _ c.args.images.now _ c.places.memo _ _ _ _ (no_places _ _ _ c.in-None.ensures.cases.0 c.in-None.ensures.rest c.in-None.ensures.items) h.walk in
+    let root = walk_root _ _ c.args.images.now _ c.places.walked.memo _ _ _ _ (no_places _ _ _ c.in-None.ensures.cases.0 c.in-None.ensures.rest c.in-None.ensures.items) h.walk in
     λ f t are known.
-    at_root _ c.one_to_one.ensures _ c.places.layers.lists.items f h.whole t h.whole_known known h.first (Knows c.visit.new.terms.pass c.in-Done.made)
-    (root_done _ _ f c.places.layers.lists.items _ _ h.whole _ root
+    at_root _ c.one_to_one.ensures _ c.places.walked.layers.lists.items f h.whole t h.whole_known known h.first (Knows c.visit.new.terms.pass c.in-Done.made)
+    (root_done _ _ f c.places.walked.layers.lists.items _ _ h.whole _ root
     (visits.done f (images_later _ _ h.keeps.pass c.args.images.now f are) (h.right f are).right) (h.keeps.pass.grows _ _ h.whole_known))

@@ -1,4 +1,4 @@
-use Rattle.std.proofs.Common.{◌≡◌, ◌+◌, ◌-◌, ◌*◌, ◌^◌, ◌++◌, ◌∷◌, [], vec_len, ℕ}
+use Rattle.std.proofs.Common.{◌≡◌, ◌<◌, length, ◌+◌, ◌-◌, ◌*◌, ◌^◌, ◌++◌, ◌∷◌, [], vec_len, ℕ}
 use Rattle.std.specs.HashMap.{hash_map_len}
 use Rattle.pair_pool.specs.Trees.{Tree}
 use Rattle.pair_pool.specs.Views.{Knows}
@@ -12,12 +12,13 @@ use Rattle.contexts.proofs.putting.put.Given as goal
 abbrev pub invariant-places : goal.invariant-places
 invariant-places l = record {
   keeps : KeepsTerms l.fn.terms l.terms;
-  first : shadowed l.layers.lists.items 0 ≡ [];
+  first : shadowed l.walked.layers.lists.items 0 ≡ [];
   whole : Tree;
   whole_known : Knows l.fn.terms.pass l.fn.r whole;
-  walk : IsWalk l.fn.terms.pass l.terms.pass l.images l.layers.lists.items l.memo (Term l.fn.r 0) whole (l.way.items ++ l.at ∷ []);
-  right : (f : ℕ → Tree) → AreImages l.fn.terms.pass l.images f → GoesRight l.fn.terms.pass l.terms.pass f l.layers.lists.items l.memo (Term l.fn.r 0) whole;
+  some : 0 < length l.walked.layers.lists.items;
+  walk : IsWalk l.fn.terms.pass l.terms.pass l.images l.walked.layers.lists.items l.walked.memo (Term l.fn.r 0) whole (l.way.items ++ l.at ∷ []);
+  right : (f : ℕ → Tree) → AreImages l.fn.terms.pass l.images f → GoesRight l.fn.terms.pass l.terms.pass f l.walked.layers.lists.items l.walked.memo (Term l.fn.r 0) whole;
 }
 
 abbrev pub decreases-places : goal.decreases-places
-decreases-places l = (2 ^ 64 - hash_map_len l.memo) * 2 ^ 64 + (2 ^ 64 - vec_len l.way)
+decreases-places l = (2 ^ 64 - hash_map_len l.walked.memo) * 2 ^ 64 + (2 ^ 64 - vec_len l.way)

@@ -6,6 +6,9 @@ use Rattle.contexts.proofs.substitution.put_in.Goals as goal
 pub returns-in_err-images-clause-placed : goal.returns-in_err-images-clause-placed
 returns-in_err-images-clause-placed c = λ t q refers h. places_none _ c.count-leaves.ensures.table _ c.args.bindings.now c.args.r t q refers h
 
+pub returns-in_err-walked-clause-placed : goal.returns-in_err-walked-clause-placed
+returns-in_err-walked-clause-placed c = λ t q refers h. places_none _ c.count-leaves.ensures.table _ c.args.bindings.now c.args.r t q refers h
+
 pub put-requires-clause-shaped : goal.put-requires-clause-shaped
 put-requires-clause-shaped c = record {
   tree = c.requires.term.refers.tree;
@@ -13,8 +16,9 @@ put-requires-clause-shaped c = record {
   shape = term_shape _ c.count-leaves.ensures.table c.requires.term.means c.requires.term.refers.tree c.requires.term.refers.stands;
 }
 
-pub put-requires-clause-images : goal.put-requires-clause-images
-put-requires-clause-images c = have_images _ c.count-leaves.ensures.table _ _ c.in_ok-images.images c.in_ok-images.ensures c.requires.bindings
+pub put-requires-clause-walked : goal.put-requires-clause-walked
+put-requires-clause-walked c =
+    c.in_ok-walked.ensures _ c.in_ok-images.images (have_images _ c.count-leaves.ensures.table _ _ c.in_ok-images.images c.in_ok-images.ensures c.requires.bindings)
 
 pub returns-clause-term : goal.returns-clause-term
 returns-clause-term c =

@@ -1,0 +1,32 @@
+//! What a walk leaves for the next one.
+
+ghost use Rattle.std.specs.Prelude.{IfOk};
+ghost use Rattle.pair_pool.specs.Views.{PassView};
+ghost use Rattle.contexts.specs.Becoming.{Images, HasImages};
+ghost use Rattle.contexts.specs.Places.{IsWalked};
+
+use crate::layers::Layers;
+use crate::places::Place;
+use pair_pool::{Memory, Ref};
+use std::alloc::Global;
+use std::collections::HashMap;
+
+/// What has become of the places that were walked over, and the numbered lists that they name.
+#[derive(Drop)]
+pub(crate) struct Walked {
+    pub(crate) layers: Layers,
+    pub(crate) memo: HashMap<Place, Ref>,
+}
+
+impl Walked {
+    /// Nothing was walked over yet.
+    pub(crate) fn new(alloc: Global) -> Result<Walked, Memory>
+        ensures { IfOk result (λ walked. (pass : PassView) (images : Images) → HasImages pass images → IsWalked pass images walked.layers.lists.items walked.memo) }
+    {
+        let layers = Layers::new(alloc)?;
+        Ok(Walked {
+            layers,
+            memo: HashMap::new(alloc),
+        })
+    }
+}

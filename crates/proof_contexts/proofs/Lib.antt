@@ -1,0 +1,4 @@
+pub mod Anchors
+pub mod Levels
+pub mod WayLemmas
+pub mod OpenLines

@@ -1,0 +1,8 @@
+//! The rule `refl`.
+#![tactic(auto)]
+
+mod checks;
+mod comparing;
+mod sides;
+
+pub use checks::check;
