@@ -15,3 +15,5 @@ pub mod LeavingValues
 pub mod Links
 mod TestTerms
 pub mod Keeping
+pub mod FrameLemmas
+pub mod KeptFrames

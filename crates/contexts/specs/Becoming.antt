@@ -37,6 +37,13 @@ abbrev mutual
 abbrev pub Images : Type 0
 Images = HashMap ℕ ℕ (BuildHasherDefault FoldHasher)
 
+-- what is put in for a leaf, by a look into the map
+abbrev pub Look : Type 0
+Look = ℕ → Option ℕ
+
+abbrev pub look_of : Images → Look
+look_of images k = get nat_eq images k
+
 abbrev pub IsImageAt : PassView → Option ℕ → ℕ → Tree → Type 0
 IsImageAt pass None k t = t ≡ leaf k
 IsImageAt pass (Some r) k t = Knows pass r t

@@ -1,17 +1,28 @@
--- Public. A substitution that remembers what has become of terms.
-use Rattle.std.specs.Prelude.{◌≡◌, ℕ, List, nat_eq}
-use Rattle.std.specs.HashMap.{get}
+-- Public. A substitution that remembers what has become of terms, frame by frame.
+use Rattle.std.specs.Prelude.{◌≡◌, ℕ, List, [], ◌∷◌}
 use Rattle.term_pool.specs.Views.{TermsView}
 use Rattle.contexts.specs.declared.kept.Substitution.{Substitution}
+use Rattle.contexts.specs.Becoming.{look_of}
 use Rattle.contexts.specs.Firsts.{first_for}
-use Rattle.contexts.specs.Places.{IsWalked}
+use Rattle.contexts.specs.Frames.{turned, IsFrame, AreFrames}
+use Rattle.contexts.specs.PutIn.{joined}
 
--- its bindings, of leaves and references
+-- the bindings of its frames, of leaves and references, the innermost frame first
+abbrev pub frames_of : Substitution → List (List (ℕ × ℕ))
+frames_of x = x.here.bindings.items ∷ turned [] x.around.items
+
+-- all its bindings: of two for one leaf the first counts
 abbrev pub bindings_of : Substitution → List (ℕ × ℕ)
-bindings_of x = x.bindings.items
+bindings_of x = joined (frames_of x)
 
 -- What it remembers of terms is right, by what the pass knows. What the fields say is not for other crates: they get this
 -- from `new`, and it stays.
 pub record IsRight (v : TermsView) (x : Substitution) : Type 0 where
-  pub images : (k : ℕ) → get nat_eq x.images k ≡ first_for x.bindings.items k
-  pub walked : IsWalked v.pass x.images x.walked.layers.lists.items x.walked.memo
+  pub images : (k : ℕ) → look_of x.images k ≡ first_for (bindings_of x) k
+  pub here : IsFrame v.pass (joined (turned [] x.around.items)) x.here
+  pub around : AreFrames v.pass [] x.around.items
+
+-- it is right for some terms
+pub record IsRightForSome (x : Substitution) : Type 0 where
+  pub view : TermsView
+  pub right : IsRight view x

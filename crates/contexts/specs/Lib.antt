@@ -7,4 +7,5 @@ pub mod Places
 pub mod Hiding
 pub mod PutIn
 pub mod Firsts
+pub mod Frames
 pub mod Kept

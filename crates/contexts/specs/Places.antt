@@ -16,7 +16,7 @@ use Rattle.contexts.specs.declared.places.Place.{Place}
 use Rattle.contexts.specs.declared.places.Place.TheVariants.{Term, Bindings}
 use Rattle.contexts.specs.declared.places.Visit.{Visit}
 use Rattle.contexts.specs.declared.places.Visit.TheVariants.{Part, Done}
-use Rattle.contexts.specs.Becoming.{becomes, bindings_become, Images, AreImages}
+use Rattle.contexts.specs.Becoming.{becomes, bindings_become, Images, Look, IsImageAt, AreImages}
 use Rattle.contexts.specs.Layers.{shadowed}
 use Rattle.contexts.specs.Shapes.{HasShape, HasListShape}
 
@@ -84,6 +84,10 @@ pub record Remembers (old new : Memory) (place : Place) (r : ℕ) : Type 0 where
   pub others : (q : Place) → q ≢ place → remembered new q ≡ remembered old q
   pub size : hash_map_len new ≡ hash_map_len old + 1
 
+-- what there was, and no more
+abbrev pub RemembersAsMuch : Memory → Memory → Type 0
+RemembersAsMuch old new = (q : Place) → remembered new q ≡ remembered old q
+
 -- y is a place that is not remembered, less deep than x, and what stands there becomes a part of what x becomes
 pub record IsUnder (pass : PassView) (images : Images) (lists : Lists) (memo : Memory) (x y : Place) : Type 0 where
   pub spot : IsSpot pass lists y
@@ -116,9 +120,11 @@ pub record IsReady (pass : PassView) (images : Images) (lists : Lists) (memo : M
   pub are : AreImages pass images trees
   pub right : IsMemory pass trees lists memo
 
--- the same, where no leaf is hidden by the first list
-pub record IsWalked (pass : PassView) (images : Images) (lists : Lists) (memo : Memory) : Type 0 where
-  pub ready : IsReady pass images lists memo
+-- what is remembered has become of places where this is put in for leaves, and the first list hides none
+pub record IsWalked (pass : PassView) (put : Look) (lists : Lists) (memo : Memory) : Type 0 where
+  pub trees : ℕ → Tree
+  pub are : (k : ℕ) → IsImageAt pass (put k) k (trees k)
+  pub right : IsMemory pass trees lists memo
   pub first : shadowed lists 0 ≡ []
   pub some : 0 < length lists
 

@@ -1,5 +1,5 @@
 -- Public. What `put_in` takes, answers and places.
-use Rattle.std.specs.Prelude.{ℕ, List, [], ◌∷◌, ⊤}
+use Rattle.std.specs.Prelude.{ℕ, List, [], ◌∷◌, ◌++◌, ⊤}
 use Rattle.pair_pool.specs.Trees.{Tree}
 use Rattle.pair_pool.specs.Views.{PassView}
 use Rattle.rule_model.specs.Replacement.{Replacement}
@@ -17,6 +17,11 @@ StandForReplacement s v [] (b ∷ q) = ⊥
 StandForReplacement s v (b ∷ bs) [] = ⊥
 StandForReplacement s v (b ∷ bs) (c ∷ q) =
     IsLeaf s b.0 (variable_leaf c.0) × RefersTo s v b.1 c.1 × StandForReplacement s v bs q
+
+-- the bindings of several lists, joined in order
+abbrev pub joined : List (List (ℕ × ℕ)) → List (ℕ × ℕ)
+joined [] = []
+joined (bs ∷ rest) = bs ++ joined rest
 
 -- by the table the bindings are some replacement
 pub record AreReplacementBy (s : Table) (v : TermsView) (bindings : List (ℕ × ℕ)) : Type 0 where

@@ -1,6 +1,7 @@
-//! Putting terms in for the variables of one term after another, where what was gone through is remembered.
+//! Putting terms in for the variables of one term after another, where what was gone through is remembered, and where more
+//! is put in from a place on until that place is left.
 
-ghost use Rattle.std.specs.Prelude.{◌≡◌, ℕ, IfOk, IfErr, List};
+ghost use Rattle.std.specs.Prelude.{◌≡◌, ◌++◌, ◌∷◌, [], ℕ, IfOk, IfErr, List, is_ok, if◌then◌else◌};
 ghost use Rattle.pair_pool.specs.Views.{IsKnown};
 ghost use Rattle.rule_model.specs.Replacement.{Replacement};
 ghost use Rattle.rule_model.specs.Substitution.{put_in};
@@ -8,63 +9,104 @@ ghost use Rattle.sym_table.specs.Table.{Table};
 ghost use Rattle.term_model.specs.Terms.{Term};
 ghost use Rattle.term_pool.specs.Views.{TermsView, IsTerm, RefersTo, KeepsTerms};
 ghost use Rattle.term_pool.specs.declared.stop.TermStop.TheVariants as TermStop;
-ghost use Rattle.contexts.specs.Kept.{IsRight, bindings_of};
+ghost use Rattle.contexts.specs.Kept.{IsRight, IsRightForSome, bindings_of, frames_of};
 ghost use Rattle.contexts.specs.PutIn.{AreReplacementBy, LacksRoomFor, PlacesTerm, StandForReplacement};
 
+use crate::frames::{Frame, put_all, put_all_back};
 use crate::putting::put;
-use crate::substitution::images_of;
 use crate::walked::Walked;
 use pair_pool::{Memory, Ref};
 use std::alloc::Global;
 use std::collections::HashMap;
+use std::mem::replace;
 use sym_table::Symbols;
 use term_pool::{TermStop, Terms};
 
-/// What is put in for variables, and what has become so of the cells that were gone through.
+/// What is put in for variables, in frames that are entered and left, the last one first, and what has become so of the
+/// cells that were gone through in each.
+///
+/// To enter a frame or to leave it costs what the frame itself binds: what is put in around it is not copied.
 #[derive(Drop)]
 pub struct Substitution {
-    bindings: Vec<(u32, Ref)>,
     images: HashMap<u32, Ref>,
-    walked: Walked,
+    around: Vec<Frame>,
+    here: Frame,
 }
 
 impl Substitution {
-    /// The substitution of the second part of each binding for its first part, the leaf of a variable. Of two for one
-    /// leaf the first counts.
-    pub fn new(
-        alloc: Global,
-        bindings: Vec<(u32, Ref)>,
-        symbols: &Symbols,
-        terms: &Terms<'_>,
-    ) -> Result<Substitution, Memory>
-        requires { AreReplacementBy symbols.now terms.now bindings.items }
-        ensures bindings { IfOk result (λ x. bindings_of x ≡ bindings.items) }
-        ensures right { IfOk result (IsRight terms.now) }
+    /// One frame, in which nothing is put in.
+    pub fn new(alloc: Global) -> Result<Substitution, Memory>
+        ensures frames { IfOk result (λ x. frames_of x ≡ [] ∷ []) }
+        ensures right { IfOk result (λ x. (v : TermsView) → IsRight v x) }
     {
-        let _leaves = symbols.count();
-        let images = images_of(alloc, &bindings)?;
         let walked = Walked::new(alloc)?;
-        let _ = terms;
-        Ok(Substitution {
-            bindings,
-            images,
+        let here = Frame {
+            bindings: Vec::new(alloc),
+            before: Vec::new(alloc),
             walked,
+        };
+        Ok(Substitution {
+            images: HashMap::new(alloc),
+            around: Vec::new(alloc),
+            here,
         })
     }
 
-    /// The bindings, in order.
-    pub fn bindings(&self) -> &[(u32, Ref)]
-        ensures { result.now ≡ bindings_of self.now }
+    /// Enters a frame in which the second part of each binding is put in for its first part, the leaf of a variable, and
+    /// else what was put in before. Of two for one leaf the first counts. Nothing is remembered there yet.
+    ///
+    /// Refuses want of memory alone, and has entered nothing then.
+    pub fn enter(
+        &mut self,
+        bindings: Vec<(u32, Ref)>,
+        symbols: &Symbols,
+        terms: &Terms<'_>,
+    ) -> Result<(), Memory>
+        requires bindings { AreReplacementBy symbols.now terms.now (bindings.items ++ bindings_of self.old) }
+        requires right { IsRight terms.now self.old }
+        ensures frames { frames_of self.new ≡ (if is_ok result then bindings.items ∷ frames_of self.old else frames_of self.old) }
+        ensures right { IsRight terms.now self.new }
     {
-        &self.bindings
+        let _leaves = symbols.count();
+        let _ = terms;
+        let alloc = self.here.walked.layers.alloc;
+        let walked = Walked::new(alloc)?;
+        self.around.reserve(1)?;
+        let mut before = Vec::new(alloc);
+        if let Err(stop) = put_all(&mut self.images, &bindings, &mut before) {
+            put_all_back(&mut self.images, before);
+            return Err(stop);
+        }
+        let inner = Frame {
+            bindings,
+            before,
+            walked,
+        };
+        let outer = replace(&mut self.here, inner);
+        let _room = self.around.push(outer);
+        Ok(())
+    }
+
+    /// Leaves the frame that was entered last, with what is remembered there. The first frame is not left. It takes no
+    /// memory.
+    pub fn leave(&mut self)
+        requires { IsRightForSome self.old }
+        ensures frames { (bs cs : List (ℕ × ℕ)) (rest : List (List (ℕ × ℕ))) → frames_of self.old ≡ bs ∷ cs ∷ rest → frames_of self.new ≡ cs ∷ rest }
+        ensures right { (v : TermsView) → IsRight v self.old → IsRight v self.new }
+    {
+        let Some(outer) = self.around.pop() else {
+            return;
+        };
+        let inner = replace(&mut self.here, outer);
+        put_all_back(&mut self.images, inner.before);
     }
 
     /// The term `r` with the second part of each binding put in for each free occurrence of its first part, as the call
-    /// `put_in` has it.
+    /// `put_in` has it, by all frames that were entered and not left, the last one first.
     ///
-    /// A cell is not gone through again that this substitution went through before, so over all calls it costs what one
-    /// call would that goes through all the terms. Refuses where the pool had no room for a cell of the answer, and for
-    /// want of memory; what was gone through before a refusal stays remembered.
+    /// A cell is not gone through again that was gone through in this frame before, so over all calls in a frame it costs
+    /// what one call would that goes through all the terms. Refuses where the pool had no room for a cell of the answer,
+    /// and for want of memory; what was gone through before a refusal stays remembered.
     pub fn put_in(
         &mut self,
         symbols: &Symbols,
@@ -82,10 +124,10 @@ impl Substitution {
         ensures known { IfOk result (IsKnown terms.new.pass) }
         ensures keeps { KeepsTerms terms.old terms.new }
         ensures right { IsRight terms.new self.new }
-        ensures same { bindings_of self.new ≡ bindings_of self.old }
+        ensures same { frames_of self.new ≡ frames_of self.old }
     {
         let _leaves = symbols.count();
-        put(terms, &self.images, &mut self.walked, r)
+        put(terms, &self.images, &mut self.here.walked, r)
     }
 }
 

@@ -4,6 +4,7 @@
 //! its own, so no term takes stack.
 #![tactic(auto)]
 
+mod frames;
 mod free;
 mod hiding;
 mod kept;

@@ -1,8 +1,8 @@
 //! The places that the walk visits, and what it remembers of them.
 
-ghost use Rattle.std.specs.Prelude.{◌≡◌, ◌<◌, ◌≤◌, ◌^◌, ℕ, Some, None, IfOk, OnOk, nat_eq, length};
+ghost use Rattle.std.specs.Prelude.{◌≡◌, ◌<◌, ◌≤◌, ◌^◌, ℕ, Some, None, IfOk, OnErr, OnOk, nat_eq, length};
 ghost use Rattle.std.specs.HashMap.{get, hash_map_len};
-ghost use Rattle.contexts.specs.Places.{image_of_leaf, layer_of, leaf_there, reference_of, remembered, Remembers};
+ghost use Rattle.contexts.specs.Places.{image_of_leaf, layer_of, leaf_there, reference_of, remembered, Remembers, RemembersAsMuch};
 
 use crate::layers::Layers;
 use pair_pool::{Memory, Ref};
@@ -68,6 +68,7 @@ pub(crate) fn look(
 pub(crate) fn note(memo: &mut HashMap<Place, Ref>, place: &Place, r: Ref) -> Result<(), Memory>
     requires { remembered memo.old place.now ≡ None }
     ensures noted { OnOk result (Remembers memo.old memo.new place.now r) }
+    ensures kept { OnErr result (RemembersAsMuch memo.old memo.new) }
     ensures few { hash_map_len memo.old < 2 ^ 64 }
 {
     let _count = memo.len();

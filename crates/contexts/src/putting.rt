@@ -7,7 +7,7 @@ ghost use Rattle.pair_pool.specs.Views.{IsKnown, Knows};
 ghost use Rattle.term_pool.specs.Building.{PlacesOnlyIn, IsFullIn};
 ghost use Rattle.term_pool.specs.Views.{KeepsTerms};
 ghost use Rattle.term_pool.specs.declared.stop.TermStop.TheVariants as TermStop;
-ghost use Rattle.contexts.specs.Becoming.{AreImages, becomes};
+ghost use Rattle.contexts.specs.Becoming.{AreImages, becomes, look_of};
 ghost use Rattle.contexts.specs.Layers.{KeepsLayers};
 ghost use Rattle.contexts.specs.Places.{HasLetHead, IsReady, IsSpot, IsWalked, Visits};
 ghost use Rattle.contexts.specs.Shapes.{IsShaped};
@@ -154,11 +154,11 @@ pub(crate) fn put(
     r: Ref,
 ) -> Result<Ref, TermStop>
     requires shaped { IsShaped terms.old.pass r }
-    requires walked { IsWalked terms.old.pass images.now walked.old.layers.lists.items walked.old.memo }
+    requires walked { IsWalked terms.old.pass (look_of images.now) walked.old.layers.lists.items walked.old.memo }
     ensures image { IfOk result (λ i. (f : ℕ → Tree) (t : Tree) → AreImages terms.old.pass images.now f → Knows terms.old.pass r t → Knows terms.new.pass i (becomes f [] t)) }
     ensures placed { (f : ℕ → Tree) (t : Tree) → AreImages terms.old.pass images.now f → Knows terms.old.pass r t → PlacesOnlyIn terms.old.pass terms.new.pass (becomes f [] t) }
     ensures full { IfErr result (λ e. e ≡ TermStop.PoolFull → (f : ℕ → Tree) (t : Tree) → AreImages terms.old.pass images.now f → Knows terms.old.pass r t → IsFullIn terms.new.pass (becomes f [] t)) }
-    ensures walked { IsWalked terms.new.pass images.now walked.new.layers.lists.items walked.new.memo }
+    ensures walked { IsWalked terms.new.pass (look_of images.now) walked.new.layers.lists.items walked.new.memo }
     ensures keeps { KeepsTerms terms.old terms.new }
 {
     terms.one_to_one();

@@ -1,8 +1,9 @@
 //! What a walk leaves for the next one.
 
-ghost use Rattle.std.specs.Prelude.{IfOk};
+ghost use Rattle.std.specs.Prelude.{ℕ, IfOk};
+ghost use Rattle.pair_pool.specs.Trees.{Tree};
 ghost use Rattle.pair_pool.specs.Views.{PassView};
-ghost use Rattle.contexts.specs.Becoming.{Images, HasImages};
+ghost use Rattle.contexts.specs.Becoming.{IsImageAt, Look};
 ghost use Rattle.contexts.specs.Places.{IsWalked};
 
 use crate::layers::Layers;
@@ -21,7 +22,7 @@ pub(crate) struct Walked {
 impl Walked {
     /// Nothing was walked over yet.
     pub(crate) fn new(alloc: Global) -> Result<Walked, Memory>
-        ensures { IfOk result (λ walked. (pass : PassView) (images : Images) → HasImages pass images → IsWalked pass images walked.layers.lists.items walked.memo) }
+        ensures { IfOk result (λ walked. (pass : PassView) (put : Look) (f : ℕ → Tree) → ((k : ℕ) → IsImageAt pass (put k) k (f k)) → IsWalked pass put walked.layers.lists.items walked.memo) }
     {
         let layers = Layers::new(alloc)?;
         Ok(Walked {

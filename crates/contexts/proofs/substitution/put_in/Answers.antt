@@ -1,4 +1,5 @@
 use Rattle.std.proofs.lemmas.Result.{IfOk-weaker, IfErr-weaker}
+use Rattle.contexts.specs.Becoming.{look_of}
 use Rattle.contexts.proofs.FirstLemmas.{have_images, term_is, places_are, room_lacks, places_none}
 use Rattle.contexts.proofs.Links.{term_shape}
 use Rattle.contexts.proofs.substitution.put_in.Goals as goal
@@ -18,7 +19,8 @@ put-requires-clause-shaped c = record {
 
 pub put-requires-clause-walked : goal.put-requires-clause-walked
 put-requires-clause-walked c =
-    c.in_ok-walked.ensures _ c.in_ok-images.images (have_images _ c.count-leaves.ensures.table _ _ c.in_ok-images.images c.in_ok-images.ensures c.requires.bindings)
+    let h = have_images _ c.count-leaves.ensures.table _ _ c.in_ok-images.images c.in_ok-images.ensures c.requires.bindings in
+    c.in_ok-walked.ensures _ (look_of c.in_ok-images.images) h.trees h.are
 
 pub returns-clause-term : goal.returns-clause-term
 returns-clause-term c =
