@@ -1,4 +1,10 @@
 pub mod Anchors
+pub mod Growing
+pub mod Placing
+pub mod ImageLists
 pub mod Levels
+pub mod ImageSteps
 pub mod WayLemmas
 pub mod OpenLines
+pub mod Opening
+pub mod Popping

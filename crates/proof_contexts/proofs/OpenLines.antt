@@ -1,9 +1,10 @@
 -- The anchors that are open at a command are those of its scope and the scopes around it.
-use Rattle.std.proofs.Common.{◌≡◌, ◌+◌, ℕ, zero, suc, List, [], ◌∷◌, ◌++◌, length, slice_get, Option, Some, None, ⊤, refl, sym, ◌∙◌, ap, subst, arith}
+use Rattle.std.proofs.Common.{◌≡◌, ◌≤◌, ◌+◌, ℕ, zero, suc, List, [], ◌∷◌, ◌++◌, length, slice_get, Option, Some, None, refl, sym, ◌∙◌, ap, subst, arith}
+use Rattle.std.specs.Bool.{⊤}
 use Rattle.std.specs.List.{AllByRecursion}
 use Rattle.std.specs.Option.{option_map, option_map_or}
-use Rattle.std.proofs.lemmas.Option.{slice_get-map}
-use Rattle.rule_model.specs.Commands.{IndexedCommand, assume, step, closing, Line, Entry, entry_of, lines_in, own_scope, closed_scope, ScopeEntry, scope_entry, scopes_in, scopes}
+use Rattle.std.proofs.lemmas.Option.{slice_get-map, slice_get_within}
+use Rattle.rule_model.specs.Commands.{IndexedCommand, assume, step, closing, Line, Entry, entry_of, lines_in, own_scope, around_number, closed_scope, ScopeEntry, scope_entry, scopes_in, scopes}
 use Rattle.rule_model.specs.Judged.{open_anchors, anchors_at}
 use Rattle.rule_model.specs.Proofs.{Step, ProofItems, no_items, with_assume, with_step, with_subproof}
 use Rattle.rule_model.specs.Reading.{closes_at, scope_at, parent_at, bindings_at}
@@ -30,8 +31,8 @@ module _ {V T : Type 0} where
 
   -- the scopes inside this one stand in the list behind it
   StandBehind : List (ScopeEntry V T) → ℕ → List (ScopeEntry V T) → Type 0
-  StandBehind entries number inside =
-      (j : ℕ) (e : ScopeEntry V T) → slice_get inside j ≡ Some e → slice_get entries (suc (number + j)) ≡ Some e
+  StandBehind entries number list =
+      (j : ℕ) (e : ScopeEntry V T) → slice_get list j ≡ Some e → slice_get entries (suc (number + j)) ≡ Some e
 
   after : (xs : List (ScopeEntry V T)) (y : ScopeEntry V T) (ys : List (ScopeEntry V T)) (k : ℕ) (e : ScopeEntry V T) → slice_get (y ∷ ys) k ≡ Some e → slice_get (xs ++ y ∷ ys) (length xs + k) ≡ Some e
   after [] y ys k e h = let same : 0 + k ≡ k = omega arith in rw same h
@@ -54,7 +55,7 @@ module _ {V T : Type 0} where
       let number : suc (scope_number nesting + (length xs + 0)) ≡ scope_number deep = omega arith in
       let here = behind (length xs + 0) own (after xs own ys 0 own refl) in
       let has_deep : HasEntries entries deep =
-          (record { entry = own; there = subst (λ k. slice_get entries k ≡ Some own) number here; parent_is = refl; bindings_are = refl }, has) in
+      (record { entry = own; there = subst (λ k. slice_get entries k ≡ Some own) number here; parent_is = refl; bindings_are = refl }, has) in
       all_joined _ (lines_in nesting items ++ lines_in deep proof) _
       (all_joined _ (lines_in nesting items) _
       (lines_have entries nesting items (λ j e h. behind j e (slice_get_more xs (own ∷ ys) j e h)) has)
@@ -97,3 +98,31 @@ module _ {V T : Type 0} where
         go (Some l) e =
             by_command l.scope.nesting l.command (scope_is proof i l e) (anchors_are proof i l e) (sym (closes_is proof i l e) ∙ closes)
             (open_here l.scope.nesting (all_at _ (lines_in outermost proof) i l all_have e))
+
+    -- the scope of a command is one of the proof's
+    number_within : (nesting : Nesting V T) → HasEntries (scopes proof) nesting → scope_number nesting ≤ subproofs_in proof
+    unfolding HasEntries
+    number_within outermost has = omega arith
+    number_within (inside around before anchor) has =
+        let count = scopes_in_count outermost proof in
+        let inside_list = slice_get_within (scopes proof) (scope_number (inside around before anchor)) has.0.entry has.0.there in
+        omega arith
+
+    around_within : (nesting : Nesting V T) → HasEntries (scopes proof) nesting → around_number nesting ≤ subproofs_in proof
+    unfolding HasEntries
+    around_within outermost has = omega arith
+    around_within (inside around before anchor) has = number_within around has.1
+
+    pub scope_within : (i : ℕ) → scope_at proof i ≤ subproofs_in proof
+    scope_within i = go (slice_get (lines_in outermost proof) i) refl
+      where
+        by_command : (nesting : Nesting V T) (c : IndexedCommand T) → scope_at proof i ≡ own_scope nesting c → HasEntries (scopes proof) nesting → scope_at proof i ≤ subproofs_in proof
+        by_command nesting (assume id t) own has = rw own (number_within nesting has)
+        by_command nesting (step s) own has = rw own (number_within nesting has)
+        by_command nesting (closing s) own has = rw own (around_within nesting has)
+
+        go : (o : Option (Line V T)) → slice_get (lines_in outermost proof) i ≡ o → scope_at proof i ≤ subproofs_in proof
+        go None e =
+            let scope : scope_at proof i ≡ 0 = ap (λ o. option_map_or (λ (e : Entry T). e.scope) o 0) (slice_get-map entry_of (lines_in outermost proof) i ∙ ap (option_map entry_of) e) in
+            rw scope (omega arith)
+        go (Some l) e = by_command l.scope.nesting l.command (scope_is proof i l e) (all_at _ (lines_in outermost proof) i l all_have e)

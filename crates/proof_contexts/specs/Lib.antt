@@ -1,3 +1,4 @@
+pub mod Placing
 pub mod Images
 pub mod OpenAnchors
 pub mod Ways

@@ -1,15 +1,22 @@
 -- Private. The way from a scope down to one inside it.
-use Rattle.std.specs.Prelude.{◌≡◌, ◌⊎◌, ◌≤◌, ℕ, List, [], ◌∷◌, Option, Some, None}
+use Rattle.std.specs.Prelude.{◌≡◌, ◌≤◌, ℕ, List, [], ◌∷◌, Some}
 use Rattle.rule_model.specs.Proofs.{ProofItems}
 use Rattle.rule_model.specs.Reading.{parent_at}
 use Rattle.rule_model.specs.Scopes.{subproofs_in}
+use Rattle.sym_table.specs.Table.{Table}
+use Rattle.term_pool.specs.Views.{TermsView}
+use Rattle.proof_contexts.specs.OpenAnchors.{AreKept}
+use Rattle.proof_contexts.specs.declared.scopes.OpenScopes.{OpenScopes}
 
--- from the scope `start`, or from none, the scopes of the list have to be entered, the last of them first, to be in `goal`
-abbrev pub IsWay : ProofItems ℕ ℕ → Option ℕ → Option ℕ → List ℕ → Type 0
+-- from the scope `start` the scopes of the list have to be entered, the last of them first, to be in `goal`
+abbrev pub IsWay : ProofItems ℕ ℕ → ℕ → ℕ → List ℕ → Type 0
 IsWay proof start goal [] = goal ≡ start
 IsWay proof start goal (k ∷ ks) =
-    (goal ≡ Some k) × (k ≤ subproofs_in proof) × IsWay proof start (parent_at proof k) ks
+    (goal ≡ k) × (k ≤ subproofs_in proof) × ((p : ℕ) × (parent_at proof k ≡ Some p) × IsWay proof start p ks)
 
--- from this scope, or from none
-abbrev pub IsWayFrom : ProofItems ℕ ℕ → ℕ → ℕ → List ℕ → Type 0
-IsWayFrom proof here goal way = IsWay proof (Some here) (Some goal) way ⊎ IsWay proof None (Some goal) way
+-- what is kept is right of some proof
+pub record AreKeptOfSome (x : OpenScopes) : Type 0 where
+  pub table : Table
+  pub view : TermsView
+  pub refs : ProofItems ℕ ℕ
+  pub kept : AreKept table view refs x

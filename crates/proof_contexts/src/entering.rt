@@ -1,48 +1,54 @@
-//! Entering a scope.
+//! Entering a scope, and leaving those that are not around it.
 
-ghost use Rattle.std.specs.Prelude.{◌≡◌, ◌≤◌, ℕ, IfOk, OnOk, Some};
+ghost use Rattle.std.specs.Prelude.{◌≡◌, ◌≤◌, ℕ, IfErr, IfOk, OnOk, Some};
+ghost use Rattle.proof_store.specs.Meaning.{StandForItems};
 ghost use Rattle.rule_model.specs.Proofs.{ProofItems};
 ghost use Rattle.rule_model.specs.Reading.{parent_at};
 ghost use Rattle.rule_model.specs.Scopes.{subproofs_in};
 ghost use Rattle.sym_table.specs.Table.{Table};
+ghost use Rattle.term_model.specs.Terms.{Var, Term};
 ghost use Rattle.term_pool.specs.Views.{TermsView, KeepsTerms};
-ghost use Rattle.proof_contexts.specs.OpenAnchors.{AreKept, scope_of};
-ghost use Rattle.proof_contexts.specs.Ways.{IsWayFrom};
+ghost use Rattle.term_pool.specs.declared.stop.TermStop.TheVariants as TermStop;
+ghost use Rattle.proof_contexts.specs.OpenAnchors.{AreKept, IsImageOf, scope_of};
+ghost use Rattle.proof_contexts.specs.Placing.{LacksRoomForSome, PlacesOf};
+ghost use Rattle.proof_contexts.specs.Ways.{AreKeptOfSome, IsWay};
 
-use crate::images::images_with;
-use crate::level::Level;
+use crate::images::images_of;
 use crate::scopes::OpenScopes;
-use contexts::{Substitution, substitutions_stay};
+use contexts::substitutions_stay;
 use pair_pool::Memory;
-use proof_store::{Proof, proofs_stay, terms_correspond};
-use std::mem::replace;
+use proof_store::{Proof, proofs_stand_for_one, proofs_stay, terms_correspond};
 use sym_table::Symbols;
 use term_pool::{TermStop, Terms};
 
 impl OpenScopes {
     /// Leaves scopes that are not around scope `k`, as their numbers tell: what stands around a scope has a smaller one.
     fn leave(&mut self, k: u32)
-        ensures { (s : Table) (v : TermsView) (refs : ProofItems ℕ ℕ) → AreKept s v refs self.old → AreKept s v refs self.new }
+        requires { AreKeptOfSome self.old }
+        ensures kept { (s : Table) (v : TermsView) (refs : ProofItems ℕ ℕ) → AreKept s v refs self.old → AreKept s v refs self.new }
+        ensures below { scope_of self.new ≤ k }
     {
-        'scopes: while self.here.scope > k {
-            let Some(level) = self.around.pop() else {
+        'scopes: while self.here > k {
+            let Some(outer) = self.around.pop() else {
                 return;
             };
-            self.here = level;
+            self.here = outer;
+            self.substitution.leave();
         }
     }
 
     /// The scopes that are to be entered to be in `scope`, the last of them first, from the one that is left here.
     fn way_to(&mut self, proof: &Proof, scope: u32) -> Result<Vec<u32>, Memory>
-        requires { scope ≤ subproofs_in proof.now }
-        ensures way { IfOk result (λ way. IsWayFrom proof.now (scope_of self.new) scope way.items) }
-        ensures kept { (s : Table) (v : TermsView) → AreKept s v proof.now self.old → AreKept s v proof.now self.new }
+        requires scope { scope ≤ subproofs_in proof.now }
+        requires kept { AreKeptOfSome self.old }
+        ensures way { IfOk result (λ way. IsWay proof.now (scope_of self.new) scope way.items) }
+        ensures kept { (s : Table) (v : TermsView) (refs : ProofItems ℕ ℕ) → AreKept s v refs self.old → AreKept s v refs self.new }
     {
         let mut way = Vec::new(self.alloc);
         let mut at = scope;
         'up: loop {
             self.leave(at);
-            if self.here.scope == at {
+            if self.here == at {
                 return Ok(way);
             }
             way.push(at)?;
@@ -53,7 +59,7 @@ impl OpenScopes {
         }
     }
 
-    /// Enters a scope that stands directly in the one that was entered last, or the outermost scope.
+    /// Enters a scope that stands directly in the one that was entered last.
     fn open(
         &mut self,
         proof: &Proof,
@@ -63,43 +69,40 @@ impl OpenScopes {
     ) -> Result<(), TermStop>
         requires scope { k ≤ subproofs_in proof.now }
         requires kept { AreKept symbols.now terms.old proof.now self.old }
-        requires here { (p : ℕ) → parent_at proof.now k ≡ Some p → p ≡ scope_of self.old }
+        requires here { parent_at proof.now k ≡ Some (scope_of self.old) }
         ensures scope { OnOk result (scope_of self.new ≡ k) }
         ensures kept { AreKept symbols.now terms.new proof.now self.new }
+        ensures placed { (of : ProofItems Var Term) → StandForItems symbols.now terms.old proof.now of → PlacesOf symbols.now terms.old.pass terms.new.pass (IsImageOf of) }
+        ensures full { IfErr result (λ e. e ≡ TermStop.PoolFull → (of : ProofItems Var Term) → StandForItems symbols.now terms.old proof.now of → LacksRoomForSome symbols.now terms.new.pass (IsImageOf of)) }
         ensures keeps { KeepsTerms terms.old terms.new }
     {
+        let _leaves = symbols.count();
+        terms.one_to_one();
         terms_correspond();
+        proofs_stand_for_one();
         proofs_stay();
         substitutions_stay();
-        let images = match proof.parent(k) {
-            None => Vec::new(self.alloc),
-            Some(_) => {
-                images_with(
-                    self.alloc,
-                    &mut self.here.substitution,
-                    proof.bindings(k),
-                    symbols,
-                    terms,
-                )?
-            }
-        };
-        let substitution = Substitution::new(self.alloc, images, symbols, terms)?;
-        let outer = replace(
-            &mut self.here,
-            Level {
-                scope: k,
-                substitution,
-            },
-        );
-        self.around.push(outer)?;
+        let images = images_of(
+            self.alloc,
+            &mut self.substitution,
+            proof.bindings(k),
+            symbols,
+            terms,
+        )?;
+        self.substitution.enter(images, symbols, terms)?;
+        if self.around.push(self.here).is_err() {
+            self.substitution.leave();
+            return Err(TermStop::Memory);
+        }
+        self.here = k;
         Ok(())
     }
 
     /// Enters a scope, and leaves those that are not around it. A scope is 0 or the number of a subproof.
     ///
-    /// In file order a scope is entered once, with those around it. Copies for each scope that is entered the images of the
-    /// variables that the anchors around it bind, and places the cells of the images of its own. Refuses where the pool had
-    /// no room for a cell of an image, and for want of memory.
+    /// In file order a scope is entered once, with those around it. To enter or to leave one costs what its anchor binds,
+    /// and what is gone through for its images. Places only cells of images of variables that anchors bind. Refuses where
+    /// the pool had no room for such a cell, and for want of memory.
     pub fn enter(
         &mut self,
         proof: &Proof,
@@ -111,8 +114,11 @@ impl OpenScopes {
         requires kept { AreKept symbols.now terms.old proof.now self.old }
         ensures scope { OnOk result (scope_of self.new ≡ scope) }
         ensures kept { AreKept symbols.now terms.new proof.now self.new }
+        ensures placed { (of : ProofItems Var Term) → StandForItems symbols.now terms.old proof.now of → PlacesOf symbols.now terms.old.pass terms.new.pass (IsImageOf of) }
+        ensures full { IfErr result (λ e. e ≡ TermStop.PoolFull → (of : ProofItems Var Term) → StandForItems symbols.now terms.old proof.now of → LacksRoomForSome symbols.now terms.new.pass (IsImageOf of)) }
         ensures keeps { KeepsTerms terms.old terms.new }
     {
+        proofs_stay();
         let mut way = self.way_to(proof, scope)?;
         'down: while let Some(k) = way.pop() {
             self.open(proof, k, symbols, terms)?;

@@ -7,8 +7,7 @@
 mod entering;
 mod images;
 mod laws;
-mod level;
 mod scopes;
 
-pub use laws::anchors_are_those_of_scopes;
+pub use laws::{anchors_are_those_of_scopes, commands_stand_in_scopes};
 pub use scopes::OpenScopes;

@@ -13,21 +13,22 @@ ghost use Rattle.term_pool.specs.Views.{IsTerm, RefersTo, KeepsTerms};
 ghost use Rattle.term_pool.specs.declared.stop.TermStop.TheVariants as TermStop;
 ghost use Rattle.proof_contexts.specs.OpenAnchors.{AreOpenIn, AreKept, scope_of};
 
-use crate::level::Level;
 use contexts::{Substitution, substitutions_stay};
 use pair_pool::{Memory, Ref};
-use proof_store::{Proof, proofs_stand_for_one, proofs_stay, terms_correspond};
+use proof_store::{Proof, proofs_stand_for_one, proofs_stay};
+use rule_model::laws::scopes::scopes_are_a_tree;
 use std::alloc::Global;
 use sym_table::Symbols;
 use term_pool::{TermStop, Terms};
 
-/// The scope that was entered last and those around it that were, each with what its open anchors put in. What was gone
-/// through in a scope is remembered there until it is left.
+/// The scope that was entered last and those around it, each with what its open anchors put in. What was gone through in a
+/// scope is remembered there until it is left.
 #[derive(Drop)]
 pub struct OpenScopes {
     pub(crate) alloc: Global,
-    pub(crate) around: Vec<Level>,
-    pub(crate) here: Level,
+    pub(crate) around: Vec<u32>,
+    pub(crate) here: u32,
+    pub(crate) substitution: Substitution,
 }
 
 impl OpenScopes {
@@ -39,18 +40,19 @@ impl OpenScopes {
         terms: &Terms<'_>,
     ) -> Result<OpenScopes, Memory>
         requires { StandForSome symbols.now terms.now proof.now }
-        ensures scope { IfOk result (λ open. scope_of open ≡ 0) }
+        ensures scope { IfOk result (λ x. scope_of x ≡ 0) }
         ensures kept { IfOk result (AreKept symbols.now terms.now proof.now) }
     {
-        let here = Level {
-            scope: 0,
-            substitution: Substitution::new(alloc, Vec::new(alloc), symbols, terms)?,
-        };
+        scopes_are_a_tree();
+        let substitution = Substitution::new(alloc)?;
         let _ = proof;
+        let _ = symbols;
+        let _ = terms;
         Ok(OpenScopes {
             alloc,
             around: Vec::new(alloc),
-            here,
+            here: 0,
+            substitution,
         })
     }
 
@@ -92,6 +94,6 @@ impl OpenScopes {
         proofs_stand_for_one();
         proofs_stay();
         substitutions_stay();
-        self.here.substitution.put_in(symbols, terms, r)
+        self.substitution.put_in(symbols, terms, r)
     }
 }

@@ -3,7 +3,7 @@ use Rattle.rule_model.specs.Proofs.{ProofItems}
 use Rattle.sym_table.specs.Table.{Table}
 use Rattle.term_pool.specs.Views.{TermsView}
 use Rattle.proof_contexts.specs.OpenAnchors.{AreKept}
-use Rattle.proof_contexts.proofs.entering.OpenScopes.leave.Given as goal
+use Rattle.proof_contexts.proofs.scopes.OpenScopes.leave.Given as goal
 
 abbrev pub invariant-scopes : goal.invariant-scopes
 invariant-scopes l = (s : Table) (v : TermsView) (refs : ProofItems ℕ ℕ) → AreKept s v refs l.fn.self → AreKept s v refs l.self
