@@ -1,7 +1,5 @@
--- Public. The sides of the equality that a step states, and which cells are of them.
+-- Public. The sides of the equality that a step states, and what they become.
 use Rattle.std.specs.Prelude.{◌≡◌, ◌⊎◌, ℕ, List, [], ◌∷◌}
-use Rattle.pair_pool.specs.Trees.{Tree}
-use Rattle.pair_pool.specs.Views.{PassView, IsPlaced}
 use Rattle.rule_model.specs.Contexts.{images}
 use Rattle.rule_model.specs.Judged.{anchors_at}
 use Rattle.rule_model.specs.Proofs.{ProofItems}
@@ -10,10 +8,7 @@ use Rattle.rule_model.specs.Substitution.{put_in}
 use Rattle.sym_table.specs.Table.{Table}
 use Rattle.term_model.specs.Flips.{equality}
 use Rattle.term_model.specs.Terms.{Var, Term}
-use Rattle.term_pool.specs.Building.{IsCellIn}
-use Rattle.term_pool.specs.StandsFor.{StandsFor}
 use Rattle.term_pool.specs.Views.{TermsView, RefersTo}
-use Rattle.contexts.specs.PutIn.{LacksRoomFor}
 
 -- the step has no premises, and its clause is the equality of the two terms
 pub record States (proof : ProofItems Var Term) (i : ℕ) (t u : Term) : Type 0 where
@@ -32,34 +27,13 @@ pub record HasSides (s : Table) (v : TermsView) (proof : ProofItems Var Term) (i
 abbrev pub substituted : ProofItems Var Term → ℕ → Term → Term
 substituted proof i t = put_in (images (anchors_at proof i)) t
 
--- the cell of a and b is one of the term
-pub record IsCellOf (s : Table) (v : PassView) (a b : ℕ) (t : Term) : Type 0 where
-  pub tree : Tree
-  pub stands : StandsFor s tree t
-  pub cell : IsCellIn v a b tree
+-- one of two terms
+abbrev pub IsEither : Term → Term → Term → Type 0
+IsEither a b t = (t ≡ a) ⊎ (t ≡ b)
 
--- it is one of a side of the step after substitution
-pub record IsCellOfSide (s : Table) (v : PassView) (proof : ProofItems Var Term) (i a b : ℕ) : Type 0 where
+-- the term is a side of the step after substitution
+pub record IsSideOf (proof : ProofItems Var Term) (i : ℕ) (t : Term) : Type 0 where
   pub left : Term
   pub right : Term
   pub states : States proof i left right
-  pub of : IsCellOf s v a b (substituted proof i left) ⊎ IsCellOf s v a b (substituted proof i right)
-
--- what the new pass placed and the old one had not, are cells of the sides after substitution
-abbrev pub PlacesSides : Table → PassView → PassView → ProofItems Var Term → ℕ → Type 0
-PlacesSides s old new proof i = (r a b : ℕ) → IsPlaced new r a b → IsPlaced old r a b ⊎ IsCellOfSide s new proof i a b
-
--- there was no room for a cell of a side after substitution
-pub record LacksRoomForSide (s : Table) (new : PassView) (proof : ProofItems Var Term) (i : ℕ) : Type 0 where
-  pub left : Term
-  pub right : Term
-  pub states : States proof i left right
-  pub of : LacksRoomFor s new (substituted proof i left) ⊎ LacksRoomFor s new (substituted proof i right)
-
--- what the new pass placed and the old one had not, are cells of the two terms; and there was no room for one of them
-abbrev pub PlacesBoth : Table → PassView → PassView → Term → Term → Type 0
-PlacesBoth s old new t u =
-    (r a b : ℕ) → IsPlaced new r a b → IsPlaced old r a b ⊎ (IsCellOf s new a b t ⊎ IsCellOf s new a b u)
-
-abbrev pub LacksRoomForOne : Table → PassView → Term → Term → Type 0
-LacksRoomForOne s new t u = LacksRoomFor s new t ⊎ LacksRoomFor s new u
+  pub is : IsEither (substituted proof i left) (substituted proof i right) t

@@ -16,7 +16,8 @@ ghost use Rattle.rule_model.specs.Scopes.{commands_in};
 ghost use Rattle.rule_model.specs.Substitution.{put_in};
 ghost use Rattle.term_model.specs.Terms.{Var, Term};
 ghost use Rattle.term_pool.specs.Views.{IsTerm, RefersTo, KeepsTerms};
-ghost use Rattle.rules_refl.specs.Sides.{PlacesSides, PlacesBoth, LacksRoomForSide, LacksRoomForOne};
+ghost use Rattle.proof_contexts.specs.Placing.{LacksRoomForSome, PlacesOf};
+ghost use Rattle.rules_refl.specs.Sides.{IsEither, IsSideOf};
 
 use crate::comparing::{are_same, refused};
 use crate::sides::sides_at;
@@ -33,31 +34,31 @@ fn substituted(
     proof: &Proof,
     symbols: &Symbols,
     terms: &mut Terms<'_>,
-    open: &mut OpenScopes,
+    scopes: &mut OpenScopes,
     sides: (Ref, Ref),
 ) -> Result<(Ref, Ref), RuleStop>
     requires left { IsTerm symbols.now terms.old sides.0 }
     requires right { IsTerm symbols.now terms.old sides.1 }
-    requires kept { AreKept symbols.now terms.old proof.now open.old }
-    ensures left { IfOk result (λ p. (of : ProofItems Var Term) (anchors : List Replacement) (t : Term) → StandForItems symbols.now terms.old proof.now of → AreOpenIn of (scope_of open.old) anchors →
+    requires kept { AreKept symbols.now terms.old proof.now scopes.old }
+    ensures left { IfOk result (λ p. (of : ProofItems Var Term) (anchors : List Replacement) (t : Term) → StandForItems symbols.now terms.old proof.now of → AreOpenIn of (scope_of scopes.old) anchors →
         RefersTo symbols.now terms.old sides.0 t → RefersTo symbols.now terms.new p.0 (put_in (images anchors) t)) }
-    ensures right { IfOk result (λ p. (of : ProofItems Var Term) (anchors : List Replacement) (u : Term) → StandForItems symbols.now terms.old proof.now of → AreOpenIn of (scope_of open.old) anchors →
+    ensures right { IfOk result (λ p. (of : ProofItems Var Term) (anchors : List Replacement) (u : Term) → StandForItems symbols.now terms.old proof.now of → AreOpenIn of (scope_of scopes.old) anchors →
         RefersTo symbols.now terms.old sides.1 u → RefersTo symbols.now terms.new p.1 (put_in (images anchors) u)) }
-    ensures placed { (of : ProofItems Var Term) (anchors : List Replacement) (t u : Term) → StandForItems symbols.now terms.old proof.now of → AreOpenIn of (scope_of open.old) anchors →
-        RefersTo symbols.now terms.old sides.0 t → RefersTo symbols.now terms.old sides.1 u → PlacesBoth symbols.now terms.old.pass terms.new.pass (put_in (images anchors) t) (put_in (images anchors) u) }
-    ensures full { IfErr result (λ e. e ≡ RuleStop.PoolFull → (of : ProofItems Var Term) (anchors : List Replacement) (t u : Term) → StandForItems symbols.now terms.old proof.now of → AreOpenIn of (scope_of open.old) anchors →
-        RefersTo symbols.now terms.old sides.0 t → RefersTo symbols.now terms.old sides.1 u → LacksRoomForOne symbols.now terms.new.pass (put_in (images anchors) t) (put_in (images anchors) u)) }
+    ensures placed { (of : ProofItems Var Term) (anchors : List Replacement) (t u : Term) → StandForItems symbols.now terms.old proof.now of → AreOpenIn of (scope_of scopes.old) anchors →
+        RefersTo symbols.now terms.old sides.0 t → RefersTo symbols.now terms.old sides.1 u → PlacesOf symbols.now terms.old.pass terms.new.pass (IsEither (put_in (images anchors) t) (put_in (images anchors) u)) }
+    ensures full { IfErr result (λ e. e ≡ RuleStop.PoolFull → (of : ProofItems Var Term) (anchors : List Replacement) (t u : Term) → StandForItems symbols.now terms.old proof.now of → AreOpenIn of (scope_of scopes.old) anchors →
+        RefersTo symbols.now terms.old sides.0 t → RefersTo symbols.now terms.old sides.1 u → LacksRoomForSome symbols.now terms.new.pass (IsEither (put_in (images anchors) t) (put_in (images anchors) u))) }
     ensures keeps { KeepsTerms terms.old terms.new }
-    ensures kept { AreKept symbols.now terms.new proof.now open.new }
-    ensures scope { scope_of open.new ≡ scope_of open.old }
+    ensures kept { AreKept symbols.now terms.new proof.now scopes.new }
+    ensures scope { scope_of scopes.new ≡ scope_of scopes.old }
 {
     references_stay();
     proofs_stay();
-    let left = match open.substitute(proof, symbols, terms, sides.0) {
+    let left = match scopes.substitute(proof, symbols, terms, sides.0) {
         Ok(left) => left,
         Err(stop) => return Err(refused(stop)),
     };
-    let right = match open.substitute(proof, symbols, terms, sides.1) {
+    let right = match scopes.substitute(proof, symbols, terms, sides.1) {
         Ok(right) => right,
         Err(stop) => return Err(refused(stop)),
     };
@@ -77,21 +78,21 @@ pub fn check(
     mode: Mode,
     symbols: &Symbols,
     terms: &mut Terms<'_>,
-    open: &mut OpenScopes,
+    scopes: &mut OpenScopes,
 ) -> Result<Answer, RuleStop>
     requires index { i < commands_in proof.now }
     requires refl { rule_at proof.now i ≡ Rule.Refl }
-    requires kept { AreKept symbols.now terms.old proof.now open.old }
-    requires here { closes_at proof.now i ≡ None → scope_of open.old ≡ scope_at proof.now i }
+    requires kept { AreKept symbols.now terms.old proof.now scopes.old }
+    requires here { closes_at proof.now i ≡ None → scope_of scopes.old ≡ scope_at proof.now i }
     ensures met { IfOk result (λ answer. (of : ProofItems Var Term) → StandForItems symbols.now terms.old proof.now of → (answer ≡ Answer.Met) ↔ IsMetAt mode of i) }
     ensures narrow { IfOk result (λ answer. answer ≢ Answer.TooWide) }
     // where the anchors' variables have the values of their images, the clause of a step that is met is true
     ensures sound { IfOk result (λ answer. answer ≡ Answer.Met → (of : ProofItems Var Term) → StandForItems symbols.now terms.old proof.now of → KeepsTruthAt mode of i) }
-    ensures placed { (of : ProofItems Var Term) → StandForItems symbols.now terms.old proof.now of → PlacesSides symbols.now terms.old.pass terms.new.pass of i }
-    ensures full { IfErr result (λ stop. stop ≡ RuleStop.PoolFull → (of : ProofItems Var Term) → StandForItems symbols.now terms.old proof.now of → LacksRoomForSide symbols.now terms.new.pass of i) }
+    ensures placed { (of : ProofItems Var Term) → StandForItems symbols.now terms.old proof.now of → PlacesOf symbols.now terms.old.pass terms.new.pass (IsSideOf of i) }
+    ensures full { IfErr result (λ stop. stop ≡ RuleStop.PoolFull → (of : ProofItems Var Term) → StandForItems symbols.now terms.old proof.now of → LacksRoomForSome symbols.now terms.new.pass (IsSideOf of i)) }
     ensures keeps { KeepsTerms terms.old terms.new }
-    ensures kept { AreKept symbols.now terms.new proof.now open.new }
-    ensures scope { scope_of open.new ≡ scope_of open.old }
+    ensures kept { AreKept symbols.now terms.new proof.now scopes.new }
+    ensures scope { scope_of scopes.new ≡ scope_of scopes.old }
 {
     conditions_keep_truth();
     commands_correspond();
@@ -102,8 +103,8 @@ pub fn check(
     let Some(sides) = sides_at(proof, i, symbols, terms) else {
         return Ok(Answer::NotMet);
     };
-    let (left, right) = substituted(proof, symbols, terms, open, sides)?;
-    if are_same(open.alloc(), mode, symbols, terms, left, right)? {
+    let (left, right) = substituted(proof, symbols, terms, scopes, sides)?;
+    if are_same(scopes.alloc(), mode, symbols, terms, left, right)? {
         Ok(Answer::Met)
     } else {
         Ok(Answer::NotMet)

@@ -39,7 +39,7 @@ pub(crate) fn are_same(
 }
 
 /// What is answered of a step where a substitution was refused.
-pub(crate) fn refused(stop: TermStop) -> RuleStop
+pub fn refused(stop: TermStop) -> RuleStop
     ensures full { result ≡ RuleStop.PoolFull → stop ≡ TermStop.PoolFull }
 {
     match stop {

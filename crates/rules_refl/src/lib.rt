@@ -6,3 +6,4 @@ mod comparing;
 mod sides;
 
 pub use checks::check;
+pub use comparing::refused;

@@ -1,0 +1,3 @@
+pub mod Stating
+pub mod Meeting
+pub mod Substituting
