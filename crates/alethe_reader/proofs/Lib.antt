@@ -18,8 +18,6 @@ mod ArgumentLoop
 mod ArgumentNodes
 mod AssumeReading
 mod AnchorReading
-mod SpelledNames
-mod NamedCommands
 pub mod StillReadCommands
 mod TextCommands
 mod PerformedCommands
@@ -34,8 +32,5 @@ mod FormulaLists
 mod NamingItems
 mod NamedArguments
 mod AddedSteps
-mod LowestTerms
-mod LowestCoefficients
-mod FormedSteps
 mod StepReading
 mod AttributeReading

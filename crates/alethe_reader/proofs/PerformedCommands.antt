@@ -15,14 +15,8 @@ use Rattle.alethe_text.specs.States.{ProofSettings, ProofState}
 use Rattle.alethe_text.specs.Steps.{assume_read, rule_word, step_read}
 use Rattle.alethe_commands.specs.CommandNodes.{SaysAssume, SaysStep, SaysAnchor, SaysCommand}
 use Rattle.alethe_commands.specs.declared.commands.Command as code
-use Rattle.alethe_reader.specs.CommandNames.{IsRuleNamed, IsNamed}
-
-word_named : (others : List Attribute) → AllByRecursion IsRuleNamed others → IsSymbolName (rule_word others)
-word_named [] h = All-nil _
-word_named (rule n ∷ others) h = h.0
-word_named (premises ns ∷ others) h = word_named others h.1
-word_named (arguments items ∷ others) h = word_named others h.1
-word_named (discharge ns ∷ others) h = word_named others h.1
+use Rattle.alethe_text.specs.CommandNames.{IsNamed}
+use Rattle.alethe_text.proofs.CommandNames.{rule_is_named}
 
 module _ (source : List ℕ) (nodes : List Node) (k : code.Command) (d : Command) (says : SaysCommand source nodes k d) where
   pub says_assume : (id term : ℕ) → k ≡ code.Command.Assume id term → SaysAssume source nodes id term d
@@ -53,7 +47,7 @@ module _ (source : List ℕ) (nodes : List Node) (k : code.Command) (some : (d :
       let (d, says, named) = some in
       let h = says_step source nodes k d says id first others e in
       let both : IsNamed (step h.named h.literals h.attributes) = subst IsNamed h.same named in
-      (h.named, h.literals, h.attributes, subst (SaysStep source nodes id first others) h.same h, both.0, word_named h.attributes both.1)
+      (h.named, h.literals, h.attributes, subst (SaysStep source nodes id first others) h.same h, both.0, rule_is_named h.attributes both.1)
 
   pub anchor_nodes : (place id first : ℕ) → k ≡ code.Command.Anchor place id first
       → (n : Name) × (others : List Argument) × SaysAnchor source nodes place id first (anchor place n others) × IsSymbolName n.name

@@ -34,8 +34,8 @@ use Rattle.alethe_reader.specs.Sessions.{StandForNesting, starts, IsSession}
 use Rattle.alethe_reader.specs.TextReading.{closing_from, left_from, AreLeft, ReadsAll, IsFinished}
 use Rattle.alethe_reader.specs.declared.session.OpenAnchor.{OpenAnchor}
 use Rattle.alethe_reader.specs.declared.session.Session.{Session}
-use Rattle.alethe_reader.proofs.NamedCommands.{commands_named}
-use Rattle.alethe_reader.proofs.SpelledNames.{AreSpelled}
+use Rattle.alethe_text.proofs.CommandNames.{commands_named}
+use Rattle.alethe_text.proofs.SymbolNames.{AreSpelled}
 
 -- a proof is read in which nothing is judged strictly
 abbrev pub lax_with : Bool → ProofSettings

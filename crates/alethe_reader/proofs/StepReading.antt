@@ -41,7 +41,7 @@ use Rattle.alethe_reader.specs.Sessions.{IsSession, IsWritten, StandsAfter}
 use Rattle.alethe_reader.specs.Standing.{IsAnchorOf, IsClosing, Stands}
 use Rattle.alethe_reader.specs.StepParts.{AreReadAttributes, IsBare, KeepsOthers, StandsAt}
 use Rattle.alethe_reader.proofs.Answering.{stops, goes, answers, refuses, no_memory, same_outcome}
-use Rattle.alethe_reader.proofs.FormedSteps.{read_has_rule}
+use Rattle.alethe_text.proofs.FormedSteps.{read_has_rule}
 use Rattle.alethe_reader.proofs.StillRead.{keeps_then, keeps_changed}
 use Rattle.alethe_reader.proofs.StillReadCommands.{keeps_attributes}
 use Rattle.alethe_reader.proofs.WrittenStays.{written_stays}

@@ -19,12 +19,12 @@ use Rattle.alethe_commands.specs.CommandNodes.{IsCommand, SaysCommand}
 use Rattle.alethe_commands.specs.declared.commands.Command as code
 use Rattle.alethe_reader.specs.Answers.{WasRead, Answers}
 use Rattle.alethe_items.specs.TextItems.{HasCommandItems, IsFirst}
-use Rattle.alethe_reader.specs.CommandNames.{HasNames, HaveNames, IsNamed}
+use Rattle.alethe_text.specs.CommandNames.{HasNames, HaveNames, IsNamed}
 use Rattle.alethe_reader.specs.Sessions.{IsSession, StandsAfter}
 use Rattle.alethe_reader.specs.TextReading.{closing_from, left_from, AreLeft, NoneLeft, ReadsCommand}
 use Rattle.alethe_reader.specs.declared.session.Session.{Session}
 use Rattle.alethe_reader.proofs.Answering.{read_on, stops, same_outcome}
-use Rattle.alethe_reader.proofs.NamedCommands.{is_named_so}
+use Rattle.alethe_text.proofs.CommandNames.{is_named_so}
 use Rattle.alethe_reader.proofs.StillReadCommands.{keeps_left}
 
 then_then : {A B C : Type 0} (o : Outcome ProofState A) (f : A → Reading B) (g : B → Reading C) → and_then (and_then o f) g ≡ and_then o (λ a s. and_then (f a s) g)

@@ -2,7 +2,6 @@ pub mod Ids
 pub mod IdsInUse
 pub mod HeldIds
 pub mod Reading
-pub mod CommandNames
 pub mod TextReading
 pub mod Bound
 pub mod Opening

@@ -16,7 +16,7 @@ use Rattle.alethe_text.specs.ProofTexts.{commands, none_behind, finished}
 use Rattle.alethe_text.specs.States.{ProofSettings, ProofState, Reading, ◌>>=◌}
 use Rattle.alethe_reader.specs.Answers.{WasRead}
 use Rattle.alethe_items.specs.TextItems.{HasCommandItems}
-use Rattle.alethe_reader.specs.CommandNames.{HaveNames}
+use Rattle.alethe_text.specs.CommandNames.{HaveNames}
 use Rattle.alethe_reader.specs.Sessions.{IsSession}
 use Rattle.alethe_reader.specs.declared.session.Session.{Session}
 

@@ -9,7 +9,7 @@ ghost use Rattle.alethe_text.specs.ProofTexts.{performed};
 ghost use Rattle.alethe_text.specs.States.{ProofSettings, ProofState};
 ghost use Rattle.alethe_commands.specs.CommandNodes.{SaysCommand};
 ghost use Rattle.alethe_reader.specs.Answers.{Answers};
-ghost use Rattle.alethe_reader.specs.CommandNames.{IsNamed};
+ghost use Rattle.alethe_text.specs.CommandNames.{IsNamed};
 ghost use Rattle.alethe_reader.specs.Sessions.{IsSession, StandsAfter};
 
 use crate::anchors::{AnchorNodes, read_anchor};

@@ -1,28 +1,21 @@
 -- The ids and rules of commands are names of symbols.
-use Rattle.std.proofs.Common.{ℕ, List, [], ◌∷◌, Bool, true, false, Option, Some, None, Result, IfOk, if◌then◌else◌}
-use Rattle.std.specs.Prelude.{⊤, codes}
+use Rattle.std.proofs.Common.{◌≡◌, ℕ, List, [], ◌∷◌, Bool, true, false, Option, Some, None, Result, Ok, IfOk, subst, if◌then◌else◌}
+use Rattle.std.specs.Prelude.{codes}
 use Rattle.std.specs.List.{AllByRecursion}
 use Rattle.std.specs.Str.{bytes_eq}
+use Rattle.std.proofs.lemmas.List.Elements.{All-nil}
 use Rattle.sexpr.specs.declared.causes.Refusal.{Refusal}
 use Rattle.sexpr.specs.Words.{is_symbol}
-use Rattle.sexpr.specs.Items.{Item, word, quoted, string, list, Items, no_items, item}
+use Rattle.sexpr.specs.Items.{Item, word, quoted, string, list, Items, no_items, item, StandsForItems}
 use Rattle.rule_model.specs.RuleNames.{IsSymbolName}
 use Rattle.text_items.specs.ItemShapes.{name_at, items_of}
 use Rattle.text_items.specs.Keywords.{is_spelled}
 use Rattle.problem_text.proofs.Outcomes.{all_joined}
-use Rattle.alethe_text.specs.Commands.{Attribute, rule, premises, arguments, discharge, Command, assume, step, anchor, shaped, names_in, attribute_of, attribute_with, attributes_of, assume_shape, step_shape, anchor_shape, command_named, command_of}
-use Rattle.alethe_text.proofs.SymbolNames.{HasNames, HaveNames, name_is}
-
-abbrev pub IsRuleNamed : Attribute → Type 0
-IsRuleNamed (rule n) = IsSymbolName n.name
-IsRuleNamed (premises ns) = ⊤
-IsRuleNamed (arguments items) = ⊤
-IsRuleNamed (discharge ns) = ⊤
-
-abbrev pub IsNamed : Command → Type 0
-IsNamed (assume n i) = IsSymbolName n.name
-IsNamed (step n literals attributes) = IsSymbolName n.name × AllByRecursion IsRuleNamed attributes
-IsNamed (anchor place n others) = IsSymbolName n.name
+use Rattle.alethe_text.specs.CommandNames.{HasNames, HaveNames, IsRuleNamed, IsNamed}
+use Rattle.alethe_text.specs.Commands.{Attribute, rule, premises, arguments, discharge, Command, is_symbol_of, shaped, names_in, attribute_of, attribute_with, attributes_of, assume_shape, step_shape, anchor_shape, command_named, command_of}
+use Rattle.alethe_text.specs.Steps.{rule_word}
+use Rattle.alethe_text.specs.ProofTexts.{behind_answer, unwrapped_commands, is_list_of_commands}
+use Rattle.alethe_text.proofs.SymbolNames.{AreSpelled, name_is, text_named}
 
 shape_named : (o : Option ℕ) (c : Command) → IsNamed c → IfOk (shaped o c) IsNamed
 shape_named (Some place) c h = tt
@@ -84,3 +77,40 @@ command_is_named (list place (item (word at spelling) items)) h = either (is_sym
 command_is_named (list place (item (quoted at spelling) items)) h = tt
 command_is_named (list place (item (string at spelling) items)) h = tt
 command_is_named (list place (item (list at inner) items)) h = tt
+
+pub is_named_so : (i : Item) (c : Command) → command_of i ≡ Ok c → HasNames i → IsNamed c
+is_named_so i c is h = subst (λ (r : Result Command Refusal). IfOk r IsNamed) is (command_is_named i h)
+
+pub behind_named : (items : Items) → HaveNames items → HaveNames (behind_answer items)
+behind_named no_items h = tt
+behind_named (item i rest) h = go (is_symbol_of (codes "unsat") i)
+  where
+    go : (b : Bool) → HaveNames (if b then rest else item i rest)
+    go true = h.1
+    go false = h
+
+inside_named : (i : Item) → HasNames i → HaveNames (items_of i)
+inside_named (word place spelling) h = tt
+inside_named (quoted place spelling) h = tt
+inside_named (string place spelling) h = tt
+inside_named (list place items) h = h
+
+pub inner_named : (items : Items) → HaveNames items → HaveNames (unwrapped_commands items)
+inner_named no_items h = tt
+inner_named (item i rest) h = go (is_list_of_commands i)
+  where
+    go : (b : Bool) → HaveNames (if b then items_of i else item i rest)
+    go true = inside_named i h.0
+    go false = h
+
+-- the commands of a text have names
+pub commands_named : AreSpelled → (source : List ℕ) (items : Items) → StandsForItems source items → HaveNames (unwrapped_commands (behind_answer items))
+commands_named law source items h = inner_named (behind_answer items) (behind_named items (text_named law source items h))
+
+-- a rule's word is empty where there is none
+pub rule_is_named : (others : List Attribute) → AllByRecursion IsRuleNamed others → IsSymbolName (rule_word others)
+rule_is_named [] h = All-nil _
+rule_is_named (rule n ∷ others) h = h.0
+rule_is_named (premises ns ∷ others) h = rule_is_named others h.1
+rule_is_named (arguments items ∷ others) h = rule_is_named others h.1
+rule_is_named (discharge ns ∷ others) h = rule_is_named others h.1

@@ -42,7 +42,7 @@ pub record IsKeptWord (word : List ℕ) : Type 0 where
   pub symbol : IsSymbolName word
   pub kept : ¬ Contains left_out_rules word
 
-has_rule : (p : Standing) (id word : List ℕ) (step : Step Term) → IsReadStep p id word step → IsKeptWord word → HasRule step
+pub has_rule : (p : Standing) (id word : List ℕ) (step : Step Term) → IsReadStep p id word step → IsKeptWord word → HasRule step
 has_rule p id word step h k = record {
   named = h.named;
   symbol = subst IsSymbolName (sym h.same_word) k.symbol;

@@ -13,9 +13,10 @@ use Rattle.rule_model.specs.Proofs.{Fraction, Step}
 use Rattle.rule_model.specs.RuleNames.{rule_named, left_out_rules, IsSymbolName}
 use Rattle.rule_model.specs.Scopes.{Scope}
 use Rattle.rule_model.specs.Visibility.{visible_ids, open_ids}
-use Rattle.rule_model.specs.WellFormed.{IsLowest}
+use Rattle.rule_model.specs.WellFormed.{IsLowest, HasRule}
 use Rattle.rule_model.specs.Writing.{is_open_id}
 use Rattle.text_items.specs.ItemShapes.{Name}
+use Rattle.problem_text.specs.Outcomes.{done}
 use Rattle.problem_text.specs.Words.{is_among}
 use Rattle.alethe_text.specs.Commands.{Attribute, rule, premises, arguments, discharge}
 use Rattle.alethe_text.specs.Coefficients.{coefficients_from}
@@ -23,12 +24,12 @@ use Rattle.alethe_text.specs.States.{ProofSettings, ProofState, Reading, ◌>>=�
 use Rattle.alethe_text.specs.Ids.{Standing, stands_in, closes_scope, id_judged, standing_of, indices_of}
 use Rattle.alethe_text.specs.ProofTerms.{formula_in}
 use Rattle.alethe_text.specs.Arguments.{takes_coefficients, takes_pivots, named_among, pivots_from, arguments_from}
-use Rattle.alethe_text.specs.Steps.{assume_read, bare_step, attribute_read, attributes_read}
+use Rattle.alethe_text.specs.Steps.{assume_read, rule_word, bare_step, attribute_read, attributes_read}
 use Rattle.alethe_text.proofs.Endings.{After, Ends, and_next, looked, asked, asked_last, given_next}
 use Rattle.alethe_text.proofs.Lists.{not_among}
 use Rattle.alethe_text.proofs.LowestCoefficients.{coefficients_lowest}
 use Rattle.alethe_text.proofs.Staying.{formula_stays, all_stay, pivots_stay, indices_seen}
-use Rattle.alethe_text.proofs.Formed.{IsPlaced, IsNew, StandsAs, IsReadStep, assume_placed}
+use Rattle.alethe_text.proofs.Formed.{IsPlaced, IsNew, StandsAs, IsReadStep, assume_placed, has_rule}
 
 pub not_true : (b : Bool) → not b ≡ true → b ≡ false
 not_true false e = refl
@@ -225,3 +226,21 @@ module _ (P : Scope Var Term → Type 0) (settings : ProofSettings) (p : Standin
       more : (next : Step Term) (t : ProofState) → StepRead P p id name next t × IsKept a → (r : Result (Step Term) Refusal) (u : ProofState) → After (λ step t. StepRead P p id name step t × AllByRecursion IsKept others) r u → After (λ step t. StepRead P p id name step t × AllByRecursion IsKept (a ∷ others)) r u
       more next t k (Ok step) u l = (l.0, (k.1, l.1))
       more next t k (Err refusal) u l = tt
+
+  -- the word of its rule is none for quantifiers
+  pub word_kept : (others : List Attribute) → AllByRecursion IsKept others → ¬ Contains left_out_rules (rule_word others)
+  word_kept [] k = not_among left_out_rules [] refl
+  word_kept (rule n ∷ others) k = k.0
+  word_kept (premises ns ∷ others) k = word_kept others k.1
+  word_kept (arguments items ∷ others) k = word_kept others k.1
+  word_kept (discharge ns ∷ others) k = word_kept others k.1
+
+-- a step that was read has its rule, and names what it sees
+pub read_has_rule : (settings : ProofSettings) (p : Standing) (id : List ℕ) (others : List Attribute) (clause : List Term) (s t : ProofState) (step : Step Term) → IsSymbolName (rule_word others)
+    → attributes_read settings p others (bare_step id (rule_word others) clause) s ≡ done step t → IsReadStep p id (rule_word others) step × HasRule step
+read_has_rule settings p id others clause s t step symbol e =
+    let P : Scope Var Term → Type 0 = λ scope. ⊤ in
+    let h : StepRead P p id (rule_word others) step t × AllByRecursion (IsKept P settings p id (rule_word others)) others =
+    subst (Ends (λ step t. StepRead P p id (rule_word others) step t × AllByRecursion (IsKept P settings p id (rule_word others)) others)) e
+    (attributes_formed P settings p id (rule_word others) others s (bare_step id (rule_word others) clause) tt (bare_is p id (rule_word others) clause)) in
+    (h.0.1, has_rule p id (rule_word others) step h.0.1 (record { symbol = symbol; kept = word_kept P settings p id (rule_word others) others h.1 }))

@@ -2,12 +2,12 @@ pub mod OneProof
 pub mod Endings
 pub mod Lists
 mod LowestTerms
-mod SymbolNames
-mod CommandNames
+pub mod SymbolNames
+pub mod CommandNames
 pub mod Staying
 mod LowestCoefficients
 mod Formed
-mod FormedSteps
+pub mod FormedSteps
 mod FormedAnchors
 mod WellFormed
 mod Forms

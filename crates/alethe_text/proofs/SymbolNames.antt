@@ -1,6 +1,6 @@
 -- The names of a text's symbols have neither a bar nor a backslash.
 use Rattle.std.proofs.Common.{◌≡◌, ◌≢◌, ◌-◌, ℕ, take, List, [], ◌∷◌, ◌++◌, Bool, true, false, Some, None, length, sym, ◌∙◌, ap, subst, arith, if◌then◌else◌, unwrap_or}
-use Rattle.std.specs.Prelude.{⊤, Ok}
+use Rattle.std.specs.Prelude.{Ok}
 use Rattle.std.specs.List.{AllByRecursion}
 use Rattle.std.proofs.Math.Seq.{take-append_seam}
 use Rattle.std.proofs.lemmas.List.{length-append}
@@ -15,22 +15,11 @@ use Rattle.sexpr.specs.Words.{is_symbol, between_bars}
 use Rattle.sexpr.specs.Items.{Item, word, quoted, string, list, Items, no_items, item, IsToken, IsBracket, IsItem, AreItems, StandsForItems}
 use Rattle.rule_model.specs.RuleNames.{IsSymbolName}
 use Rattle.text_items.specs.ItemShapes.{name_at}
+use Rattle.alethe_text.specs.CommandNames.{HasNames, HaveNames}
 
 -- each token that is read is spelled by the grammar
 abbrev pub AreSpelled : Type 0
 AreSpelled = (text : List ℕ) (at : ℕ) (t : Token) → next_token text at ≡ Ok (Some t) → IsSpelledNext text at t
-
--- the symbols of an item have names
-abbrev mutual
-  pub HasNames : Item → Type 0
-  HasNames (word place spelling) = IsSymbolName spelling
-  HasNames (quoted place spelling) = IsSymbolName (between_bars spelling)
-  HasNames (string place spelling) = ⊤
-  HasNames (list place items) = HaveNames items
-
-  pub HaveNames : Items → Type 0
-  HaveNames no_items = ⊤
-  HaveNames (item i rest) = HasNames i × HaveNames rest
 
 plain_byte : (b : ℕ) → is_word_byte b ≡ true → (b ≢ 124) × (b ≢ 92)
 unfolding is_word_byte is_mark

@@ -1,10 +1,10 @@
 -- A text has at least as many bytes as its items have tokens.
-use Rattle.std.proofs.Common.{◌≡◌, ◌≤◌, ◌<◌, ◌+◌, ◌-◌, ℕ, suc, List, [], ◌∷◌, ◌++◌, length, drop, take, refl, sym, ap, subst, arith}
+use Rattle.std.proofs.Common.{◌≡◌, ◌≤◌, ◌<◌, ◌+◌, ◌-◌, ℕ, List, [], ◌∷◌, length, drop, sym, ap, subst, arith}
 use Rattle.std.proofs.lemmas.List.{length-append, length-drop, length-take}
 use Rattle.sexpr.specs.declared.lexing.Token.{Token}
 use Rattle.sexpr.specs.declared.lexing.TokenKind.{TokenKind}
 use Rattle.sexpr.specs.declared.lexing.TokenKind.TheVariants.{Open, Close, Text, Quoted, Word}
-use Rattle.sexpr.specs.Grammar.{SkipsTo, nothing, white, comment, IsSpelling, IsSpelledNext}
+use Rattle.sexpr.specs.Grammar.{SkipsTo, nothing, white, comment, IsSpelling}
 use Rattle.sexpr.specs.Tokens.{AreTokens, token_text}
 use Rattle.sexpr.specs.Items.{Item, word, quoted, string, list, Items, no_items, item, IsItem, AreItems, StandsForItems}
 use Rattle.alethe_text.proofs.SymbolNames.{AreSpelled}

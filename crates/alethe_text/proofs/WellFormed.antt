@@ -1,38 +1,31 @@
 -- The proof that a text stands for is well formed.
-use Rattle.std.proofs.Common.{ℕ, List, [], ◌∷◌, Bool, true, false, Option, Some, None, refl, subst, if◌then◌else◌}
-use Rattle.std.specs.Prelude.{codes}
+use Rattle.std.proofs.Common.{ℕ, List, Option, Some, None, subst}
 use Rattle.std.specs.List.{AllByRecursion}
-use Rattle.std.proofs.lemmas.List.Elements.{All-nil}
-use Rattle.sexpr.specs.Items.{Item, word, quoted, string, list, Items, no_items, item}
+use Rattle.sexpr.specs.Items.{Items, no_items, item}
 use Rattle.term_model.specs.Terms.{Var, Term}
 use Rattle.rule_model.specs.Proofs.{ProofItems as Proof}
-use Rattle.rule_model.specs.RuleNames.{left_out_rules, IsSymbolName}
+use Rattle.rule_model.specs.RuleNames.{IsSymbolName}
 use Rattle.rule_model.specs.Scopes.{Nesting, outermost, inside, Scope}
 use Rattle.rule_model.specs.WellFormed.{AreWellFormed, IsWellFormed}
-use Rattle.text_items.specs.ItemShapes.{Name, items_of}
+use Rattle.text_items.specs.ItemShapes.{Name}
 use Rattle.problem_text.specs.Scripts.{Script}
-use Rattle.alethe_text.specs.Commands.{Attribute, rule, premises, arguments, discharge, Command, assume, step, anchor, is_symbol_of, command_of}
+use Rattle.alethe_text.specs.CommandNames.{HaveNames, IsRuleNamed, IsNamed}
+use Rattle.alethe_text.specs.Commands.{Attribute, Command, assume, step, anchor, command_of}
 use Rattle.alethe_text.specs.States.{ProofSettings, ProofState, unread}
 use Rattle.alethe_text.specs.Ids.{Standing, standing_of}
 use Rattle.alethe_text.specs.ProofTerms.{formulas_in}
 use Rattle.alethe_text.specs.Steps.{rule_word, bare_step, attributes_read, step_read}
-use Rattle.alethe_text.specs.ProofTexts.{performed, commands, behind_answer, is_list_of_commands, unwrapped_commands, excess_behind, none_behind, closed_proof, proof_from, StandsForProof}
+use Rattle.alethe_text.specs.ProofTexts.{performed, commands, behind_answer, unwrapped_commands, excess_behind, none_behind, closed_proof, proof_from, StandsForProof}
 use Rattle.alethe_text.proofs.Endings.{After, Ends, and_next, looked, given_next}
-use Rattle.alethe_text.proofs.Lists.{not_among}
-use Rattle.alethe_text.proofs.SymbolNames.{AreSpelled, HasNames, HaveNames, text_named}
-use Rattle.alethe_text.proofs.CommandNames.{IsRuleNamed, IsNamed, command_is_named}
+use Rattle.alethe_text.proofs.SymbolNames.{AreSpelled, text_named}
+use Rattle.alethe_text.proofs.CommandNames.{behind_named, command_is_named, inner_named, rule_is_named}
 use Rattle.alethe_text.proofs.Staying.{formulas_stay}
-use Rattle.alethe_text.proofs.FormedSteps.{Placed, assume_formed, standing_formed, bare_is, StepRead, IsKept, attributes_formed}
+use Rattle.alethe_text.proofs.FormedSteps.{Placed, assume_formed, standing_formed, bare_is, StepRead, IsKept, attributes_formed, word_kept}
 use Rattle.alethe_text.proofs.FormedAnchors.{anchor_formed}
 use Rattle.alethe_text.proofs.Formed.{IsPlaced, StandsAs, IsKeptWord, step_placed}
 
--- a rule's word is empty where there is none, and no rule for quantifiers
 kept_word : (settings : ProofSettings) (p : Standing) (id name : List ℕ) (P : Scope Var Term → Type 0) (others : List Attribute) → AllByRecursion IsRuleNamed others → AllByRecursion (IsKept P settings p id name) others → IsKeptWord (rule_word others)
-kept_word settings p id name P [] h k = record { symbol = All-nil _; kept = not_among left_out_rules [] refl }
-kept_word settings p id name P (rule n ∷ others) h k = record { symbol = h.0; kept = k.0 }
-kept_word settings p id name P (premises ns ∷ others) h k = kept_word settings p id name P others h.1 k.1
-kept_word settings p id name P (arguments items ∷ others) h k = kept_word settings p id name P others h.1 k.1
-kept_word settings p id name P (discharge ns ∷ others) h k = kept_word settings p id name P others h.1 k.1
+kept_word settings p id name P others h k = record { symbol = rule_is_named others h; kept = word_kept P settings p id name others k }
 
 step_formed : (settings : ProofSettings) (n : Name) (literals : Items) (others : List Attribute) (s : ProofState) → IsSymbolName n.name → AllByRecursion IsRuleNamed others → IsPlaced s.scope → Ends Placed (step_read settings n literals others s)
 unfolding step_read
@@ -57,28 +50,6 @@ commands_formed settings (item i rest) s named placed =
     given_next IsNamed Placed (command_of i) _ s (command_is_named i named.0)
     (λ c h. and_next Placed Placed (performed settings c) _ s (command_formed settings c s h placed)
     (λ _ t k. commands_formed settings rest t named.1 k))
-
-behind_named : (items : Items) → HaveNames items → HaveNames (behind_answer items)
-behind_named no_items h = tt
-behind_named (item i rest) h = go (is_symbol_of (codes "unsat") i)
-  where
-    go : (b : Bool) → HaveNames (if b then rest else item i rest)
-    go true = h.1
-    go false = h
-
-inside_named : (i : Item) → HasNames i → HaveNames (items_of i)
-inside_named (word place spelling) h = tt
-inside_named (quoted place spelling) h = tt
-inside_named (string place spelling) h = tt
-inside_named (list place items) h = h
-
-inner_named : (items : Items) → HaveNames items → HaveNames (unwrapped_commands items)
-inner_named no_items h = tt
-inner_named (item i rest) h = go (is_list_of_commands i)
-  where
-    go : (b : Bool) → HaveNames (if b then items_of i else item i rest)
-    go true = inside_named i h.0
-    go false = h
 
 abbrev Whole : Proof Var Term → ProofState → Type 0
 Whole proof t = IsWellFormed proof

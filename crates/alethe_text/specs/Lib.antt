@@ -1,4 +1,5 @@
 pub mod Commands
+pub mod CommandNames
 pub mod Coefficients
 pub mod States
 pub mod Ids
