@@ -1,0 +1,11 @@
+(set-logic QF_UF)
+; f(a) and f(c) differ although a = b = c
+(declare-sort U 0)
+(declare-const a U)
+(declare-const b U)
+(declare-const c U)
+(declare-fun f (U) U)
+(assert (= a b))
+(assert (= b c))
+(assert (not (= (f a) (f c))))
+(check-sat)

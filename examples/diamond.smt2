@@ -1,0 +1,10 @@
+(set-logic QF_UF)
+; two ways from a to d
+(declare-sort U 0)
+(declare-const a U)
+(declare-const b U)
+(declare-const c U)
+(declare-const d U)
+(assert (or (and (= a b) (= b d)) (and (= a c) (= c d))))
+(assert (not (= a d)))
+(check-sat)

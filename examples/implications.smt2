@@ -1,0 +1,10 @@
+(set-logic QF_UF)
+; p or q, each implies r, and not r
+(declare-const p Bool)
+(declare-const q Bool)
+(declare-const r Bool)
+(assert (or p q))
+(assert (=> p r))
+(assert (=> q r))
+(assert (not r))
+(check-sat)
