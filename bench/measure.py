@@ -8,6 +8,9 @@ import sys
 CRATE = os.path.join(os.path.dirname(os.path.abspath(__file__)), "..", "crates", "bench_parts")
 PROGRAM = os.path.join(CRATE, "out", "bench_parts")
 
+# as the root's script has it
+os.environ.setdefault("GLIBC_TUNABLES", "glibc.malloc.hugetlb=1")
+
 
 def build_program(tiny):
     """Builds bench_parts by running a tiny case of it."""
