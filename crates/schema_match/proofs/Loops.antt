@@ -1,5 +1,5 @@
 -- The parts are read one after the other.
-use Rattle.std.proofs.Common.{◌≡◌, ◌↔◌, ℕ, ◌<◌, ◌+◌, List, [], ◌∷◌, ◌++◌, length, reverse, drop, get_or, Bool, false, IsTrue, None, nat_eq, refl, sym, ◌∙◌, ap, subst, add-one, drop-cons}
+use Rattle.std.proofs.Common.{◌≡◌, ◌≢◌, ◌↔◌, ℕ, ◌<◌, ◌+◌, List, [], ◌∷◌, ◌++◌, length, reverse, drop, get_or, Bool, true, false, IsTrue, None, nat_eq, refl, sym, ◌∙◌, ap, subst, add-one, drop-cons}
 use Rattle.std.proofs.lemmas.Bool.{eqb-true, eq-eqb}
 use Rattle.std.proofs.lemmas.List.{reverse-reverse, nil_from_length}
 use Rattle.sym_table.specs.Table.{Table}
@@ -10,9 +10,9 @@ use Rattle.rule_model.specs.Schemas.{Pattern}
 use Rattle.schema_match.specs.declared.letters.Letters.{Letters}
 use Rattle.schema_match.specs.declared.part.Part.{Part}
 use Rattle.schema_match.specs.Stack.{StackOf}
-use Rattle.schema_match.specs.Letters.{slot}
-use Rattle.schema_match.specs.Matching.{parts_of, Fits}
-use Rattle.schema_match.specs.Reads.{Reads, Left, IsSettledAt}
+use Rattle.schema_match.specs.Letters.{slot, IsSettledAt}
+use Rattle.schema_match.specs.Matching.{parts_of, Fits, Matches}
+use Rattle.schema_match.specs.Reads.{Reads, Left}
 use Rattle.schema_match.proofs.ReferLemmas.{stack_top}
 use Rattle.schema_match.proofs.Shapes.{read_patterns, filled_patterns}
 
@@ -58,24 +58,25 @@ module _ (s : Table) (v : TermsView) (parts : List Part) (ts : List Term) where
       go [] h k = k
       go (t ∷ us) h k = h
 
-  -- all parts are read
-  pub left_all : (letters : Letters) (stack : List ℕ) → Left s v parts ts [] letters stack → (stack ≡ []) ↔ ((f : Letter → Term) × Reads f parts ts)
-  left_all letters stack left = (
-    λ e. (left.example, (left.reads left.example).1 (left.agrees, nothing left.terms (rw e at left.refer))),
-    λ (f, w). none_left f left.terms left.refer ((left.reads f).0 w).1,
-  )
+  -- all parts are read, and no term is left
+  nothing_left : (letters : Letters) (stack : List ℕ) → (left : Left s v parts ts [] letters stack) → stack ≡ [] → (f : Letter → Term) → Reads f [] left.terms
+  nothing_left letters stack left e f = go left.terms (rw e at left.refer)
     where
-      nothing : (us : List Term) → StackOf s v [] us → Reads left.example [] us
-      nothing [] h = tt
-      nothing (t ∷ us) h = absurd h
+      go : (us : List Term) → StackOf s v [] us → Reads f [] us
+      go [] h = tt
+      go (t ∷ us) h = absurd h
 
+  -- some term is left
+  some_left : (letters : Letters) (stack : List ℕ) → Left s v parts ts [] letters stack → stack ≢ [] → (f : Letter → Term) → ¬ Reads f parts ts
+  some_left letters stack left some f w = some (none_left left.terms left.refer ((left.reads f).0 w).1)
+    where
       no_items : (rs : List ℕ) → ReferToAll s v rs [] → rs ≡ []
       no_items [] h = refl
       no_items (r ∷ rs) h = absurd h
 
-      none_left : (f : Letter → Term) (us : List Term) → StackOf s v stack us → Reads f [] us → stack ≡ []
-      none_left f [] h k = sym (reverse-reverse stack) ∙ ap reverse (no_items (reverse stack) h)
-      none_left f (t ∷ us) h k = absurd k
+      none_left : (us : List Term) → StackOf s v stack us → Reads f [] us → stack ≡ []
+      none_left [] h k = sym (reverse-reverse stack) ∙ ap reverse (no_items (reverse stack) h)
+      none_left (t ∷ us) h k = absurd k
 
 -- terms are an instance of patterns exactly where the patterns' parts are read from them
 pub fits_reads : (ps : List Pattern) (ts : List Term) → Fits ps ts ↔ ((f : Letter → Term) × Reads f (parts_of ps) ts)
@@ -84,17 +85,37 @@ fits_reads ps ts = (
   λ (f, w). (f, read_patterns f ps ts w),
 )
 
-pub none_fits : (parts : List Part) (ps : List Pattern) (ts : List Term) → parts ≡ parts_of ps → ((f : Letter → Term) → ¬ Reads f parts ts) → IsTrue false ↔ Fits ps ts
-none_fits parts ps ts is none = (
-  λ e. absurd cc,
-  λ fits. (let read = (fits_reads ps ts).0 fits in absurd (none read.0 (rw is read.1))),
-)
+pub none_fit : (parts : List Part) (ps : List Pattern) (ts : List Term) → parts ≡ parts_of ps → ((f : Letter → Term) → ¬ Reads f parts ts) → ¬ Fits ps ts
+none_fit parts ps ts is none fits = let read = (fits_reads ps ts).0 fits in none read.0 (rw is read.1)
 
-pub some_fits : (parts : List Part) (ps : List Pattern) (ts : List Term) (stack : List ℕ) (n : ℕ) (b : Bool) → parts ≡ parts_of ps → n ≡ length stack → b ≡ nat_eq n 0 → (stack ≡ []) ↔ ((f : Letter → Term) × Reads f parts ts) → IsTrue b ↔ Fits ps ts
-some_fits parts ps ts stack n b is count test all = (
-  λ e. (let read = all.0 (nil_from_length stack (sym count ∙ eqb-true n 0 (sym test ∙ e))) in (fits_reads ps ts).1 (read.0, rw (← is) read.1)),
-  λ fits.
-      (let read = (fits_reads ps ts).0 fits in
-      let none = all.1 (read.0, rw is read.1) in
-      test ∙ eq-eqb n 0 (count ∙ ap length none)),
-)
+module _ (s : Table) (v : TermsView) (parts : List Part) (ps : List Pattern) (ts : List Term) (letters : Letters) (stack : List ℕ) (is : parts ≡ parts_of ps) (left : Left s v parts ts [] letters stack) where
+  pub left_over : stack ≢ [] → ¬ Fits ps ts
+  left_over some = none_fit parts ps ts is (some_left s v parts ts letters stack left some)
+
+  pub left_matches : stack ≡ [] → Matches s v letters ps ts
+  left_matches none = record {
+    terms = left.example;
+    agrees = left.agrees;
+    give = λ f. (
+      λ e. ((left.reads f).0 (rw (e, is) (filled_patterns f ps))).0,
+      λ agrees. read_patterns f ps ts (rw is at ((left.reads f).1 (agrees, nothing_left s v parts ts letters stack left none f))),
+    );
+  }
+
+-- what is matched fits
+pub matches_fit : (s : Table) (v : TermsView) (letters : Letters) (ps : List Pattern) (ts : List Term) → Matches s v letters ps ts → Fits ps ts
+matches_fit s v letters ps ts m = (m.terms, (m.give m.terms).1 m.agrees)
+
+-- the stack is empty where its length says so
+pub left_fits : (s : Table) (v : TermsView) (parts : List Part) (ps : List Pattern) (ts : List Term) (letters : Letters) (stack : List ℕ) (n : ℕ) (b : Bool) → parts ≡ parts_of ps → Left s v parts ts [] letters stack → n ≡ length stack → b ≡ nat_eq n 0 → b ≡ true → Matches s v letters ps ts
+left_fits s v parts ps ts letters stack n b is left count test holds =
+    left_matches s v parts ps ts letters stack is left (nil_from_length stack (sym count ∙ eqb-true n 0 (sym test ∙ holds)))
+
+pub left_no_fit : (s : Table) (v : TermsView) (parts : List Part) (ps : List Pattern) (ts : List Term) (letters : Letters) (stack : List ℕ) (n : ℕ) (b : Bool) → parts ≡ parts_of ps → Left s v parts ts [] letters stack → n ≡ length stack → b ≡ nat_eq n 0 → b ≡ false → ¬ Fits ps ts
+left_no_fit s v parts ps ts letters stack n b is left count test fails =
+    left_over s v parts ps ts letters stack is left (λ e. absurd (let holds = eq-eqb n 0 (count ∙ ap length e) in cc))
+
+-- where letters are found, the terms fit
+pub told_fits : (s : Table) (v : TermsView) (letters : Letters) (ps : List Pattern) (ts : List Term) (b : Bool) → (b ≡ true → Matches s v letters ps ts) → (b ≡ false → ¬ Fits ps ts) → IsTrue b ↔ Fits ps ts
+told_fits s v letters ps ts true some none = (λ e. matches_fit s v letters ps ts (some refl), λ h. refl)
+told_fits s v letters ps ts false some none = (λ e. absurd cc, λ h. absurd (none refl h))

@@ -1,14 +1,14 @@
 -- Private. How the parts of a schema are read from terms, and how far they are when some have been read.
-use Rattle.std.specs.Prelude.{◌≡◌, ◌↔◌, ◌++◌, ℕ, List, [], ◌∷◌, length, Option, Some, None, ⊤}
+use Rattle.std.specs.Prelude.{◌≡◌, ◌↔◌, ◌++◌, ℕ, List, [], ◌∷◌, length, ⊤}
 use Rattle.sym_table.specs.Table.{Table}
 use Rattle.term_model.specs.Terms.{Term, Terms, operation, list_of}
-use Rattle.term_pool.specs.Views.{TermsView, RefersTo}
+use Rattle.term_pool.specs.Views.{TermsView}
 use Rattle.rule_model.specs.declared.letter.Letter.{Letter}
 use Rattle.schema_match.specs.declared.letters.Letters.{Letters}
 use Rattle.schema_match.specs.declared.part.Part.{Part}
 use Rattle.schema_match.specs.declared.part.Part.TheVariants.{Any, Apply}
 use Rattle.schema_match.specs.Stack.{StackOf}
-use Rattle.schema_match.specs.Letters.{slot}
+use Rattle.schema_match.specs.Letters.{Agrees}
 
 -- the terms are what the parts spell where the letters stand for these
 abbrev pub Reads : (Letter → Term) → List Part → List Term → Type 0
@@ -18,15 +18,6 @@ Reads f (p ∷ ps) [] = ⊥
 Reads f (Any l ∷ ps) (t ∷ ts) = (f l ≡ t) × Reads f ps ts
 Reads f (Apply op n ∷ ps) (t ∷ ts) =
     (us : Terms) × (t ≡ operation op us) × (length (list_of us) ≡ n) × Reads f ps (list_of us ++ ts)
-
--- a letter that is settled stands for this term
-abbrev pub IsSettledAt : Table → TermsView → Option ℕ → Term → Type 0
-IsSettledAt s v None t = ⊤
-IsSettledAt s v (Some r) t = RefersTo s v r t
-
--- the letters that are settled stand for these terms
-abbrev pub Agrees : Table → TermsView → Letters → (Letter → Term) → Type 0
-Agrees s v letters f = (l : Letter) → IsSettledAt s v (slot letters l) (f l)
 
 -- These parts are left to be read from the terms on the stack: with terms for the letters the whole is read exactly where
 -- they are those of the letters that are settled, and these parts are read with them.

@@ -8,7 +8,7 @@ use rule_model::Letter;
 
 /// The terms that the letters stand for, as far as they are settled.
 #[derive(Clone, Copy)]
-pub(crate) struct Letters {
+pub struct Letters {
     a: Option<Ref>,
     b: Option<Ref>,
     c: Option<Ref>,
@@ -17,7 +17,7 @@ pub(crate) struct Letters {
 
 impl Letters {
     /// No letter is settled.
-    pub(crate) fn new() -> Letters
+    pub fn new() -> Letters
         ensures { result ≡ record { a = None; b = None; c = None; d = None } }
     {
         Letters {
@@ -28,8 +28,8 @@ impl Letters {
         }
     }
 
-    /// What a letter stands for.
-    fn get(&self, letter: Letter) -> Option<Ref>
+    /// What a letter stands for, if it is settled.
+    pub fn get(&self, letter: Letter) -> Option<Ref>
         ensures { result ≡ slot self.now letter }
     {
         match letter {

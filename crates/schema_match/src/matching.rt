@@ -8,7 +8,7 @@ ghost use Rattle.sym_table.specs.Table.{IsTable};
 ghost use Rattle.term_model.specs.Terms.{Term};
 ghost use Rattle.term_pool.specs.Views.{IsTerm};
 ghost use Rattle.schema_match.specs.Stack.{StackOf, IsStack};
-ghost use Rattle.schema_match.specs.Matching.{parts_of, Fits};
+ghost use Rattle.schema_match.specs.Matching.{parts_of, Fits, Matches};
 ghost use Rattle.schema_match.specs.Reads.{Left, Reads};
 ghost use Rattle.schema_match.specs.declared.part.Part.{Part};
 
@@ -54,7 +54,36 @@ fn step(
 }
 
 /// Whether the terms on a stack, the first of which is at the top, are an instance of the patterns that these are the
-/// parts of. Nothing is left of the stack. Walks the arguments of each term that is read by an operator.
+/// parts of. Where they are, the letters are what gives them. Nothing is left of the stack then. Walks the arguments of
+/// each term that is read by an operator.
+pub fn fits_with(
+    symbols: &Symbols,
+    terms: &mut Terms<'_>,
+    parts: &[Part],
+    letters: &mut Letters,
+    stack: &mut Scratch,
+) -> Result<bool, Memory>
+    requires { IsStack symbols.now terms.old stack.old.items }
+    ensures fits { IfOk result (λ yes. OnTrue yes ((ps : List Pattern) (ts : List Term) → parts.now ≡ parts_of ps →
+        StackOf symbols.now terms.old stack.old.items ts → Matches symbols.now terms.old letters.new ps ts)) }
+    ensures other { IfOk result (λ yes. OnFalse yes ((ps : List Pattern) (ts : List Term) → parts.now ≡ parts_of ps →
+        StackOf symbols.now terms.old stack.old.items ts → ¬ Fits ps ts)) }
+    ensures same { terms.new ≡ terms.old }
+{
+    *letters = Letters::new();
+    for part in parts {
+        let Some(r) = pop(stack) else {
+            return Ok(false);
+        };
+        if !step(symbols, terms, *part, r, letters, stack)? {
+            return Ok(false);
+        }
+    }
+    Ok(stack.is_empty())
+}
+
+/// Whether the terms on a stack, the first of which is at the top, are an instance of the patterns that these are the
+/// parts of, with some terms for the letters.
 pub fn fits(
     symbols: &Symbols,
     terms: &mut Terms<'_>,
@@ -67,13 +96,6 @@ pub fn fits(
     ensures same { terms.new ≡ terms.old }
 {
     let mut letters = Letters::new();
-    for part in parts {
-        let Some(r) = pop(stack) else {
-            return Ok(false);
-        };
-        if !step(symbols, terms, *part, r, &mut letters, stack)? {
-            return Ok(false);
-        }
-    }
-    Ok(stack.is_empty())
+    let yes = fits_with(symbols, terms, parts, &mut letters, stack)?;
+    Ok(yes)
 }

@@ -2,7 +2,7 @@ use Rattle.std.proofs.Common.{◌≡◌, List, drop}
 use Rattle.term_model.specs.Terms.{Term}
 use Rattle.schema_match.specs.Stack.{StackOf}
 use Rattle.schema_match.specs.Reads.{Left}
-use Rattle.schema_match.proofs.matching.fits.Given as goal
+use Rattle.schema_match.proofs.matching.fits_with.Given as goal
 
 abbrev pub invariant-loop-part : goal.invariant-loop-part
 invariant-loop-part l = record {
