@@ -1,0 +1,4 @@
+pub mod Divisors
+pub mod Wholes
+pub mod Sums
+pub mod Runs

@@ -1,0 +1,4 @@
+pub mod Multiples
+pub mod Coefficients
+pub mod Relations
+pub mod Runs

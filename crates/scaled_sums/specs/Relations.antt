@@ -1,0 +1,16 @@
+-- Public. Relations of lines.
+use Rattle.std.specs.Prelude.{ℕ, ℤ, ◌≡◌, Bool, true, false}
+use Rattle.rule_model.specs.Arithmetic as spec
+use Rattle.rule_model.specs.Arithmetic.{IsRoundedUp}
+use Rattle.scaled_sums.specs.declared.bounds.Relation.{Relation}
+
+-- as the conditions of rules have them
+abbrev pub relation_of : Relation → spec.Relation
+relation_of Relation.Exceeds = spec.exceeds
+relation_of Relation.Reaches = spec.reaches
+relation_of Relation.Equals = spec.equals
+
+-- the bound of a line, rounded up where it is to be
+abbrev pub IsBoundOf : Bool → ℕ → ℤ → ℤ → Type 0
+IsBoundOf true multiple z bound = IsRoundedUp multiple z bound
+IsBoundOf false multiple z bound = bound ≡ z
