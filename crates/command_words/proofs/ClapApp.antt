@@ -1,0 +1,69 @@
+-- The command line as `clap` builds it.
+use Rattle.std.specs.Prelude.{◌≡◌, List, [], ◌∷◌, Some, true, false, codes, refl}
+use Rattle.clap.specs.Walk.{Rule}
+use Rattle.clap.specs.Simple.{Shape, built, is_simple, new_shape}
+use Rattle.clap.specs.Faults.{is_simple_and_free}
+use Rattle.clap.specs.declared.builder.value_parser.ValueParser.TheVariants as vp
+use Rattle.command_words.specs.Made.{made, made_proof, made_problem, made_expand, made_ignore}
+
+-- the arguments as they are built
+abbrev pub proof_rule : Rule
+proof_rule = record made_proof {
+  index = Some 1;
+  range = Some (record { start_inclusive = 1; end_inclusive = 1 });
+  parser = Some vp.String;
+}
+
+abbrev pub problem_rule : Rule
+problem_rule = record made_problem {
+  index = Some 2;
+  range = Some (record { start_inclusive = 1; end_inclusive = 1 });
+  parser = Some vp.String;
+}
+
+abbrev pub expand_rule : Rule
+expand_rule = record made_expand {
+  range = Some (record { start_inclusive = 0; end_inclusive = 0 });
+  defaults = codes "false" ∷ [];
+  missing = codes "true" ∷ [];
+  parser = Some vp.Bool;
+}
+
+abbrev pub ignore_rule : Rule
+ignore_rule = record made_ignore {
+  range = Some (record { start_inclusive = 0; end_inclusive = 0 });
+  defaults = codes "false" ∷ [];
+  missing = codes "true" ∷ [];
+  parser = Some vp.Bool;
+}
+
+abbrev pub rules : List Rule
+rules = proof_rule ∷ problem_rule ∷ expand_rule ∷ ignore_rule ∷ []
+
+abbrev pub check_shape : Shape
+check_shape = record (new_shape (codes "check")) {
+  rules = rules;
+  no_binary_name = true;
+  disable_help_flag = true;
+  disable_help_subcommand = true;
+  is_built = true;
+}
+
+abbrev pub top_shape : Shape
+top_shape = record (new_shape (codes "carcara")) {
+  is_leaf = false;
+  no_binary_name = true;
+  disable_help_flag = true;
+  disable_help_subcommand = true;
+  subcommand_required = true;
+  is_built = true;
+}
+
+pub built_is : built made ≡ record { top = top_shape; subs = check_shape ∷ [] }
+built_is = refl
+
+pub made_is_simple : is_simple made ≡ true
+made_is_simple = refl
+
+pub made_is_free : is_simple_and_free made ≡ true
+made_is_free = refl

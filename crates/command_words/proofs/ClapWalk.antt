@@ -1,0 +1,115 @@
+-- The walk of `clap` over the words behind `check`, word by word.
+use Rattle.std.proofs.Common.{◌≡◌, ◌&&◌, refl, ℕ, Bool, true, false, List, [], ◌∷◌, Option, Some, None}
+use Rattle.std.specs.Prelude.{codes, ⊤}
+use Rattle.std.specs.Str.{IsUtf8, bytes_eq}
+use Rattle.clap.specs.Kinds.{Kinds, or_else}
+use Rattle.clap.specs.Walk.{Held, Row, Text, Walk, idle, settled_rows, value, walked, word_met, is_pending, used}
+use Rattle.clap.specs.Faults.{repeat_fault, settle_fault, turn_fault, word_fault}
+use Rattle.command_words.specs.CommandLine.{expand_lets, ignore_unknown}
+use Rattle.command_words.proofs.ClapApp.{rules, check_shape, expand_rule, ignore_rule, proof_rule, problem_rule}
+use Rattle.command_words.proofs.ClapRows.{has_row_is, at_id}
+use Rattle.command_words.proofs.ClapWords.{IsPlain, IsFlag, no_cons, strange_faults}
+
+-- between two words: the rows so far, the positional whose value is not yet put among them, and the next position
+abbrev pub held : List Row → Option (Text × List Text) → Held
+held rows pending = record { rows = rows; pending = pending; skip = 0 }
+
+abbrev pub at : List Row → Option (Text × List Text) → ℕ → Bool → Walk
+at rows pending position is_trailing = record {
+  held = held rows pending;
+  waiting = idle;
+  position = position;
+  is_trailing = is_trailing;
+  stopped = None;
+}
+
+and_false : (b : Bool) → (b && false) ≡ false
+and_false true = refl
+and_false false = refl
+
+-- a word that is a value: any behind `--`, and before it one that is no option
+abbrev pub IsValue : Bool → Text → Type 0
+IsValue true word = ⊤
+IsValue false word = IsPlain word
+
+value_met : (t : Bool) (k : ℕ) (word : Text) (h : Held) → IsValue t word → word_met rules [] t idle k word h ≡ (h, value)
+value_met true k word h is = refl
+value_met false k word h is = rw (is.no_end, is.long, is.short) refl
+
+value_fault : (t : Bool) (word : Text) (h : Held) → IsValue t word → word_fault check_shape [] t idle word h ≡ []
+value_fault true word h is = refl
+value_fault false word h is = rw (is.no_end, is.long, is.short) refl
+
+-- ---- a value goes to the next positional
+
+module _ (rows : List Row) (p : Option (Text × List Text)) (word : Text) where
+  pub to_proof : (t : Bool) → IsValue t word → walked rules [] (at rows p 1 t) word ≡ at (settled_rows rules p rows) (Some (codes "proof", word ∷ [])) 2 t
+  unfolding walked
+  to_proof true is = rw (and_false (is_pending proof_rule p)) refl
+  to_proof false is = rw (value_met false 1 word (held rows p) is, and_false (is_pending proof_rule p)) refl
+
+  pub to_problem : (t : Bool) → IsValue t word → walked rules [] (at rows p 2 t) word ≡ at (settled_rows rules p rows) (Some (codes "problem", word ∷ [])) 3 t
+  unfolding walked
+  to_problem true is = rw (and_false (is_pending problem_rule p)) refl
+  to_problem false is = rw (value_met false 2 word (held rows p) is, and_false (is_pending problem_rule p)) refl
+
+  pub proof_turn : (t : Bool) → IsValue t word → turn_fault check_shape [] (at rows p 1 t) word ≡ settle_fault rules false (held rows p)
+  proof_turn t is = rw (value_met t 1 word (held rows p) is, value_fault t word (held rows p) is, and_false (is_pending proof_rule p)) refl
+
+  pub problem_turn : (t : Bool) → IsValue t word → turn_fault check_shape [] (at rows p 2 t) word ≡ settle_fault rules false (held rows p)
+  problem_turn t is = rw (value_met t 2 word (held rows p) is, value_fault t word (held rows p) is, and_false (is_pending problem_rule p)) refl
+
+  -- and no positional takes a third one
+  pub stray_turn : (t : Bool) → IsValue t word → turn_fault check_shape [] (at rows p 3 t) word ≡ [] → ⊥
+  stray_turn t is bad = no_cons _ _ (rw (value_met t 3 word (held rows p) is, value_fault t word (held rows p) is) at bad)
+
+-- ---- what is used
+
+range_fits : (id : Text) (rows : List Row) → at_id id rows ≡ None → repeat_fault false id rows ≡ []
+range_fits id rows none = rw (has_row_is id rows, none) refl
+
+pub proof_settles : (a : Text) (rows : List Row) → at_id (codes "proof") rows ≡ None → settle_fault rules false (held rows (Some (codes "proof", a ∷ []))) ≡ []
+proof_settles a rows none = rw (range_fits (codes "proof") rows none) refl
+
+pub problem_settles : (a : Text) (rows : List Row) → at_id (codes "problem") rows ≡ None → settle_fault rules false (held rows (Some (codes "problem", a ∷ []))) ≡ []
+problem_settles a rows none = rw (range_fits (codes "problem") rows none) refl
+
+-- ---- options
+
+pub or_first : (a b : Kinds) → or_else a b ≡ [] → a ≡ []
+or_first [] b e = refl
+or_first (x ∷ a) b e = absurd (no_cons _ _ e)
+
+module _ (rows : List Row) (p : Option (Text × List Text)) (k : ℕ) where
+  pub at_end : walked rules [] (at rows p k false) (codes "--") ≡ at rows p k true
+  unfolding walked
+  at_end = refl
+
+  pub end_turn : turn_fault check_shape [] (at rows p k false) (codes "--") ≡ []
+  end_turn = refl
+
+  pub at_expand : walked rules [] (at rows p k false) expand_lets ≡ at (used expand_rule [] (settled_rows rules p rows)) None k false
+  unfolding walked
+  at_expand = refl
+
+  pub at_ignore : walked rules [] (at rows p k false) ignore_unknown ≡ at (used ignore_rule [] (settled_rows rules p rows)) None k false
+  unfolding walked
+  at_ignore = refl
+
+  pub expand_turn : settle_fault rules false (held rows p) ≡ [] → at_id (codes "expand") (settled_rows rules p rows) ≡ None → turn_fault check_shape [] (at rows p k false) expand_lets ≡ []
+  expand_turn settles none = rw (settles, range_fits (codes "expand") (settled_rows rules p rows) none) refl
+
+  pub ignore_turn : settle_fault rules false (held rows p) ≡ [] → at_id (codes "ignore") (settled_rows rules p rows) ≡ None → turn_fault check_shape [] (at rows p k false) ignore_unknown ≡ []
+  ignore_turn settles none = rw (settles, range_fits (codes "ignore") (settled_rows rules p rows) none) refl
+
+  -- an option that stands twice
+  pub expand_again : settle_fault rules false (held rows p) ≡ [] → (r : Row) → at_id (codes "expand") (settled_rows rules p rows) ≡ Some r → turn_fault check_shape [] (at rows p k false) expand_lets ≡ [] → ⊥
+  expand_again settles r there bad = no_cons _ _ (rw (settles, has_row_is (codes "expand") (settled_rows rules p rows), there) at bad)
+
+  pub ignore_again : settle_fault rules false (held rows p) ≡ [] → (r : Row) → at_id (codes "ignore") (settled_rows rules p rows) ≡ Some r → turn_fault check_shape [] (at rows p k false) ignore_unknown ≡ [] → ⊥
+  ignore_again settles r there bad = no_cons _ _ (rw (settles, has_row_is (codes "ignore") (settled_rows rules p rows), there) at bad)
+
+  pub strange_turn : (word : Text) → IsUtf8 word → IsFlag word → bytes_eq word expand_lets ≡ false → bytes_eq word ignore_unknown ≡ false
+      → turn_fault check_shape [] (at rows p k false) word ≡ [] → ⊥
+  strange_turn word u f no_expand no_ignore bad =
+      strange_faults word (held rows p) refl u f no_expand no_ignore (or_first _ _ (rw f.no_end at bad))

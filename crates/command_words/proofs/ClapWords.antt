@@ -1,0 +1,164 @@
+-- What a word of the command line is, by the grammar and to `clap`.
+use Rattle.std.proofs.Common.{◌≡◌, ◌∙◌, ◌||◌, ◌==◌, ap, subst, sym, refl, arith, ◌+◌, true≢false, ℕ, suc, Bool, true, false, cond, List, [], ◌∷◌, Some, None}
+use Rattle.std.specs.Prelude.{codes, if◌then◌else◌, nat_eq}
+use Rattle.std.specs.List.{after_first, before_first, position_or_len}
+use Rattle.std.specs.Option.{option_map_or}
+use Rattle.std.specs.Str.{IsUtf8, bytes_eq, chars, encode_utf8_all}
+use Rattle.std.proofs.lemmas.Slice.Eq.{bytes_eq-Decides}
+use Rattle.std.proofs.lemmas.Bool.{eqb-true}
+use Rattle.std.proofs.lemmas.Str.{chars_from_encodes, chars_past_char}
+use Rattle.clap.specs.Lexer.{has_byte, long_of, name_and_value, short_of}
+use Rattle.clap.specs.Walk.{Held, Rule, Text, arg_by_long, arg_by_short}
+use Rattle.clap.specs.Faults.{bundle_fault, flag_word_fault, flags_fault, long_fault}
+use Rattle.command_words.specs.CommandLine.{is_operand, expand_lets, ignore_unknown}
+use Rattle.command_words.proofs.ClapApp.{rules, expand_rule, ignore_rule}
+
+pub no_cons : {A : Type 0} (x : A) (xs : List A) → x ∷ xs ≡ [] → ⊥
+no_cons x xs e = absurd (cc)
+
+pub same_bytes : (a b : Text) → bytes_eq a b ≡ true → a ≡ b
+same_bytes a b e = (bytes_eq-Decides a b).0 e
+
+-- ---- short options, of which there are none
+
+pub has_chars : (x : ℕ) (r : Text) → IsUtf8 (45 ∷ x ∷ r) → chars (x ∷ r) ≡ [] → ⊥
+unfolding lib.Utf8.encode
+has_chars x r u none =
+    let all : chars (45 ∷ x ∷ r) ≡ 45 ∷ chars (x ∷ r) = chars_past_char (45 ∷ x ∷ r) (x ∷ r) 45 u refl in
+    let are : u.0 ≡ 45 ∷ [] = chars_from_encodes u.0 (45 ∷ x ∷ r) u u.1.1 ∙ all ∙ ap (λ cs. 45 ∷ cs) none in
+    let spelled : encode_utf8_all (45 ∷ []) ≡ 45 ∷ x ∷ r = rw are at u.1.1 in
+    absurd (cc)
+
+module _ (c : List Rule) (none_short : (x : ℕ) → arg_by_short c x ≡ None) where
+  pub no_short : (x : ℕ) (r : Text) (h : Held) → h.skip ≡ 0 → IsUtf8 (45 ∷ x ∷ r) → bundle_fault c false (x ∷ r) h ≡ [] → ⊥
+  unfolding flags_fault
+  no_short x r h skip u e = go (chars (x ∷ r)) refl
+    where
+      go : (cs : List ℕ) → chars (x ∷ r) ≡ cs → ⊥
+      go [] none = has_chars x r u none
+      go (y ∷ cs) first = no_cons _ _ (rw (skip, first, none_short y) at e)
+
+-- ---- words
+
+-- a word that goes to a positional
+pub record IsPlain (word : Text) : Type 0 where
+  pub operand : is_operand word ≡ true
+  pub no_end : bytes_eq word (codes "--") ≡ false
+  pub long : long_of word ≡ None
+  pub short : short_of word ≡ None
+
+-- a word of the form of an option
+pub record IsFlag (word : Text) : Type 0 where
+  pub operand : is_operand word ≡ false
+  pub no_end : bytes_eq word (codes "--") ≡ false
+
+pub data Word (word : Text) : Type 0 where
+  ends : word ≡ codes "--" → Word word
+  plain : IsPlain word → Word word
+  expands : word ≡ expand_lets → Word word
+  ignores : word ≡ ignore_unknown → Word word
+  strange : IsFlag word → bytes_eq word expand_lets ≡ false → bytes_eq word ignore_unknown ≡ false → Word word
+
+flag_word : (word : Text) → IsFlag word → Word word
+flag_word word h = go (bytes_eq word expand_lets) (bytes_eq word ignore_unknown) refl refl
+  where
+    go : (a b : Bool) → bytes_eq word expand_lets ≡ a → bytes_eq word ignore_unknown ≡ b → Word word
+    go true b e f = expands (same_bytes word expand_lets e)
+    go false true e f = ignores (same_bytes word ignore_unknown f)
+    go false false e f = strange h e f
+
+hyphened : (x : ℕ) (r : Text) → Word (45 ∷ x ∷ r)
+hyphened x r = go (bytes_eq (45 ∷ x ∷ r) (codes "--")) refl
+  where
+    go : (b : Bool) → bytes_eq (45 ∷ x ∷ r) (codes "--") ≡ b → Word (45 ∷ x ∷ r)
+    go true e = ends (same_bytes _ _ e)
+    go false e = flag_word (45 ∷ x ∷ r) (record { operand = refl; no_end = e })
+
+unhyphened : (b : ℕ) (word : Text) → nat_eq b 45 ≡ false → Word (b ∷ word)
+unhyphened b [] e = plain (record { operand = refl; no_end = rw e refl; long = rw e refl; short = rw e refl })
+unhyphened b (x ∷ word) e = plain (record { operand = rw e refl; no_end = rw e refl; long = rw e refl; short = rw e refl })
+
+pub word_is : (word : Text) → Word word
+word_is [] = plain (record { operand = refl; no_end = refl; long = refl; short = refl })
+word_is (b ∷ word) = go (nat_eq b 45) refl word
+  where
+    hyphen : (word : Text) → b ≡ 45 → Word (b ∷ word)
+    hyphen [] e = rw e (plain (record { operand = refl; no_end = refl; long = refl; short = refl }))
+    hyphen (x ∷ word) e = rw e (hyphened x word)
+
+    go : (t : Bool) → nat_eq b 45 ≡ t → (word : Text) → Word (b ∷ word)
+    go true e word = hyphen word (eqb-true b 45 e)
+    go false e word = unhyphened b word e
+
+-- ---- long options
+
+no_equals : (text : Text) → has_byte 61 text ≡ false → before_first (λ x. x == 61) text ≡ text
+no_equals [] h = refl
+no_equals (x ∷ text) h = go (x == 61) refl h (no_equals text)
+  where
+    go : (b : Bool) → (x == 61) ≡ b → (b || has_byte 61 text) ≡ false → (has_byte 61 text ≡ false → before_first (λ y. y == 61) text ≡ text) → before_first (λ y. y == 61) (x ∷ text) ≡ x ∷ text
+    go true e k next = absurd (cc)
+    go false e k next = let more : 1 + position_or_len (λ y. y == 61) text ≡ suc (position_or_len (λ y. y == 61) text) = omega arith in rw (e, more) (ap (λ t. x ∷ t) (next k))
+
+-- a long option with a value, or by another name, is refused
+module _ (x : ℕ) (r : Text) (h : Held) (no_expand : bytes_eq (45 ∷ 45 ∷ x ∷ r) expand_lets ≡ false) (no_ignore : bytes_eq (45 ∷ 45 ∷ x ∷ r) ignore_unknown ≡ false) where
+  by_name : (a b : Bool) → bytes_eq (codes "expand-let-bindings") (x ∷ r) ≡ a → bytes_eq (codes "ignore-unknown-rules") (x ∷ r) ≡ b
+      → long_fault rules false (cond (a || false) (Some expand_rule) (cond (b || false) (Some ignore_rule) None)) None h ≡ [] → ⊥
+  by_name true b e f bad =
+      let is : bytes_eq (45 ∷ 45 ∷ codes "expand-let-bindings") expand_lets ≡ false = subst (λ t. bytes_eq (45 ∷ 45 ∷ t) expand_lets ≡ false) (sym (same_bytes (codes "expand-let-bindings") (x ∷ r) e)) no_expand in absurd (true≢false is)
+  by_name false true e f bad =
+      let is : bytes_eq (45 ∷ 45 ∷ codes "ignore-unknown-rules") ignore_unknown ≡ false = subst (λ t. bytes_eq (45 ∷ 45 ∷ t) ignore_unknown ≡ false) (sym (same_bytes (codes "ignore-unknown-rules") (x ∷ r) f)) no_ignore in absurd (true≢false is)
+  by_name false false e f bad = no_cons _ _ bad
+
+  with_value : (v : Text) (a b : Bool) → long_fault rules false (cond (a || false) (Some expand_rule) (cond (b || false) (Some ignore_rule) None)) (Some v) h ≡ [] → ⊥
+  with_value v true b bad = no_cons _ _ bad
+  with_value v false true bad = no_cons _ _ bad
+  with_value v false false bad = no_cons _ _ bad
+
+  pub no_long : long_fault rules false (arg_by_long rules (name_and_value (x ∷ r)).0) (name_and_value (x ∷ r)).1 h ≡ [] → ⊥
+  no_long = go (has_byte 61 (x ∷ r)) refl
+    where
+      go : (b : Bool) → has_byte 61 (x ∷ r) ≡ b → long_fault rules false (arg_by_long rules (before_first (λ y. y == 61) (x ∷ r))) (if b then Some (after_first (λ y. y == 61) (x ∷ r)) else None) h ≡ [] → ⊥
+      go true e bad = with_value _ _ _ bad
+      go false e bad = by_name _ _ refl refl (rw (no_equals (x ∷ r) e) at bad)
+
+-- a word of the form of an option is refused where no long option takes it
+module _ (c : List Rule) (none_short : (x : ℕ) → arg_by_short c x ≡ None) (h : Held) (skip : h.skip ≡ 0) where
+  short_fault_is : (x : ℕ) (word : Text) → nat_eq x 45 ≡ false → flag_word_fault c false (long_of (45 ∷ x ∷ word)) (45 ∷ x ∷ word) h ≡ bundle_fault c false (x ∷ word) h
+  short_fault_is x word d =
+      let long : long_of (45 ∷ x ∷ word) ≡ None = rw d refl in
+      let short : short_of (45 ∷ x ∷ word) ≡ Some (x ∷ word) = rw d refl in
+      ap (λ l. flag_word_fault c false l (45 ∷ x ∷ word) h) long ∙ ap (λ s. option_map_or (λ flags. bundle_fault c false flags h) s []) short
+
+  flag_faults : (word : Text) → IsFlag word → IsUtf8 word
+      → ((x : ℕ) (r : Text) → word ≡ 45 ∷ 45 ∷ x ∷ r → long_fault c false (arg_by_long c (name_and_value (x ∷ r)).0) (name_and_value (x ∷ r)).1 h ≡ [] → ⊥)
+      → flag_word_fault c false (long_of word) word h ≡ [] → ⊥
+  flag_faults [] f u long bad = absurd (true≢false f.operand)
+  flag_faults (b ∷ []) f u long bad = absurd (true≢false f.operand)
+  flag_faults (b ∷ x ∷ word) f u long bad = go (nat_eq b 45) (nat_eq x 45) refl refl word f u long bad
+    where
+      short : b ≡ 45 → nat_eq x 45 ≡ false → (word : Text) → IsUtf8 (b ∷ x ∷ word) → flag_word_fault c false (long_of (b ∷ x ∷ word)) (b ∷ x ∷ word) h ≡ [] → ⊥
+      short e d word u bad = no_short c none_short x word h skip (rw e at u) (sym (short_fault_is x word d) ∙ rw e at bad)
+
+      longer : b ≡ 45 → x ≡ 45 → (word : Text) → IsFlag (b ∷ x ∷ word)
+          → ((y : ℕ) (r : Text) → b ∷ x ∷ word ≡ 45 ∷ 45 ∷ y ∷ r → long_fault c false (arg_by_long c (name_and_value (y ∷ r)).0) (name_and_value (y ∷ r)).1 h ≡ [] → ⊥)
+          → flag_word_fault c false (long_of (b ∷ x ∷ word)) (b ∷ x ∷ word) h ≡ [] → ⊥
+      longer e d [] f long bad = let is : bytes_eq (codes "--") (codes "--") ≡ false = rw (e, d) at f.no_end in absurd (true≢false is)
+      longer e d (y ∷ word) f long bad = long y word (rw (e, d) refl) (rw (e, d) at bad)
+
+      go : (s t : Bool) → nat_eq b 45 ≡ s → nat_eq x 45 ≡ t → (word : Text) → IsFlag (b ∷ x ∷ word) → IsUtf8 (b ∷ x ∷ word)
+          → ((y : ℕ) (r : Text) → b ∷ x ∷ word ≡ 45 ∷ 45 ∷ y ∷ r → long_fault c false (arg_by_long c (name_and_value (y ∷ r)).0) (name_and_value (y ∷ r)).1 h ≡ [] → ⊥)
+          → flag_word_fault c false (long_of (b ∷ x ∷ word)) (b ∷ x ∷ word) h ≡ [] → ⊥
+      go false t e d word f u long bad = let is : true ≡ false = rw e at f.operand in absurd (true≢false is)
+      go true false e d word f u long bad = short (eqb-true b 45 e) d word u bad
+      go true true e d word f u long bad = longer (eqb-true b 45 e) (eqb-true x 45 d) word f long bad
+
+-- behind `check`
+pub strange_faults : (word : Text) (h : Held) → h.skip ≡ 0 → IsUtf8 word → IsFlag word → bytes_eq word expand_lets ≡ false → bytes_eq word ignore_unknown ≡ false
+    → flag_word_fault rules false (long_of word) word h ≡ [] → ⊥
+strange_faults word h skip u f no_expand no_ignore bad =
+    flag_faults rules (λ x. refl) h skip word f u (λ x r e k. no_long x r h (rw e at no_expand) (rw e at no_ignore) k) bad
+
+-- in place of `check`
+pub first_faults : (word : Text) (h : Held) → h.skip ≡ 0 → IsUtf8 word → IsFlag word → flag_word_fault [] false (long_of word) word h ≡ [] → ⊥
+first_faults word h skip u f bad = flag_faults [] (λ x. refl) h skip word f u (λ x r e k. no_cons _ _ k) bad

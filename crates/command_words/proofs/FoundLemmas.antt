@@ -1,0 +1,29 @@
+-- What the getters of `clap`'s matches answer.
+use Rattle.std.proofs.Common.{◌≡◌, ◌∙◌, ap, refl, Bool, true, false, List, Option, Some}
+use Rattle.std.specs.Prelude.{codes, option_map}
+use Rattle.clap.specs.Matches.{first_value, one_text}
+use Rattle.clap.specs.Walk.{Row, Text, first_of, one_of, rows_of}
+use Rattle.clap.specs.declared.parser.matches.Found.{Found}
+use Rattle.clap.proofs.WalkLemmas.{first_value-rows, one_text-rows}
+use Rattle.command_words.specs.CommandLine.{Asked}
+use Rattle.command_words.specs.Found.{flag_text}
+
+some_same : {A : Type 0} (x y : A) → Some x ≡ Some y → x ≡ y
+some_same x y e = cc
+
+pub rows_are : (x rows : List Row) (found : Option (Text × List Row)) (name : Text) → Some x ≡ option_map (λ p. p.1) found → found ≡ Some (name, rows) → x ≡ rows
+rows_are x rows found name e is = some_same x rows (e ∙ ap (option_map (λ p. p.1)) is)
+
+pub value_is : (f : Found) (id : Text) (rows : List Row) (value : Text) (r : Option Text) → r ≡ first_value f id → rows_of f ≡ rows → first_of id rows ≡ Some value → r ≡ Some value
+value_is f id rows value r e is there = e ∙ first_value-rows f id ∙ ap (first_of id) is ∙ there
+
+by_text : (b : Bool) (t : Option Text) (r : Bool) → t ≡ Some (flag_text b) → (t ≡ Some (codes "true") → r ≡ true) → (t ≡ Some (codes "false") → r ≡ false) → r ≡ b
+by_text true t r is said other = said is
+by_text false t r is said other = other is
+
+pub flag_is : (f : Found) (id : Text) (rows : List Row) (b r : Bool) → rows_of f ≡ rows → one_of id rows ≡ Some (flag_text b) → (one_text f id ≡ Some (codes "true") → r ≡ true) → (one_text f id ≡ Some (codes "false") → r ≡ false) → r ≡ b
+flag_is f id rows b r is there said other = by_text b (one_text f id) r (one_text-rows f id ∙ ap (one_of id) is ∙ there) said other
+
+pub asked_is : (p q : Text) (e i : Bool) (a : Asked) → Some p ≡ Some a.proof → Some q ≡ Some a.problem → e ≡ a.options.replaces_lets → i ≡ a.options.ignores_unknown_rules
+    → Some (record { proof = p; problem = q; options = record { replaces_lets = e; ignores_unknown_rules = i } }) ≡ Some a
+asked_is p q e i a proof problem lets unknown = rw (some_same p a.proof proof, some_same q a.problem problem, lets, unknown) refl

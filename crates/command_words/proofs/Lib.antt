@@ -1,0 +1,9 @@
+pub mod ClapApp
+pub mod ClapRows
+pub mod ClapWords
+pub mod ClapWalk
+pub mod ClapEnd
+pub mod ClapGrammar
+pub mod ClapReach
+pub mod ClapTop
+pub mod FoundLemmas

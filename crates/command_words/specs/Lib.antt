@@ -1,0 +1,4 @@
+pub mod CommandLine
+pub mod Requests
+pub mod Made
+pub mod Found

@@ -1,0 +1,42 @@
+-- Private. The command line as it is made for `clap`: one subcommand, with two operands and two options.
+use Rattle.std.specs.Prelude.{◌≡◌, Some, false, true, codes}
+use Rattle.clap.specs.Walk.{Rule, Text}
+use Rattle.clap.specs.Simple.{App, app_of, new_rule, new_shape, new_app, with_rule, with_subcommand}
+use Rattle.clap.specs.declared.builder.command.Command.{Command}
+use Rattle.clap.specs.declared.builder.command.Command.TheViews.{out-Command}
+use Rattle.clap.specs.declared.builder.action.ArgAction.TheVariants.{Set, SetTrue}
+
+abbrev pub made_operand : Text → Rule
+made_operand id = record (new_rule id) { required = true; action = Some Set }
+
+abbrev pub made_flag : Text → Text → Rule
+made_flag id name = record (new_rule id) { long = Some name; action = Some SetTrue }
+
+abbrev pub made_proof : Rule
+made_proof = made_operand (codes "proof")
+
+abbrev pub made_problem : Rule
+made_problem = made_operand (codes "problem")
+
+abbrev pub made_expand : Rule
+made_expand = made_flag (codes "expand") (codes "expand-let-bindings")
+
+abbrev pub made_ignore : Rule
+made_ignore = made_flag (codes "ignore") (codes "ignore-unknown-rules")
+
+abbrev pub made_check : App
+made_check = with_rule (with_rule (with_rule (with_rule (new_app (codes "check")) made_proof) made_problem) made_expand) made_ignore
+
+pub record IsMadeCheck (c : Command) : Type 0 where
+  pub shape : app_of c ≡ made_check
+  pub local : (out-Command c).has_globals ≡ false
+
+abbrev pub made : App
+made = with_subcommand (record (new_app (codes "carcara")) {
+  top = record (new_shape (codes "carcara")) {
+    no_binary_name = true;
+    disable_help_flag = true;
+    disable_help_subcommand = true;
+    subcommand_required = true;
+  };
+}) made_check.top

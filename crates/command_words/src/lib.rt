@@ -1,0 +1,10 @@
+//! What the words of the command line ask for: `check PROOF PROBLEM` with its options.
+//!
+//! - `request`: what is asked for. `command_line`: which words ask for it.
+#![tactic(auto)]
+
+mod command_line;
+mod request;
+
+pub use command_line::asked_of;
+pub use request::{Options, Request};

@@ -1,0 +1,18 @@
+//! What a command line asks for.
+
+/// How a check is done.
+#[derive(Debug, Clone, Copy)]
+pub struct Options {
+    /// Whether each let of the two texts is replaced by its body with the terms put in.
+    pub replaces_lets: bool,
+    /// Whether a step by an unknown rule is a hole, and not faulty.
+    pub ignores_unknown_rules: bool,
+}
+
+/// A check of the proof at one path against the problem at another.
+#[derive(Drop)]
+pub struct Request<'a> {
+    pub proof: &'a str,
+    pub problem: &'a str,
+    pub options: Options,
+}
