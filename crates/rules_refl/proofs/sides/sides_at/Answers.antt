@@ -18,7 +18,7 @@ sides_of-requires c =
     let v = c.args.terms.now in
     let of = c.requires.stand.proof in
     let literal = literal_of s v c.clause-clause.result.now (clause_at of c.args.i) c.index-clause-0.result c.if-clause-ne1.false c.index-clause-0.is
-        (rw c.clause-clause.ensures (c.terms_correspond.ensures.clause s v c.args.proof.now of c.args.i c.requires.stand.stand)) in
+    (rw c.clause-clause.ensures (c.terms_correspond.ensures.clause s v c.args.proof.now of c.args.i c.requires.stand.stand)) in
     record { means = literal.term; refers = literal.refers }
 
 pub returns-clause-sides : goal.returns-clause-sides
