@@ -3,7 +3,6 @@ use Rattle.std.proofs.Common.{◌≡◌, ◌↔◌, inl, inr, ◌<◌, ◌≤◌
 use Rattle.std.specs.List.{AllZip}
 use Rattle.std.proofs.lemmas.Bool.{cases_lt}
 use Rattle.sym_table.specs.Table.{Table}
-use Rattle.term_model.specs.Flips.{EqualUpToFlips}
 use Rattle.term_model.specs.Terms.{Term, numeral}
 use Rattle.pair_pool.specs.Views.{IsKnown}
 use Rattle.term_pool.specs.Views.{TermsView, RefersTo, IsTerm, ReferToAll}

@@ -2,3 +2,4 @@ pub mod KindLemmas
 pub mod StatusLemmas
 pub mod AssumeLemmas
 pub mod ListLemmas
+pub mod Growing

@@ -22,3 +22,7 @@ each_push P xs x n long before here k y e = go (get_append xs (x ∷ []) k y e)
 pub length_push : {X : Type 0} (xs : List X) (x : X) (n : ℕ) → length xs ≡ n → length (xs ++ x ∷ []) ≡ n + 1
 length_push [] x n e = omega (arith, e)
 length_push (y ∷ xs) x n e = let more = length_push xs x (length xs) refl in omega (arith, e, more)
+
+pub each_none : {X : Type 0} (P : ℕ → X → Type 0) (xs : List X) → xs ≡ [] → (k : ℕ) (y : X) → slice_get xs k ≡ Some y → P k y
+each_none P [] none k y e = absurd cc
+each_none P (x ∷ xs) none k y e = absurd cc

@@ -1,5 +1,5 @@
 -- Public. What the statuses of a proof's commands are asked by: the flags and the problem's assertions.
-use Rattle.std.specs.Prelude.{ℕ, List}
+use Rattle.std.specs.Prelude.{◌≡◌, ◌⊎◌, ℕ, List}
 use Rattle.sym_table.specs.Table.{Table}
 use Rattle.term_model.specs.Terms.{Var, Term}
 use Rattle.term_pool.specs.Views.{TermsView, ReferToAll}
@@ -7,7 +7,12 @@ use Rattle.rule_model.specs.declared.rules.Mode.{Mode}
 use Rattle.rule_model.specs.declared.statuses.Status.{Status}
 use Rattle.rule_model.specs.Proofs.{ProofItems}
 use Rattle.rule_model.specs.Statuses.{Checking, AreStatuses}
+use Rattle.rule_model.specs.declared.rules.Rule.{Rule}
+use Rattle.rule_model.specs.Reading.{rule_at}
 use Rattle.proof_store.specs.Meaning.{StandForItems}
+use Rattle.proof_contexts.specs.OpenAnchors.{IsImageOf}
+use Rattle.proof_contexts.specs.Placing.{LacksRoomForSome, PlacesOf}
+use Rattle.rules_refl.specs.Sides.{IsSideOf}
 use Rattle.term_reader.specs.declared.flags.Flags.{Flags}
 use Rattle.step_check.specs.Judged.{is_judged}
 
@@ -31,3 +36,23 @@ abbrev pub AreStatusesOf : Flags → Table → TermsView → List ℕ → ProofI
 AreStatusesOf flags s v asserted refs statuses =
     (proof : ProofItems Var Term) (assertions : List Term) → StandForItems s v refs proof → ReferToAll s v asserted assertions →
     AreStatuses (checking flags assertions) proof statuses
+
+-- the term is a side of a step by refl after substitution
+pub record IsSideOfSome (proof : ProofItems Var Term) (t : Term) : Type 0 where
+  pub index : ℕ
+  pub refl : rule_at proof index ≡ Rule.Refl
+  pub side : IsSideOf proof index t
+
+-- the term is such a side, or the image of a variable that an anchor binds
+abbrev pub IsPlacedOf : ProofItems Var Term → Term → Type 0
+IsPlacedOf proof t = IsImageOf proof t ⊎ IsSideOfSome proof t
+
+-- only cells of such terms were placed, of the proof for which the references stand
+abbrev pub PlacesOnly : Table → TermsView → TermsView → ProofItems ℕ ℕ → Type 0
+PlacesOnly s old new refs =
+    (proof : ProofItems Var Term) → StandForItems s old refs proof → PlacesOf s old.pass new.pass (IsPlacedOf proof)
+
+-- there was no room for a cell of such a term of the proof for which the references stand
+abbrev pub LacksRoomForPlaced : Table → TermsView → TermsView → ProofItems ℕ ℕ → Type 0
+LacksRoomForPlaced s old new refs =
+    (proof : ProofItems Var Term) → StandForItems s old refs proof → LacksRoomForSome s new.pass (IsPlacedOf proof)

@@ -9,13 +9,13 @@ use Rattle.rule_model.specs.declared.rules.Rule.{Rule}
 use Rattle.rule_model.specs.declared.rules.Mode.{Mode}
 use Rattle.rule_model.specs.declared.rules.StepCause.{StepCause}
 use Rattle.rule_model.specs.declared.statuses.Status.{Status}
-use Rattle.rule_model.specs.Conditions.{IsMetAt}
+use Rattle.rule_model.specs.Conditions.{IsMetAt, IsTooWideAt}
 use Rattle.rule_model.specs.Proofs.{ProofItems}
 use Rattle.rule_model.specs.Statuses.{Kind as KindOfRule, assumed, hole, unknown, conditional, kind_of_rule, IsAsserted, MayAssume, IsStatusAt}
 use Rattle.proof_store.specs.declared.answers.Answer.{Answer}
 use Rattle.proof_store.specs.Meaning.{StandForItems}
 use Rattle.term_reader.specs.declared.flags.Flags.{Flags}
-use Rattle.step_check.specs.Judged.{is_resolution, is_clausal, is_definition, is_equality, is_closing, is_judged}
+use Rattle.step_check.specs.Judged.{is_resolution, is_clausal, is_definition, is_equality, is_simplification, is_closing, is_of_family}
 use Rattle.step_check.specs.Statuses.{checking}
 use Rattle.step_check.specs.declared.families.Family.{Family}
 use Rattle.step_check.specs.declared.kinds.Kind.{Kind}
@@ -26,18 +26,19 @@ IsOfFamily Family.Resolution rule = IsTrue (is_resolution rule)
 IsOfFamily Family.Clausal rule = IsTrue (is_clausal rule)
 IsOfFamily Family.Definition rule = IsTrue (is_definition rule)
 IsOfFamily Family.Equality rule = IsTrue (is_equality rule)
+IsOfFamily Family.Simplification rule = IsTrue (is_simplification rule)
 IsOfFamily Family.Closing rule = IsTrue (is_closing rule)
 
--- the family of a rule that is judged
+-- the family of a rule
 abbrev pub IsFamilyOf : Rule → Option Family → Type 0
-IsFamilyOf rule None = is_judged rule ≡ false
+IsFamilyOf rule None = is_of_family rule ≡ false
 IsFamilyOf rule (Some family) = IsOfFamily family rule
 
--- how a rule is judged that is no assume and leaves no hole by itself
+-- how a rule is judged that is no assume and not refl, and leaves no hole by itself
 abbrev pub IsKindOfStep : Flags → Rule → Kind → Type 0
 IsKindOfStep flags rule Kind.Assumed = ⊥
-IsKindOfStep flags rule Kind.Hole = (is_judged rule ≡ false) × (flags.ignore_unknown ≡ true)
-IsKindOfStep flags rule Kind.Unknown = (is_judged rule ≡ false) × (flags.ignore_unknown ≡ false)
+IsKindOfStep flags rule Kind.Hole = (is_of_family rule ≡ false) × (flags.ignore_unknown ≡ true)
+IsKindOfStep flags rule Kind.Unknown = (is_of_family rule ≡ false) × (flags.ignore_unknown ≡ false)
 IsKindOfStep flags rule (Kind.Conditional family) = IsOfFamily family rule
 
 -- how the rule of a command is judged under flags
@@ -62,10 +63,15 @@ TellsAssume flags s v asserted refs i told =
     (proof : ProofItems Var Term) (assertions : List Term) → StandForItems s v refs proof → ReferToAll s v asserted assertions →
     IsTrue told ↔ MayAssume (checking flags assertions) proof i
 
--- the answer to whether the step at an index is met
+-- the answer to the step at an index: its numbers are too wide, or else its condition is met or not
+abbrev pub IsAnswerAt : Mode → ProofItems Var Term → ℕ → Answer → Type 0
+IsAnswerAt mode proof i Answer.Met = (¬ IsTooWideAt mode proof i) × IsMetAt mode proof i
+IsAnswerAt mode proof i Answer.NotMet = (¬ IsTooWideAt mode proof i) × (¬ IsMetAt mode proof i)
+IsAnswerAt mode proof i Answer.TooWide = IsTooWideAt mode proof i
+
 abbrev pub TellsMet : Table → TermsView → ProofItems ℕ ℕ → ℕ → Answer → Type 0
 TellsMet s v refs i answer =
-    (proof : ProofItems Var Term) → StandForItems s v refs proof → (answer ≡ Answer.Met) ↔ IsMetAt Mode.Check proof i
+    (proof : ProofItems Var Term) → StandForItems s v refs proof → IsAnswerAt Mode.Check proof i answer
 
 -- the status of the command at an index
 abbrev pub IsStatusOf : Flags → Table → TermsView → List ℕ → ProofItems ℕ ℕ → ℕ → Status → Type 0

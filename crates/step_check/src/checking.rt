@@ -10,12 +10,17 @@ ghost use Rattle.rule_model.specs.Reading.{clause_at};
 ghost use Rattle.rules_resolution.specs.Steps.{IsShort};
 ghost use Rattle.term_model.specs.Terms.{Var, Term};
 ghost use Rattle.term_pool.specs.Views.{KeepsTerms};
-ghost use Rattle.step_check.specs.Statuses.{AreAsserted, AreStatusesOf};
+ghost use Rattle.flip_keys.specs.Assertions.{references_of, AreAssertionsReady};
+ghost use Rattle.proof_contexts.specs.OpenAnchors.{AreKept};
+ghost use Rattle.step_check.specs.Statuses.{AreAsserted, AreStatusesOf, LacksRoomForPlaced, PlacesOnly};
 
-use crate::steps::{Kept, Subject, status_at};
+use crate::steps::{Kept, Rules, Subject, status_at};
 use flip_keys::Assertions;
 use pair_pool::{Memory, Ref};
-use proof_store::{Proof, RuleStop, Status, commands_correspond};
+use proof_contexts::OpenScopes;
+use proof_store::{
+    Proof, RuleStop, Status, commands_correspond, proofs_stand_for_one, proofs_stay,
+};
 use rules_resolution::Scratch;
 use std::alloc::Global;
 use sym_table::Symbols;
@@ -37,6 +42,38 @@ fn add(list: &mut Vec<Status>, status: Status) -> Result<(), Memory>
     Ok(())
 }
 
+/// Puts the status of each command at the end of an empty list, in file order.
+fn add_all(
+    subject: &Subject<'_>,
+    kept: &mut Kept,
+    list: &mut Vec<Status>,
+    terms: &mut Terms<'_>,
+) -> Result<(), RuleStop>
+    requires none { list.old.items ≡ [] }
+    requires kept { AreKept subject.now.symbols.now terms.old subject.now.proof.now kept.old.scopes }
+    requires ready { AreAssertionsReady terms.old kept.old.asserted }
+    requires short { IsShort subject.now.proof.now }
+    requires sorted { (of : ProofItems Var Term) (i : ℕ) → StandForItems subject.now.symbols.now terms.old subject.now.proof.now of → IsClauseOfTruths (clause_at of i) }
+    ensures statuses { OnOk result (AreStatusesOf subject.now.flags subject.now.symbols.now terms.old (references_of kept.old.asserted) subject.now.proof.now list.new.items) }
+    ensures placed { PlacesOnly subject.now.symbols.now terms.old terms.new subject.now.proof.now }
+    ensures full { IfErr result (λ stop. stop ≡ RuleStop.PoolFull → LacksRoomForPlaced subject.now.symbols.now terms.old terms.new subject.now.proof.now) }
+    ensures keeps { KeepsTerms terms.old terms.new }
+{
+    let _leaves = subject.symbols.count();
+    commands_correspond();
+    proofs_stand_for_one();
+    proofs_stay();
+    'commands: for i in 0..subject.proof.count() {
+        terms.one_to_one();
+        let status = match status_at(subject, i, kept, terms) {
+            Ok(status) => status,
+            Err(stop) => return Err(stop),
+        };
+        add(list, status)?;
+    }
+    Ok(())
+}
+
 /// The status of each command of a proof, in file order, as `rule_model` defines it in check mode.
 ///
 /// An outermost assume is Ok exactly where its term is an assertion of the problem, up to flips, and an inner one always. A
@@ -44,7 +81,9 @@ fn add(list: &mut Vec<Status>, status: Status) -> Result<(), Memory>
 /// condition, and else faulty. Any other rule is an unknown one, and its steps are holes where the flags say so.
 ///
 /// The proof's terms and the assertions are known to the pass, literals are terms of Bool, and no clause and no list of
-/// premises has 2^32 items. Refuses want of memory alone, and places no cell. It takes the time that the rules take.
+/// premises has 2^32 items. It places cells of what `refl` compares: the sides of a step after substitution, and images of
+/// variables that anchors bind. Refuses where the pool had no room for such a cell, and for want of memory. It takes the
+/// time that the rules take.
 pub fn statuses(
     alloc: Global,
     proof: &Proof,
@@ -59,24 +98,29 @@ pub fn statuses(
     requires short { IsShort proof.now }
     requires sorted { (of : ProofItems Var Term) (i : ℕ) → StandForItems symbols.now terms.old proof.now of → IsClauseOfTruths (clause_at of i) }
     ensures statuses { IfOk result (λ list. AreStatusesOf flags symbols.now terms.old problem.now.assertions proof.now list.items) }
-    ensures stop { IfErr result (λ stop. stop ≡ RuleStop.Memory) }
+    ensures placed { PlacesOnly symbols.now terms.old terms.new proof.now }
+    ensures full { IfErr result (λ stop. stop ≡ RuleStop.PoolFull → LacksRoomForPlaced symbols.now terms.old terms.new proof.now) }
     ensures keeps { KeepsTerms terms.old terms.new }
 {
-    commands_correspond();
     let subject = Subject {
         proof,
         symbols,
         flags,
     };
-    let mut kept = Kept {
+    let scopes = OpenScopes::new(alloc, proof, symbols, terms)?;
+    let asserted = Assertions::new(alloc, terms, assertions_of(problem))?;
+    let rules = Rules {
         alloc,
         resolution: Scratch::new(alloc),
-        asserted: Assertions::new(alloc, terms, assertions_of(problem))?,
+    };
+    let mut kept = Kept {
+        rules,
+        asserted,
+        scopes,
     };
     let mut list = Vec::new(alloc);
-    'commands: for i in 0..proof.count() {
-        let status = status_at(&subject, i, &mut kept, terms)?;
-        add(&mut list, status)?;
+    match add_all(&subject, &mut kept, &mut list, terms) {
+        Ok(()) => Ok(list),
+        Err(stop) => Err(stop),
     }
-    Ok(list)
 }

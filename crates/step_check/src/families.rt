@@ -1,9 +1,10 @@
-//! The rules that are judged by their conditions, by the crates that have them.
+//! The rules that are judged by their conditions, by the crates that have them. `refl` is in no family: it looks at the
+//! open scopes.
 
 ghost use Rattle.std.specs.Prelude.{◌≡◌};
 ghost use Rattle.std.specs.Option.{is_some};
 ghost use Rattle.rule_model.specs.Clausal.{is_over_list, schema_of};
-ghost use Rattle.step_check.specs.Judged.{is_resolution, is_clausal, is_definition, is_equality, is_closing};
+ghost use Rattle.step_check.specs.Judged.{is_resolution, is_clausal, is_definition, is_equality, is_simplification, is_closing, is_reflexivity};
 ghost use Rattle.step_check.specs.Steps.{IsFamilyOf};
 
 use rule_model::Rule;
@@ -19,6 +20,8 @@ pub(crate) enum Family {
     Definition,
     /// `rules_congruence`
     Equality,
+    /// `rules_simplify`
+    Simplification,
     /// `rules_subproof`
     Closing,
 }
@@ -130,6 +133,17 @@ fn is_equality(rule: Rule) -> bool
     )
 }
 
+/// Whether a rule is one of simplification.
+fn is_simplification(rule: Rule) -> bool
+    ensures { result ≡ is_simplification rule }
+{
+    match rule {
+        Rule::AndSimplify => true,
+        Rule::OrSimplify => true,
+        _ => false,
+    }
+}
+
 /// Whether a rule closes a scope.
 fn is_closing(rule: Rule) -> bool
     ensures { result ≡ is_closing rule }
@@ -137,7 +151,14 @@ fn is_closing(rule: Rule) -> bool
     matches!(rule, Rule::Subproof | Rule::Let)
 }
 
-/// The family of a rule, and nothing for a rule that is not judged by its condition.
+/// Whether a rule is refl.
+pub(crate) fn is_reflexivity(rule: Rule) -> bool
+    ensures { result ≡ is_reflexivity rule }
+{
+    matches!(rule, Rule::Refl)
+}
+
+/// The family of a rule, and nothing for a rule of none.
 pub(crate) fn family_of(rule: Rule) -> Option<Family>
     ensures { IsFamilyOf rule result }
 {
@@ -152,6 +173,9 @@ pub(crate) fn family_of(rule: Rule) -> Option<Family>
     }
     if is_equality(rule) {
         return Some(Family::Equality);
+    }
+    if is_simplification(rule) {
+        return Some(Family::Simplification);
     }
     if is_closing(rule) {
         return Some(Family::Closing);

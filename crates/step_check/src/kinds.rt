@@ -1,5 +1,7 @@
 //! How the rule of a command is judged.
 
+ghost use Rattle.std.specs.Prelude.{◌≢◌};
+ghost use Rattle.rule_model.specs.declared.rules.Rule.TheVariants as Rule;
 ghost use Rattle.step_check.specs.Steps.{IsKindOf, IsKindOfStep};
 
 use crate::families::{Family, family_of};
@@ -30,8 +32,9 @@ fn kind_of_step(rule: Rule, flags: Flags) -> Kind
     }
 }
 
-/// How the rule of a command is judged.
+/// How the rule of a command is judged. `refl` is judged apart, over the open scopes.
 pub(crate) fn kind_of(rule: Rule, flags: Flags) -> Kind
+    requires { rule ≢ Rule.Refl }
     ensures { IsKindOf flags rule result }
 {
     match rule {

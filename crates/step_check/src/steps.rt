@@ -1,10 +1,9 @@
 //! The status of one command.
 
-ghost use Rattle.std.specs.Prelude.{◌≡◌, ◌≢◌, ◌<◌, IfErr, IfOk, OnOk};
+ghost use Rattle.std.specs.Prelude.{◌≡◌, ◌≢◌, ◌<◌, ℕ, List, IfErr, IfOk, OnOk};
 ghost use Rattle.flip_keys.specs.Assertions.{references_of, AreAssertionsReady};
 ghost use Rattle.proof_store.specs.Checks.{StandForSome};
 ghost use Rattle.proof_store.specs.Meaning.{StandForItems};
-ghost use Rattle.proof_store.specs.declared.answers.Answer.TheVariants as Answer;
 ghost use Rattle.proof_store.specs.declared.answers.RuleStop.TheVariants as RuleStop;
 ghost use Rattle.rule_model.specs.declared.rules.Rule.TheVariants as Rule;
 ghost use Rattle.rule_model.specs.Conditions.{IsClauseOfTruths};
@@ -13,15 +12,22 @@ ghost use Rattle.rule_model.specs.Reading.{clause_at, rule_at};
 ghost use Rattle.rule_model.specs.Scopes.{commands_in};
 ghost use Rattle.rules_resolution.specs.Steps.{IsShort};
 ghost use Rattle.term_model.specs.Terms.{Var, Term};
+ghost use Rattle.term_pool.specs.Views.{KeepsTerms};
+ghost use Rattle.proof_contexts.specs.OpenAnchors.{AreKept};
+ghost use Rattle.step_check.specs.Statuses.{LacksRoomForPlaced, PlacesOnly};
 ghost use Rattle.step_check.specs.Steps.{IsOfFamily, IsStatusOf, IsStatusOfAnswer, TellsAssume, TellsMet};
 
 use crate::assumes::are_asserted;
-use crate::families::Family;
+use crate::families::{Family, is_reflexivity};
 use crate::kinds::{Kind, kind_of};
-use flip_keys::Assertions;
+use flip_keys::{Assertions, keys_stay};
 use pair_pool::Memory;
-use proof_store::{Answer, Proof, RuleStop, Status, commands_correspond, terms_correspond};
+use proof_contexts::{OpenScopes, commands_stand_in_scopes};
+use proof_store::{
+    Answer, Proof, RuleStop, Status, commands_correspond, proofs_stay, terms_correspond,
+};
 use rule_model::{Mode, StepCause};
+use rules_refl::refused;
 use rules_resolution::Scratch;
 use std::alloc::Global;
 use sym_table::Symbols;
@@ -36,12 +42,19 @@ pub(crate) struct Subject<'a> {
     pub(crate) flags: Flags,
 }
 
+/// What the rules keep from step to step, but refl.
+#[derive(Drop)]
+pub(crate) struct Rules {
+    pub(crate) alloc: Global,
+    pub(crate) resolution: Scratch,
+}
+
 /// What a check keeps from step to step.
 #[derive(Drop)]
 pub(crate) struct Kept {
-    pub(crate) alloc: Global,
-    pub(crate) resolution: Scratch,
+    pub(crate) rules: Rules,
     pub(crate) asserted: Assertions,
+    pub(crate) scopes: OpenScopes,
 }
 
 /// Whether the step at an index, whose rule is of a family, meets its condition.
@@ -49,8 +62,7 @@ fn answer_at(
     subject: &Subject<'_>,
     family: Family,
     i: u32,
-    alloc: Global,
-    resolution: &mut Scratch,
+    rules: &mut Rules,
     terms: &mut Terms<'_>,
 ) -> Result<Answer, RuleStop>
     requires index { i < commands_in subject.now.proof.now }
@@ -58,19 +70,29 @@ fn answer_at(
     requires stand { StandForSome subject.now.symbols.now terms.old subject.now.proof.now }
     requires short { IsShort subject.now.proof.now }
     requires sorted { (of : ProofItems Var Term) → StandForItems subject.now.symbols.now terms.old subject.now.proof.now of → IsClauseOfTruths (clause_at of i) }
-    ensures met { IfOk result (λ answer. TellsMet subject.now.symbols.now terms.old subject.now.proof.now i answer) }
-    ensures narrow { IfOk result (λ answer. answer ≢ Answer.TooWide) }
+    ensures met { IfOk result (TellsMet subject.now.symbols.now terms.old subject.now.proof.now i) }
     ensures stop { IfErr result (λ stop. stop ≡ RuleStop.Memory) }
     ensures same { terms.new ≡ terms.old }
 {
     commands_correspond();
+    let alloc = rules.alloc;
     let proof = subject.proof;
     let symbols = subject.symbols;
     match family {
-        Family::Resolution => resolution.check(proof, i, Mode::Check, symbols, terms),
+        Family::Resolution => rules
+            .resolution
+            .check(proof, i, Mode::Check, symbols, terms),
         Family::Clausal => rules_clausal::check(alloc, proof, i, Mode::Check, symbols, terms),
         Family::Definition => rules_ite::check(alloc, proof, i, Mode::Check, symbols, terms),
         Family::Equality => rules_congruence::check(alloc, proof, i, Mode::Check, symbols, terms),
+        Family::Simplification => rules_simplify::check(
+            alloc,
+            proof,
+            i,
+            Mode::Check,
+            symbols,
+            terms,
+        ),
         Family::Closing => rules_subproof::check(alloc, proof, i, Mode::Check, symbols, terms),
     }
 }
@@ -134,6 +156,86 @@ fn status_of_assume(
     }
 }
 
+/// The status of the command at an index, whose rule is not refl.
+fn status_of_other(
+    subject: &Subject<'_>,
+    i: u32,
+    rules: &mut Rules,
+    asserted: &mut Assertions,
+    terms: &mut Terms<'_>,
+) -> Result<Status, RuleStop>
+    requires index { i < commands_in subject.now.proof.now }
+    requires other { rule_at subject.now.proof.now i ≢ Rule.Refl }
+    requires stand { StandForSome subject.now.symbols.now terms.old subject.now.proof.now }
+    requires ready { AreAssertionsReady terms.old asserted.old }
+    requires short { IsShort subject.now.proof.now }
+    requires sorted { (of : ProofItems Var Term) → StandForItems subject.now.symbols.now terms.old subject.now.proof.now of → IsClauseOfTruths (clause_at of i) }
+    ensures status { IfOk result (λ status. IsStatusOf subject.now.flags subject.now.symbols.now terms.old (references_of asserted.old) subject.now.proof.now i status) }
+    ensures stop { IfErr result (λ stop. stop ≡ RuleStop.Memory) }
+    ensures references { references_of asserted.new ≡ references_of asserted.old }
+    ensures ready { OnOk result (AreAssertionsReady terms.new asserted.new) }
+    ensures same { terms.new ≡ terms.old }
+{
+    commands_correspond();
+    match kind_of(subject.proof.rule(i), subject.flags) {
+        Kind::Assumed => Ok(status_of_assume(asserted, subject, i, terms)?),
+        Kind::Hole => Ok(Status::Hole),
+        Kind::Unknown => Ok(Status::Faulty(StepCause::UnknownRule)),
+        Kind::Conditional(family) => Ok(status_of(answer_at(subject, family, i, rules, terms)?)),
+    }
+}
+
+/// The answer to the step at an index, whose rule is refl. The scope to which it belongs is entered first.
+fn answer_of_refl(
+    subject: &Subject<'_>,
+    i: u32,
+    scopes: &mut OpenScopes,
+    terms: &mut Terms<'_>,
+) -> Result<Answer, RuleStop>
+    requires index { i < commands_in subject.now.proof.now }
+    requires refl { rule_at subject.now.proof.now i ≡ Rule.Refl }
+    requires kept { AreKept subject.now.symbols.now terms.old subject.now.proof.now scopes.old }
+    ensures met { IfOk result (TellsMet subject.now.symbols.now terms.old subject.now.proof.now i) }
+    ensures placed { PlacesOnly subject.now.symbols.now terms.old terms.new subject.now.proof.now }
+    ensures full { IfErr result (λ stop. stop ≡ RuleStop.PoolFull → LacksRoomForPlaced subject.now.symbols.now terms.old terms.new subject.now.proof.now) }
+    ensures keeps { KeepsTerms terms.old terms.new }
+    ensures kept { AreKept subject.now.symbols.now terms.new subject.now.proof.now scopes.new }
+{
+    commands_stand_in_scopes();
+    commands_correspond();
+    proofs_stay();
+    let proof = subject.proof;
+    let symbols = subject.symbols;
+    let scope = proof.scope_of(i);
+    if let Err(stop) = scopes.enter(proof, scope, symbols, terms) {
+        return Err(refused(stop));
+    }
+    rules_refl::check(proof, i, Mode::Check, symbols, terms, scopes)
+}
+
+/// The status of the step at an index, whose rule is refl.
+fn status_of_refl(
+    subject: &Subject<'_>,
+    i: u32,
+    scopes: &mut OpenScopes,
+    terms: &mut Terms<'_>,
+) -> Result<Status, RuleStop>
+    requires index { i < commands_in subject.now.proof.now }
+    requires refl { rule_at subject.now.proof.now i ≡ Rule.Refl }
+    requires kept { AreKept subject.now.symbols.now terms.old subject.now.proof.now scopes.old }
+    ensures status { (asserted : List ℕ) → IfOk result (λ status. IsStatusOf subject.now.flags subject.now.symbols.now terms.old asserted subject.now.proof.now i status) }
+    ensures placed { PlacesOnly subject.now.symbols.now terms.old terms.new subject.now.proof.now }
+    ensures full { IfErr result (λ stop. stop ≡ RuleStop.PoolFull → LacksRoomForPlaced subject.now.symbols.now terms.old terms.new subject.now.proof.now) }
+    ensures keeps { KeepsTerms terms.old terms.new }
+    ensures kept { AreKept subject.now.symbols.now terms.new subject.now.proof.now scopes.new }
+{
+    commands_correspond();
+    match answer_of_refl(subject, i, scopes, terms) {
+        Ok(answer) => Ok(status_of(answer)),
+        Err(stop) => Err(stop),
+    }
+}
+
 /// The status of the command at an index.
 pub(crate) fn status_at(
     subject: &Subject<'_>,
@@ -142,28 +244,22 @@ pub(crate) fn status_at(
     terms: &mut Terms<'_>,
 ) -> Result<Status, RuleStop>
     requires index { i < commands_in subject.now.proof.now }
-    requires stand { StandForSome subject.now.symbols.now terms.old subject.now.proof.now }
+    requires kept { AreKept subject.now.symbols.now terms.old subject.now.proof.now kept.old.scopes }
     requires ready { AreAssertionsReady terms.old kept.old.asserted }
     requires short { IsShort subject.now.proof.now }
     requires sorted { (of : ProofItems Var Term) → StandForItems subject.now.symbols.now terms.old subject.now.proof.now of → IsClauseOfTruths (clause_at of i) }
     ensures status { IfOk result (λ status. IsStatusOf subject.now.flags subject.now.symbols.now terms.old (references_of kept.old.asserted) subject.now.proof.now i status) }
-    ensures stop { IfErr result (λ stop. stop ≡ RuleStop.Memory) }
+    ensures placed { PlacesOnly subject.now.symbols.now terms.old terms.new subject.now.proof.now }
+    ensures full { IfErr result (λ stop. stop ≡ RuleStop.PoolFull → LacksRoomForPlaced subject.now.symbols.now terms.old terms.new subject.now.proof.now) }
     ensures references { references_of kept.new.asserted ≡ references_of kept.old.asserted }
     ensures ready { OnOk result (AreAssertionsReady terms.new kept.new.asserted) }
-    ensures same { terms.new ≡ terms.old }
+    ensures keeps { KeepsTerms terms.old terms.new }
+    ensures kept { AreKept subject.now.symbols.now terms.new subject.now.proof.now kept.new.scopes }
 {
-    commands_correspond();
-    match kind_of(subject.proof.rule(i), subject.flags) {
-        Kind::Assumed => Ok(status_of_assume(&mut kept.asserted, subject, i, terms)?),
-        Kind::Hole => Ok(Status::Hole),
-        Kind::Unknown => Ok(Status::Faulty(StepCause::UnknownRule)),
-        Kind::Conditional(family) => Ok(status_of(answer_at(
-            subject,
-            family,
-            i,
-            kept.alloc,
-            &mut kept.resolution,
-            terms,
-        )?)),
+    keys_stay();
+    if is_reflexivity(subject.proof.rule(i)) {
+        status_of_refl(subject, i, &mut kept.scopes, terms)
+    } else {
+        status_of_other(subject, i, &mut kept.rules, &mut kept.asserted, terms)
     }
 }

@@ -1,7 +1,7 @@
-use Rattle.std.proofs.Common.{◌∙◌, get_or, refl}
-use Rattle.step_check.specs.Steps.{IsStatusOf}
+use Rattle.std.proofs.Common.{get_or, refl}
+use Rattle.proof_contexts.proofs.Growing.{keeps_both}
 use Rattle.step_check.proofs.AssumeLemmas.{refer_terms, known}
-use Rattle.step_check.proofs.ListLemmas.{each_push, length_push}
+use Rattle.step_check.proofs.Growing.{keeps_same_terms, kept_same_terms}
 use Rattle.step_check.proofs.checking.statuses.Goals as goal
 
 pub new-requires-2 : goal.new-requires-2
@@ -13,19 +13,18 @@ new-requires-2 c =
     rw c.assertions_of.ensures
     (λ k d below. known s v v (get_or asserted k d) refl (refer_terms s v asserted a.assertions a.refer k d below))
 
-pub status_at-requires-clause-sorted : goal.status_at-requires-clause-sorted
-status_at-requires-clause-sorted c of stand =
-    c.requires.sorted of c.commands.i (rw (c.commands.invariant.0, c.new-2.ensures.same) at stand)
+pub add_all-requires-clause-kept : goal.add_all-requires-clause-kept
+add_all-requires-clause-kept c = kept_same_terms _ _ _ _ _ c.new-2.ensures.same c.in_ok-scopes.ensures.kept
 
-pub commands-preserved : goal.commands-preserved
-commands-preserved c = (
-  c.status_at.ensures.same ∙ c.commands.invariant.0,
-  c.status_at.ensures.references ∙ c.commands.invariant.1,
-  c.in_ok-status.ensures.ready,
-  rw c.in_ok-add.ensures (length_push c.commands.list.items c.in_ok-status.status c.commands.i c.commands.invariant.3),
-  λ k status e.
-      each_push (IsStatusOf c.args.flags c.args.symbols.now c.new-2.new.terms c.args.problem.now.assertions c.args.proof.now)
-      c.commands.list.items c.in_ok-status.status c.commands.i c.commands.invariant.3 c.commands.invariant.4
-      (rw (c.commands.invariant.0, c.commands.invariant.1) at c.in_ok-status.ensures.status)
-      k status (rw c.in_ok-add.ensures at e),
-)
+pub add_all-requires-clause-sorted : goal.add_all-requires-clause-sorted
+add_all-requires-clause-sorted c of i stand = c.requires.sorted of i (rw c.new-2.ensures.same at stand)
+
+pub returns-in-Ok-clause-statuses : goal.returns-in-Ok-clause-statuses
+returns-in-Ok-clause-statuses c =
+    rw (c.new-2.ensures.same, c.in_ok-asserted.ensures.references, c.assertions_of.ensures) at c.in-Ok.ensures.statuses
+
+pub returns-in-Ok-clause-placed : goal.returns-in-Ok-clause-placed
+returns-in-Ok-clause-placed c = rw c.new-2.ensures.same at c.add_all.ensures.placed
+
+pub returns-in-Ok-clause-keeps : goal.returns-in-Ok-clause-keeps
+returns-in-Ok-clause-keeps c = keeps_both _ _ _ (keeps_same_terms _ _ c.new-2.ensures.same) c.add_all.ensures.keeps

@@ -1,9 +1,5 @@
-use Rattle.std.proofs.Common.{◌∙◌, [], sym, subst}
-use Rattle.step_check.specs.Steps.{IsOfFamily}
+use Rattle.step_check.proofs.Growing.{some_stand}
 use Rattle.step_check.proofs.steps.status_at.Goals as goal
 
-pub status_of_assume-requires-clause-assume : goal.status_of_assume-requires-clause-assume
-status_of_assume-requires-clause-assume c = sym c.rule.ensures ∙ c.in-Assumed.ensures []
-
-pub answer_at-requires-clause-family : goal.answer_at-requires-clause-family
-answer_at-requires-clause-family c = subst (IsOfFamily c.in-Conditional.family) c.rule.ensures (c.in-Conditional.ensures []).1
+pub status_of_other-requires-clause-stand : goal.status_of_other-requires-clause-stand
+status_of_other-requires-clause-stand c = some_stand _ _ _ _ c.requires.kept
