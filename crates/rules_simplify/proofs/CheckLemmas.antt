@@ -9,13 +9,16 @@ use Rattle.rule_model.specs.Conditions.{MeetsRule}
 use Rattle.rule_model.specs.Judged.{Judged}
 use Rattle.rule_model.specs.Proofs.{ProofItems}
 use Rattle.rule_model.specs.Reading.{rule_at, clause_at, premises_at}
-use Rattle.rule_model.specs.Simplification.{MeetsJoining}
+use Rattle.rule_model.specs.Simplification.{MeetsJoining, MeetsSimplification}
+use Rattle.rule_model.specs.Rewriting.{Simplifies}
 use Rattle.schema_match.specs.Equations.{StatesEquality}
 use Rattle.schema_match.specs.Steps.{MeetAt, ReferToClauses}
 use Rattle.rules_simplify.specs.declared.joins.Junction.{Junction}
 use Rattle.rules_simplify.specs.Families.{IsOfSimplification}
 use Rattle.rules_simplify.specs.Joins.{constant, IsJoined}
 use Rattle.rules_simplify.specs.Steps.{MeetsSimplify}
+use Rattle.rules_simplify.specs.Tables.{rows_of}
+use Rattle.rules_simplify.specs.declared.tables.Simplification.{Simplification}
 
 -- what a clause meets under a junction
 abbrev pub MeetsUnder : Junction → List Term → Type 0
@@ -37,21 +40,42 @@ joining_is s v p j ts told is test = (
 pub no_joining : (j : Junction) (ts : List Term) → ((u w : Term) → ts ≡ equality u w ∷ [] → ⊥) → IsTrue false ↔ MeetsUnder j ts
 no_joining j ts other = (λ e. absurd cc, λ m. absurd (other (operation j.op (terms_of m.arguments)) m.right m.literal))
 
+-- the same by a table of rewrites
+pub rewriting_is : (s : Table) (v : TermsView) (p : ℕ × ℕ) (table : Simplification) (ts : List Term) (told : Bool) (is : StatesEquality s v p [] ts) → IsTrue told ↔ Simplifies (rows_of table) is.left is.right → IsTrue told ↔ MeetsSimplification (rows_of table) [] ts
+rewriting_is s v p table ts told is test = (
+  λ e. record { left = is.left; right = is.right; none = refl; literal = is.literal; simplifies = test.0 e },
+  λ m.
+      (let sides = same_sides is.left is.right m.left m.right (sym is.literal ∙ m.literal) in
+      test.1 (rw (sides.0, sides.1) m.simplifies)),
+)
+
+pub no_rewriting : (table : Simplification) (ts : List Term) → ((u w : Term) → ts ≡ equality u w ∷ [] → ⊥) → IsTrue false ↔ MeetsSimplification (rows_of table) [] ts
+no_rewriting table ts other = (λ e. absurd cc, λ m. absurd (other m.left m.right m.literal))
+
 -- a rule of this family asks what its case asks
 rule_meets : (rule : Rule) (j : Judged) → IsOfSimplification rule → MeetsRule rule j ↔ MeetsSimplify rule j.premises j.clause
 rule_meets Rule.AndSimplify j is = (λ h. h, λ h. h)
 rule_meets Rule.OrSimplify j is = (λ h. h, λ h. h)
+rule_meets Rule.NotSimplify j is = (λ h. h, λ h. h)
+rule_meets Rule.ImpliesSimplify j is = (λ h. h, λ h. h)
+rule_meets Rule.IteSimplify j is = (λ h. h, λ h. h)
 rule_meets _ j is = absurd cc
 
 pub some_premise : (p : List Term) (ps : List (List Term)) (ts : List Term) (rule : Rule) → MeetsSimplify rule (p ∷ ps) ts → ⊥
 some_premise p ps ts Rule.AndSimplify met = absurd (let e = met.none in cc)
 some_premise p ps ts Rule.OrSimplify met = absurd (let e = met.none in cc)
+some_premise p ps ts Rule.NotSimplify met = absurd (let e = met.none in cc)
+some_premise p ps ts Rule.ImpliesSimplify met = absurd (let e = met.none in cc)
+some_premise p ps ts Rule.IteSimplify met = absurd (let e = met.none in cc)
 some_premise p ps ts rule met = absurd met
 
-pub other_rule : (ts : List Term) (rule : Rule) → (rule ≡ Rule.AndSimplify → ⊥) → (rule ≡ Rule.OrSimplify → ⊥) → IsTrue false ↔ MeetsSimplify rule [] ts
-other_rule ts Rule.AndSimplify no_and no_or = absurd (no_and refl)
-other_rule ts Rule.OrSimplify no_and no_or = absurd (no_or refl)
-other_rule ts rule no_and no_or = (λ e. absurd cc, λ met. absurd met)
+pub other_rule : (ts : List Term) (rule : Rule) → (rule ≡ Rule.AndSimplify → ⊥) → (rule ≡ Rule.OrSimplify → ⊥) → (rule ≡ Rule.NotSimplify → ⊥) → (rule ≡ Rule.ImpliesSimplify → ⊥) → (rule ≡ Rule.IteSimplify → ⊥) → IsTrue false ↔ MeetsSimplify rule [] ts
+other_rule ts Rule.AndSimplify no_and no_or no_not no_implies no_ite = absurd (no_and refl)
+other_rule ts Rule.OrSimplify no_and no_or no_not no_implies no_ite = absurd (no_or refl)
+other_rule ts Rule.NotSimplify no_and no_or no_not no_implies no_ite = absurd (no_not refl)
+other_rule ts Rule.ImpliesSimplify no_and no_or no_not no_implies no_ite = absurd (no_implies refl)
+other_rule ts Rule.IteSimplify no_and no_or no_not no_implies no_ite = absurd (no_ite refl)
+other_rule ts rule no_and no_or no_not no_implies no_ite = (λ e. absurd cc, λ met. absurd met)
 
 module _ (of : ProofItems Var Term) (i : ℕ) (rule : Rule) (simplification : IsOfSimplification rule) (same : rule ≡ rule_at of i) where
   pub case_of : (j : Judged) → MeetsRule (rule_at of i) j ↔ MeetsSimplify (rule_at of i) j.premises j.clause

@@ -15,7 +15,7 @@ pub told_apart : (b : Bool) → b ≡ true → b ≡ false → ⊥
 told_apart b e f = cc
 
 -- applications of an operator to lists
-same_lists : (op : Op) (ts us : List Term) → operation op (terms_of ts) ≡ operation op (terms_of us) → ts ≡ us
+pub same_lists : (op : Op) (ts us : List Term) → operation op (terms_of ts) ≡ operation op (terms_of us) → ts ≡ us
 same_lists op ts us e =
     let inside : terms_of ts ≡ terms_of us = cc in
     sym (list_of-terms_of ts) ∙ (ap list_of inside ∙ list_of-terms_of us)

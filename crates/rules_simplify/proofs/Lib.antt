@@ -7,4 +7,9 @@ pub mod OpposedLemmas
 pub mod OpposedItems
 pub mod ViewLemmas
 pub mod JoinLemmas
+pub mod RowLemmas
+pub mod ChainLemmas
+pub mod WeightLemmas
+pub mod RewriteLemmas
+pub mod StepLemmas
 pub mod CheckLemmas

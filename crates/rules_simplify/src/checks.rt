@@ -9,15 +9,18 @@ ghost use Rattle.rule_model.specs.Conditions.{IsClauseOfTruths, IsMetAt};
 ghost use Rattle.rule_model.specs.Proofs.{ProofItems};
 ghost use Rattle.rule_model.specs.Reading.{clause_at, rule_at};
 ghost use Rattle.rule_model.specs.Scopes.{commands_in};
-ghost use Rattle.rule_model.specs.Simplification.{MeetsJoining};
+ghost use Rattle.rule_model.specs.Simplification.{MeetsJoining, MeetsSimplification};
 ghost use Rattle.term_model.specs.Terms.{Var, Term};
 ghost use Rattle.term_pool.specs.Views.{IsTerm, ReferToAll};
 ghost use Rattle.schema_match.specs.Steps.{MeetAt};
 ghost use Rattle.rules_simplify.specs.Families.{IsOfSimplification};
 ghost use Rattle.rules_simplify.specs.Joins.{constant};
 ghost use Rattle.rules_simplify.specs.Steps.{MeetsSimplify};
+ghost use Rattle.rules_simplify.specs.Tables.{rows_of};
 
 use crate::joins::{Junction, joins};
+use crate::rewrites::simplifies;
+use crate::tables::Simplification;
 use pair_pool::{Memory, Ref};
 use proof_store::{Answer, Proof, RuleStop, commands_correspond, terms_correspond};
 use rule_model::laws::conditions::conditions_keep_truth;
@@ -45,6 +48,24 @@ fn meets_joining(
         return Ok(false);
     };
     joins(alloc, symbols, terms, junction, left, right)
+}
+
+/// Whether a clause is one equality whose left side is simplified to the right one by a table of rewrites.
+fn meets_rewriting(
+    alloc: Global,
+    symbols: &Symbols,
+    terms: &mut Terms<'_>,
+    table: Simplification,
+    clause: &[Ref],
+) -> Result<bool, Memory>
+    requires { All (IsTerm symbols.now terms.old) clause.now }
+    ensures meets { IfOk result (λ yes. (ts : List Term) → ReferToAll symbols.now terms.old clause.now ts → IsTrue yes ↔ MeetsSimplification (rows_of table) [] ts) }
+    ensures same { terms.new ≡ terms.old }
+{
+    let Some((left, right)) = equation(symbols, terms, &[], clause) else {
+        return Ok(false);
+    };
+    simplifies(alloc, symbols, terms, table, left, right)
 }
 
 /// Whether the clause of a step without premises meets a rule.
@@ -76,6 +97,15 @@ fn meets(
             };
             meets_joining(alloc, symbols, terms, junction, clause)
         }
+        Rule::NotSimplify => {
+            meets_rewriting(alloc, symbols, terms, Simplification::Not, clause)
+        }
+        Rule::ImpliesSimplify => {
+            meets_rewriting(alloc, symbols, terms, Simplification::Implies, clause)
+        }
+        Rule::IteSimplify => {
+            meets_rewriting(alloc, symbols, terms, Simplification::Ite, clause)
+        }
         _ => Ok(false),
     }
 }
@@ -106,7 +136,7 @@ fn meets_at(
 }
 
 /// Whether the step at an index meets the condition of its rule (Alethe specification, "List of rules"). The rule is
-/// and_simplify or or_simplify. Both modes ask the same. A step that closes a scope meets none of these rules.
+/// one of simplification: and_simplify, or_simplify, not_simplify, implies_simplify or ite_simplify. Both modes ask the same. A step that closes a scope meets none of these rules.
 ///
 /// The step's own arguments are not looked at. Its clause has to be of terms of Bool. Places no cell, and refuses want of
 /// memory alone.

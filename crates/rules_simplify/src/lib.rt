@@ -1,13 +1,15 @@
-//! The rules of simplification of the Alethe specification over the arguments of `and` and `or`: whether a step meets the
-//! condition of its rule.
+//! The rules of simplification of the Alethe specification, over the arguments of `and` and `or` and by tables of rewrites:
+//! whether a step meets the condition of its rule.
 //!
-//! The list is walked a few times, and a table of its items is kept: in time and memory in proportion to the list. No
-//! cell is placed.
+//! A list of arguments is walked a few times, and a table of its items is kept: in time and memory in proportion to the
+//! list. A table of rewrites is tried row after row, at each step of a chain. No cell is placed.
 #![tactic(auto)]
 
 mod checks;
 mod joins;
 mod opposed;
+mod rewrites;
 mod shorter;
+mod tables;
 
 pub use checks::check;

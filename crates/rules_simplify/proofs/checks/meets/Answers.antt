@@ -14,5 +14,21 @@ returns-in-OrSimplify-clause-meets c =
     IfOk-weaker c.meets_joining-in-OrSimplify.result _ _ (λ b test ts clause.
     subst (λ rule. IsTrue b ↔ MeetsSimplify rule [] ts) (sym c.in-OrSimplify.is) (test ts clause)) c.meets_joining-in-OrSimplify.ensures.meets
 
+pub returns-in-NotSimplify-clause-meets : goal.returns-in-NotSimplify-clause-meets
+returns-in-NotSimplify-clause-meets c =
+    IfOk-weaker c.meets_rewriting.result _ _ (λ b test ts clause.
+    subst (λ rule. IsTrue b ↔ MeetsSimplify rule [] ts) (sym c.in-NotSimplify.is) (test ts clause)) c.meets_rewriting.ensures.meets
+
+pub returns-in-ImpliesSimplify-clause-meets : goal.returns-in-ImpliesSimplify-clause-meets
+returns-in-ImpliesSimplify-clause-meets c =
+    IfOk-weaker c.meets_rewriting-in-ImpliesSimplify.result _ _ (λ b test ts clause.
+    subst (λ rule. IsTrue b ↔ MeetsSimplify rule [] ts) (sym c.in-ImpliesSimplify.is) (test ts clause)) c.meets_rewriting-in-ImpliesSimplify.ensures.meets
+
+pub returns-in-IteSimplify-clause-meets : goal.returns-in-IteSimplify-clause-meets
+returns-in-IteSimplify-clause-meets c =
+    IfOk-weaker c.meets_rewriting-in-IteSimplify.result _ _ (λ b test ts clause.
+    subst (λ rule. IsTrue b ↔ MeetsSimplify rule [] ts) (sym c.in-IteSimplify.is) (test ts clause)) c.meets_rewriting-in-IteSimplify.ensures.meets
+
 pub returns-in_default-clause-meets : goal.returns-in_default-clause-meets
-returns-in_default-clause-meets c ts clause = other_rule ts c.args.rule c.in_default.not-AndSimplify c.in_default.not-OrSimplify
+returns-in_default-clause-meets c ts clause =
+    other_rule ts c.args.rule c.in_default.not-AndSimplify c.in_default.not-OrSimplify c.in_default.not-NotSimplify c.in_default.not-ImpliesSimplify c.in_default.not-IteSimplify

@@ -1,0 +1,114 @@
+-- Steps of a chain of first rows.
+use Rattle.std.proofs.Common.{◌≡◌, ◌≢◌, ◌↔◌, inl, inr, ◌<◌, ℕ, List, [], ◌∷◌, map, Bool, true, false, IsTrue, Any, Some, None, Contains, refl, sym, ap, ◌∙◌, subst, arith}
+use Rattle.sym_table.specs.Table.{Table, IsTable}
+use Rattle.term_model.specs.declared.symbols.Op.{Op}
+use Rattle.term_model.specs.Terms.{Term, operation, terms_of}
+use Rattle.term_pool.specs.Decoding.{HasTermsAt}
+use Rattle.term_pool.specs.Views.{TermsView, IsTerm, RefersTo, ReferToAll}
+use Rattle.rule_model.specs.declared.letter.Letter.{Letter}
+use Rattle.rule_model.specs.Rewriting.{RewriteRow, Rewrites, FitsRow, IsFirstFit, IsReached, once, Simplifies}
+use Rattle.rule_model.specs.Schemas.{letter, fill}
+use Rattle.schema_match.specs.Letters.{slot}
+use Rattle.rules_simplify.specs.declared.rewrites.Application.{Application}
+use Rattle.rules_simplify.specs.declared.rewrites.Fit.{Fit}
+use Rattle.rules_simplify.specs.declared.tables.Next.TheVariants.{Ends, Part, Over}
+use Rattle.rules_simplify.specs.declared.tables.Simplification.{Simplification}
+use Rattle.rules_simplify.specs.Chains.{heaviness, IsAt, IsSomeAt, IsFirst, IsMissing}
+use Rattle.rules_simplify.specs.Tables.{IsNext, has_letter, has_letters_of, rows_of}
+use Rattle.rules_simplify.proofs.ChainLemmas.{reached_none, reached_next, first_is_any}
+use Rattle.rules_simplify.proofs.RowLemmas.{last_fits_none, letter_settled, letter_refers, letters_refer, over_is, letter_there, rewrite_is}
+use Rattle.rules_simplify.proofs.WeightLemmas.{row_falls, weight_at, weight_is}
+use Rattle.std.specs.Borrow.{Bor}
+
+module _ (s : Table) (v : TermsView) (rows : List RewriteRow) (fit : Fit) (t : Term) (is : IsFirst s v rows fit t) where
+  -- what the row makes
+  abbrev pub next_term : Term
+  next_term = fill is.fits.terms is.row.right
+
+  pub ends_here : fit.row.next ≡ Ends → (u : Term) → ¬ IsFirstFit rows next_term u
+  ends_here e u = last_fits_none rows is.row.right is.fits.terms (subst (IsNext rows is.row.right) e is.parts.5) u
+
+  part_is : (l : Letter) → fit.row.next ≡ Part l → is.row.right ≡ letter l
+  part_is l e = subst (IsNext rows is.row.right) e is.parts.5
+
+  pub part_settled : (l : Letter) → fit.row.next ≡ Part l → slot fit.letters l ≡ None → ⊥
+  part_settled l e none =
+      letter_settled s v fit.letters is.row t is.fits l (subst (λ p. IsTrue (has_letters_of is.row.left p)) (part_is l e) is.parts.4) none
+
+  pub part_refers : (l : Letter) (r : ℕ) → fit.row.next ≡ Part l → slot fit.letters l ≡ Some r → RefersTo s v r next_term
+  part_refers l r e there =
+      subst (λ p. RefersTo s v r (fill is.fits.terms p)) (sym (part_is l e)) (letter_refers s v fit.letters is.fits.terms is.fits.agrees l r there)
+
+  pub over_at : (op : Op) (ls : Bor (List Letter)) (at : Application) → fit.row.next ≡ Over op ls → at.op ≡ op → map (slot fit.letters) ls.now ≡ map Some at.arguments.items → IsAt s v at next_term
+  over_at op ls at e same loaded =
+      let next = subst (IsNext rows is.row.right) e is.parts.5 in
+      record {
+        arguments = map is.fits.terms ls.now;
+        is = over_is is.fits.terms is.row.right op ls.now next.0 next.1 ∙ ap (λ o. operation o (terms_of (map is.fits.terms ls.now))) (sym same);
+        refer = letters_refer s v fit.letters is.fits.terms is.fits.agrees ls.now at.arguments.items loaded;
+      }
+
+  pub over_missing : (op : Op) (ls : Bor (List Letter)) → fit.row.next ≡ Over op ls → IsMissing fit.letters ls.now → ⊥
+  over_missing op ls e missing =
+      let next = subst (IsNext rows is.row.right) e is.parts.5 in
+      letter_settled s v fit.letters is.row t is.fits missing.letter (letter_there is.row.left is.row.right ls.now is.parts.4 next.1 missing.letter missing.there) missing.none
+
+  -- the first row that fits makes this and nothing else
+  pub first_makes : IsFirstFit rows t next_term
+  first_makes = (is.first next_term).0 ((rewrite_is s v fit.letters is.row t next_term is.parts.3 is.parts.4 is.fits).1 refl)
+
+  pub only_makes : (u : Term) → IsFirstFit rows t u → u ≡ next_term
+  only_makes u h = (rewrite_is s v fit.letters is.row t u is.parts.3 is.parts.4 is.fits).0 ((is.first u).1 h)
+
+  pub from_left : t ≡ fill is.fits.terms is.row.left
+  from_left = (is.fits.gives is.fits.terms).1 is.fits.agrees
+
+  module _ (b : Bool) (u : Term) (test : (f : Letter → Term) → t ≡ fill f is.row.left → IsTrue b ↔ (u ≡ fill f is.row.right)) where
+    pub reached_here : b ≡ true → IsReached rows t u
+    reached_here holds = once t u (subst (IsFirstFit rows t) (sym ((test is.fits.terms from_left).0 holds)) first_makes)
+
+    pub reached_later : b ≡ false → IsReached rows t u ↔ IsReached rows next_term u
+    reached_later fails =
+        let step = reached_next rows t next_term u first_makes only_makes in (
+          λ r. elim (step.0 r) [
+            | inl e ↦ absurd (let holds = (test is.fits.terms from_left).1 e in cc)
+            | inr rest ↦ rest
+          ],
+          λ rest. step.1 (inr rest),
+        )
+
+-- a term reached by the chain so far: what can be reached from the first one can be reached from it
+pub record IsOnWay (s : Table) (v : TermsView) (rows : List RewriteRow) (at : Application) (t u : Term) : Type 0 where
+  pub here : Term
+  pub is : IsAt s v at here
+  pub same : IsReached rows t u ↔ IsReached rows here u
+
+pub way_starts : (s : Table) (v : TermsView) (rows : List RewriteRow) (at : Application) (t u : Term) → IsAt s v at t → IsOnWay s v rows at t u
+way_starts s v rows at t u is = record { here = t; is = is; same = (λ h. h, λ h. h) }
+
+module _ (s : Table) (v : TermsView) (rows : List RewriteRow) (at : Application) (t u : Term) (way : IsOnWay s v rows at t u) where
+  pub way_ends : ((w : Term) → ¬ IsFirstFit rows way.here w) → IsTrue false ↔ IsReached rows t u
+  way_ends none = (λ e. absurd cc, λ h. absurd (reached_none rows way.here u none (way.same.0 h)))
+
+  module _ (fit : Fit) (is : IsFirst s v rows fit way.here) (b : Bool) (test : (f : Letter → Term) → way.here ≡ fill f is.row.left → IsTrue b ↔ (u ≡ fill f is.row.right)) where
+    pub way_finds : b ≡ true → IsTrue true ↔ IsReached rows t u
+    way_finds holds = (λ e. way.same.1 (reached_here s v rows fit way.here is b u test holds), λ h. refl)
+
+    pub way_stops : b ≡ false → ((w : Term) → ¬ IsFirstFit rows (next_term s v rows fit way.here is) w) → IsTrue false ↔ IsReached rows t u
+    way_stops fails none = (
+      λ e. absurd cc,
+      λ h. absurd (reached_none rows (next_term s v rows fit way.here is) u none ((reached_later s v rows fit way.here is b u test fails).0 (way.same.0 h))),
+    )
+
+    pub way_goes : (new : Application) → b ≡ false → IsAt s v new (next_term s v rows fit way.here is) → IsOnWay s v rows new t u
+    way_goes new fails next =
+        let later = reached_later s v rows fit way.here is b u test fails in
+        record { here = next_term s v rows fit way.here is; is = next; same = (λ h. later.0 (way.same.0 h), λ h. way.same.1 (later.1 h)) }
+
+-- a step lowers the weight
+pub step_falls : (s : Table) (v : TermsView) → IsTable s → HasTermsAt v → (table : Simplification) (fit : Fit) (t : Term) (is : IsFirst s v (rows_of table) fit t) (at new : Application) → IsAt s v at t → IsAt s v new (next_term s v (rows_of table) fit t is) → weight_at s v new < weight_at s v at
+step_falls s v symbols terms table fit t is at new here next =
+    let falls = row_falls table is.row is.there is.fits.terms in
+    let before = weight_is s v symbols terms at t here ∙ ap heaviness (from_left s v (rows_of table) fit t is) in
+    let after = weight_is s v symbols terms new (next_term s v (rows_of table) fit t is) next in
+    omega (arith, falls, before, after)

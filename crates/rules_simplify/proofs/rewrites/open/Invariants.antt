@@ -1,0 +1,13 @@
+use Rattle.std.proofs.Common.{◌≡◌, drop, Any}
+use Rattle.term_model.specs.Terms.{Term}
+use Rattle.term_pool.specs.Views.{RefersTo}
+use Rattle.rule_model.specs.Rewriting.{FitsRow}
+use Rattle.rules_simplify.specs.Tables.{AreRows, rows_of}
+use Rattle.rules_simplify.proofs.rewrites.open.Given as goal
+
+abbrev pub invariant-loop-row : goal.invariant-loop-row
+invariant-loop-row l = record {
+  same : l.terms ≡ l.fn.terms;
+  are : AreRows (rows_of l.fn.table) l.row-items;
+  left : (t : Term) → RefersTo l.fn.symbols l.fn.terms l.fn.r t → Any (λ row. FitsRow row t) (rows_of l.fn.table) → Any (λ row. FitsRow row t) (drop l.row-index (rows_of l.fn.table));
+}

@@ -1,0 +1,94 @@
+-- Private. The tables of rewrites as parts of patterns.
+use Rattle.std.specs.Prelude.{◌≡◌, List, [], ◌∷◌, Bool, true, false, not, ◌&&◌, ◌||◌, IsTrue, Option, Some, None, map}
+use Rattle.std.specs.List.{AllZip}
+use Rattle.term_model.specs.declared.symbols.Op.{Op}
+use Rattle.rule_model.specs.declared.letter.Letter.{Letter}
+use Rattle.rule_model.specs.Rewriting.{RewriteRow, always}
+use Rattle.rule_model.specs.Schemas.{Pattern, letter, constant, unary, binary, ternary}
+use Rattle.rule_model.specs.Simplification.{not_simplify, implies_simplify, ite_simplify}
+use Rattle.rule_model.specs.TermTests.{op_eq}
+use Rattle.schema_match.specs.Matching.{parts_of}
+use Rattle.rules_simplify.specs.declared.tables.Next.{Next}
+use Rattle.rules_simplify.specs.declared.tables.Next.TheVariants.{Ends, Part, Over}
+use Rattle.rules_simplify.specs.declared.tables.RowParts.{RowParts}
+use Rattle.rules_simplify.specs.declared.tables.Simplification.{Simplification}
+
+-- the rows of each table
+abbrev pub rows_of : Simplification → List RewriteRow
+rows_of Simplification.Not = not_simplify
+rows_of Simplification.Implies = implies_simplify
+rows_of Simplification.Ite = ite_simplify
+
+-- the operator of a pattern that is an application to some arguments, and these
+abbrev pub root_of : Pattern → Option Op
+root_of (letter l) = None
+root_of (constant op) = None
+root_of (unary op p) = Some op
+root_of (binary op p q) = Some op
+root_of (ternary op p q r) = Some op
+
+abbrev pub arguments_in : Pattern → List Pattern
+arguments_in (letter l) = []
+arguments_in (constant op) = []
+arguments_in (unary op p) = p ∷ []
+arguments_in (binary op p q) = p ∷ q ∷ []
+arguments_in (ternary op p q r) = p ∷ q ∷ r ∷ []
+
+-- whether a letter stands in a pattern, and whether each letter of one does
+abbrev pub same_letter : Letter → Letter → Bool
+same_letter Letter.A Letter.A = true
+same_letter Letter.B Letter.B = true
+same_letter Letter.C Letter.C = true
+same_letter Letter.D Letter.D = true
+same_letter _ _ = false
+
+abbrev pub has_letter : Letter → Pattern → Bool
+has_letter l (letter m) = same_letter l m
+has_letter l (constant op) = false
+has_letter l (unary op p) = has_letter l p
+has_letter l (binary op p q) = has_letter l p || has_letter l q
+has_letter l (ternary op p q r) = has_letter l p || (has_letter l q || has_letter l r)
+
+abbrev pub has_letters_of : Pattern → Pattern → Bool
+has_letters_of whole (letter l) = has_letter l whole
+has_letters_of whole (constant op) = true
+has_letters_of whole (unary op p) = has_letters_of whole p
+has_letters_of whole (binary op p q) = has_letters_of whole p && has_letters_of whole q
+has_letters_of whole (ternary op p q r) = has_letters_of whole p && (has_letters_of whole q && has_letters_of whole r)
+
+-- whether two patterns may become one term, each with terms of its own for the letters, as far as their operators tell
+abbrev pub may_be : Pattern → Pattern → Bool
+may_be (letter l) q = true
+may_be (constant op) (letter m) = true
+may_be (constant op) (constant o) = op_eq op o
+may_be (unary op p) (letter m) = true
+may_be (unary op p) (unary o p') = op_eq op o && may_be p p'
+may_be (binary op p q) (letter m) = true
+may_be (binary op p q) (binary o p' q') = op_eq op o && (may_be p p' && may_be q q')
+may_be (ternary op p q r) (letter m) = true
+may_be (ternary op p q r) (ternary o p' q' r') = op_eq op o && (may_be p p' && (may_be q q' && may_be r r'))
+may_be _ _ = false
+
+-- whether what a pattern becomes fits no row, as far as operators tell
+abbrev pub is_last : List RewriteRow → Pattern → Bool
+is_last [] p = true
+is_last (row ∷ rows) p = not (may_be row.left p) && is_last rows p
+
+-- what is said of a row's right side: it fits no row, or is a letter, or is an operator over letters
+abbrev pub IsNext : List RewriteRow → Pattern → Next → Type 0
+IsNext rows right Ends = IsTrue (is_last rows right)
+IsNext rows right (Part l) = right ≡ letter l
+IsNext rows right (Over op ls) = (root_of right ≡ Some op) × (arguments_in right ≡ map letter ls.now)
+
+-- the parts of a row of a table: its left side is an application that has the right side's letters
+abbrev pub IsRow : List RewriteRow → RewriteRow → RowParts → Type 0
+IsRow rows row parts =
+    (root_of row.left ≡ Some parts.op)
+    × (parts.left.now ≡ parts_of (arguments_in row.left))
+    × (parts.both.now ≡ parts_of (row.right ∷ arguments_in row.left))
+    × (row.guard ≡ always)
+    × IsTrue (has_letters_of row.left row.right)
+    × IsNext rows row.right parts.next
+
+abbrev pub AreRows : List RewriteRow → List RowParts → Type 0
+AreRows rows parts = AllZip (IsRow rows) rows parts

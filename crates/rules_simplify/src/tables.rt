@@ -1,0 +1,250 @@
+//! The rows of the rules of simplification, in the order of their tables.
+
+ghost use Rattle.rules_simplify.specs.Tables.{AreRows, rows_of};
+
+use rule_model::Letter;
+use schema_match::Part;
+use term_model::Op;
+
+/// A rule of simplification by a table of rewrites.
+#[derive(Clone, Copy)]
+pub(crate) enum Simplification {
+    Not,
+    Implies,
+    Ite,
+}
+
+/// What a row makes of a term, as the next term of a chain.
+#[derive(Clone, Copy)]
+pub(crate) enum Next {
+    /// A term that fits no row of the table.
+    Ends,
+    /// What a letter stands for.
+    Part(Letter),
+    /// An operator over what letters stand for.
+    Over(Op, &'static [Letter]),
+}
+
+/// A row of a table of rewrites. Its left side is an application.
+#[derive(Clone, Copy)]
+pub(crate) struct RowParts {
+    /// The operator of the left side.
+    pub(crate) op: Op,
+    /// The parts of the left side's arguments.
+    pub(crate) left: &'static [Part],
+    /// The parts of the right side, and then those of the left side's arguments.
+    pub(crate) both: &'static [Part],
+    pub(crate) next: Next,
+}
+
+const A: Part = Part::Any(Letter::A);
+
+const B: Part = Part::Any(Letter::B);
+
+const C: Part = Part::Any(Letter::C);
+
+const D: Part = Part::Any(Letter::D);
+
+const TRUE: Part = Part::Apply(Op::True, 0);
+
+const FALSE: Part = Part::Apply(Op::False, 0);
+
+const NOT: Part = Part::Apply(Op::Not, 1);
+
+const AND: Part = Part::Apply(Op::And, 2);
+
+const OR: Part = Part::Apply(Op::Or, 2);
+
+const IMPLIES: Part = Part::Apply(Op::Implies, 2);
+
+const ITE: Part = Part::Apply(Op::Ite, 3);
+
+static NOT_ROWS: [RowParts; 3] = [
+    RowParts {
+        op: Op::Not,
+        left: &[NOT, A],
+        both: &[A, NOT, A],
+        next: Next::Part(Letter::A),
+    },
+    RowParts {
+        op: Op::Not,
+        left: &[FALSE],
+        both: &[TRUE, FALSE],
+        next: Next::Ends,
+    },
+    RowParts {
+        op: Op::Not,
+        left: &[TRUE],
+        both: &[FALSE, TRUE],
+        next: Next::Ends,
+    },
+];
+
+/// The rows of not_simplify.
+fn not_rows() -> &'static [RowParts]
+    ensures { AreRows (rows_of Simplification.Not) result.now }
+{
+    &NOT_ROWS
+}
+
+static IMPLIES_ROWS: [RowParts; 9] = [
+    RowParts {
+        op: Op::Implies,
+        left: &[NOT, A, NOT, B],
+        both: &[IMPLIES, B, A, NOT, A, NOT, B],
+        next: Next::Over(Op::Implies, &[Letter::B, Letter::A]),
+    },
+    RowParts {
+        op: Op::Implies,
+        left: &[FALSE, A],
+        both: &[TRUE, FALSE, A],
+        next: Next::Ends,
+    },
+    RowParts {
+        op: Op::Implies,
+        left: &[A, TRUE],
+        both: &[TRUE, A, TRUE],
+        next: Next::Ends,
+    },
+    RowParts {
+        op: Op::Implies,
+        left: &[TRUE, A],
+        both: &[A, TRUE, A],
+        next: Next::Part(Letter::A),
+    },
+    RowParts {
+        op: Op::Implies,
+        left: &[A, FALSE],
+        both: &[NOT, A, A, FALSE],
+        next: Next::Ends,
+    },
+    RowParts {
+        op: Op::Implies,
+        left: &[A, A],
+        both: &[TRUE, A, A],
+        next: Next::Ends,
+    },
+    RowParts {
+        op: Op::Implies,
+        left: &[NOT, A, A],
+        both: &[A, NOT, A, A],
+        next: Next::Part(Letter::A),
+    },
+    RowParts {
+        op: Op::Implies,
+        left: &[A, NOT, A],
+        both: &[NOT, A, A, NOT, A],
+        next: Next::Ends,
+    },
+    RowParts {
+        op: Op::Implies,
+        left: &[IMPLIES, A, B, B],
+        both: &[OR, A, B, IMPLIES, A, B, B],
+        next: Next::Ends,
+    },
+];
+
+/// The rows of implies_simplify.
+fn implies_rows() -> &'static [RowParts]
+    ensures { AreRows (rows_of Simplification.Implies) result.now }
+{
+    &IMPLIES_ROWS
+}
+
+static ITE_ROWS: [RowParts; 12] = [
+    RowParts {
+        op: Op::Ite,
+        left: &[TRUE, A, B],
+        both: &[A, TRUE, A, B],
+        next: Next::Part(Letter::A),
+    },
+    RowParts {
+        op: Op::Ite,
+        left: &[FALSE, A, B],
+        both: &[B, FALSE, A, B],
+        next: Next::Part(Letter::B),
+    },
+    RowParts {
+        op: Op::Ite,
+        left: &[C, A, A],
+        both: &[A, C, A, A],
+        next: Next::Part(Letter::A),
+    },
+    RowParts {
+        op: Op::Ite,
+        left: &[NOT, C, A, B],
+        both: &[ITE, C, B, A, NOT, C, A, B],
+        next: Next::Over(Op::Ite, &[Letter::C, Letter::B, Letter::A]),
+    },
+    RowParts {
+        op: Op::Ite,
+        left: &[C, ITE, C, A, B, D],
+        both: &[ITE, C, A, D, C, ITE, C, A, B, D],
+        next: Next::Over(Op::Ite, &[Letter::C, Letter::A, Letter::D]),
+    },
+    RowParts {
+        op: Op::Ite,
+        left: &[C, A, ITE, C, B, D],
+        both: &[ITE, C, A, D, C, A, ITE, C, B, D],
+        next: Next::Over(Op::Ite, &[Letter::C, Letter::A, Letter::D]),
+    },
+    RowParts {
+        op: Op::Ite,
+        left: &[C, TRUE, FALSE],
+        both: &[C, C, TRUE, FALSE],
+        next: Next::Part(Letter::C),
+    },
+    RowParts {
+        op: Op::Ite,
+        left: &[C, FALSE, TRUE],
+        both: &[NOT, C, C, FALSE, TRUE],
+        next: Next::Ends,
+    },
+    RowParts {
+        op: Op::Ite,
+        left: &[C, TRUE, A],
+        both: &[OR, C, A, C, TRUE, A],
+        next: Next::Ends,
+    },
+    RowParts {
+        op: Op::Ite,
+        left: &[C, A, FALSE],
+        both: &[AND, C, A, C, A, FALSE],
+        next: Next::Ends,
+    },
+    RowParts {
+        op: Op::Ite,
+        left: &[C, FALSE, A],
+        both: &[AND, NOT, C, A, C, FALSE, A],
+        next: Next::Ends,
+    },
+    RowParts {
+        op: Op::Ite,
+        left: &[C, A, TRUE],
+        both: &[OR, NOT, C, A, C, A, TRUE],
+        next: Next::Ends,
+    },
+];
+
+/// The rows of ite_simplify.
+fn ite_rows() -> &'static [RowParts]
+    ensures { AreRows (rows_of Simplification.Ite) result.now }
+{
+    &ITE_ROWS
+}
+
+/// Some row of a table.
+pub(crate) fn some_row() -> RowParts {
+    NOT_ROWS[0]
+}
+
+/// The rows of a table.
+pub(crate) fn rows(of: Simplification) -> &'static [RowParts]
+    ensures { AreRows (rows_of of) result.now }
+{
+    match of {
+        Simplification::Not => not_rows(),
+        Simplification::Implies => implies_rows(),
+        Simplification::Ite => ite_rows(),
+    }
+}
