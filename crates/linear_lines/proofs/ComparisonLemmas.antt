@@ -1,0 +1,165 @@
+-- What terms and negated literals say as comparisons.
+use Rattle.std.proofs.Common.{◌≡◌, ◌≢◌, ◌↔◌, ℕ, zero, suc, ◌%◌, ◌<◌, List, [], ◌∷◌, length, Bool, true, false, IsTrue, All, Option, Some, None, refl, sym, ap, ◌∙◌, subst, arith}
+use Rattle.std.specs.List.{slice_get}
+use Rattle.std.proofs.lemmas.List.Elements.{All-head, All-tail}
+use Rattle.sort_check.proofs.Leaves.{there, at_leaf, operator_leaf}
+use Rattle.std.proofs.lemmas.Option.{slice_get_within}
+use Rattle.sym_table.specs.Leaf.{Leaf, nil, let_head, operator, function, variable, numeral, kind_of}
+use Rattle.sym_table.specs.Table.{Table, IsTable, IsLeaf, LeafMeets}
+use Rattle.sym_table.specs.declared.kind.Kind.{Kind}
+use Rattle.sort_check.specs.WellSorted.{IsWellSortedTerm}
+use Rattle.term_model.specs.declared.symbols.Op.{Op}
+use Rattle.term_model.specs.declared.symbols.Sort.{Sort}
+use Rattle.term_model.specs.Sorts.{IsOf, IsWellSorted}
+use Rattle.term_model.specs.Terms as term
+use Rattle.term_model.specs.Terms.{Term, Terms, operation, no_terms, not_of}
+use Rattle.term_model.proofs.Sorting.{one_sort, operation_parts}
+use Rattle.term_pool.specs.Building.{IsAppliedLeaf}
+use Rattle.term_pool.specs.Nots.{negated, Strips, IsStripped}
+use Rattle.term_pool.specs.Reading.{arguments_of, IsLet}
+use Rattle.term_pool.specs.Views.{TermsView, RefersTo}
+use Rattle.term_parts.specs.Parts.{IsOver}
+use Rattle.term_parts.proofs.PartLemmas.{over_two}
+use Rattle.rule_model.specs.Arithmetic.{Relation, exceeds, reaches, equals, Comparison, if_true, if_false, denial}
+use Rattle.linear_lines.specs.declared.comparisons as code
+use Rattle.linear_lines.specs.Comparisons.{StandsForComparison, IsNumberComparison, IsOfNumbers, said_by, IsReadBy, IsRead, IsFound}
+use Rattle.linear_lines.specs.Operands.{AreOperands}
+
+-- what a literal's negation says is what the term behind its `not`s says
+bare_denial : (u : Term) → ((w : Term) → u ≡ not_of w → ⊥) → denial u ≡ if_false u
+bare_denial (operation Op.Not (term.term w no_terms)) bare = absurd (bare w refl)
+bare_denial (operation Op.Not no_terms) bare = refl
+bare_denial (operation Op.Not (term.term (operation Op.Not no_terms) (term.term x ts))) bare = refl
+bare_denial (operation Op.Not (term.term (operation Op.Not (term.term y no_terms)) (term.term x ts))) bare = refl
+bare_denial (operation Op.Not (term.term (operation Op.Not (term.term y (term.term z us))) (term.term x ts))) bare = refl
+bare_denial _ bare = refl
+
+odd_denial : (u : Term) → ((w : Term) → u ≡ not_of w → ⊥) → denial (not_of u) ≡ if_true u
+odd_denial (operation Op.Not (term.term w no_terms)) bare = absurd (bare w refl)
+odd_denial (operation Op.Not no_terms) bare = refl
+odd_denial (operation Op.Not (term.term w (term.term x ts))) bare = refl
+odd_denial _ bare = refl
+
+pub denied_is : (n : ℕ) (u : Term) (odd : Bool) → ((w : Term) → u ≡ not_of w → ⊥) → IsTrue odd ↔ (n % 2 ≡ 1) → denial (negated n u) ≡ said_by odd u
+denied_is zero u true bare parity = absurd (let e = parity.0 refl in omega (arith, e))
+denied_is zero u false bare parity = bare_denial u bare
+denied_is (suc zero) u true bare parity = odd_denial u bare
+denied_is (suc zero) u false bare parity = absurd (let e = parity.1 refl in cc)
+denied_is (suc (suc n)) u odd bare parity =
+    denied_is n u odd bare (λ t. (let e = parity.0 t in omega (arith, e)), λ e. parity.1 (omega (arith, e)))
+
+-- what stands in a well-sorted term is well sorted
+under_not : (u : Term) → IsWellSorted (not_of u) → IsWellSorted u
+under_not u h = All-head IsWellSorted u [] (operation_parts Op.Not (term.term u no_terms) h.sort h.of)
+
+pub under_nots : (n : ℕ) (u : Term) → IsWellSorted (negated n u) → IsWellSorted u
+under_nots zero u h = h
+under_nots (suc n) u h = under_nots n u (under_not (negated n u) h)
+
+pub both_sorted : (op : Op) (t u : Term) → IsWellSorted (operation op (term.term t (term.term u no_terms))) → IsWellSorted t × IsWellSorted u
+both_sorted op t u h =
+    let all = operation_parts op (term.term t (term.term u no_terms)) h.sort h.of in
+    (All-head IsWellSorted t (u ∷ []) all, All-head IsWellSorted u [] (All-tail IsWellSorted t (u ∷ []) all))
+
+-- the head of an application to two terms, and of a term that is none
+pub head_below : (s : Table) (k : ℕ) (t : Term) → IsAppliedLeaf s k (arguments_of t) t → k < length s.leaves
+head_below s k (term.numeral n) app = slice_get_within s.leaves k (numeral _) app.0
+head_below s k (term.variable x) app = slice_get_within s.leaves k _ app.0
+head_below s k (operation op ts) app = slice_get_within s.leaves k _ app.0
+head_below s k (term.call f ts) app = slice_get_within s.leaves k _ app.0
+head_below s k (term.let_in bs u) app = absurd app
+
+pub no_operator : (s : Table) (k m n : ℕ) (kind : Kind) (t : Term) → LeafMeets s k (λ l. kind ≡ kind_of m l) → ((op : Op) → kind ≡ Kind.Op op → ⊥) → IsAppliedLeaf s k (arguments_of t) t → (op : Op) → ¬ IsOver op n t
+no_operator s k m n kind (operation o ts) meets other app op h = other o (at_leaf s k (operator o) (λ l. kind ≡ kind_of m l) app.0 meets)
+no_operator s k m n kind (term.numeral z) meets other app op h = h
+no_operator s k m n kind (term.variable x) meets other app op h = h
+no_operator s k m n kind (term.call f ts) meets other app op h = h
+no_operator s k m n kind (term.let_in bs u) meets other app op h = h
+
+pub operator_is : (s : Table) (k m : ℕ) (op : Op) → LeafMeets s k (λ l. Kind.Op op ≡ kind_of m l) → IsLeaf s k (operator op)
+operator_is s k m op meets =
+    let x = there s k (λ l. Kind.Op op ≡ kind_of m l) meets in subst (IsLeaf s k) (operator_leaf m op x.0 x.2) x.1
+
+pub other_count : (k n : ℕ) (t : Term) → k ≢ n → ((IsLet t → ⊥) → k ≡ length (arguments_of t)) → (op : Op) → ¬ IsOver op n t
+other_count k n (operation o ts) other count op h = other (count (λ i. i) ∙ h.1)
+other_count k n (term.numeral z) other count op h = h
+other_count k n (term.variable x) other count op h = h
+other_count k n (term.call f ts) other count op h = h
+other_count k n (term.let_in bs u) other count op h = h
+
+no_two : (t : Term) (truth : Bool) (c : Comparison) → said_by truth t ≡ Some c → (op : Op) × IsOver op 2 t
+no_two (operation Op.LessEq (term.term x (term.term y no_terms))) truth c e = (Op.LessEq, (refl, refl))
+no_two (operation Op.Less (term.term x (term.term y no_terms))) truth c e = (Op.Less, (refl, refl))
+no_two (operation Op.GreaterEq (term.term x (term.term y no_terms))) truth c e = (Op.GreaterEq, (refl, refl))
+no_two (operation Op.Greater (term.term x (term.term y no_terms))) truth c e = (Op.Greater, (refl, refl))
+no_two (operation Op.Equal (term.term x (term.term y no_terms))) truth c e = (Op.Equal, (refl, refl))
+no_two _ true c e = absurd cc
+no_two _ false c e = absurd cc
+
+-- a term that is no such application says nothing
+pub says_nothing : (s : Table) (v : TermsView) (t : Term) (truth : Bool) → ((op : Op) → ¬ IsOver op 2 t) → IsReadBy s v truth t None
+says_nothing s v t truth none c e numbers = let two = no_two t truth c e in none two.0 two.1
+
+-- the terms of a comparison are the operands, in this or the other order
+numbers_in : (X : Type 0) (d c : Comparison) → Some d ≡ Some c → IsOfNumbers d ↔ X → IsOfNumbers c ↔ X
+numbers_in X d c e h = let f : d ≡ c = cc in subst (λ x. IsOfNumbers x ↔ X) f h
+
+in_order : (relation : Relation) (t u : Term) → IsOfNumbers (record { relation = relation; first = t; second = u }) ↔ (IsOf t Sort.Int × IsOf u Sort.Int)
+in_order relation t u = (λ h. (h.first, h.second), λ p. record { first = p.0; second = p.1 })
+
+turned : (relation : Relation) (t u : Term) → IsOfNumbers (record { relation = relation; first = u; second = t }) ↔ (IsOf t Sort.Int × IsOf u Sort.Int)
+turned relation t u = (λ h. (h.second, h.first), λ p. record { first = p.1; second = p.0 })
+
+numbers_are : (truth : Bool) (op : Op) (t u : Term) (c : Comparison) → said_by truth (operation op (term.term t (term.term u no_terms))) ≡ Some c → IsOfNumbers c ↔ (IsOf t Sort.Int × IsOf u Sort.Int)
+numbers_are true Op.LessEq t u c e = numbers_in _ _ c e (turned reaches t u)
+numbers_are true Op.Less t u c e = numbers_in _ _ c e (turned exceeds t u)
+numbers_are true Op.GreaterEq t u c e = numbers_in _ _ c e (in_order reaches t u)
+numbers_are true Op.Greater t u c e = numbers_in _ _ c e (in_order exceeds t u)
+numbers_are true Op.Equal t u c e = numbers_in _ _ c e (in_order equals t u)
+numbers_are false Op.LessEq t u c e = numbers_in _ _ c e (in_order exceeds t u)
+numbers_are false Op.Less t u c e = numbers_in _ _ c e (in_order reaches t u)
+numbers_are false Op.GreaterEq t u c e = numbers_in _ _ c e (turned exceeds t u)
+numbers_are false Op.Greater t u c e = numbers_in _ _ c e (turned reaches t u)
+numbers_are _ _ t u c e = absurd cc
+
+-- the operands of an application to two terms, and what it says
+module _ (s : Table) (v : TermsView) (op : Op) (p : ℕ × ℕ) (t : Term) (are : AreOperands s v op p t) where
+  sorted_operands : IsWellSorted t → IsWellSorted are.first × IsWellSorted are.second
+  sorted_operands h = both_sorted op are.first are.second (subst IsWellSorted are.is h)
+
+  pub first_sorted : IsWellSorted t → IsWellSortedTerm s v p.0
+  first_sorted h = record { means = are.first; refers = are.first_refers; sorted = (sorted_operands h).0 }
+
+  pub second_sorted : IsWellSorted t → IsWellSortedTerm s v p.1
+  second_sorted h = record { means = are.second; refers = are.second_refers; sorted = (sorted_operands h).1 }
+
+  module _ (truth : Bool) where
+    pub not_found : IsFound s v None (said_by truth (operation op (term.term are.first (term.term are.second no_terms)))) → IsReadBy s v truth t None
+    not_found found c e numbers = go (said_by truth (operation op (term.term are.first (term.term are.second no_terms)))) found (ap (said_by truth) (sym are.is) ∙ e)
+      where
+        go : (o : Option Comparison) → IsFound s v None o → o ≡ Some c → ⊥
+        go None found f = absurd cc
+        go (Some d) found f = found
+
+    pub found_numbers : (found : code.Comparison.Comparison) → IsFound s v (Some found) (said_by truth (operation op (term.term are.first (term.term are.second no_terms)))) → IsOf are.first Sort.Int → IsOf are.second Sort.Int → IsReadBy s v truth t (Some found)
+    found_numbers found is first second = go (said_by truth (operation op (term.term are.first (term.term are.second no_terms)))) refl is
+      where
+        go : (o : Option Comparison) → said_by truth (operation op (term.term are.first (term.term are.second no_terms))) ≡ o → IsFound s v (Some found) o → IsReadBy s v truth t (Some found)
+        go None e is = absurd is
+        go (Some c) e is = (c, ap (said_by truth) are.is ∙ e, is, (numbers_are truth op are.first are.second c e).1 (first, second))
+
+    pub found_others : (IsOf are.first Sort.Int → IsOf are.second Sort.Int → ⊥) → IsReadBy s v truth t None
+    found_others other c e numbers =
+        let both = (numbers_are truth op are.first are.second c (ap (said_by truth) (sym are.is) ∙ e)).0 numbers in other both.0 both.1
+
+-- the operands by the arguments
+pub operands_are : (s : Table) (v : TermsView) (a b : ℕ) (op : Op) (t : Term) → IsOver op 2 t → ((x : Term) → slice_get (arguments_of t) 0 ≡ Some x → RefersTo s v a x) → ((x : Term) → slice_get (arguments_of t) 1 ≡ Some x → RefersTo s v b x) → AreOperands s v op (a, b) t
+operands_are s v a b op t is first second =
+    let two = over_two op t is in
+    record {
+      first = two.0;
+      second = two.1;
+      first_refers = first two.0 (ap (λ x. slice_get (arguments_of x) 0) two.2);
+      second_refers = second two.1 (ap (λ x. slice_get (arguments_of x) 1) two.2);
+      is = two.2;
+    }
