@@ -138,6 +138,9 @@ fn is_simplification(rule: Rule) -> bool
     ensures { result ≡ is_simplification rule }
 {
     match rule {
+        Rule::NotSimplify => true,
+        Rule::ImpliesSimplify => true,
+        Rule::IteSimplify => true,
         Rule::AndSimplify => true,
         Rule::OrSimplify => true,
         _ => false,
