@@ -8,6 +8,7 @@ use Rattle.term_model.specs.Terms.{Term}
 use Rattle.term_pool.specs.Views.{KeepsPass}
 use Rattle.term_names.specs.Making.{PlacesCellsOf, LacksCellOf, IsWantedCell}
 use Rattle.term_reader.proofs.Staying.{cell_stays, cell_more}
+use Rattle.proof_contexts.specs.Placing.{PlacesOf, LacksRoomForSome}
 use Rattle.carcara_cli.specs.Cells.{IsCellOfRead, HasMoreCells}
 use Rattle.carcara_cli.specs.Pools.{HoldsOnly}
 
@@ -28,6 +29,29 @@ holds_more s z old new P Q more table keeps holds placed r a b p = elim (placed 
   | inl before ↦ cell_stays s z old new Q table keeps a b (holds r a b before)
   | inr is ↦ cell_more z new P Q more a b is
 ]
+
+-- what is held of terms of one kind is held of a wider one
+pub holds_kind : (s : Table) (pass : PassView) (P Q : Term → Type 0) → ((t : Term) → P t → Q t) → HoldsOnly s pass P → HoldsOnly s pass Q
+holds_kind s pass P Q more holds r a b p = cell_more s pass P Q more a b (holds r a b p)
+
+pub more_cells_of : (P Q : Term → Type 0) (n : ℕ) → ((t : Term) → P t → Q t) → HasMoreCells P n → HasMoreCells Q n
+more_cells_of P Q n more h = record {
+  table = h.table;
+  is_table = h.is_table;
+  cells = h.cells;
+  are = λ i within. let is = h.are i within in record { whole = is.whole; read = more is.whole is.read; tree = is.tree; stands = is.stands; part = is.part; is_cell = is.is_cell };
+  apart = h.apart;
+}
+
+-- in the words of the readers, what the check placed and what lacked room there
+pub placed_cells : (s : Table) (old new : PassView) (P : Term → Type 0) → PlacesOf s old new P → PlacesCellsOf s old new P
+placed_cells s old new P placed r a b p = elim (placed r a b p) [
+  | inl before ↦ inl before
+  | inr is ↦ inr (record { whole = is.term; wanted = is.kind; tree = is.tree; stands = is.stands; cell = is.cell })
+]
+
+pub lacking_cell : (s : Table) (pass : PassView) (P : Term → Type 0) → LacksRoomForSome s pass P → LacksCellOf s pass P
+lacking_cell s pass P h = record { whole = h.term; wanted = h.kind; tree = h.lacks.tree; stands = h.lacks.stands; full = h.lacks.full }
 
 module _ (s : Table) (pass : PassView) (IsRead : Term → Type 0)
     (is_table : IsTable s) (all : pass.shares ≡ 65)

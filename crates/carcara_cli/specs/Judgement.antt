@@ -12,7 +12,7 @@ use Rattle.alethe_text.specs.ProofTexts.{StandsForProof, IsFirstProofFault}
 use Rattle.step_check.specs.Statuses.{checking}
 use Rattle.carcara_cli.specs.declared.judgement.Judgement.{Judgement}
 use Rattle.carcara_cli.specs.declared.judgement.Judgement.TheVariants.{Valid, Holey, NoEmptyClause, Faulty, TooWide, RefusedProblem, RefusedProof, PoolFull}
-use Rattle.carcara_cli.specs.Reading.{flags_of, settings_of, IsReadOf}
+use Rattle.carcara_cli.specs.Reading.{flags_of, settings_of, NeedsRoom}
 use Rattle.carcara_cli.specs.Cells.{HasMoreCells}
 use Rattle.carcara_cli.specs.Holes.{holes_from, told_hole}
 
@@ -48,4 +48,4 @@ IsJudgement problem replaces_lets proof bits (RefusedProblem r) = IsFirstFault p
 IsJudgement problem replaces_lets proof bits (RefusedProof r) =
     (script : Script) × StandsForProblem problem replaces_lets script
     × IsFirstProofFault proof (settings_of replaces_lets) script r
-IsJudgement problem replaces_lets proof bits PoolFull = HasMoreCells (IsReadOf problem replaces_lets proof) (2 ^ bits)
+IsJudgement problem replaces_lets proof bits PoolFull = HasMoreCells (NeedsRoom problem replaces_lets proof) (2 ^ bits)

@@ -1,16 +1,17 @@
 //! The judgement of the two texts.
-ghost use Rattle.std.specs.Prelude.{◌≡◌, ◌≤◌, ◌+◌, ◌^◌, ℕ, [], length, false, IfOk};
+ghost use Rattle.std.specs.Prelude.{◌≡◌, ◌≤◌, ◌+◌, ◌^◌, ℕ, [], length, false, IfErr, IfOk};
 ghost use Rattle.proof_store.specs.Checks.{StandForSome};
 ghost use Rattle.proof_store.specs.Meaning.{StandForItems};
+ghost use Rattle.proof_store.specs.declared.answers.RuleStop.TheVariants as RuleStop;
 ghost use Rattle.sym_table.specs.Table.{Table};
 ghost use Rattle.term_model.specs.Terms.{Var, Term};
-ghost use Rattle.term_pool.specs.Views.{TermsView};
+ghost use Rattle.term_pool.specs.Views.{KeepsTerms, TermsView};
 ghost use Rattle.rule_model.specs.Conditions.{IsClauseOfTruths};
 ghost use Rattle.rule_model.specs.Proofs.{ProofItems};
 ghost use Rattle.rule_model.specs.Reading.{clause_at};
 ghost use Rattle.rules_resolution.specs.Steps.{IsShort};
 ghost use Rattle.term_reader.specs.ProblemViews.{IsNewTable};
-ghost use Rattle.step_check.specs.Statuses.{AreAsserted, AreStatusesOf};
+ghost use Rattle.step_check.specs.Statuses.{AreAsserted, LacksRoomForPlaced, PlacesOnly};
 ghost use Rattle.carcara_cli.specs.Reading.{flags_of, IsReadOf};
 ghost use Rattle.carcara_cli.specs.Pools.{HoldsOnly, IsReadProblem};
 ghost use Rattle.carcara_cli.specs.Judgement.{IsJudgement};
@@ -54,7 +55,8 @@ fn flags_of(replaces_lets: bool) -> Flags
     }
 }
 
-/// The judgement of a proof that was read, behind a problem that was read.
+/// The judgement of a proof that was read, behind a problem that was read. Refuses where the pool had no room for a cell that
+/// the check places, and for want of memory.
 fn judge_commands(
     alloc: Global,
     flags: Flags,
@@ -62,23 +64,28 @@ fn judge_commands(
     proof: &Proof,
     symbols: &Symbols,
     terms: &mut Terms<'_>,
-) -> Result<Judgement, Memory>
+) -> Result<Judgement, RuleStop>
     requires lax { flags.strict ≡ false }
     requires stand { StandForSome symbols.now terms.old proof.now }
     requires asserted { AreAsserted symbols.now terms.old problem.now.assertions }
     requires short { IsShort proof.now }
     requires sorted { (of : ProofItems Var Term) (i : ℕ) → StandForItems symbols.now terms.old proof.now of → IsClauseOfTruths (clause_at of i) }
-    ensures { IfOk result (IsJudgedProof flags symbols.now terms.old problem.now.assertions proof.now) }
+    ensures judged { IfOk result (IsJudgedProof flags symbols.now terms.old problem.now.assertions proof.now) }
+    ensures placed { PlacesOnly symbols.now terms.old terms.new proof.now }
+    ensures full { IfErr result (λ stop. stop ≡ RuleStop.PoolFull → LacksRoomForPlaced symbols.now terms.old terms.new proof.now) }
+    ensures keeps { KeepsTerms terms.old terms.new }
 {
     commands_correspond();
     let list = match statuses(alloc, proof, problem, symbols, flags, terms) {
         Ok(list) => list,
-        Err(RuleStop::Memory) => return Err(Memory),
-        Err(RuleStop::PoolFull) => unreachable!(),
+        Err(stop) => return Err(stop),
     };
     let pieces = [list];
     let verdict = merge(&pieces, proof);
-    Ok(named(alloc, verdict, &pieces[0], proof)?)
+    let Ok(judgement) = named(alloc, verdict, &pieces[0], proof) else {
+        return Err(RuleStop::Memory);
+    };
+    Ok(judgement)
 }
 
 /// A law: a proof over references has the commands of the proof for which it stands, and their clauses stand for its own.
@@ -96,11 +103,13 @@ fn judge_read(
     problem: &Problem,
     proof: &Proof,
     symbols: &Symbols,
-    terms: &mut Terms<'_>,
+    mut terms: Terms<'_>,
 ) -> Result<Judgement, Memory>
     requires size { length texts.now.proof.now ≤ most_bytes }
-    requires read { IsReadProof texts.now.problem.now texts.now.replaces_lets texts.now.proof.now symbols.now terms.old problem.now.assertions proof.now }
-    ensures { (bits : ℕ) → IfOk result (IsJudgement texts.now.problem.now texts.now.replaces_lets texts.now.proof.now bits) }
+    requires read { IsReadProof texts.now.problem.now texts.now.replaces_lets texts.now.proof.now symbols.now terms problem.now.assertions proof.now }
+    requires shares { terms.pass.shares ≡ 65 }
+    requires holds { HoldsOnly symbols.now terms.pass (IsReadOf texts.now.problem.now texts.now.replaces_lets texts.now.proof.now) }
+    ensures { (bits : ℕ) → terms.entry.pass.places ≡ 2 ^ bits → IfOk result (IsJudgement texts.now.problem.now texts.now.replaces_lets texts.now.proof.now bits) }
 {
     proofs_are_short();
     scripts_are_well_sorted();
@@ -110,14 +119,12 @@ fn judge_read(
     proofs_stand_for_one();
     let _leaves = symbols.count();
     terms.one_to_one();
-    judge_commands(
-        alloc,
-        flags_of(texts.replaces_lets),
-        problem,
-        proof,
-        symbols,
-        terms,
-    )
+    let flags = flags_of(texts.replaces_lets);
+    match judge_commands(alloc, flags, problem, proof, symbols, &mut terms) {
+        Ok(judgement) => Ok(judgement),
+        Err(RuleStop::PoolFull) => Ok(pool_full(symbols, terms)),
+        Err(RuleStop::Memory) => Err(Memory),
+    }
 }
 
 /// What the texts come to where the problem was read: its proof is read, and judged.
@@ -143,7 +150,7 @@ fn judge_proof(
         Err(ReadFault::PoolFull) => return Ok(pool_full(symbols, terms)),
         Err(ReadFault::Memory) => return Err(Memory),
     };
-    judge_read(alloc, texts, problem, &proof, symbols, &mut terms)
+    judge_read(alloc, texts, problem, &proof, symbols, terms)
 }
 
 /// What the texts come to, with a new table of symbols and terms of a pool in which nothing stands.

@@ -1,5 +1,6 @@
 //! Laws of the definitions. Each is the contract of a function that does nothing.
 ghost use Rattle.std.specs.Prelude.{◌<◌, ◌++◌, ℕ, List, Bool};
+ghost use Rattle.std.specs.List.{Contains};
 ghost use Rattle.sexpr.specs.Items.{Items, StandsForItems};
 ghost use Rattle.term_model.specs.Terms.{Var, Term};
 ghost use Rattle.term_model.specs.Unsatisfiable.{Unsatisfiable};
@@ -11,7 +12,7 @@ ghost use Rattle.problem_text.specs.Scripts.{Script};
 ghost use Rattle.problem_text.specs.Soundness.{IsSound, HasScopedTerms};
 ghost use Rattle.alethe_text.specs.ProofTexts.{proof_from, StandsForProof};
 ghost use Rattle.alethe_text.specs.States.{ProofSettings, unread};
-ghost use Rattle.carcara_cli.specs.Reading.{settings_of, IsReadOf};
+ghost use Rattle.carcara_cli.specs.Reading.{settings_of, IsPlacedByCheck, NeedsRoom};
 ghost use Rattle.carcara_cli.specs.Cells.{HasMoreCells};
 ghost use Rattle.carcara_cli.specs.CellSums.{cells_in_all};
 ghost use Rattle.carcara_cli.specs.Judgement.{IsCheckedAs};
@@ -38,11 +39,12 @@ pub fn valid_proofs_are_sound()
     valid_proofs_are_refutations();
 }
 
-/// Where the terms that are read have more distinct cells than n, they have more than n in sum. So `pool full` can be
-/// answered of no texts whose terms have 2^26 cells or fewer, each counted as often as it stands there.
+/// Where the terms that need room have more distinct cells than n, they have more than n in sum: those that are read of the
+/// texts, with any list that has each term whose cells the check places. So `pool full` can be answered of no texts where these
+/// have 2^26 cells or fewer, each counted as often as it stands there.
 pub fn full_pools_have_many_cells()
-    ensures both { (text : List ℕ) (replaces_lets : Bool) (proof : List ℕ) (n : ℕ) (sc : Script) (items others : Items) → HasMoreCells (IsReadOf text replaces_lets proof) n → StandsForItems text items → StandsForItems proof others → StandsForProblem text replaces_lets sc → n < cells_in_all ((problem replaces_lets items).state.terms ++ (proof_from (settings_of replaces_lets) others (unread sc)).state.script.terms) }
-    ensures problem { (text : List ℕ) (replaces_lets : Bool) (proof : List ℕ) (n : ℕ) (items : Items) → HasMoreCells (IsReadOf text replaces_lets proof) n → StandsForItems text items → ((sc : Script) → StandsForProblem text replaces_lets sc → ⊥) → n < cells_in_all (problem replaces_lets items).state.terms }
+    ensures both { (text : List ℕ) (replaces_lets : Bool) (proof : List ℕ) (n : ℕ) (sc : Script) (items others : Items) (placed : List Term) → HasMoreCells (NeedsRoom text replaces_lets proof) n → StandsForItems text items → StandsForItems proof others → StandsForProblem text replaces_lets sc → ((t : Term) → IsPlacedByCheck text replaces_lets proof t → Contains placed t) → n < cells_in_all (((problem replaces_lets items).state.terms ++ (proof_from (settings_of replaces_lets) others (unread sc)).state.script.terms) ++ placed) }
+    ensures problem { (text : List ℕ) (replaces_lets : Bool) (proof : List ℕ) (n : ℕ) (items : Items) → HasMoreCells (NeedsRoom text replaces_lets proof) n → StandsForItems text items → ((sc : Script) → StandsForProblem text replaces_lets sc → ⊥) → n < cells_in_all (problem replaces_lets items).state.terms }
 {
     texts_have_one_reading();
     term_pool::trees_of_terms();

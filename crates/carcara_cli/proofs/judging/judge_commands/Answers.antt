@@ -26,13 +26,13 @@ named-requires-clause-within c =
     let verdict : IsVerdict c.in-Ok.list.items c.args.proof.now c.merge-verdict.result = rw (append-nil c.in-Ok.list.items) at c.merge-verdict.ensures.verdict in
     rw (← counted) (verdict_within c.in-Ok.list.items c.args.proof.now c.merge-verdict.result verdict)
 
-pub returns : goal.returns
-returns c =
+pub returns-clause-judged : goal.returns-clause-judged
+returns-clause-judged c =
     let verdict : IsVerdict c.in-Ok.list.items c.args.proof.now c.merge-verdict.result = rw (append-nil c.in-Ok.list.items) at c.merge-verdict.ensures.verdict in
     record {
       statuses = c.in-Ok.list.items;
       of = c.merge-verdict.result;
       are = c.in-Ok.ensures.statuses;
       verdict = verdict;
-      named = rw (c.deref.ensures.value) at c.in_ok-named.ensures;
+      named = rw (c.deref.ensures.value) at c.in-Ok-named.ensures;
     }

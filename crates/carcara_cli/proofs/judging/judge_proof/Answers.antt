@@ -1,4 +1,4 @@
-use Rattle.std.proofs.Common.{rules, ◌^◌, ◌∙◌, Err, ap, inr}
+use Rattle.std.proofs.Common.{rules, ◌^◌, ◌∙◌, Err, ap, inl, inr}
 use Rattle.term_model.specs.Terms.{Term}
 use Rattle.term_names.specs.Making.{PlacesCellsOf, LacksCellOf}
 use Rattle.alethe_reader.specs.Reading.{IsCounted, IsProofOf}
@@ -6,8 +6,8 @@ use Rattle.term_reader.specs.ProblemViews.{IsProblemOf}
 use Rattle.term_reader.proofs.Staying.{lacks_more}
 use Rattle.carcara_cli.specs.Cells.{HasMoreCells}
 use Rattle.carcara_cli.specs.Pools.{HoldsOnly}
-use Rattle.carcara_cli.specs.Reading.{settings_of, IsReadOf}
-use Rattle.carcara_cli.proofs.CellLemmas.{has_more_cells, holds_more}
+use Rattle.carcara_cli.specs.Reading.{settings_of, IsReadOf, NeedsRoom}
+use Rattle.carcara_cli.proofs.CellLemmas.{has_more_cells, holds_more, more_cells_of}
 use Rattle.carcara_cli.proofs.judging.judge_proof.Goals as goal
 
 pub returns-in-Err-PoolFull : goal.returns-in-Err-PoolFull
@@ -28,7 +28,7 @@ returns-in-Err-PoolFull c = λ bits places.
     has_more_cells z new Q c.pool_full.ensures.table (c.read_proof.ensures.keeps.pass.shares ∙ c.requires.shares)
     c.pool_full.ensures.one_reference c.pool_full.ensures.in_order holds (lacks_more z new P Q more lacks) (2 ^ bits)
     (c.read_proof.ensures.keeps.pass.places ∙ places) in
-    rw c.pool_full.ensures.full cells
+    rw c.pool_full.ensures.full (more_cells_of Q (NeedsRoom t.problem.now t.replaces_lets t.proof.now) (2 ^ bits) (λ u h. inl h) cells)
 
 pub judge_read-requires-clause-read : goal.judge_read-requires-clause-read
 judge_read-requires-clause-read c =
@@ -40,5 +40,20 @@ judge_read-requires-clause-read c =
     let read : IsProofOf t.proof.now (settings_of t.replaces_lets) before.script z w c.in-Ok.proof = search (rules, c.read_proof.ensures.proof before.script before.is, c.in-Ok.is, c.flags_of-flags.ensures) in
     record { script = before.script; problem_text = before.stands; assertions = stays.assertions; read = read }
 
+pub judge_read-requires-clause-holds : goal.judge_read-requires-clause-holds
+judge_read-requires-clause-holds c =
+    let t = c.args.texts.now in
+    let before = c.requires.problem in
+    let z = c.read_proof.new.symbols in
+    let old = c.args.terms.pass in
+    let new = c.read_proof.new.terms.pass in
+    let P : Term → Type 0 = IsCounted t.proof.now (settings_of t.replaces_lets) before.script in
+    let Q : Term → Type 0 = IsReadOf t.problem.now t.replaces_lets t.proof.now in
+    let placed : PlacesCellsOf z old new P = rw (c.flags_of-flags.ensures) at (c.read_proof.ensures.placed before.script before.is) in
+    holds_more c.args.symbols.now z old new P Q (λ u h. inr (record { script = before.script; stands = before.stands; counted = h })) c.read_proof.ensures.symbols.keeps c.read_proof.ensures.keeps.pass c.requires.holds placed
+
+pub judge_read-requires-clause-shares : goal.judge_read-requires-clause-shares
+judge_read-requires-clause-shares c = c.read_proof.ensures.keeps.pass.shares ∙ c.requires.shares
+
 pub returns : goal.returns
-returns c = λ bits places. c.judge_read.ensures bits
+returns c = λ bits places. c.judge_read.ensures bits (c.read_proof.ensures.keeps.pass.places ∙ places)

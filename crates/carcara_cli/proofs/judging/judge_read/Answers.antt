@@ -1,10 +1,18 @@
-use Rattle.std.proofs.Common.{◌≡◌, sym, subst, arith}
+use Rattle.std.proofs.Common.{◌≡◌, ◌^◌, ◌∙◌, sym, subst, inl, inr, arith}
+use Rattle.term_model.specs.Terms.{Term}
+use Rattle.term_names.specs.Making.{PlacesCellsOf, LacksCellOf}
+use Rattle.term_reader.proofs.Staying.{lacks_more}
+use Rattle.proof_contexts.proofs.Growing.{keeps_table}
+use Rattle.step_check.specs.Statuses.{IsPlacedOf}
+use Rattle.carcara_cli.specs.Cells.{HasMoreCells}
+use Rattle.carcara_cli.specs.Pools.{HoldsOnly}
 use Rattle.rule_model.specs.Conditions.{IsClauseOfTruths}
 use Rattle.rule_model.specs.Reading.{clause_at}
-use Rattle.carcara_cli.specs.Reading.{settings_of}
+use Rattle.carcara_cli.specs.Reading.{settings_of, IsReadOf, NeedsRoom}
+use Rattle.carcara_cli.proofs.CellLemmas.{has_more_cells, holds_kind, holds_more, lacking_cell, placed_cells}
 use Rattle.carcara_cli.proofs.JudgementLemmas.{judged_proof}
 use Rattle.carcara_cli.proofs.TruthClauses.{clauses_of_truths}
-use Rattle.carcara_cli.proofs.VerdictLemmas.{short_stands, if_ok_more}
+use Rattle.carcara_cli.proofs.VerdictLemmas.{short_stands}
 use Rattle.carcara_cli.proofs.judging.judge_read.Goals as goal
 
 pub judge_commands-requires-clause-stand : goal.judge_commands-requires-clause-stand
@@ -37,10 +45,31 @@ judge_commands-requires-clause-sorted c = λ of i stands.
     let same : of ≡ read.proof = c.proofs_stand_for_one.ensures.one _ _ c.args.proof.now of read.proof c.count-leaves.ensures.table c.one_to_one.ensures stands read.refer in
     subst (λ p. IsClauseOfTruths (clause_at p i)) (sym same) (clauses_of_truths read.proof i sorted)
 
-pub returns : goal.returns
-returns c = λ bits.
+pub returns-in-Ok : goal.returns-in-Ok
+returns-in-Ok c = λ bits places.
     let texts = c.args.texts.now in
     let both = c.requires.read in
     let same = c.proofs_correspond.ensures _ _ c.args.proof.now both.read.proof both.read.refer in
-    if_ok_more _ _ (λ j h. judged_proof texts.problem.now texts.replaces_lets texts.proof.now bits _ _ _ c.args.proof.now both same j h) _
-    (rw c.flags_of.ensures at c.judge_commands.ensures)
+    judged_proof texts.problem.now texts.replaces_lets texts.proof.now bits _ _ _ c.args.proof.now both same c.in-Ok.judgement
+    (rw c.flags_of-flags.ensures at c.in-Ok.ensures.judged)
+
+-- what the check places is of the proof that was read
+pub returns-in-Err-PoolFull : goal.returns-in-Err-PoolFull
+returns-in-Err-PoolFull c = λ bits places.
+    let t = c.args.texts.now in
+    let both = c.requires.read in
+    let s = c.args.symbols.now in
+    let old = c.args.terms.pass in
+    let new = c.judge_commands.new.terms.pass in
+    let P : Term → Type 0 = IsPlacedOf both.read.proof in
+    let Q : Term → Type 0 = NeedsRoom t.problem.now t.replaces_lets t.proof.now in
+    let more : (u : Term) → P u → Q u = λ u h. inr (record { script = both.script; commands = both.read.proof; after = both.read.after; problem_text = both.problem_text; proof_text = both.read.stands; placed = h }) in
+    let placed : PlacesCellsOf s old new P = placed_cells s old new P (c.judge_commands.ensures.placed both.read.proof both.read.refer) in
+    let lacks : LacksCellOf s new P = lacking_cell s new P (c.in-Err-PoolFull.ensures.full c.in-Err-PoolFull.field-0-is both.read.proof both.read.refer) in
+    let held : HoldsOnly s old Q = holds_kind s old (IsReadOf t.problem.now t.replaces_lets t.proof.now) Q (λ u h. inl h) c.requires.holds in
+    let holds : HoldsOnly s new Q = holds_more s s old new P Q more (keeps_table s) c.judge_commands.ensures.keeps.pass held placed in
+    let cells : HasMoreCells Q (2 ^ bits) =
+    has_more_cells s new Q c.pool_full.ensures.table (c.judge_commands.ensures.keeps.pass.shares ∙ c.requires.shares)
+    c.pool_full.ensures.one_reference c.pool_full.ensures.in_order holds (lacks_more s new P Q more lacks) (2 ^ bits)
+    (c.judge_commands.ensures.keeps.pass.places ∙ places) in
+    rw c.pool_full.ensures.full cells

@@ -5,8 +5,8 @@ use Rattle.term_reader.specs.ProblemViews.{IsCounted}
 use Rattle.term_reader.proofs.Staying.{lacks_more}
 use Rattle.carcara_cli.specs.Cells.{HasMoreCells}
 use Rattle.carcara_cli.specs.Pools.{HoldsOnly}
-use Rattle.carcara_cli.specs.Reading.{IsReadOf}
-use Rattle.carcara_cli.proofs.CellLemmas.{has_more_cells, holds_placed}
+use Rattle.carcara_cli.specs.Reading.{IsReadOf, NeedsRoom}
+use Rattle.carcara_cli.proofs.CellLemmas.{has_more_cells, holds_placed, more_cells_of}
 use Rattle.carcara_cli.proofs.judging.judge_with.Goals as goal
 
 pub returns-in-Err-PoolFull : goal.returns-in-Err-PoolFull
@@ -24,7 +24,7 @@ returns-in-Err-PoolFull c = λ bits places.
     has_more_cells s new Q c.pool_full.ensures.table (c.read_problem.ensures.keeps.pass.shares ∙ c.requires.shares)
     c.pool_full.ensures.one_reference c.pool_full.ensures.in_order holds (lacks_more s new P Q more lacks) (2 ^ bits)
     (c.read_problem.ensures.keeps.pass.places ∙ places) in
-    rw c.pool_full.ensures.full cells
+    rw c.pool_full.ensures.full (more_cells_of Q (NeedsRoom t.problem.now t.replaces_lets t.proof.now) (2 ^ bits) (λ u h. inl h) cells)
 
 pub judge_proof-requires-clause-holds : goal.judge_proof-requires-clause-holds
 judge_proof-requires-clause-holds c =
