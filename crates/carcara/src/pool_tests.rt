@@ -1,5 +1,6 @@
 //! When the largest pool that may be made is full, and that a full pool is read again, through the library's call.
 use carcara_cli::{Judgement, judge};
+use command_words::Options;
 use std::alloc::Global;
 use std::test::Fail;
 
@@ -14,12 +15,17 @@ static MINUSES: &[u8] = b"(define-fun a ((x Int)) Int (- (- (- (- x)))))
 (assert (= (e 1) (e 2)))
 ";
 
+const OPTIONS: Options = Options {
+    replaces_lets: false,
+    ignores_unknown_rules: false,
+};
+
 // What the problem comes to with the empty proof, in pools of at most so many bits. None for want of memory.
 fn judged(alloc: Global, bits: u32) -> Option<Judgement> {
     if MINUSES.len() > 268_435_456 || !(12..=26).contains(&bits) {
         return None;
     }
-    judge(alloc, MINUSES, false, b"", bits).ok()
+    judge(alloc, MINUSES, OPTIONS, b"", bits).ok()
 }
 
 // Where the largest pool that may be made is full, that is the answer, and no want of memory.

@@ -1,5 +1,5 @@
 -- Private. What the parts of the top call say on the way to an answer.
-use Rattle.std.specs.Prelude.{◌≡◌, ℕ, ◌<◌, List, map, ⊤, Option, None, Some}
+use Rattle.std.specs.Prelude.{◌≡◌, ℕ, ◌<◌, List, map, ⊤}
 use Rattle.file_ports.specs.declared.whole.ReadStop.{ReadStop}
 use Rattle.file_ports.specs.declared.whole.ReadStop.TheVariants as stop
 use Rattle.rule_model.specs.declared.statuses.Status.{Status}
@@ -10,8 +10,6 @@ use Rattle.carcara_cli.specs.declared.answer.Answer.{Answer}
 use Rattle.carcara_cli.specs.declared.answer.Answer.TheVariants.{ReadFault, TooLong}
 use Rattle.carcara_cli.specs.declared.judgement.Judgement.{Judgement}
 use Rattle.carcara_cli.specs.declared.judgement.Judgement.TheVariants.{Valid, Holey, NoEmptyClause, Faulty, TooWide}
-use Rattle.carcara_cli.specs.declared.command_line.Request.{Request}
-use Rattle.carcara_cli.specs.CommandLine.{Asked}
 use Rattle.carcara_cli.specs.Holes.{holes_from, told_hole}
 
 -- the answer where a file was not read, but for want of memory
@@ -34,8 +32,3 @@ IsNamed statuses proof v NoEmptyClause = v ≡ Verdict.NoEmpty
 IsNamed statuses proof v (Faulty id cause) = (i : ℕ) × (v ≡ Verdict.InvalidAt i cause) × (id.items ≡ id_at proof i)
 IsNamed statuses proof v (TooWide id) = (i : ℕ) × (v ≡ Verdict.Unknown i) × (id.items ≡ id_at proof i)
 IsNamed statuses proof v _ = ⊥
-
--- what a request of the code asks for
-abbrev pub told_of : Option Request → Option Asked
-told_of None = None
-told_of (Some r) = Some (record { proof = r.proof.now; problem = r.problem.now; replaces_lets = r.replaces_lets })

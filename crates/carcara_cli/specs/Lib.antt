@@ -1,4 +1,3 @@
-pub mod CommandLine
 pub mod Reading
 pub mod Cells
 pub mod CellSums

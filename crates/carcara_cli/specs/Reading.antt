@@ -6,15 +6,16 @@ use Rattle.problem_text.specs.Problems.{StandsForProblem}
 use Rattle.problem_text.specs.Scripts.{Script}
 use Rattle.term_reader.specs.ProblemViews.{IsCounted}
 use Rattle.term_reader.specs.declared.flags.Flags.{Flags}
+use Rattle.command_words.specs.declared.request.Options.{Options}
 use Rattle.alethe_text.specs.ProofTexts.{StandsForProof}
 use Rattle.alethe_text.specs.States.{ProofSettings}
 use Rattle.alethe_reader.specs.Reading.{IsCounted as IsCountedOfProof}
 use Rattle.step_check.specs.Statuses.{IsPlacedOf}
 
--- The flags of a check: lets are replaced where the words ask for that, conditions are those of check mode, and a step by an
--- unknown rule is faulty.
-abbrev pub flags_of : Bool → Flags
-flags_of replaces_lets = record { expand_lets = replaces_lets; strict = false; ignore_unknown = false }
+-- The flags of a check: lets are replaced and steps by unknown rules are holes where the options ask for that, and
+-- conditions are those of check mode.
+abbrev pub flags_of : Options → Flags
+flags_of options = record { expand_lets = options.replaces_lets; strict = false; ignore_unknown = options.ignores_unknown_rules }
 
 -- how the proof is read: its lets are replaced where the problem's are
 abbrev pub settings_of : Bool → ProofSettings

@@ -10,7 +10,8 @@ use Rattle.file_ports.specs.Texts.{IsLongerThan, AppendsFront}
 use Rattle.carcara_cli.specs.declared.judgement.Judgement.{Judgement}
 use Rattle.carcara_cli.specs.declared.answer.Answer.{Answer}
 use Rattle.carcara_cli.specs.declared.answer.Answer.TheVariants.{Usage, ReadFault, TooLong, Judged}
-use Rattle.carcara_cli.specs.CommandLine.{Asked}
+use Rattle.command_words.specs.declared.request.Options.{Options}
+use Rattle.command_words.specs.CommandLine.{Asked}
 use Rattle.carcara_cli.specs.Judgement.{IsJudgement}
 use Rattle.carcara_cli.specs.Printed.{status_of, text_of}
 
@@ -37,16 +38,16 @@ abbrev pub IsTooLong : Option (List ℕ) → Option (List ℕ) → Type 0
 IsTooLong problem proof = IsLongerThan most_bytes problem ⊎ (IsWithinLimit problem × IsLongerThan most_bytes proof)
 
 -- where both files are told, this is what their texts come to
-abbrev pub IsJudgedIfTold : Bool → Option (List ℕ) → Option (List ℕ) → Judgement → Type 0
-IsJudgedIfTold replaces_lets (Some problem) (Some proof) j = IsJudgement problem replaces_lets proof most_bits j
-IsJudgedIfTold replaces_lets (Some problem) None j = ⊤
-IsJudgedIfTold replaces_lets None proof j = ⊤
+abbrev pub IsJudgedIfTold : Options → Option (List ℕ) → Option (List ℕ) → Judgement → Type 0
+IsJudgedIfTold options (Some problem) (Some proof) j = IsJudgement problem options proof most_bits j
+IsJudgedIfTold options (Some problem) None j = ⊤
+IsJudgedIfTold options None proof j = ⊤
 
 -- neither file is too long, and this is what their texts come to
-pub record IsJudgedOfFiles (replaces_lets : Bool) (problem proof : Option (List ℕ)) (j : Judgement) : Type 0 where
+pub record IsJudgedOfFiles (options : Options) (problem proof : Option (List ℕ)) (j : Judgement) : Type 0 where
   pub problem_within : IsWithinLimit problem
   pub proof_within : IsWithinLimit proof
-  pub judged : IsJudgedIfTold replaces_lets problem proof j
+  pub judged : IsJudgedIfTold options problem proof j
 
 -- What an answer says: over what a folder tells of its files and its count of faults before and after, and over what
 -- the words ask for.
@@ -58,7 +59,7 @@ IsAnswerTo content before after None (Judged j) = ⊥
 IsAnswerTo content before after (Some p) Usage = ⊥
 IsAnswerTo content before after (Some p) ReadFault = HasRisen before after
 IsAnswerTo content before after (Some p) TooLong = IsTooLong (content p.problem) (content p.proof)
-IsAnswerTo content before after (Some p) (Judged j) = IsJudgedOfFiles p.replaces_lets (content p.problem) (content p.proof) j
+IsAnswerTo content before after (Some p) (Judged j) = IsJudgedOfFiles p.options (content p.problem) (content p.proof) j
 
 -- the whole text of an answer was printed, and the status is the answer's
 pub record PrintsWhole (MayAnswer : Answer → Type 0) (old new : Option (List ℕ)) (status : ℕ) : Type 0 where
@@ -88,4 +89,4 @@ IsUnsatisfiableIfTold replaces_lets None proof = ⊤
 
 abbrev pub ShowsUnsatisfiable : (List ℕ → Option (List ℕ)) → Option Asked → Type 0
 ShowsUnsatisfiable content None = ⊥
-ShowsUnsatisfiable content (Some p) = IsUnsatisfiableIfTold p.replaces_lets (content p.problem) (content p.proof)
+ShowsUnsatisfiable content (Some p) = IsUnsatisfiableIfTold p.options.replaces_lets (content p.problem) (content p.proof)

@@ -24,6 +24,7 @@ use crate::naming::named;
 use crate::pools::{LEAST_BITS, MOST_BITS, pool_bits, pool_full};
 use alethe_reader::read_proof;
 use alethe_text::laws::proofs_are_short;
+use command_words::Options;
 use pair_pool::{Memory, Pool};
 use problem_text::laws::{scripts_are_closed, scripts_are_well_sorted};
 use proof_store::{Proof, RuleStop, commands_correspond, proofs_stand_for_one, terms_correspond};
@@ -40,18 +41,17 @@ use verdict_merge::merge;
 struct Texts<'a> {
     problem: &'a [u8],
     proof: &'a [u8],
-    /// Whether each let is replaced by its body with the terms put in.
-    replaces_lets: bool,
+    options: Options,
 }
 
 /// How the texts are read and checked.
-fn flags_of(replaces_lets: bool) -> Flags
-    ensures { result ≡ flags_of replaces_lets }
+fn flags_of(options: Options) -> Flags
+    ensures { result ≡ flags_of options }
 {
     Flags {
-        expand_lets: replaces_lets,
+        expand_lets: options.replaces_lets,
         strict: false,
-        ignore_unknown: false,
+        ignore_unknown: options.ignores_unknown_rules,
     }
 }
 
@@ -106,10 +106,10 @@ fn judge_read(
     mut terms: Terms<'_>,
 ) -> Result<Judgement, Memory>
     requires size { length texts.now.proof.now ≤ most_bytes }
-    requires read { IsReadProof texts.now.problem.now texts.now.replaces_lets texts.now.proof.now symbols.now terms problem.now.assertions proof.now }
+    requires read { IsReadProof texts.now.problem.now texts.now.options.replaces_lets texts.now.proof.now symbols.now terms problem.now.assertions proof.now }
     requires shares { terms.pass.shares ≡ 65 }
-    requires holds { HoldsOnly symbols.now terms.pass (IsReadOf texts.now.problem.now texts.now.replaces_lets texts.now.proof.now) }
-    ensures { (bits : ℕ) → terms.entry.pass.places ≡ 2 ^ bits → IfOk result (IsJudgement texts.now.problem.now texts.now.replaces_lets texts.now.proof.now bits) }
+    requires holds { HoldsOnly symbols.now terms.pass (IsReadOf texts.now.problem.now texts.now.options.replaces_lets texts.now.proof.now) }
+    ensures { (bits : ℕ) → terms.entry.pass.places ≡ 2 ^ bits → IfOk result (IsJudgement texts.now.problem.now texts.now.options texts.now.proof.now bits) }
 {
     proofs_are_short();
     scripts_are_well_sorted();
@@ -119,7 +119,7 @@ fn judge_read(
     proofs_stand_for_one();
     let _leaves = symbols.count();
     terms.one_to_one();
-    let flags = flags_of(texts.replaces_lets);
+    let flags = flags_of(texts.options);
     match judge_commands(alloc, flags, problem, proof, symbols, &mut terms) {
         Ok(judgement) => Ok(judgement),
         Err(RuleStop::PoolFull) => Ok(pool_full(symbols, terms)),
@@ -136,14 +136,14 @@ fn judge_proof(
     mut terms: Terms<'_>,
 ) -> Result<Judgement, Memory>
     requires size { length texts.now.proof.now ≤ most_bytes }
-    requires problem { IsReadProblem texts.now.problem.now texts.now.replaces_lets symbols.old terms problem.now }
+    requires problem { IsReadProblem texts.now.problem.now texts.now.options.replaces_lets symbols.old terms problem.now }
     requires room { length symbols.old.leaves + length texts.now.proof.now ≤ 2 ^ 30 }
     requires shares { terms.pass.shares ≡ 65 }
-    requires holds { HoldsOnly symbols.old terms.pass (IsReadOf texts.now.problem.now texts.now.replaces_lets texts.now.proof.now) }
-    ensures { (bits : ℕ) → terms.entry.pass.places ≡ 2 ^ bits → IfOk result (IsJudgement texts.now.problem.now texts.now.replaces_lets texts.now.proof.now bits) }
+    requires holds { HoldsOnly symbols.old terms.pass (IsReadOf texts.now.problem.now texts.now.options.replaces_lets texts.now.proof.now) }
+    ensures { (bits : ℕ) → terms.entry.pass.places ≡ 2 ^ bits → IfOk result (IsJudgement texts.now.problem.now texts.now.options texts.now.proof.now bits) }
 {
     problems_stay();
-    let flags = flags_of(texts.replaces_lets);
+    let flags = flags_of(texts.options);
     let proof = match read_proof(alloc, texts.proof, flags, problem, symbols, &mut terms) {
         Ok(proof) => proof,
         Err(ReadFault::Text(refusal)) => return Ok(Judgement::RefusedProof(refusal)),
@@ -165,9 +165,9 @@ fn judge_with(
     requires new_symbols { IsNewTable symbols.old }
     requires nothing { terms.pass.placed ≡ [] }
     requires shares { terms.pass.shares ≡ 65 }
-    ensures { (bits : ℕ) → terms.entry.pass.places ≡ 2 ^ bits → IfOk result (IsJudgement texts.now.problem.now texts.now.replaces_lets texts.now.proof.now bits) }
+    ensures { (bits : ℕ) → terms.entry.pass.places ≡ 2 ^ bits → IfOk result (IsJudgement texts.now.problem.now texts.now.options texts.now.proof.now bits) }
 {
-    let flags = flags_of(texts.replaces_lets);
+    let flags = flags_of(texts.options);
     match read_problem(alloc, texts.problem, flags, symbols, &mut terms) {
         Ok(problem) => judge_proof(alloc, texts, &problem, symbols, terms),
         Err(ReadFault::Text(refusal)) => Ok(Judgement::RefusedProblem(refusal)),
@@ -182,7 +182,7 @@ fn judge_into(alloc: Global, bits: u32, texts: &Texts<'_>) -> Result<Judgement, 
     requires most { bits ≤ MOST_BITS }
     requires problem { length texts.now.problem.now ≤ most_bytes }
     requires proof { length texts.now.proof.now ≤ most_bytes }
-    ensures { IfOk result (IsJudgement texts.now.problem.now texts.now.replaces_lets texts.now.proof.now bits) }
+    ensures { IfOk result (IsJudgement texts.now.problem.now texts.now.options texts.now.proof.now bits) }
 {
     let Ok(mut symbols) = Symbols::new(alloc) else {
         return Err(Memory);
@@ -194,7 +194,7 @@ fn judge_into(alloc: Global, bits: u32, texts: &Texts<'_>) -> Result<Judgement, 
     judge_with(alloc, texts, &mut symbols, terms)
 }
 
-/// Judges the texts of a problem and of a proof, with their lets or with their bodies in their places. The terms are read
+/// Judges the texts of a problem and of a proof, by the options of a check. The terms are read
 /// into pools of at most 2^most_bits places, 12 to 26 bits: the top call hands in 26. Where a pool has no room for them, the
 /// texts are read again into one that is twice as large.
 ///
@@ -202,7 +202,7 @@ fn judge_into(alloc: Global, bits: u32, texts: &Texts<'_>) -> Result<Judgement, 
 pub fn judge(
     alloc: Global,
     problem: &[u8],
-    replaces_lets: bool,
+    options: Options,
     proof: &[u8],
     most_bits: u32,
 ) -> Result<Judgement, Memory>
@@ -210,12 +210,12 @@ pub fn judge(
     requires proof { length proof.now ≤ most_bytes }
     requires least { LEAST_BITS ≤ most_bits }
     requires most { most_bits ≤ MOST_BITS }
-    ensures { IfOk result (IsJudgement problem.now replaces_lets proof.now most_bits) }
+    ensures { IfOk result (IsJudgement problem.now options proof.now most_bits) }
 {
     let texts = Texts {
         problem,
         proof,
-        replaces_lets,
+        options,
     };
     for bits in pool_bits(problem.len() + proof.len(), most_bits)..most_bits {
         match judge_into(alloc, bits, &texts)? {

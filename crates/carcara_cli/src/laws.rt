@@ -12,6 +12,7 @@ ghost use Rattle.problem_text.specs.Scripts.{Script};
 ghost use Rattle.problem_text.specs.Soundness.{IsSound, HasScopedTerms};
 ghost use Rattle.alethe_text.specs.ProofTexts.{proof_from, StandsForProof};
 ghost use Rattle.alethe_text.specs.States.{ProofSettings, unread};
+ghost use Rattle.command_words.specs.declared.request.Options.{Options};
 ghost use Rattle.carcara_cli.specs.Reading.{settings_of, IsPlacedByCheck, NeedsRoom};
 ghost use Rattle.carcara_cli.specs.Cells.{HasMoreCells};
 ghost use Rattle.carcara_cli.specs.CellSums.{cells_in_all};
@@ -30,7 +31,7 @@ pub fn proofs_have_scoped_terms()
 /// Where the verdict on the proof is `valid`, the problem's text stands for assertions that no interpretation makes all
 /// true.
 pub fn valid_proofs_are_sound()
-    ensures { (text : List ℕ) (replaces_lets : Bool) (proof : List ℕ) → IsCheckedAs text replaces_lets proof Verdict.Valid → (sc : Script) × StandsForProblem text replaces_lets sc × Unsatisfiable sc.assertions }
+    ensures { (text : List ℕ) (options : Options) (proof : List ℕ) → IsCheckedAs text options proof Verdict.Valid → (sc : Script) × StandsForProblem text options.replaces_lets sc × Unsatisfiable sc.assertions }
 {
     scripts_are_well_sorted();
     scripts_are_closed();

@@ -1,6 +1,6 @@
-//! The top call of the checker: `check PROOF PROBLEM`.
+//! The top call of the checker: `check PROOF PROBLEM`. What the words of the command line ask for is `command_words`'.
 //!
-//! - `top`: the two files, the answer and its printing; `command_line`: what the words of the command line ask for.
+//! - `top`: the two files, the answer and its printing.
 //! - `judging`: what the two texts come to, by the readers, the statuses of the commands and the verdict; `pools`: pools that
 //!   are large enough; `naming`: the commands that a verdict names.
 //! - `judgement`, `answer`: what is judged and answered, and how it is printed.
@@ -8,7 +8,6 @@
 #![tactic(auto)]
 
 mod answer;
-mod command_line;
 mod judgement;
 mod judging;
 pub mod laws;

@@ -4,15 +4,15 @@ ghost use Rattle.std.specs.Io.KnownBytes.{Appends};
 ghost use Rattle.file_ports.specs.Faults.{HasRisen};
 ghost use Rattle.file_ports.specs.Texts.{AreTold, AppendsFront};
 ghost use Rattle.carcara_cli.specs.Printed as spec;
-ghost use Rattle.carcara_cli.specs.CommandLine.{asked_of};
+ghost use Rattle.command_words.specs.CommandLine.{asked_of};
 ghost use Rattle.carcara_cli.specs.TopCall.{most_bytes, IsTooLong, IsAnswerTo, IsPrinted, MayAskBoth, ShowsUnsatisfiable};
 ghost use Rattle.carcara_cli.specs.Answering.{IsUnread};
 
 use crate::answer::{Answer, status_of, text_of};
-use crate::command_line::{Request, asked_of};
 use crate::judging::judge;
 use crate::laws::valid_proofs_are_sound;
 use crate::pools::MOST_BITS;
+use command_words::{Request, asked_of};
 use file_ports::{Folder, Gate, OutStop, ReadStop, Sink, read_whole, write_whole};
 use pair_pool::Memory;
 use std::alloc::Global;
@@ -70,7 +70,7 @@ fn answer_to<F: Folder>(alloc: Global, words: &[String], folder: &mut F) -> Resu
     let judgement = judge(
         alloc,
         &files.problem,
-        asked.replaces_lets,
+        asked.options,
         &files.proof,
         MOST_BITS,
     )?;
@@ -97,7 +97,7 @@ fn report<S: Sink>(alloc: Global, answer: &Answer, out: &mut S) -> u8
 /// says the status with which the program ends.
 ///
 /// `words` are those of the command line without the program's name: `check`, and behind it the paths of the proof and
-/// of the problem, with `--expand-let-bindings` in any place; a `--` ends the options.
+/// of the problem, with `--expand-let-bindings` and `--ignore-unknown-rules` in any place; a `--` ends the options.
 ///
 /// Status 0 is `valid`, 1 `invalid`, 2 `holey`, 3 `refused`, 4 `unknown`, 5 a read fault, 6 a write fault, 7 want of memory,
 /// 8 texts whose terms have more than 2^26 distinct cells, 9 a file of more than 268,435,456 bytes, and 64 words that spell no

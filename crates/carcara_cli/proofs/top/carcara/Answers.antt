@@ -1,6 +1,6 @@
 use Rattle.std.proofs.Common.{arith, ◌≡◌, ◌≢◌, sym, ◌∙◌, inl, inr}
 use Rattle.std.specs.Prelude.{map, string_bytes}
-use Rattle.carcara_cli.specs.CommandLine.{asked_of}
+use Rattle.command_words.specs.CommandLine.{asked_of}
 use Rattle.carcara_cli.specs.Printed.{status_of}
 use Rattle.carcara_cli.proofs.JudgementLemmas.{valid_shows}
 use Rattle.carcara_cli.proofs.top.carcara.Goals as goal
