@@ -7,3 +7,4 @@ pub mod TermsOfTexts
 pub mod ScopedTerms
 pub mod ScopedProofs
 pub mod TruthClauses
+mod OneAnswer

@@ -5,6 +5,7 @@ pub mod Holes
 pub mod Judgement
 pub mod Printed
 pub mod TopCall
+pub mod Exactness
 pub mod Pools
 pub mod Answering
 pub mod Judging

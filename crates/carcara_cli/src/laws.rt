@@ -1,5 +1,5 @@
 //! Laws of the definitions. Each is the contract of a function that does nothing.
-ghost use Rattle.std.specs.Prelude.{◌<◌, ◌++◌, ℕ, List, Bool};
+ghost use Rattle.std.specs.Prelude.{◌<◌, ◌++◌, ℕ, List, Bool, Option};
 ghost use Rattle.std.specs.List.{Contains};
 ghost use Rattle.sexpr.specs.Items.{Items, StandsForItems};
 ghost use Rattle.term_model.specs.Terms.{Var, Term};
@@ -17,10 +17,13 @@ ghost use Rattle.carcara_cli.specs.Reading.{settings_of, IsPlacedByCheck, NeedsR
 ghost use Rattle.carcara_cli.specs.Cells.{HasMoreCells};
 ghost use Rattle.carcara_cli.specs.CellSums.{cells_in_all};
 ghost use Rattle.carcara_cli.specs.Judgement.{IsCheckedAs};
+ghost use Rattle.carcara_cli.specs.Exactness.{IsDefined, SaySame};
+ghost use Rattle.carcara_cli.specs.declared.answer.Answer.{Answer};
+ghost use Rattle.command_words.specs.CommandLine.{Asked};
 
-use alethe_text::laws::proofs_are_well_formed;
+use alethe_text::laws::{proof_texts_have_one_reading, proofs_are_well_formed};
 use problem_text::laws::{scripts_are_closed, scripts_are_well_sorted, texts_have_one_reading};
-use rule_model::laws::soundness::valid_proofs_are_refutations;
+use rule_model::laws::soundness::{statuses_are_unique, valid_proofs_are_refutations};
 
 /// Whatever proof a text stands for behind a problem: its literals are terms of Bool, what an anchor gives a variable has
 /// the variable's sort, and the open anchors bind the variables that stand free in these terms.
@@ -38,6 +41,15 @@ pub fn valid_proofs_are_sound()
     proofs_are_well_formed();
     proofs_have_scoped_terms();
     valid_proofs_are_refutations();
+}
+
+/// What the words ask for and the bytes of the two files define one answer, as far as it is printed.
+pub fn words_and_files_define_one_answer()
+    ensures { (content : List ℕ → Option (List ℕ)) (asked : Option Asked) (a b : Answer) → IsDefined content asked a → IsDefined content asked b → SaySame a b }
+{
+    texts_have_one_reading();
+    proof_texts_have_one_reading();
+    statuses_are_unique();
 }
 
 /// Where the terms that need room have more distinct cells than n, they have more than n in sum: those that are read of the

@@ -7,10 +7,11 @@ ghost use Rattle.carcara_cli.specs.Printed as spec;
 ghost use Rattle.command_words.specs.CommandLine.{asked_of};
 ghost use Rattle.carcara_cli.specs.TopCall.{most_bytes, IsTooLong, IsAnswerTo, IsPrinted, MayAskBoth, ShowsUnsatisfiable};
 ghost use Rattle.carcara_cli.specs.Answering.{IsUnread};
+ghost use Rattle.carcara_cli.specs.Exactness.{IsExact};
 
 use crate::answer::{Answer, status_of, text_of};
 use crate::judging::judge;
-use crate::laws::valid_proofs_are_sound;
+use crate::laws::{valid_proofs_are_sound, words_and_files_define_one_answer};
 use crate::pools::MOST_BITS;
 use command_words::{Request, asked_of};
 use file_ports::{Folder, Gate, OutStop, ReadStop, Sink, read_whole, write_whole};
@@ -118,6 +119,9 @@ pub fn carcara<R: AllocGlobal, F: Folder, S: Sink, G: Gate>(
     // What was printed is the whole text of an answer of the status, and after a failed write or want of memory a front.
     ensures printed { IsPrinted (IsAnswerTo (F.content folder.old) (F.faults folder.old) (F.faults folder.new) (asked_of (map string_bytes words.now))) (S.written out.old) (S.written out.new) result }
 
+    // Unless the status is 5, 6, 7 or 8, it is that of the one answer that the words and the bytes of the files define.
+    ensures exact { IsExact (F.content folder.old) (asked_of (map string_bytes words.now)) (S.written out.old) (S.written out.new) result }
+
     // `valid` shows that no interpretation makes every assertion of the problem true.
     ensures unsatisfiable { result ≡ 0 → ShowsUnsatisfiable (F.content folder.old) (asked_of (map string_bytes words.now)) }
 
@@ -125,6 +129,7 @@ pub fn carcara<R: AllocGlobal, F: Folder, S: Sink, G: Gate>(
     ensures write_fault { result ≡ 6 → HasRisen (S.faults out.old) (S.faults out.new) }
 {
     valid_proofs_are_sound();
+    words_and_files_define_one_answer();
     match answer_to(rt.alloc(), words, folder) {
         Ok(answer) => report(rt.alloc(), &answer, out),
         Err(Memory) => 7,
