@@ -70,7 +70,6 @@ module _
     (not_both_proof : (source : List ℕ) (settings : ProofSettings) (before : Script) (p : ProofItems Var Term) (s : Script) (r : Refusal) → StandsForProof source settings before p s → IsFirstProofFault source settings before r → ⊥)
     (one_status : (c : Checking) (proof : ProofItems Var Term) (i : ℕ) (s z : Status) → IsStatusAt c proof i s → IsStatusAt c proof i z → s ≡ z)
     (one_verdict : (statuses : List Status) (proof : ProofItems Var Term) (v w : Verdict) → IsVerdict statuses proof v → IsVerdict statuses proof w → v ≡ w) where
-
   module _ (problem : List ℕ) (options : Options) (proof : List ℕ) where
     -- of two checks of the texts
     module _ (v w : Verdict) (a : IsCheckedAs problem options proof v) (b : IsCheckedAs problem options proof w) where
@@ -139,15 +138,14 @@ module _
     one_coming m n x y (by_problem r fault e f) (by_proof sc q stands other g h) = absurd (not_both problem options.replaces_lets sc r stands fault)
     one_coming m n x y (by_proof sc r stands fault e f) (by_verdict w b g h) = absurd (no_proof_fault w b sc r stands fault)
     one_coming m n x y (by_proof sc r stands fault e f) (by_problem q other g h) = absurd (not_both problem options.replaces_lets sc q stands other)
-    one_coming m n x y (by_proof sc r stands fault e f) (by_proof sd q stands' other g h) =
-        (
-          e ∙ sym g,
-          f
+    one_coming m n x y (by_proof sc r stands fault e f) (by_proof sd q stands' other g h) = (
+      e ∙ sym g,
+      f
           ∙ (ap (refusal_text (codes "proof "))
           (one_proof_fault proof (settings_of options.replaces_lets) sd r q
           (subst (λ s. IsFirstProofFault proof (settings_of options.replaces_lets) s r) (one_script problem options.replaces_lets sc sd stands stands') fault) other)
           ∙ sym h),
-        )
+    )
 
     pub one_judgement : (bits : ℕ) (j k : Judgement) → IsJudgement problem options proof bits j → IsJudgement problem options proof bits k → j ≢ PoolFull → k ≢ PoolFull
         → (status_of_judgement j ≡ status_of_judgement k) × (text_of_judgement j ≡ text_of_judgement k)

@@ -40,37 +40,85 @@ some (operation Op.GreaterEq ts) = omega arith
 some (operation Op.Greater ts) = omega arith
 
 pub not_falls : AllByRecursion Falls not_simplify
-not_falls = (λ f. (let a = some (f Letter.A) in let b = some (f Letter.B) in let c = some (f Letter.C) in let d = some (f Letter.D) in omega (arith, a, b, c, d)),
-  (λ f. (let a = some (f Letter.A) in let b = some (f Letter.B) in let c = some (f Letter.C) in let d = some (f Letter.D) in omega (arith, a, b, c, d)),
-  (λ f. (let a = some (f Letter.A) in let b = some (f Letter.B) in let c = some (f Letter.C) in let d = some (f Letter.D) in omega (arith, a, b, c, d)),
-  tt)))
+not_falls = (
+  λ f. (let a = some (f Letter.A) in let b = some (f Letter.B) in let c = some (f Letter.C) in let d = some (f Letter.D) in omega (arith, a, b, c, d)),
+  (
+    λ f. (let a = some (f Letter.A) in let b = some (f Letter.B) in let c = some (f Letter.C) in let d = some (f Letter.D) in omega (arith, a, b, c, d)),
+    (
+      λ f. (let a = some (f Letter.A) in let b = some (f Letter.B) in let c = some (f Letter.C) in let d = some (f Letter.D) in omega (arith, a, b, c, d)),
+      tt,
+    ),
+  ),
+)
 
 pub implies_falls : AllByRecursion Falls implies_simplify
-implies_falls = (λ f. (let a = some (f Letter.A) in let b = some (f Letter.B) in let c = some (f Letter.C) in let d = some (f Letter.D) in omega (arith, a, b, c, d)),
-  (λ f. (let a = some (f Letter.A) in let b = some (f Letter.B) in let c = some (f Letter.C) in let d = some (f Letter.D) in omega (arith, a, b, c, d)),
-  (λ f. (let a = some (f Letter.A) in let b = some (f Letter.B) in let c = some (f Letter.C) in let d = some (f Letter.D) in omega (arith, a, b, c, d)),
-  (λ f. (let a = some (f Letter.A) in let b = some (f Letter.B) in let c = some (f Letter.C) in let d = some (f Letter.D) in omega (arith, a, b, c, d)),
-  (λ f. (let a = some (f Letter.A) in let b = some (f Letter.B) in let c = some (f Letter.C) in let d = some (f Letter.D) in omega (arith, a, b, c, d)),
-  (λ f. (let a = some (f Letter.A) in let b = some (f Letter.B) in let c = some (f Letter.C) in let d = some (f Letter.D) in omega (arith, a, b, c, d)),
-  (λ f. (let a = some (f Letter.A) in let b = some (f Letter.B) in let c = some (f Letter.C) in let d = some (f Letter.D) in omega (arith, a, b, c, d)),
-  (λ f. (let a = some (f Letter.A) in let b = some (f Letter.B) in let c = some (f Letter.C) in let d = some (f Letter.D) in omega (arith, a, b, c, d)),
-  (λ f. (let a = some (f Letter.A) in let b = some (f Letter.B) in let c = some (f Letter.C) in let d = some (f Letter.D) in omega (arith, a, b, c, d)),
-  tt)))))))))
+implies_falls = (
+  λ f. (let a = some (f Letter.A) in let b = some (f Letter.B) in let c = some (f Letter.C) in let d = some (f Letter.D) in omega (arith, a, b, c, d)),
+  (
+    λ f. (let a = some (f Letter.A) in let b = some (f Letter.B) in let c = some (f Letter.C) in let d = some (f Letter.D) in omega (arith, a, b, c, d)),
+    (
+      λ f. (let a = some (f Letter.A) in let b = some (f Letter.B) in let c = some (f Letter.C) in let d = some (f Letter.D) in omega (arith, a, b, c, d)),
+      (
+        λ f. (let a = some (f Letter.A) in let b = some (f Letter.B) in let c = some (f Letter.C) in let d = some (f Letter.D) in omega (arith, a, b, c, d)),
+        (
+          λ f. (let a = some (f Letter.A) in let b = some (f Letter.B) in let c = some (f Letter.C) in let d = some (f Letter.D) in omega (arith, a, b, c, d)),
+          (
+            λ f. (let a = some (f Letter.A) in let b = some (f Letter.B) in let c = some (f Letter.C) in let d = some (f Letter.D) in omega (arith, a, b, c, d)),
+            (
+              λ f. (let a = some (f Letter.A) in let b = some (f Letter.B) in let c = some (f Letter.C) in let d = some (f Letter.D) in omega (arith, a, b, c, d)),
+              (
+                λ f. (let a = some (f Letter.A) in let b = some (f Letter.B) in let c = some (f Letter.C) in let d = some (f Letter.D) in omega (arith, a, b, c, d)),
+                (
+                  λ f. (let a = some (f Letter.A) in let b = some (f Letter.B) in let c = some (f Letter.C) in let d = some (f Letter.D) in omega (arith, a, b, c, d)),
+                  tt,
+                ),
+              ),
+            ),
+          ),
+        ),
+      ),
+    ),
+  ),
+)
 
 pub ite_falls : AllByRecursion Falls ite_simplify
-ite_falls = (λ f. (let a = some (f Letter.A) in let b = some (f Letter.B) in let c = some (f Letter.C) in let d = some (f Letter.D) in omega (arith, a, b, c, d)),
-  (λ f. (let a = some (f Letter.A) in let b = some (f Letter.B) in let c = some (f Letter.C) in let d = some (f Letter.D) in omega (arith, a, b, c, d)),
-  (λ f. (let a = some (f Letter.A) in let b = some (f Letter.B) in let c = some (f Letter.C) in let d = some (f Letter.D) in omega (arith, a, b, c, d)),
-  (λ f. (let a = some (f Letter.A) in let b = some (f Letter.B) in let c = some (f Letter.C) in let d = some (f Letter.D) in omega (arith, a, b, c, d)),
-  (λ f. (let a = some (f Letter.A) in let b = some (f Letter.B) in let c = some (f Letter.C) in let d = some (f Letter.D) in omega (arith, a, b, c, d)),
-  (λ f. (let a = some (f Letter.A) in let b = some (f Letter.B) in let c = some (f Letter.C) in let d = some (f Letter.D) in omega (arith, a, b, c, d)),
-  (λ f. (let a = some (f Letter.A) in let b = some (f Letter.B) in let c = some (f Letter.C) in let d = some (f Letter.D) in omega (arith, a, b, c, d)),
-  (λ f. (let a = some (f Letter.A) in let b = some (f Letter.B) in let c = some (f Letter.C) in let d = some (f Letter.D) in omega (arith, a, b, c, d)),
-  (λ f. (let a = some (f Letter.A) in let b = some (f Letter.B) in let c = some (f Letter.C) in let d = some (f Letter.D) in omega (arith, a, b, c, d)),
-  (λ f. (let a = some (f Letter.A) in let b = some (f Letter.B) in let c = some (f Letter.C) in let d = some (f Letter.D) in omega (arith, a, b, c, d)),
-  (λ f. (let a = some (f Letter.A) in let b = some (f Letter.B) in let c = some (f Letter.C) in let d = some (f Letter.D) in omega (arith, a, b, c, d)),
-  (λ f. (let a = some (f Letter.A) in let b = some (f Letter.B) in let c = some (f Letter.C) in let d = some (f Letter.D) in omega (arith, a, b, c, d)),
-  tt))))))))))))
+ite_falls = (
+  λ f. (let a = some (f Letter.A) in let b = some (f Letter.B) in let c = some (f Letter.C) in let d = some (f Letter.D) in omega (arith, a, b, c, d)),
+  (
+    λ f. (let a = some (f Letter.A) in let b = some (f Letter.B) in let c = some (f Letter.C) in let d = some (f Letter.D) in omega (arith, a, b, c, d)),
+    (
+      λ f. (let a = some (f Letter.A) in let b = some (f Letter.B) in let c = some (f Letter.C) in let d = some (f Letter.D) in omega (arith, a, b, c, d)),
+      (
+        λ f. (let a = some (f Letter.A) in let b = some (f Letter.B) in let c = some (f Letter.C) in let d = some (f Letter.D) in omega (arith, a, b, c, d)),
+        (
+          λ f. (let a = some (f Letter.A) in let b = some (f Letter.B) in let c = some (f Letter.C) in let d = some (f Letter.D) in omega (arith, a, b, c, d)),
+          (
+            λ f. (let a = some (f Letter.A) in let b = some (f Letter.B) in let c = some (f Letter.C) in let d = some (f Letter.D) in omega (arith, a, b, c, d)),
+            (
+              λ f. (let a = some (f Letter.A) in let b = some (f Letter.B) in let c = some (f Letter.C) in let d = some (f Letter.D) in omega (arith, a, b, c, d)),
+              (
+                λ f. (let a = some (f Letter.A) in let b = some (f Letter.B) in let c = some (f Letter.C) in let d = some (f Letter.D) in omega (arith, a, b, c, d)),
+                (
+                  λ f. (let a = some (f Letter.A) in let b = some (f Letter.B) in let c = some (f Letter.C) in let d = some (f Letter.D) in omega (arith, a, b, c, d)),
+                  (
+                    λ f. (let a = some (f Letter.A) in let b = some (f Letter.B) in let c = some (f Letter.C) in let d = some (f Letter.D) in omega (arith, a, b, c, d)),
+                    (
+                      λ f. (let a = some (f Letter.A) in let b = some (f Letter.B) in let c = some (f Letter.C) in let d = some (f Letter.D) in omega (arith, a, b, c, d)),
+                      (
+                        λ f. (let a = some (f Letter.A) in let b = some (f Letter.B) in let c = some (f Letter.C) in let d = some (f Letter.D) in omega (arith, a, b, c, d)),
+                        tt,
+                      ),
+                    ),
+                  ),
+                ),
+              ),
+            ),
+          ),
+        ),
+      ),
+    ),
+  ),
+)
 
 all_fall : (table : Simplification) → AllByRecursion Falls (rows_of table)
 all_fall Simplification.Not = not_falls

@@ -97,15 +97,11 @@ fn meets(
             };
             meets_joining(alloc, symbols, terms, junction, clause)
         }
-        Rule::NotSimplify => {
-            meets_rewriting(alloc, symbols, terms, Simplification::Not, clause)
-        }
+        Rule::NotSimplify => { meets_rewriting(alloc, symbols, terms, Simplification::Not, clause) }
         Rule::ImpliesSimplify => {
             meets_rewriting(alloc, symbols, terms, Simplification::Implies, clause)
         }
-        Rule::IteSimplify => {
-            meets_rewriting(alloc, symbols, terms, Simplification::Ite, clause)
-        }
+        Rule::IteSimplify => { meets_rewriting(alloc, symbols, terms, Simplification::Ite, clause) }
         _ => Ok(false),
     }
 }
