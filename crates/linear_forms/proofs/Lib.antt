@@ -1,0 +1,10 @@
+mod Passing
+mod Sweeping
+mod Weighing
+mod Products
+mod Entering
+mod Meaning
+mod Visited
+mod Walking
+mod Graphing
+mod Forming

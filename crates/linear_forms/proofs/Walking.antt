@@ -1,0 +1,110 @@
+-- The walk that numbers terms: the items on the way, and what has been met.
+use Rattle.std.proofs.Common.{◌≡◌, ◌≢◌, ◌⊎◌, inl, inr, ℕ, ◌<◌, Bool, true, false, List, [], ◌∷◌, ◌++◌, Option, Some, None, refl, sym, ap, ◌∙◌, subst, Decides, arith}
+use Rattle.std.proofs.lemmas.Bool.Decides.{Decides-eqb}
+use Rattle.pair_pool.specs.Trees.{Tree, depth}
+use Rattle.pair_pool.specs.Views.{Knows}
+use Rattle.sym_table.specs.Table.{Table}
+use Rattle.term_model.specs.Terms.{Terms}
+use Rattle.term_pool.specs.Views.{TermsView}
+use Rattle.term_pool.proofs.Ways.{IsWay, way_start, way_unmet, way_here, way_end, way_down, way_up}
+use Rattle.linear_forms.specs.contracts.memory.ItemPartialEq.TheImpl as items
+use Rattle.linear_forms.specs.declared.memory.Item.{Item}
+use Rattle.linear_forms.specs.declared.memory.Item.TheVariants.{Term as TermItem, List as ListItem}
+use Rattle.linear_forms.specs.Graphs.{item_reference, IsOneTerm, IsTermList, IsMeant, IsItem, IsItemBelow}
+use Rattle.linear_forms.specs.Memos.{Memo, number_remembered, RemembersItem}
+
+decides_item : (x y : Item) → Decides ((items.ghosts).eq x y) (x ≡ y)
+decides_item (TermItem a) (TermItem c) = (λ h. ap TermItem ((Decides-eqb a c).0 h), λ h. (Decides-eqb a c).1 (cc))
+decides_item (ListItem a) (ListItem c) = (λ h. ap ListItem ((Decides-eqb a c).0 h), λ h. (Decides-eqb a c).1 (cc))
+decides_item (TermItem a) (ListItem c) = (λ h. cc, λ h. cc)
+decides_item (ListItem a) (TermItem c) = (λ h. cc, λ h. cc)
+
+pub same_item : (x y : Item) → (x ≡ y) ⊎ (x ≢ y)
+same_item x y = go ((items.ghosts).eq x y) (decides_item x y)
+  where
+    go : (b : Bool) → Decides b (x ≡ y) → (x ≡ y) ⊎ (x ≢ y)
+    go true d = inl (d.0 refl)
+    go false d = inr (λ e. absurd (let f = d.1 e in cc))
+
+-- items that have been met
+IsRecalled : Memo → Item → Type 0
+IsRecalled memo x = (k : ℕ) × (number_remembered memo x ≡ Some k)
+
+none_unmet : (memo : Memo) (x : Item) → number_remembered memo x ≡ None → IsRecalled memo x → ⊥
+unfolding IsRecalled
+none_unmet memo x e (k, f) = let g : None ≡ Some k = sym e ∙ f in absurd (cc)
+
+unmet_none : (memo : Memo) (x : Item) → (IsRecalled memo x → ⊥) → number_remembered memo x ≡ None
+unfolding IsRecalled
+unmet_none memo x h = go (number_remembered memo x) refl
+  where
+    go : (o : Option ℕ) → number_remembered memo x ≡ o → number_remembered memo x ≡ None
+    go None e = e
+    go (Some k) e = absurd (h (k, e))
+
+met_more : (old new : Memo) (at : Item) (k : ℕ) → RemembersItem old new at k → (x : Item) → IsRecalled new x → IsRecalled old x ⊎ (x ≡ at)
+unfolding IsRecalled
+met_more old new at k h x (n, e) = go (same_item x at)
+  where
+    go : (x ≡ at) ⊎ (x ≢ at) → ((m : ℕ) × (number_remembered old x ≡ Some m)) ⊎ (x ≡ at)
+    go (inl same) = inr same
+    go (inr other) = inl (n, sym (h.others x other) ∙ e)
+
+module _ (s : Table) (v : TermsView) where
+  -- an item has a tree
+  record HasTree (x : Item) : Type 0 where
+    tree : Tree
+    known : Knows v.pass (item_reference x) tree
+
+  item_tree : (x : Item) (ts : Terms) → IsMeant s v x ts → HasTree x
+  item_tree (TermItem r) ts h = record { tree = h.refers.tree; known = h.refers.known }
+  item_tree (ListItem r) ts h = record { tree = h.tree; known = h.known }
+
+  below_further : (x y z : Item) → IsItemBelow s v x y → IsItemBelow s v y z → IsItemBelow s v x z
+  below_further x y z h k =
+      let middle = item_tree y h.item.terms h.item.meant in
+      record {
+        item = k.item;
+        less = λ a b left right.
+            let one = h.less a middle.tree left middle.known in
+            let other = k.less middle.tree b middle.known right in
+            omega (arith, one, other);
+      }
+
+  below_never : (x : Item) → IsItemBelow s v x x → ⊥
+  below_never x h =
+      let own = item_tree x h.item.terms h.item.meant in
+      let e = h.less own.tree own.tree own.known own.known in
+      omega (arith, e)
+
+  -- where the walk is
+  pub record IsWalk (memo : Memo) (root : Item) (items : List Item) : Type 0 where
+    root_item : IsItem s v root
+    way : IsWay (IsItemBelow s v) (IsRecalled memo) root items
+
+  pub walk_item : (memo : Memo) (root at : Item) (way : List Item) → IsWalk memo root (way ++ at ∷ []) → IsItem s v at
+  walk_item memo root at way h = way_here (IsItemBelow s v) (IsItem s v) (λ x y b. b.item) (IsRecalled memo) root at way h.root_item h.way
+
+  pub walk_new : (memo : Memo) (root at : Item) (way : List Item) → IsWalk memo root (way ++ at ∷ []) → number_remembered memo at ≡ None
+  walk_new memo root at way h = unmet_none memo at (way_unmet (IsItemBelow s v) (IsRecalled memo) root at way h.way)
+
+  pub walk_start : (memo : Memo) (root : Item) → IsItem s v root → number_remembered memo root ≡ None → IsWalk memo root (root ∷ [])
+  walk_start memo root item unmet = record {
+    root_item = item;
+    way = way_start (IsItemBelow s v) (IsRecalled memo) root (none_unmet memo root unmet);
+  }
+
+  pub walk_down : (memo : Memo) (root at part : Item) (way : List Item) → IsWalk memo root (way ++ at ∷ []) → IsItemBelow s v at part → number_remembered memo part ≡ None → IsWalk memo root ((way ++ at ∷ []) ++ part ∷ [])
+  walk_down memo root at part way h k e = record {
+    root_item = h.root_item;
+    way = way_down (IsItemBelow s v) below_further (IsRecalled memo) root at part way h.way k (none_unmet memo part e);
+  }
+
+  pub walk_up : (old new : Memo) (root at above : Item) (k : ℕ) (way : List Item) → IsWalk old root ((way ++ above ∷ []) ++ at ∷ []) → RemembersItem old new at k → IsWalk new root (way ++ above ∷ [])
+  walk_up old new root at above k way h more = record {
+    root_item = h.root_item;
+    way = way_up (IsItemBelow s v) below_never (IsRecalled old) (IsRecalled new) root above at way (met_more old new at k more) h.way;
+  }
+
+  pub walk_end : (memo : Memo) (root at : Item) (way : List Item) → way ≡ [] → IsWalk memo root (way ++ at ∷ []) → at ≡ root
+  walk_end memo root at way e h = way_end (IsItemBelow s v) (IsRecalled memo) root at way e h.way

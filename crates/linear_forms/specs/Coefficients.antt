@@ -1,0 +1,18 @@
+-- Public. Lists of opaque terms with their coefficients.
+use Rattle.std.specs.Prelude.{◌≢◌, ◌==◌, ℕ, ℤ, pos, ◌+◌, ◌+ℤ◌, unsigned_abs, if◌then◌else◌, List, [], ◌∷◌, All}
+use Rattle.linear_forms.specs.declared.nodes.Coefficient.{Coefficient}
+
+-- the sum of the numbers that stand with a reference
+abbrev pub number_at : List Coefficient → ℕ → ℤ
+number_at [] r = pos 0
+number_at (c ∷ cs) r = (if c.term == r then c.number else pos 0) +ℤ number_at cs r
+
+-- the sum of the absolute values
+abbrev pub sizes_of : List Coefficient → ℕ
+sizes_of [] = 0
+sizes_of (c ∷ cs) = unsigned_abs c.number + sizes_of cs
+
+-- no term stands twice
+abbrev pub AreApart : List Coefficient → Type 0
+AreApart [] = Unit {0}
+AreApart (c ∷ cs) = All (λ (d : Coefficient). d.term ≢ c.term) cs × AreApart cs

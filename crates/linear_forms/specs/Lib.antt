@@ -1,0 +1,11 @@
+pub mod Coefficients
+pub mod Factors
+pub mod Sweeps
+pub mod Readings
+pub mod Infos
+pub mod Memos
+pub mod Entries
+pub mod Graphs
+pub mod Visits
+pub mod Forms
+pub mod Roots
