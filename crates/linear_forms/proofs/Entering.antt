@@ -1,13 +1,13 @@
 -- The entries of terms and of lists are right, where those of their parts are.
-use Rattle.std.proofs.Common.{◌≡◌, ◌≢◌, ℕ, suc, ◌+◌, ◌*◌, ◌<◌, ◌≤◌, ◌^◌, min, max, nat_le, ℤ, pos, negsuc, neg_ℤ, ◌+ℤ◌, ◌-ℤ◌, ◌*ℤ◌, unsigned_abs, Bool, true, false, if◌then◌else◌, refl, sym, ap, ◌∙◌, subst, arith}
+use Rattle.std.proofs.Common.{◌≡◌, ◌≢◌, ℕ, ◌+◌, ◌*◌, ◌<◌, ◌≤◌, ◌^◌, min, max, ℤ, pos, neg_ℤ, ◌*ℤ◌, unsigned_abs, true, false, refl, sym, ap, ◌∙◌, subst, arith}
 use Rattle.std.proofs.Math.IntN.{*ℤ_comm, zero-*ℤ}
 use Rattle.std.proofs.lemmas.Int.{ints}
 use Rattle.std.proofs.lemmas.Bool.Decides.{nat_tests}
 use Rattle.term_model.specs.declared.symbols.Op.{Op}
-use Rattle.term_model.specs.Terms.{Term, numeral, variable, operation, call, let_in, Terms, no_terms, term}
+use Rattle.term_model.specs.Terms.{Term, numeral, operation, Terms, no_terms, term}
 use Rattle.term_pool.specs.Views.{TermsView, RefersTo}
 use Rattle.sym_table.specs.Table.{Table}
-use Rattle.rule_model.specs.LinearForms.{is_constant, others, is_linear, product, constant, constants, part, product_part}
+use Rattle.rule_model.specs.LinearForms.{is_constant, others, is_linear, constant}
 use Rattle.rule_model.specs.Weights.{weight, weight_sum, weight_product}
 use Rattle.rule_model.proofs.LinearForms.{constant_part}
 use Rattle.rule_model.proofs.Ring.{one-mul, neg-mul}
@@ -15,16 +15,13 @@ use Rattle.linear_forms.specs.declared.entries.Entry.{Entry}
 use Rattle.linear_forms.specs.declared.entries.Found.{Found}
 use Rattle.linear_forms.specs.declared.memory.Item.{Item}
 use Rattle.linear_forms.specs.declared.memory.Item.TheVariants.{Term as TermItem, List as ListItem}
-use Rattle.linear_forms.specs.declared.nodes.Part.{Part}
-use Rattle.linear_forms.specs.declared.nodes.Node.{Node}
-use Rattle.linear_forms.specs.declared.nodes.Node.TheVariants.{Number, Opaque, Multiple, Sum}
 use Rattle.linear_forms.specs.declared.nodes.Factors.{Factors}
 use Rattle.linear_forms.specs.declared.nodes.Factors.TheVariants.{Constants, Single, Many}
 use Rattle.linear_forms.specs.declared.nodes.Info.{Info}
 use Rattle.linear_forms.specs.Entries.{once, less, term_info, constant_info, constant_entry, number_entry, opaque_entry, sum_entry, negated_entry, difference_entry, product_entry, single_entry, pair_entry}
 use Rattle.linear_forms.specs.Factors.{IsAbove}
-use Rattle.linear_forms.specs.Graphs.{IsFilled, IsOneTerm, IsNumberNode, IsOpaqueNode, IsMultipleNode, IsSumNode, IsNode, AreConstants, HasSingle, AreFactors, IsInfo, IsOwn, IsEntry}
-use Rattle.linear_forms.specs.Infos.{limit_weight, joined_info}
+use Rattle.linear_forms.specs.Graphs.{IsFilled, IsNumberNode, IsNode, AreFactors, IsInfo, IsOwn, IsEntry}
+use Rattle.linear_forms.specs.Infos.{limit_weight}
 use Rattle.linear_forms.specs.Readings.{Reading, for_constants, for_parts, unit_of, opaque_in, read, sum_in, product_in}
 use Rattle.linear_forms.proofs.Products.{sum_first, sum_one, difference_first, product_constant, product_other, info_joined}
 use Rattle.linear_forms.proofs.Weighing.{sum_positive, min_sum}

@@ -1,5 +1,5 @@
 -- A sweep from the nodes of terms comes to their linear forms.
-use Rattle.std.proofs.Common.{◌≡◌, ◌≢◌, ◌⊎◌, inl, inr, ℕ, zero, suc, ◌+◌, ◌*◌, ◌<◌, ◌≤◌, ◌^◌, min, Bool, true, false, nat_eq, nat_lt, if◌then◌else◌, ℤ, pos, neg_ℤ, ◌+ℤ◌, ◌-ℤ◌, ◌*ℤ◌, unsigned_abs, List, [], ◌∷◌, ◌++◌, All, length, slice_index_or, slice_set, replicate, Option, Some, None, Decides, FitsSigned, drop, refl, sym, ap, ◌∙◌, subst, arith}
+use Rattle.std.proofs.Common.{◌≡◌, ◌≢◌, ◌⊎◌, inl, inr, ℕ, zero, suc, ◌+◌, ◌<◌, ◌≤◌, ◌^◌, min, Bool, true, false, nat_eq, nat_lt, if◌then◌else◌, ℤ, pos, neg_ℤ, ◌-ℤ◌, ◌*ℤ◌, unsigned_abs, List, [], ◌∷◌, ◌++◌, All, length, slice_index_or, replicate, Option, Some, None, Decides, FitsSigned, drop, refl, sym, ap, ◌∙◌, subst, arith}
 use Rattle.std.proofs.Math.IntN.{*ℤ_comm, zero-*ℤ}
 use Rattle.std.specs.Global.{Vec}
 use Rattle.std.proofs.lemmas.Int.{ints}
@@ -10,30 +10,28 @@ use Rattle.sym_table.specs.Table.{Table, IsTable}
 use Rattle.term_model.specs.Terms.{Term, Terms, no_terms, term}
 use Rattle.term_pool.specs.Views.{TermsView, RefersTo, IsTerm}
 use Rattle.term_pool.proofs.TermLemmas.{equal_where}
-use Rattle.rule_model.specs.LinearForms.{constant, part, one_at, coefficient, HaveOneForm}
+use Rattle.rule_model.specs.LinearForms.{one_at, coefficient, HaveOneForm}
 use Rattle.rule_model.specs.TermTests.{term_eq}
 use Rattle.rule_model.specs.Weights.{weight, weight_sum}
 use Rattle.rule_model.proofs.Ring.{one-mul, neg-mul}
 use Rattle.rule_model.proofs.TermTests.{term_eq_decides}
 use Rattle.linear_forms.specs.declared.forms.Numbers.{Numbers}
 use Rattle.linear_forms.specs.declared.forms.OneForm.{OneForm}
-use Rattle.linear_forms.specs.declared.forms.Pair.{Pair}
 use Rattle.linear_forms.specs.declared.graph.Graph.{Graph}
 use Rattle.linear_forms.specs.declared.memory.Item.{Item}
-use Rattle.linear_forms.specs.declared.memory.Item.TheVariants.{Term as TermItem, List as ListItem}
+use Rattle.linear_forms.specs.declared.memory.Item.TheVariants.{Term as TermItem}
 use Rattle.linear_forms.specs.declared.nodes.Coefficient.{Coefficient}
 use Rattle.linear_forms.specs.declared.nodes.Info.{Info}
 use Rattle.linear_forms.specs.declared.nodes.Node.{Node}
 use Rattle.linear_forms.specs.declared.nodes.Node.TheVariants.{Number, Opaque, Multiple, Sum}
 use Rattle.linear_forms.specs.Coefficients.{number_at, sizes_of, AreApart}
 use Rattle.linear_forms.specs.Factors.{added, total, load, total_of, IsCounted, IsWeighed}
-use Rattle.linear_forms.specs.Forms.{IsReferred, AreCoefficients, IsWithin, IsLinearForm, IsDifference, IsDifferenceForm, TellsOneForm}
+use Rattle.linear_forms.specs.Forms.{IsReferred, AreCoefficients, IsWithin, IsLinearForm, IsDifferenceForm, TellsOneForm}
 use Rattle.linear_forms.specs.Graphs.{IsOneTerm, IsNode, IsGraphAt, IsGraph, IsRemembered, no_info, info_at}
 use Rattle.linear_forms.specs.Infos.{limit_weight}
-use Rattle.linear_forms.specs.Memos.{number_remembered}
 use Rattle.linear_forms.specs.Readings.{Reading, for_constants, for_parts, unit_of, opaque_in, read, sum_in}
-use Rattle.linear_forms.specs.Roots.{limited, IsRootNumber, IsRootPair, single_factors, pair_factors, IsExpanded, IsExpandedForm, IsTold}
-use Rattle.linear_forms.specs.Sweeps.{node_at, factor_at, AreOrdered, AreWeighed, AreCounted, IsOpaqueFrom, HaveOwnNodes, CanSweep, IsSwept}
+use Rattle.linear_forms.specs.Roots.{limited, single_factors, pair_factors, IsExpandedForm, IsTold}
+use Rattle.linear_forms.specs.Sweeps.{node_at, factor_at, AreWeighed, AreCounted, IsOpaqueFrom, HaveOwnNodes, CanSweep, IsSwept}
 use Rattle.linear_forms.proofs.Meaning.{term_one}
 use Rattle.linear_forms.proofs.Passing.{total_added, load_added, added_length}
 use Rattle.linear_forms.proofs.Products.{sum_one}

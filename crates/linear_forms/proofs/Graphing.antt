@@ -1,7 +1,6 @@
 -- A graph of nothing, and a graph with one entry more.
-use Rattle.std.proofs.Common.{◌≡◌, ◌≢◌, ◌⊎◌, inl, inr, ℕ, zero, suc, ◌+◌, ◌*◌, ◌<◌, ◌≤◌, ◌^◌, Bool, true, false, nat_eq, if◌then◌else◌, ℤ, pos, List, [], ◌∷◌, ◌++◌, length, slice_index_or, Option, Some, None, refl, sym, ap, ◌∙◌, subst, arith}
+use Rattle.std.proofs.Common.{◌≡◌, ◌≢◌, ◌⊎◌, inl, inr, ℕ, zero, suc, ◌<◌, ◌≤◌, ◌^◌, Bool, true, false, nat_eq, if◌then◌else◌, pos, List, [], ◌∷◌, ◌++◌, length, slice_index_or, Some, None, refl, sym, ap, ◌∙◌, subst, arith}
 use Rattle.std.proofs.lemmas.Bool.Decides.{nat_tests}
-use Rattle.std.proofs.Common.{length-append}
 use Rattle.sym_table.specs.Table.{Table}
 use Rattle.term_model.specs.Terms.{numeral, Terms, no_terms, term}
 use Rattle.term_pool.specs.Views.{TermsView}
@@ -18,7 +17,7 @@ use Rattle.linear_forms.specs.declared.nodes.Info.{Info}
 use Rattle.linear_forms.specs.declared.visiting.Visit.TheVariants as Visit
 use Rattle.linear_forms.specs.Factors.{IsAbove}
 use Rattle.linear_forms.specs.Graphs.{IsFilled, IsMeant, IsItem, IsNode, AreFactors, IsInfo, IsEntry, no_info, info_at, IsGraphAt, IsGraph, Settles, KeepsNumbers, IsVisit}
-use Rattle.linear_forms.specs.Memos.{Memo, number_remembered, RemembersItem}
+use Rattle.linear_forms.specs.Memos.{Memo, number_remembered}
 use Rattle.linear_forms.specs.Sweeps.{node_at}
 use Rattle.linear_forms.proofs.Walking.{same_item}
 

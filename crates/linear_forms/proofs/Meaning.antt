@@ -1,25 +1,23 @@
 -- What references stand for: lists, leaves and cells.
-use Rattle.std.proofs.Common.{◌≡◌, ◌≢◌, ◌⊎◌, inl, inr, ℕ, ◌<◌, ◌≤◌, ◌^◌, ℤ, pos, negsuc, neg_ℤ, ◌*ℤ◌, ◌≤ℤ◌, unsigned_abs, FitsSigned, Option, Some, None, length, slice_get, IsSomeAnd, refl, sym, ap, ◌∙◌, subst, arith}
-use Rattle.std.proofs.Math.IntN.{*ℤ_comm, zero-*ℤ}
+use Rattle.std.proofs.Common.{◌≡◌, ◌≢◌, ◌⊎◌, inl, inr, ℕ, ◌<◌, ◌≤◌, ◌^◌, ℤ, pos, negsuc, ◌*ℤ◌, unsigned_abs, FitsSigned, Option, Some, None, length, slice_get, IsSomeAnd, refl, sym, ap, ◌∙◌, subst, arith}
 use Rattle.std.proofs.lemmas.Int.{ints}
 use Rattle.std.proofs.lemmas.Option.{slice_get_within}
-use Rattle.pair_pool.specs.Trees.{Tree, leaf, cell, depth}
-use Rattle.pair_pool.specs.Views.{PassView, Knows, IsKnown, IsOneToOne, HasPartsOfTrees}
+use Rattle.pair_pool.specs.Trees.{Tree, leaf, cell}
+use Rattle.pair_pool.specs.Views.{Knows, IsOneToOne, HasPartsOfTrees}
 use Rattle.sym_table.specs.Leaf.{Leaf, operator, let_head}
 use Rattle.sym_table.specs.Table.{Table, IsLeaf, IsTable, LeafMeets}
 use Rattle.term_model.specs.declared.symbols.Op.{Op}
 use Rattle.term_model.specs.Terms.{Term, numeral, variable, operation, call, let_in, Terms, no_terms, term, Bindings, Fun, Var}
-use Rattle.term_pool.specs.StandsFor.{variable_leaf, function_leaf, IsLeafOf, StandsFor, StandsForList, nil_tree}
-use Rattle.term_pool.specs.Views.{TermsView, RefersTo, IsTerm, IsKnownCell}
+use Rattle.term_pool.specs.StandsFor.{variable_leaf, function_leaf, IsLeafOf, StandsFor, StandsForList}
+use Rattle.term_pool.specs.Views.{TermsView, RefersTo, IsKnownCell}
 use Rattle.term_pool.proofs.OneTerm.{one_term}
 use Rattle.term_pool.proofs.ReadingLemmas.{leaf_of}
-use Rattle.rule_model.specs.LinearForms.{is_constant}
 use Rattle.linear_forms.specs.declared.entries.Entry.{Entry}
 use Rattle.linear_forms.specs.declared.entries.Head.{Head}
 use Rattle.linear_forms.specs.declared.memory.Item.{Item}
 use Rattle.linear_forms.specs.declared.memory.Item.TheVariants.{Term as TermItem, List as ListItem}
 use Rattle.linear_forms.specs.Entries.{leaf_entry, leaf_numeral, head_of}
-use Rattle.linear_forms.specs.Graphs.{IsFilled, IsOneTerm, IsTermList, IsMeant, IsEntry}
+use Rattle.linear_forms.specs.Graphs.{IsFilled, IsTermList, IsMeant, IsEntry}
 use Rattle.linear_forms.specs.Readings.{Reading, for_constants, for_parts, unit_of, opaque_in, read}
 use Rattle.linear_forms.specs.Visits.{HasParts, IsNumeralLeaf}
 use Rattle.linear_forms.proofs.Entering.{IsOpaqueTerm, IsNumberTerm, numeral_constant, constant_right, number_right, opaque_right}

@@ -1,13 +1,11 @@
 -- Passing a factor on keeps totals, and never makes a load greater.
-use Rattle.std.proofs.Common.{◌≡◌, ℕ, zero, suc, ◌+◌, ◌*◌, ◌<◌, ◌≤◌, ◌^◌, ℤ, pos, ◌+ℤ◌, ◌*ℤ◌, unsigned_abs, List, [], ◌∷◌, length, slice_index_or, slice_set, refl, sym, ap, ◌∙◌, FitsSigned, to_z, of_z, arith}
-use Rattle.std.proofs.Math.Nat.{mul-le-mul, mul_comm, mul-add, add-mul as nat_add-mul, mul_assoc as nat_mul_assoc}
-use Rattle.std.proofs.Math.IntN.{*ℤ_comm}
-use Rattle.std.proofs.lemmas.Int.{ints, unsigned_abs-mul, to_z-of_z}
-use Rattle.rule_model.proofs.Ring.{mul-add as int_mul-add, add-mul, mul_assoc}
+use Rattle.std.proofs.Common.{◌≡◌, ℕ, zero, suc, ◌+◌, ◌*◌, ◌<◌, ◌≤◌, ◌^◌, ℤ, pos, ◌+ℤ◌, ◌*ℤ◌, unsigned_abs, List, [], ◌∷◌, length, slice_index_or, refl, ap, arith}
+use Rattle.std.proofs.Math.Nat.{mul-le-mul, mul-add, add-mul as nat_add-mul, mul_assoc as nat_mul_assoc}
+use Rattle.std.proofs.lemmas.Int.{ints, unsigned_abs-mul}
+use Rattle.rule_model.proofs.Ring.{add-mul}
 use Rattle.linear_forms.specs.declared.nodes.Part.{Part}
-use Rattle.linear_forms.specs.declared.nodes.Node.{Node}
-use Rattle.linear_forms.specs.declared.nodes.Node.TheVariants.{Number, Opaque, Multiple, Sum}
-use Rattle.linear_forms.specs.Factors.{added, passed, passed_number, total, load, IsCounted, IsWeighed, IsAbove, HasRoomFor}
+use Rattle.linear_forms.specs.declared.nodes.Node.TheVariants.{Multiple, Sum}
+use Rattle.linear_forms.specs.Factors.{added, total, load, HasRoomFor}
 
 pub total_added : (v : ℕ → ℤ) (fs : List ℤ) (i : ℕ) (n : ℤ) → i < length fs → total v (added fs i n) ≡ total v fs +ℤ n *ℤ v i
 total_added v [] i n h = absurd (omega (arith, h))

@@ -1,13 +1,12 @@
 -- Lists of terms as sums and as products, by their first term, and what is known of two lists, one behind the other.
-use Rattle.std.proofs.Common.{◌≡◌, ◌⊎◌, inl, inr, ℕ, zero, suc, ◌+◌, ◌*◌, ◌<◌, ◌≤◌, ◌^◌, min, ℤ, pos, neg_ℤ, ◌+ℤ◌, ◌-ℤ◌, ◌*ℤ◌, unsigned_abs, Bool, true, false, nat_lt, if◌then◌else◌, refl, sym, ap, ◌∙◌, subst, arith}
+use Rattle.std.proofs.Common.{◌≡◌, ℕ, ◌+◌, ◌*◌, ◌<◌, ◌≤◌, ◌^◌, min, ℤ, pos, ◌+ℤ◌, ◌-ℤ◌, ◌*ℤ◌, unsigned_abs, Bool, true, false, nat_lt, if◌then◌else◌, refl, sym, ap, ◌∙◌, subst, arith}
 use Rattle.std.proofs.Math.Nat.{mul-le-mul, mul_comm, mul_assoc as nat_mul_assoc}
-use Rattle.std.proofs.Math.IntN.{*ℤ_comm, zero-*ℤ}
+use Rattle.std.proofs.Math.IntN.{*ℤ_comm}
 use Rattle.std.proofs.lemmas.Int.{ints, unsigned_abs-mul}
 use Rattle.std.proofs.lemmas.Bool.Decides.{nat_tests}
 use Rattle.term_model.specs.declared.symbols.Op.{Op}
-use Rattle.term_model.specs.Operators.{from_left, difference}
 use Rattle.term_model.specs.Terms.{Term, operation, Terms, no_terms, term}
-use Rattle.rule_model.specs.LinearForms.{is_constant, others, product, constant, constants, part, form_parts, product_part}
+use Rattle.rule_model.specs.LinearForms.{is_constant, others, product, constant, constants, part, form_parts}
 use Rattle.rule_model.specs.Weights.{weight, weight_sum, weight_product}
 use Rattle.rule_model.proofs.LinearForms.{summed, lessened, product_is}
 use Rattle.rule_model.proofs.Ring.{mul_assoc, one-mul}
@@ -18,7 +17,6 @@ use Rattle.linear_forms.specs.declared.nodes.Info.{Info}
 use Rattle.linear_forms.specs.Graphs.{IsFilled, AreConstants, HasSingle, AreFactors, IsInfo}
 use Rattle.linear_forms.specs.Infos.{limit_weight, joined_factors, narrowed, joined_info}
 use Rattle.linear_forms.specs.Readings.{Reading, for_constants, for_parts, unit_of, read, sum_in, product_in}
-use Rattle.linear_forms.proofs.Passing.{times_le}
 use Rattle.linear_forms.proofs.Weighing.{weight_positive, product_positive, left_narrow, right_narrow, min_sum, min_product}
 
 pub sum_first : (reading : Reading) (t : Term) (ts : Terms) → sum_in reading (term t ts) ≡ read reading t +ℤ sum_in reading ts

@@ -1,16 +1,15 @@
 -- Sweeps over numbered nodes keep totals, and never make loads greater.
 use Rattle.std.proofs.Common.{◌≡◌, ◌≢◌, ◌⊎◌, inl, inr, ℕ, zero, suc, ◌+◌, ◌*◌, ◌<◌, ◌≤◌, ◌^◌, ℤ, pos, negsuc, ◌+ℤ◌, ◌*ℤ◌, unsigned_abs, List, [], ◌∷◌, ◌++◌, All, length, slice_index_or, slice_set, FitsSigned, refl, sym, ap, ◌∙◌, subst, arith}
-use Rattle.std.proofs.Math.Nat.{mul-le-mul, mul_comm, mul-add, mul_assoc as nat_mul_assoc}
-use Rattle.std.proofs.Math.IntN.{*ℤ_comm, zero-*ℤ}
+use Rattle.std.proofs.Math.Nat.{mul-le-mul, mul-add}
+use Rattle.std.proofs.Math.IntN.{zero-*ℤ}
 use Rattle.std.proofs.lemmas.Int.{ints, unsigned_abs-mul}
 use Rattle.std.proofs.lemmas.List.Elements.{All-head, All-tail, All-push, All-weaker}
 use Rattle.rule_model.proofs.Ring.{mul-add as int_mul-add, add-mul, mul_assoc}
-use Rattle.linear_forms.specs.declared.nodes.Part.{Part}
 use Rattle.linear_forms.specs.declared.nodes.Node.{Node}
 use Rattle.linear_forms.specs.declared.nodes.Node.TheVariants.{Number, Opaque, Multiple, Sum}
 use Rattle.linear_forms.specs.declared.nodes.Coefficient.{Coefficient}
-use Rattle.linear_forms.specs.Factors.{added, passed, total, load, total_of, sizes_of, IsCounted, IsWeighed, IsAbove, HasRoomFor}
-use Rattle.linear_forms.specs.Sweeps.{node_at, factor_at, State, state, AreOrdered, AreWeighed, AreCounted, load_in, total_in, without, turned, IsSettled, CanSettle, IsOpaqueFrom, HaveOwnNodes, AreApart, IsSweeping, starting, CanSweep, IsSwept}
+use Rattle.linear_forms.specs.Factors.{added, total, load, total_of, sizes_of, IsCounted, IsWeighed, IsAbove, HasRoomFor}
+use Rattle.linear_forms.specs.Sweeps.{node_at, factor_at, State, AreOrdered, AreWeighed, load_in, total_in, without, turned, IsSettled, CanSettle, IsOpaqueFrom, HaveOwnNodes, AreApart, IsSweeping, starting, CanSweep, IsSwept}
 use Rattle.linear_forms.proofs.Passing.{total_added, load_added, added_length, part_load, times_le}
 
 -- a factor that is taken

@@ -1,12 +1,12 @@
 -- What visits of terms and of lists come to.
-use Rattle.std.proofs.Common.{unsigned_abs, ◌≡◌, ◌≢◌, ◌⊎◌, inl, inr, ℕ, ◌+◌, ◌<◌, ◌≤◌, ◌^◌, ℤ, pos, neg_ℤ, min, max, Option, Some, None, length, refl, sym, ap, ◌∙◌, subst, arith}
-use Rattle.pair_pool.specs.Trees.{Tree, leaf, cell, depth}
-use Rattle.pair_pool.specs.Views.{PassView, Knows, IsKnown, IsOneToOne, HasPartsOfTrees}
-use Rattle.sym_table.specs.Leaf.{Leaf, operator}
+use Rattle.std.proofs.Common.{unsigned_abs, ◌≡◌, inl, inr, ℕ, ◌<◌, ◌≤◌, ◌^◌, pos, neg_ℤ, min, Some, length, refl, sym, ap, ◌∙◌, subst, arith}
+use Rattle.pair_pool.specs.Trees.{Tree, cell, depth}
+use Rattle.pair_pool.specs.Views.{PassView, Knows, IsOneToOne, HasPartsOfTrees}
+use Rattle.sym_table.specs.Leaf.{Leaf}
 use Rattle.sym_table.specs.Table.{Table, IsTable, LeafMeets}
 use Rattle.term_model.specs.declared.symbols.Op.{Op}
 use Rattle.term_model.specs.Terms.{Term, numeral, operation, Terms, no_terms, term}
-use Rattle.term_pool.specs.Views.{TermsView, RefersTo, IsTerm, IsKnownCell}
+use Rattle.term_pool.specs.Views.{TermsView, RefersTo, IsKnownCell}
 use Rattle.rule_model.specs.Weights.{weight_sum, weight_product}
 use Rattle.linear_forms.specs.declared.entries.Entry.{Entry}
 use Rattle.linear_forms.specs.declared.entries.Found.{Found}
@@ -14,19 +14,17 @@ use Rattle.linear_forms.specs.declared.entries.Head.{Head}
 use Rattle.linear_forms.specs.declared.graph.Graph.{Graph}
 use Rattle.linear_forms.specs.declared.memory.Item.{Item}
 use Rattle.linear_forms.specs.declared.memory.Item.TheVariants.{Term as TermItem, List as ListItem}
-use Rattle.linear_forms.specs.declared.nodes.Part.{Part}
 use Rattle.linear_forms.specs.declared.nodes.Factors.{Factors}
 use Rattle.linear_forms.specs.declared.nodes.Factors.TheVariants.{Constants, Single, Many}
 use Rattle.linear_forms.specs.declared.visiting.Visit.{Visit}
-use Rattle.linear_forms.specs.Entries.{leaf_entry, head_of, opaque_entry, sum_entry, negated_entry, difference_entry, product_entry, single_entry, pair_entry, constant_entry}
-use Rattle.linear_forms.specs.Graphs.{item_reference, IsFilled, IsOneTerm, IsTermList, IsMeant, IsItem, AreFactors, IsInfo, IsEntry, info_at, IsGraphAt, IsGraph, HasInfos, IsFound, IsItemBelow, IsVisit}
-use Rattle.linear_forms.specs.Infos.{limit_weight, size_of, CanJoin}
-use Rattle.linear_forms.specs.Memos.{number_remembered}
-use Rattle.linear_forms.specs.Visits.{HasParts, IsListPart, IsOneOf, AreMoreOf, IsListVisit, IsWholeVisit, IsNumeralLeaf, HasNumeralLeaf, IsNegation, IsDifferenceVisit, AreJoinable}
+use Rattle.linear_forms.specs.Entries.{leaf_entry, head_of, opaque_entry, sum_entry, product_entry, constant_entry}
+use Rattle.linear_forms.specs.Graphs.{IsFilled, IsTermList, IsMeant, AreFactors, IsInfo, IsEntry, info_at, IsGraphAt, IsGraph, HasInfos, IsFound, IsItemBelow, IsVisit}
+use Rattle.linear_forms.specs.Infos.{limit_weight, size_of}
+use Rattle.linear_forms.specs.Visits.{HasParts, IsListPart, IsListVisit, IsWholeVisit, HasNumeralLeaf, IsDifferenceVisit, AreJoinable}
 use Rattle.linear_forms.proofs.Entering.{IsMet, constant_right, opaque_right, sum_right, negated_right, difference_right, product_right, single_right, pair_right, negated_constant}
-use Rattle.linear_forms.proofs.Meaning.{ListParts, IsOperation, meant_one, list_parts, list_is_cell, plus_cell, minus_cell, times_cell, other_cell, leaf_right, leaf_there, is_numeral, no_numeral, head_there}
+use Rattle.linear_forms.proofs.Meaning.{meant_one, list_parts, list_is_cell, plus_cell, minus_cell, times_cell, other_cell, leaf_right, leaf_there, is_numeral, no_numeral, head_there}
 use Rattle.linear_forms.proofs.Passing.{times_le}
-use Rattle.linear_forms.proofs.Weighing.{sum_positive, product_positive, below_min, min_below}
+use Rattle.linear_forms.proofs.Weighing.{sum_positive, product_positive, below_min}
 
 -- the parts of a cell
 pub parts_of : (p : PassView) (r a b : ℕ) → IsKnownCell p r → ((s t : Tree) → Knows p r (cell s t) → Knows p a s) → ((s t : Tree) → Knows p r (cell s t) → Knows p b t) → HasParts p r a b

@@ -1,7 +1,7 @@
 -- The walk that numbers terms: the items on the way, and what has been met.
-use Rattle.std.proofs.Common.{◌≡◌, ◌≢◌, ◌⊎◌, inl, inr, ℕ, ◌<◌, Bool, true, false, List, [], ◌∷◌, ◌++◌, Option, Some, None, refl, sym, ap, ◌∙◌, subst, Decides, arith}
+use Rattle.std.proofs.Common.{◌≡◌, ◌≢◌, ◌⊎◌, inl, inr, ℕ, Bool, true, false, List, [], ◌∷◌, ◌++◌, Option, Some, None, refl, sym, ap, ◌∙◌, Decides, arith}
 use Rattle.std.proofs.lemmas.Bool.Decides.{Decides-eqb}
-use Rattle.pair_pool.specs.Trees.{Tree, depth}
+use Rattle.pair_pool.specs.Trees.{Tree}
 use Rattle.pair_pool.specs.Views.{Knows}
 use Rattle.sym_table.specs.Table.{Table}
 use Rattle.term_model.specs.Terms.{Terms}
@@ -10,7 +10,7 @@ use Rattle.term_pool.proofs.Ways.{IsWay, way_start, way_unmet, way_here, way_end
 use Rattle.linear_forms.specs.contracts.memory.ItemPartialEq.TheImpl as items
 use Rattle.linear_forms.specs.declared.memory.Item.{Item}
 use Rattle.linear_forms.specs.declared.memory.Item.TheVariants.{Term as TermItem, List as ListItem}
-use Rattle.linear_forms.specs.Graphs.{item_reference, IsOneTerm, IsTermList, IsMeant, IsItem, IsItemBelow}
+use Rattle.linear_forms.specs.Graphs.{item_reference, IsMeant, IsItem, IsItemBelow}
 use Rattle.linear_forms.specs.Memos.{Memo, number_remembered, RemembersItem}
 
 decides_item : (x y : Item) → Decides ((items.ghosts).eq x y) (x ≡ y)

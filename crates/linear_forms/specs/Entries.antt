@@ -1,12 +1,8 @@
 -- Private. The entries of terms and lists over those of their parts.
-use Rattle.std.specs.Prelude.{◌≡◌, ◌≢◌, ◌⊎◌, ℕ, ℤ, pos, neg_ℤ, ◌+◌, ◌*◌, ◌<◌, ◌≤◌, ◌^◌, min, max, unsigned_abs, Option, Some, None}
-use Rattle.pair_pool.specs.Trees.{Tree, cell}
-use Rattle.pair_pool.specs.Views.{PassView, Knows}
+use Rattle.std.specs.Prelude.{ℕ, ℤ, pos, neg_ℤ, ◌+◌, min, max, unsigned_abs, Option, Some, None}
 use Rattle.sym_table.specs.Leaf.{Leaf, operator, numeral}
-use Rattle.sym_table.specs.Table.{Table, IsLeaf, LeafMeets}
 use Rattle.term_model.specs.declared.symbols.Op.{Op}
 use Rattle.linear_forms.specs.declared.nodes.Part.{Part}
-use Rattle.linear_forms.specs.declared.nodes.Node.{Node}
 use Rattle.linear_forms.specs.declared.nodes.Node.TheVariants.{Number, Opaque, Multiple, Sum}
 use Rattle.linear_forms.specs.declared.nodes.Factors.{Factors}
 use Rattle.linear_forms.specs.declared.nodes.Factors.TheVariants.{Constants, Single, Many}

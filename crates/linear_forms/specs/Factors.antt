@@ -1,6 +1,5 @@
 -- Private. Factors of numbered nodes, and how one is passed on to the parts of its node.
 use Rattle.std.specs.Prelude.{◌≡◌, ℕ, ℤ, pos, suc, ◌+◌, ◌*◌, ◌<◌, ◌≤◌, ◌^◌, ◌+ℤ◌, ◌*ℤ◌, unsigned_abs, List, [], ◌∷◌, length, slice_index_or, slice_set}
-use Rattle.linear_forms.specs.declared.nodes.Part.{Part}
 use Rattle.linear_forms.specs.declared.nodes.Node.{Node}
 use Rattle.linear_forms.specs.declared.nodes.Node.TheVariants.{Number, Opaque, Multiple, Sum}
 use Rattle.linear_forms.specs.declared.nodes.Coefficient.{Coefficient}

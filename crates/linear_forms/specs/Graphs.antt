@@ -1,10 +1,8 @@
 -- Private. Terms and lists of terms as numbered nodes: what has been met, and what is known of it.
-use Rattle.std.specs.Prelude.{◌≡◌, ◌≢◌, ◌⊎◌, ℕ, ℤ, pos, neg_ℤ, suc, ◌+◌, ◌*◌, ◌<◌, ◌≤◌, ◌^◌, ◌+ℤ◌, ◌*ℤ◌, min, max, unsigned_abs, List, [], ◌∷◌, ◌++◌, length, slice_index_or, Option, Some, None}
+use Rattle.std.specs.Prelude.{◌≡◌, ◌⊎◌, ℕ, ℤ, ◌+◌, ◌*◌, ◌<◌, ◌≤◌, ◌^◌, ◌+ℤ◌, ◌*ℤ◌, min, unsigned_abs, [], ◌∷◌, ◌++◌, length, slice_index_or, Option, Some, None}
 use Rattle.pair_pool.specs.Trees.{Tree}
-use Rattle.pair_pool.specs.Views.{PassView, Knows}
-use Rattle.sym_table.specs.Leaf.{Leaf, operator, numeral}
-use Rattle.sym_table.specs.Table.{Table, IsLeaf, LeafMeets}
-use Rattle.term_model.specs.declared.symbols.Op.{Op}
+use Rattle.pair_pool.specs.Views.{Knows}
+use Rattle.sym_table.specs.Table.{Table}
 use Rattle.term_model.specs.Terms.{Term, Terms, no_terms, term}
 use Rattle.term_pool.specs.StandsFor.{StandsForList}
 use Rattle.term_pool.specs.Trees.{depth}
@@ -25,9 +23,9 @@ use Rattle.linear_forms.specs.declared.entries.Found.{Found}
 use Rattle.linear_forms.specs.declared.graph.Both.{Both}
 use Rattle.linear_forms.specs.declared.visiting.Visit.{Visit}
 use Rattle.linear_forms.specs.Factors.{IsAbove}
-use Rattle.linear_forms.specs.Infos.{limit_weight, joined_info}
+use Rattle.linear_forms.specs.Infos.{limit_weight}
 use Rattle.linear_forms.specs.Memos.{number_remembered, RemembersItem}
-use Rattle.linear_forms.specs.Readings.{Reading, unit_of, opaque_in, read, sum_in, product_in}
+use Rattle.linear_forms.specs.Readings.{Reading, unit_of, opaque_in, sum_in, product_in}
 use Rattle.linear_forms.specs.Sweeps.{node_at}
 
 abbrev pub item_reference : Item → ℕ

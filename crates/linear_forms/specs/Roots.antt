@@ -1,5 +1,5 @@
 -- Private. The nodes of one term and of two, and what a sweep that begins there comes to.
-use Rattle.std.specs.Prelude.{◌≡◌, ◌≢◌, ◌⊎◌, [], ℕ, ℤ, pos, neg_ℤ, ◌+◌, ◌<◌, ◌≤◌, ◌^◌, unsigned_abs, nat_lt, if◌then◌else◌, List, replicate, Option, Some, None}
+use Rattle.std.specs.Prelude.{◌≡◌, ◌≢◌, ◌⊎◌, [], ℕ, ℤ, pos, neg_ℤ, ◌+◌, ◌<◌, ◌≤◌, unsigned_abs, nat_lt, if◌then◌else◌, List, replicate, Option, Some, None}
 use Rattle.sym_table.specs.Table.{Table}
 use Rattle.term_model.specs.Terms.{Term}
 use Rattle.term_pool.specs.Views.{TermsView}

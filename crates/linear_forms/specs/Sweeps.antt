@@ -1,10 +1,10 @@
 -- Private. Sweeps over numbered nodes: what each turn comes to, and what is kept.
-use Rattle.std.specs.Prelude.{◌≡◌, ◌≢◌, ℕ, ℤ, pos, suc, ◌+◌, ◌<◌, ◌≤◌, ◌^◌, ◌+ℤ◌, ◌*ℤ◌, unsigned_abs, List, [], ◌∷◌, ◌++◌, All, length, slice_index_or, slice_set, ◌⊎◌}
+use Rattle.std.specs.Prelude.{◌≡◌, ◌≢◌, ℕ, ℤ, pos, ◌+◌, ◌<◌, ◌≤◌, ◌^◌, ◌+ℤ◌, ◌*ℤ◌, unsigned_abs, List, [], ◌∷◌, ◌++◌, All, length, slice_index_or, slice_set, ◌⊎◌}
 use Rattle.linear_forms.specs.declared.nodes.Node.{Node}
 use Rattle.linear_forms.specs.declared.nodes.Node.TheVariants.{Number, Opaque, Multiple, Sum}
 use Rattle.linear_forms.specs.declared.nodes.Coefficient.{Coefficient}
 pub use Rattle.linear_forms.specs.Coefficients.{AreApart}
-use Rattle.linear_forms.specs.Factors.{passed, passed_number, total, load, total_of, sizes_of, IsCounted, IsWeighed, IsAbove}
+use Rattle.linear_forms.specs.Factors.{passed, total, load, total_of, sizes_of, IsCounted, IsWeighed, IsAbove}
 
 -- the node of a number, where there is one
 abbrev pub node_at : List Node → ℕ → Node

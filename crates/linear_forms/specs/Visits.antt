@@ -1,5 +1,5 @@
 -- Private. What visits of terms and of lists come to, by what has been met.
-use Rattle.std.specs.Prelude.{◌≡◌, ◌⊎◌, ℕ, ℤ, pos, neg_ℤ, ◌<◌, ◌≤◌, ◌^◌, unsigned_abs, length, Option, Some, None}
+use Rattle.std.specs.Prelude.{◌≡◌, ◌⊎◌, ℕ, ℤ, neg_ℤ, ◌<◌, ◌≤◌, ◌^◌, length, Option, Some, None}
 use Rattle.pair_pool.specs.Trees.{Tree, cell}
 use Rattle.pair_pool.specs.Views.{PassView, Knows}
 use Rattle.sym_table.specs.Leaf.{Leaf}

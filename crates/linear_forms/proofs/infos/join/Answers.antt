@@ -1,4 +1,4 @@
-use Rattle.std.proofs.Common.{FitsSigned, ◌*◌, ◌<◌, ◌^◌, unsigned_abs, arith, rules}
+use Rattle.std.proofs.Common.{FitsSigned, ◌*◌, ◌<◌, ◌^◌, unsigned_abs, rules}
 use Rattle.std.proofs.Math.Nat.{mul_comm}
 use Rattle.std.proofs.lemmas.Int.{to_z-of_z}
 use Rattle.linear_forms.proofs.infos.join.Goals as goal

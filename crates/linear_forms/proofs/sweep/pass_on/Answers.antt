@@ -1,4 +1,4 @@
-use Rattle.std.proofs.Common.{FitsSigned, arith, rules}
+use Rattle.std.proofs.Common.{FitsSigned, rules}
 use Rattle.std.proofs.lemmas.Int.{to_z-of_z}
 use Rattle.linear_forms.proofs.Passing.{number_room, multiple_room, first_room, second_room}
 use Rattle.linear_forms.proofs.sweep.pass_on.Goals as goal

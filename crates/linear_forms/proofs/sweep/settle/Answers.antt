@@ -1,4 +1,4 @@
-use Rattle.std.proofs.Common.{◌≡◌, ◌≢◌, ◌∙◌, ap, pos, FitsSigned, of_z, arith, rules}
+use Rattle.std.proofs.Common.{◌≡◌, ◌≢◌, ◌∙◌, ap, pos, FitsSigned, of_z, rules}
 use Rattle.std.proofs.lemmas.Int.{to_z-of_z}
 use Rattle.linear_forms.specs.Sweeps.{node_at, factor_at, state}
 use Rattle.linear_forms.proofs.Sweeping.{turn_room, node_any}

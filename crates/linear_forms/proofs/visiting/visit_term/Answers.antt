@@ -1,4 +1,4 @@
-use Rattle.std.proofs.Common.{◌≡◌, ◌<◌, ◌≤◌, ◌^◌, arith}
+use Rattle.std.proofs.Common.{◌<◌, ◌≤◌, ◌^◌, arith}
 use Rattle.term_pool.proofs.ReadingLemmas.{reference_cell}
 use Rattle.linear_forms.proofs.Meaning.{leaf_there}
 use Rattle.linear_forms.proofs.Visited.{parts_of, leaf_visited, plus_visited, minus_visited, times_visited, other_visited, minus_list, minus_numeral, head_known}

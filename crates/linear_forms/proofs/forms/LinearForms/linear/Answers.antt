@@ -1,6 +1,5 @@
 use Rattle.std.proofs.Common.{◌∙◌}
 use Rattle.std.proofs.lemmas.Int.{to_z-of_z}
-use Rattle.linear_forms.specs.Forms.{IsLinearForm}
 use Rattle.linear_forms.proofs.Forming.{expanded_fits, linear_of}
 use Rattle.linear_forms.proofs.forms.LinearForms.linear.Goals as goal
 

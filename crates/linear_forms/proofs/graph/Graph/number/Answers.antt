@@ -1,4 +1,4 @@
-use Rattle.std.proofs.Common.{◌≡◌, refl, sym, ◌∙◌, subst, ap, Some}
+use Rattle.std.proofs.Common.{◌≡◌, refl, sym, ◌∙◌, subst, Some}
 use Rattle.term_model.specs.Terms.{no_terms, term}
 use Rattle.term_pool.proofs.Ways.{none_left}
 use Rattle.linear_forms.specs.declared.memory.Item.TheVariants as Item
