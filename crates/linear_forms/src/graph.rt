@@ -1,6 +1,7 @@
 //! The terms and the lists of terms that a call has met, as numbered nodes, parts below wholes.
 
 ghost use Rattle.std.specs.Prelude.{◌≡◌, None, OnOk, IfOk, length};
+ghost use Rattle.std.specs.HashMap.{IsEmpty};
 ghost use Rattle.sym_table.specs.Table.{Table};
 ghost use Rattle.term_pool.specs.Views.{TermsView, IsTerm};
 ghost use Rattle.linear_forms.specs.Graphs.{IsGraph, HasInfos, IsFound, IsBoth, Settles, KeepsNumbers, IsRemembered};
@@ -26,6 +27,20 @@ pub(crate) enum Both {
     Found(Found, Found),
 }
 
+// Up to so many items a table is emptied, which takes time by its room, and not made anew.
+const FEW: usize = 64;
+
+/// Forgets what is remembered. A table that few items were put in is kept.
+fn forget(memo: &mut HashMap<Item, usize>, alloc: Global)
+    ensures { IsEmpty memo.new }
+{
+    if memo.len() <= FEW {
+        memo.clear();
+        return;
+    }
+    *memo = HashMap::new(alloc);
+}
+
 /// What has been met.
 #[derive(Drop)]
 pub(crate) struct Graph {
@@ -46,11 +61,11 @@ impl Graph {
         }
     }
 
-    /// Forgets what has been met, and keeps the room for the nodes.
+    /// Forgets what has been met, and keeps the room for it, but for a large table.
     pub(crate) fn clear(&mut self, alloc: Global)
         ensures { (s : Table) (v : TermsView) → IsGraph s v self.new }
     {
-        self.memo = HashMap::new(alloc);
+        forget(&mut self.memo, alloc);
         self.nodes.clear();
         self.infos.clear();
     }

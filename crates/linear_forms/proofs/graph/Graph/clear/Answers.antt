@@ -3,4 +3,4 @@ use Rattle.linear_forms.proofs.graph.Graph.clear.Goals as goal
 
 pub returns : goal.returns
 returns c =
-    λ s v. empty_graph s v _ c.clear.ensures.items c.clear-2.ensures.items (empty_memo c.new.result c.new.ensures.empty)
+    λ s v. empty_graph s v _ c.clear.ensures.items c.clear-2.ensures.items (empty_memo c.forget.new.memo c.forget.ensures)
