@@ -1,1 +1,3 @@
 pub mod ComparisonLemmas
+pub mod MultipleLemmas
+pub mod SumLemmas

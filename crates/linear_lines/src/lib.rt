@@ -3,5 +3,11 @@
 #![tactic(auto)]
 
 mod comparisons;
+mod lines;
+mod multiples;
+mod sums;
 
 pub use comparisons::{Comparison, denied};
+pub use lines::{Line, LineForm};
+pub use multiples::least_multiple;
+pub use sums::{add_line, is_absurd};
