@@ -1,0 +1,14 @@
+//! The rules of linear arithmetic over Int of the Alethe specification: whether a step meets the condition of its rule, or has
+//! numbers that are too wide to tell.
+//!
+//! A rule of fixed shape looks at a few cells. The simplifications of linear forms take time in proportion to the distinct
+//! cells of both sides. No cell is placed.
+#![tactic(auto)]
+
+mod checks;
+mod forms;
+mod schemas;
+mod scratch;
+
+pub use checks::check;
+pub use scratch::Scratch;
