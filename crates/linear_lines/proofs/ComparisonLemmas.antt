@@ -1,11 +1,11 @@
 -- What terms and negated literals say as comparisons.
-use Rattle.std.proofs.Common.{◌≡◌, ◌≢◌, ◌↔◌, ℕ, zero, suc, ◌%◌, ◌<◌, List, [], ◌∷◌, length, Bool, true, false, IsTrue, All, Option, Some, None, refl, sym, ap, ◌∙◌, subst, arith}
+use Rattle.std.proofs.Common.{◌≡◌, ◌≢◌, ◌↔◌, ℕ, zero, suc, ◌%◌, ◌<◌, [], ◌∷◌, length, Bool, true, false, IsTrue, Option, Some, None, refl, sym, ap, ◌∙◌, subst, arith}
 use Rattle.std.specs.List.{slice_get}
 use Rattle.std.proofs.lemmas.List.Elements.{All-head, All-tail}
 use Rattle.sort_check.proofs.Leaves.{there, at_leaf, operator_leaf}
 use Rattle.std.proofs.lemmas.Option.{slice_get_within}
-use Rattle.sym_table.specs.Leaf.{Leaf, nil, let_head, operator, function, variable, numeral, kind_of}
-use Rattle.sym_table.specs.Table.{Table, IsTable, IsLeaf, LeafMeets}
+use Rattle.sym_table.specs.Leaf.{operator, numeral, kind_of}
+use Rattle.sym_table.specs.Table.{Table, IsLeaf, LeafMeets}
 use Rattle.sym_table.specs.declared.kind.Kind.{Kind}
 use Rattle.sort_check.specs.WellSorted.{IsWellSortedTerm}
 use Rattle.term_model.specs.declared.symbols.Op.{Op}
@@ -13,16 +13,16 @@ use Rattle.term_model.specs.declared.symbols.Sort.{Sort}
 use Rattle.term_model.specs.Sorts.{IsOf, IsWellSorted}
 use Rattle.term_model.specs.Terms as term
 use Rattle.term_model.specs.Terms.{Term, Terms, operation, no_terms, not_of}
-use Rattle.term_model.proofs.Sorting.{one_sort, operation_parts}
+use Rattle.term_model.proofs.Sorting.{operation_parts}
 use Rattle.term_pool.specs.Building.{IsAppliedLeaf}
-use Rattle.term_pool.specs.Nots.{negated, Strips, IsStripped}
+use Rattle.term_pool.specs.Nots.{negated}
 use Rattle.term_pool.specs.Reading.{arguments_of, IsLet}
 use Rattle.term_pool.specs.Views.{TermsView, RefersTo}
 use Rattle.term_parts.specs.Parts.{IsOver}
 use Rattle.term_parts.proofs.PartLemmas.{over_two}
 use Rattle.rule_model.specs.Arithmetic.{Relation, exceeds, reaches, equals, Comparison, if_true, if_false, denial}
 use Rattle.linear_lines.specs.declared.comparisons as code
-use Rattle.linear_lines.specs.Comparisons.{StandsForComparison, IsNumberComparison, IsOfNumbers, said_by, IsReadBy, IsRead, IsFound}
+use Rattle.linear_lines.specs.Comparisons.{IsOfNumbers, said_by, IsReadBy, IsFound}
 use Rattle.linear_lines.specs.Operands.{AreOperands}
 
 -- what a literal's negation says is what the term behind its `not`s says

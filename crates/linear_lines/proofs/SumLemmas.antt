@@ -1,5 +1,5 @@
 -- Sums of multiplied lines.
-use Rattle.std.proofs.Common.{◌≡◌, ◌≢◌, ◌⊎◌, inl, inr, ◌↔◌, ◌≤◌, ◌<◌, ℕ, zero, suc, ◌+◌, ◌*◌, ◌/◌, ◌==◌, ℤ, pos, negsuc, neg_ℤ, ◌+ℤ◌, ◌-ℤ◌, ◌*ℤ◌, ◌<ℤ◌, ◌≤ℤ◌, max, unsigned_abs, Bool, true, false, if◌then◌else◌, IsTrue, List, [], ◌∷◌, ◌++◌, length, get_or, map, All, refl, sym, ap, subst, ◌∙◌, arith}
+use Rattle.std.proofs.Common.{◌≡◌, ◌≢◌, ◌⊎◌, inl, inr, ◌↔◌, ◌≤◌, ◌<◌, ℕ, ◌+◌, ◌*◌, ◌/◌, ◌==◌, ℤ, pos, neg_ℤ, ◌+ℤ◌, ◌-ℤ◌, ◌*ℤ◌, max, unsigned_abs, Bool, true, false, if◌then◌else◌, IsTrue, List, [], ◌∷◌, ◌++◌, map, All, refl, sym, ap, subst, ◌∙◌, arith}
 use Rattle.std.specs.List.{AllZip}
 use Rattle.std.proofs.Math.IntN.{*ℤ_comm, zero-*ℤ}
 use Rattle.std.proofs.Math.Nat.{mul-le-mul_left, mul-le-mul_right, mul-le-mul}
@@ -8,19 +8,17 @@ use Rattle.std.proofs.lemmas.Int.{ints, unsigned_abs-mul}
 use Rattle.std.proofs.lemmas.List.Elements.{All-append, All-head, All-tail, All-cons}
 use Rattle.sym_table.specs.Table.{Table}
 use Rattle.term_model.specs.Terms.{Term}
-use Rattle.term_pool.specs.Views.{TermsView, RefersTo, IsTerm}
-use Rattle.rule_model.specs.Arithmetic.{Relation, exceeds, reaches, equals, Comparison, coefficient_in, bound_by, bound_in, CoefficientLine, IsEquation, signed_by, factor, scaled, IsWhole, IsRoundedUp, IsRounded, IsScaledBound, added_coefficient, IsAddedBound, line_weight, lines_weight}
+use Rattle.term_pool.specs.Views.{TermsView, IsTerm}
+use Rattle.rule_model.specs.Arithmetic.{Relation, exceeds, reaches, equals, coefficient_in, bound_by, bound_in, CoefficientLine, IsEquation, signed_by, factor, scaled, IsWhole, IsScaledBound, added_coefficient, IsAddedBound, line_weight, lines_weight}
 use Rattle.rule_model.specs.LinearForms.{constant}
-use Rattle.rule_model.proofs.Ring as ring
 use Rattle.scaled_sums.specs.declared.coefficients.Coefficient.{Coefficient}
 use Rattle.scaled_sums.specs.declared.bounds.Relation as code
 use Rattle.scaled_sums.specs.Coefficients.{number_at, sizes_of, scale}
 use Rattle.scaled_sums.specs.Relations.{relation_of, IsBoundOf}
-use Rattle.scaled_sums.proofs.Sums.{absent}
 use Rattle.scaled_sums.proofs.Wholes.{whole_nothing}
 use Rattle.linear_lines.specs.declared.lines.Line.{Line}
 use Rattle.linear_lines.specs.declared.lines.LineForm.{LineForm}
-use Rattle.linear_lines.specs.Lines.{own_weight, StandsForLine, IsReferred, HasCoefficients, IsFormOf, IsSumOf, IsAbsurd}
+use Rattle.linear_lines.specs.Lines.{own_weight, StandsForLine, IsReferred, HasCoefficients, IsFormOf, IsSumOf}
 
 -- one line more
 added_push : (m : ℕ) (ls : List CoefficientLine) (l : CoefficientLine) (u : Term) → added_coefficient m (ls ++ l ∷ []) u ≡ added_coefficient m ls u +ℤ scaled m l u

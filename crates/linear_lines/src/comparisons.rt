@@ -137,7 +137,7 @@ fn operands(symbols: &Symbols, terms: &mut Terms<'_>, op: Op, r: Ref) -> (Ref, R
 }
 
 /// Whether a well-sorted term is of Int.
-fn is_number(symbols: &Symbols, terms: &mut Terms<'_>, r: Ref) -> bool
+pub fn is_number(symbols: &Symbols, terms: &mut Terms<'_>, r: Ref) -> bool
     requires { IsWellSortedTerm symbols.now terms.old r }
     ensures number { (t : Term) → RefersTo symbols.now terms.old r t → IsTrue result ↔ IsOf t Sort.Int }
     ensures same { terms.new ≡ terms.old }

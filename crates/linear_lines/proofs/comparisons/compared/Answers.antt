@@ -1,7 +1,6 @@
 -- What an application to two terms says, if they are of Int.
-use Rattle.std.proofs.Common.{◌≡◌, true, sym, ◌∙◌, subst, rules}
+use Rattle.std.proofs.Common.{sym, ◌∙◌, subst}
 use Rattle.std.proofs.lemmas.Bool.{false≢true}
-use Rattle.term_model.specs.Terms.{Term}
 use Rattle.term_pool.specs.Views.{RefersTo}
 use Rattle.linear_lines.specs.Operands.{AreOperands}
 use Rattle.linear_lines.proofs.ComparisonLemmas.{says_nothing, not_found, found_numbers, found_others}

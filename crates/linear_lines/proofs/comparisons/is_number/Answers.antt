@@ -1,7 +1,6 @@
 -- A term has one sort.
-use Rattle.std.proofs.Common.{◌≡◌, sym, ◌∙◌, refl, subst}
+use Rattle.std.proofs.Common.{refl}
 use Rattle.term_model.specs.declared.symbols.Sort.{Sort}
-use Rattle.term_model.specs.Sorts.{IsOf}
 use Rattle.term_model.proofs.Sorting.{one_sort}
 use Rattle.linear_lines.proofs.comparisons.is_number.Goals as goal
 

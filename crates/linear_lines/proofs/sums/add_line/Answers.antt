@@ -1,5 +1,5 @@
 -- The numbers of a line are within its weight, and it is added.
-use Rattle.std.proofs.Common.{◌≡◌, ◌≢◌, ◌↔◌, ◌≤◌, ◌<◌, ℕ, ℤ, pos, neg_ℤ, ◌+◌, ◌*◌, ◌/◌, ◌++◌, ◌+ℤ◌, ◌*ℤ◌, max, unsigned_abs, List, [], ◌∷◌, map, IsTrue, to_z, of_z, FitsSigned, sym, ap, subst, ◌∙◌, arith}
+use Rattle.std.proofs.Common.{◌≡◌, ◌≢◌, ◌↔◌, ◌≤◌, ◌<◌, ℕ, ℤ, pos, neg_ℤ, ◌+◌, ◌*◌, ◌/◌, ◌++◌, ◌+ℤ◌, ◌*ℤ◌, max, unsigned_abs, [], ◌∷◌, map, IsTrue, to_z, of_z, FitsSigned, sym, ap, subst, ◌∙◌, arith}
 use Rattle.std.specs.Int.{w128}
 use Rattle.std.proofs.lemmas.Int.{ints, fits_signed_from_abs}
 use Rattle.rule_model.specs.Arithmetic.{equals, signed_by, bound_by, IsWhole, limit}

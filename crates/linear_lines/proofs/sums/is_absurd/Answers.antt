@@ -1,5 +1,5 @@
 -- By the coefficients of references.
-use Rattle.std.proofs.Common.{◌≡◌, ◌<ℤ◌, ℤ, pos, true, false, inl, inr, to_z, of_z, refl, sym, ap, ◌∙◌, arith}
+use Rattle.std.proofs.Common.{◌≡◌, ◌<ℤ◌, ℤ, pos, false, inl, inr, to_z, of_z, refl, sym, ap, ◌∙◌, arith}
 use Rattle.std.proofs.lemmas.Bool.{false≢true}
 use Rattle.std.specs.Int.{w128}
 use Rattle.std.specs.Int.Signed.{lt_z}
