@@ -9,15 +9,16 @@ use Rattle.proof_store.specs.Meaning.{StandForItems}
 use Rattle.rule_model.specs.declared.rules.Mode.{Mode}
 use Rattle.rule_model.specs.declared.rules.Rule.{Rule}
 use Rattle.rule_model.specs.Closings.{MeetsClosing}
-use Rattle.rule_model.specs.Conditions.{IsMetAt, MeetsWhere, IsTooWideBy, IsTooWideWhere}
+use Rattle.rule_model.specs.Conditions.{IsMetAt, MeetsWhere, IsTooWideAt, IsTooWideBy, IsTooWideWhere}
 use Rattle.rule_model.specs.Judged.{Judged, judged_at}
 use Rattle.rule_model.specs.Proofs.{ProofItems}
 use Rattle.rule_model.specs.Reading.{rule_at, closes_at}
 use Rattle.rule_model.specs.Statuses.{assumed, hole, unknown, conditional, kind_of_rule}
+use Rattle.rules_arith.specs.Answers.{Tells}
 use Rattle.rules_resolution.specs.Steps.{IsResolutionRule, MeetsResolutionAt}
 use Rattle.term_reader.specs.declared.flags.Flags.{Flags}
 use Rattle.step_check.specs.declared.families.Family.{Family}
-use Rattle.step_check.specs.Judged.{is_resolution, is_clausal, is_definition, is_equality, is_simplification, is_closing, is_of_family, is_reflexivity, is_judged}
+use Rattle.step_check.specs.Judged.{is_resolution, is_clausal, is_definition, is_equality, is_simplification, is_arithmetic, is_closing, is_of_family, is_reflexivity, is_judged}
 use Rattle.step_check.specs.Statuses.{checking}
 use Rattle.step_check.specs.declared.kinds.Kind.{Kind as KindOfCommand}
 use Rattle.step_check.specs.Steps.{IsOfFamily, IsKind, IsKindOfStep, IsAnswerAt, TellsMet}
@@ -52,8 +53,10 @@ family_is_one Family.Equality rule h =
     later_of (is_resolution rule) _ (later_of (is_clausal rule) _ (later_of (is_definition rule) _ (first_of (is_equality rule) _ h)))
 family_is_one Family.Simplification rule h =
     later_of (is_resolution rule) _ (later_of (is_clausal rule) _ (later_of (is_definition rule) _ (later_of (is_equality rule) _ (first_of (is_simplification rule) _ h))))
+family_is_one Family.Arithmetic rule h =
+    later_of (is_resolution rule) _ (later_of (is_clausal rule) _ (later_of (is_definition rule) _ (later_of (is_equality rule) _ (later_of (is_simplification rule) _ (first_of (is_arithmetic rule) _ h)))))
 family_is_one Family.Closing rule h =
-    later_of (is_resolution rule) _ (later_of (is_clausal rule) _ (later_of (is_definition rule) _ (later_of (is_equality rule) _ (later_of (is_simplification rule) _ (last_of (is_closing rule) h)))))
+    later_of (is_resolution rule) _ (later_of (is_clausal rule) _ (later_of (is_definition rule) _ (later_of (is_equality rule) _ (later_of (is_simplification rule) _ (later_of (is_arithmetic rule) _ (last_of (is_closing rule) h))))))
 
 -- the rules of a family, and refl, are judged
 one_is_judged : (a b : Bool) → a ≡ true → a || b ≡ true
@@ -123,14 +126,15 @@ none_is_wide is sum prod minus unary generic Rule.UnaryMinusSimplify j h = absur
 none_is_wide is sum prod minus unary generic Rule.LaGeneric j h = absurd (let clash = sym generic ∙ h in cc)
 none_is_wide is sum prod minus unary generic _ j h = λ wide. wide
 
--- a line for each family
-family_is_narrow : (family : Family) (rule : Rule) (j : Judged) → IsOfFamily family rule → ¬ IsTooWideBy rule j
-family_is_narrow Family.Resolution = none_is_wide is_resolution refl refl refl refl refl
-family_is_narrow Family.Clausal = none_is_wide is_clausal refl refl refl refl refl
-family_is_narrow Family.Definition = none_is_wide is_definition refl refl refl refl refl
-family_is_narrow Family.Equality = none_is_wide is_equality refl refl refl refl refl
-family_is_narrow Family.Simplification = none_is_wide is_simplification refl refl refl refl refl
-family_is_narrow Family.Closing = none_is_wide is_closing refl refl refl refl refl
+-- a line for each family, but that of arithmetic
+family_is_narrow : (family : Family) → family ≢ Family.Arithmetic → (rule : Rule) (j : Judged) → IsOfFamily family rule → ¬ IsTooWideBy rule j
+family_is_narrow Family.Resolution other = none_is_wide is_resolution refl refl refl refl refl
+family_is_narrow Family.Clausal other = none_is_wide is_clausal refl refl refl refl refl
+family_is_narrow Family.Definition other = none_is_wide is_definition refl refl refl refl refl
+family_is_narrow Family.Equality other = none_is_wide is_equality refl refl refl refl refl
+family_is_narrow Family.Simplification other = none_is_wide is_simplification refl refl refl refl refl
+family_is_narrow Family.Arithmetic other = absurd (other refl)
+family_is_narrow Family.Closing other = none_is_wide is_closing refl refl refl refl refl
 
 -- the answers of a crate that judges no numbers
 module _ (mode : Mode) (proof : ProofItems Var Term) (i : ℕ) where
@@ -143,8 +147,14 @@ module _ (mode : Mode) (proof : ProofItems Var Term) (i : ℕ) where
   answered Answer.NotMet none narrow met = (narrow_where (closes_at proof i) none, λ h. let clash = met.1 h in cc)
   answered Answer.TooWide none narrow met = absurd (narrow refl)
 
-  pub answered_of_family : (family : Family) (answer : Answer) → IsOfFamily family (rule_at proof i) → answer ≢ Answer.TooWide → (answer ≡ Answer.Met) ↔ IsMetAt mode proof i → IsAnswerAt mode proof i answer
-  answered_of_family family answer h = answered answer (λ j. family_is_narrow family (rule_at proof i) j h)
+  pub answered_of_family : (family : Family) (answer : Answer) → family ≢ Family.Arithmetic → IsOfFamily family (rule_at proof i) → answer ≢ Answer.TooWide → (answer ≡ Answer.Met) ↔ IsMetAt mode proof i → IsAnswerAt mode proof i answer
+  answered_of_family family answer other h = answered answer (λ j. family_is_narrow family other (rule_at proof i) j h)
+
+  -- what the crate of arithmetic tells
+  pub answered_of_arithmetic : (answer : Answer) → Tells answer (IsTooWideAt mode proof i) (IsMetAt mode proof i) → IsAnswerAt mode proof i answer
+  answered_of_arithmetic Answer.Met h = h
+  answered_of_arithmetic Answer.NotMet h = h
+  answered_of_arithmetic Answer.TooWide h = h
 
   pub answered_of_refl : (answer : Answer) → rule_at proof i ≡ Rule.Refl → answer ≢ Answer.TooWide → (answer ≡ Answer.Met) ↔ IsMetAt mode proof i → IsAnswerAt mode proof i answer
   answered_of_refl answer is = answered answer (λ j. subst (λ rule. ¬ IsTooWideBy rule j) (sym is) (λ wide. wide))
@@ -183,13 +193,18 @@ module _ (s : Table) (v : TermsView) (refs : ProofItems ℕ ℕ) (i : ℕ)
   abbrev IsMetWhere : Answer → Type 0
   IsMetWhere answer = (of : ProofItems Var Term) → StandForItems s v refs of → (answer ≡ Answer.Met) ↔ IsMetAt Mode.Check of i
 
-  told_of_family : (family : Family) (answer : Answer) → IsOfFamily family (rule_at refs i) → answer ≢ Answer.TooWide → IsMetWhere answer → TellsMet s v refs i answer
-  told_of_family family answer h narrow met =
-      λ of stand. answered_of_family Mode.Check of i family answer (subst (IsOfFamily family) (same_rule of stand) h) narrow (met of stand)
+  told_of_family : (family : Family) (answer : Answer) → family ≢ Family.Arithmetic → IsOfFamily family (rule_at refs i) → answer ≢ Answer.TooWide → IsMetWhere answer → TellsMet s v refs i answer
+  told_of_family family answer other h narrow met =
+      λ of stand. answered_of_family Mode.Check of i family answer other (subst (IsOfFamily family) (same_rule of stand) h) narrow (met of stand)
 
-  pub tells_of_family : (family : Family) (r : Result Answer RuleStop) → IsOfFamily family (rule_at refs i) → IfOk r (λ answer. answer ≢ Answer.TooWide) → IfOk r IsMetWhere → IfOk r (TellsMet s v refs i)
-  tells_of_family family (Ok answer) h narrow met = told_of_family family answer h narrow met
-  tells_of_family family (Err stop) h narrow met = tt
+  pub tells_of_family : (family : Family) (r : Result Answer RuleStop) → family ≢ Family.Arithmetic → IsOfFamily family (rule_at refs i) → IfOk r (λ answer. answer ≢ Answer.TooWide) → IfOk r IsMetWhere → IfOk r (TellsMet s v refs i)
+  tells_of_family family (Ok answer) other h narrow met = told_of_family family answer other h narrow met
+  tells_of_family family (Err stop) other h narrow met = tt
+
+  pub tells_of_arithmetic : (r : Result Answer RuleStop)
+      → IfOk r (λ answer. (of : ProofItems Var Term) → StandForItems s v refs of → Tells answer (IsTooWideAt Mode.Check of i) (IsMetAt Mode.Check of i)) → IfOk r (TellsMet s v refs i)
+  tells_of_arithmetic (Ok answer) h = λ of stand. answered_of_arithmetic Mode.Check of i answer (h of stand)
+  tells_of_arithmetic (Err stop) h = tt
 
   told_of_refl : (answer : Answer) → rule_at refs i ≡ Rule.Refl → answer ≢ Answer.TooWide → IsMetWhere answer → TellsMet s v refs i answer
   told_of_refl answer is narrow met =

@@ -7,6 +7,7 @@ use Rattle.rule_model.specs.Clausal.{schema_of, is_over_list}
 use Rattle.rule_model.specs.Congruence.{is_of_equality}
 use Rattle.rules_ite.specs.Families.{is_of_definition}
 use Rattle.rules_simplify.specs.Families.{is_of_simplification}
+use Rattle.rules_arith.specs.Families.{is_of_arithmetic}
 
 -- resolution, in both its names
 abbrev pub is_resolution : Rule → Bool
@@ -30,6 +31,10 @@ is_equality rule = is_of_equality rule
 abbrev pub is_simplification : Rule → Bool
 is_simplification rule = is_of_simplification rule
 
+-- the rules of linear arithmetic
+abbrev pub is_arithmetic : Rule → Bool
+is_arithmetic rule = is_of_arithmetic rule
+
 -- the rules that close a scope
 abbrev pub is_closing : Rule → Bool
 is_closing Rule.Subproof = true
@@ -44,7 +49,8 @@ is_of_family rule =
     || (is_definition rule
     || (is_equality rule
     || (is_simplification rule
-    || is_closing rule))))
+    || (is_arithmetic rule
+    || is_closing rule)))))
 
 -- refl, whose steps are judged by what open anchors put in
 abbrev pub is_reflexivity : Rule → Bool

@@ -15,7 +15,7 @@ use Rattle.rule_model.specs.Statuses.{Kind as KindOfRule, assumed, hole, unknown
 use Rattle.proof_store.specs.declared.answers.Answer.{Answer}
 use Rattle.proof_store.specs.Meaning.{StandForItems}
 use Rattle.term_reader.specs.declared.flags.Flags.{Flags}
-use Rattle.step_check.specs.Judged.{is_resolution, is_clausal, is_definition, is_equality, is_simplification, is_closing, is_of_family}
+use Rattle.step_check.specs.Judged.{is_resolution, is_clausal, is_definition, is_equality, is_simplification, is_arithmetic, is_closing, is_of_family}
 use Rattle.step_check.specs.Statuses.{checking}
 use Rattle.step_check.specs.declared.families.Family.{Family}
 use Rattle.step_check.specs.declared.kinds.Kind.{Kind}
@@ -27,6 +27,7 @@ IsOfFamily Family.Clausal rule = IsTrue (is_clausal rule)
 IsOfFamily Family.Definition rule = IsTrue (is_definition rule)
 IsOfFamily Family.Equality rule = IsTrue (is_equality rule)
 IsOfFamily Family.Simplification rule = IsTrue (is_simplification rule)
+IsOfFamily Family.Arithmetic rule = IsTrue (is_arithmetic rule)
 IsOfFamily Family.Closing rule = IsTrue (is_closing rule)
 
 -- the family of a rule

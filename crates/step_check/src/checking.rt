@@ -112,6 +112,7 @@ pub fn statuses(
     let rules = Rules {
         alloc,
         resolution: Scratch::new(alloc),
+        arithmetic: rules_arith::Scratch::new(alloc),
     };
     let mut kept = Kept {
         rules,

@@ -4,7 +4,7 @@
 ghost use Rattle.std.specs.Prelude.{◌≡◌};
 ghost use Rattle.std.specs.Option.{is_some};
 ghost use Rattle.rule_model.specs.Clausal.{is_over_list, schema_of};
-ghost use Rattle.step_check.specs.Judged.{is_resolution, is_clausal, is_definition, is_equality, is_simplification, is_closing, is_reflexivity};
+ghost use Rattle.step_check.specs.Judged.{is_resolution, is_clausal, is_definition, is_equality, is_simplification, is_arithmetic, is_closing, is_reflexivity};
 ghost use Rattle.step_check.specs.Steps.{IsFamilyOf};
 
 use rule_model::Rule;
@@ -22,6 +22,8 @@ pub(crate) enum Family {
     Equality,
     /// `rules_simplify`
     Simplification,
+    /// `rules_arith`
+    Arithmetic,
     /// `rules_subproof`
     Closing,
 }
@@ -147,6 +149,22 @@ fn is_simplification(rule: Rule) -> bool
     }
 }
 
+/// Whether a rule is one of linear arithmetic.
+fn is_arithmetic(rule: Rule) -> bool
+    ensures { result ≡ is_arithmetic rule }
+{
+    match rule {
+        Rule::LaDisequality => true,
+        Rule::LaTotality => true,
+        Rule::LaRwEq => true,
+        Rule::SumSimplify => true,
+        Rule::ProdSimplify => true,
+        Rule::MinusSimplify => true,
+        Rule::UnaryMinusSimplify => true,
+        _ => false,
+    }
+}
+
 /// Whether a rule closes a scope.
 fn is_closing(rule: Rule) -> bool
     ensures { result ≡ is_closing rule }
@@ -179,6 +197,9 @@ pub(crate) fn family_of(rule: Rule) -> Option<Family>
     }
     if is_simplification(rule) {
         return Some(Family::Simplification);
+    }
+    if is_arithmetic(rule) {
+        return Some(Family::Arithmetic);
     }
     if is_closing(rule) {
         return Some(Family::Closing);

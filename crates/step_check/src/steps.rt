@@ -47,6 +47,7 @@ pub(crate) struct Subject<'a> {
 pub(crate) struct Rules {
     pub(crate) alloc: Global,
     pub(crate) resolution: Scratch,
+    pub(crate) arithmetic: rules_arith::Scratch,
 }
 
 /// What a check keeps from step to step.
@@ -87,6 +88,14 @@ fn answer_at(
         Family::Equality => rules_congruence::check(alloc, proof, i, Mode::Check, symbols, terms),
         Family::Simplification => rules_simplify::check(
             alloc,
+            proof,
+            i,
+            Mode::Check,
+            symbols,
+            terms,
+        ),
+        Family::Arithmetic => rules_arith::check(
+            &mut rules.arithmetic,
             proof,
             i,
             Mode::Check,
