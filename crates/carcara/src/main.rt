@@ -9,8 +9,6 @@ use std::{env, io};
 
 #[cfg(test)]
 mod pool_tests;
-#[cfg(test)]
-mod term_tests;
 
 /// The status of want of memory.
 const NO_MEMORY: u8 = 7;

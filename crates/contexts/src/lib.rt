@@ -13,8 +13,6 @@ mod leaves;
 mod places;
 mod putting;
 mod substitution;
-#[cfg(test)]
-mod tests;
 mod walked;
 
 pub use free::free_in;

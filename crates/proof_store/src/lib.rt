@@ -11,8 +11,6 @@ mod lists;
 mod names;
 mod proof;
 mod scopes;
-#[cfg(test)]
-mod tests;
 mod words;
 
 pub use added::{Added, Link};

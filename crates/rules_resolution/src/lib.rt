@@ -35,6 +35,3 @@ pub use pair_pool::Memory;
 pub use scratch::Scratch;
 pub use step::{check, propagate};
 pub use trail::Trail;
-
-#[cfg(test)]
-mod tests;

@@ -9,8 +9,6 @@ mod functions;
 mod laws;
 mod operators;
 mod sorts;
-#[cfg(test)]
-mod tests;
 
 pub use applications::check_app;
 pub use descent::sort_of;

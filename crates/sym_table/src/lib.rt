@@ -16,6 +16,3 @@ pub use faults::{Memory, NameFault};
 pub use kind::Kind;
 pub use symbols::Symbols;
 pub use words::is_built_in;
-
-#[cfg(test)]
-mod tests;

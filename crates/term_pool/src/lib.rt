@@ -21,8 +21,6 @@ mod putting;
 mod shape;
 mod stop;
 mod terms;
-#[cfg(test)]
-mod tests;
 
 pub use laws::{parts_are_less_high, references_stay, trees_are_built_of_parts, trees_of_terms};
 pub use putting::Image;

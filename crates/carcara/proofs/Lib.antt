@@ -1,3 +1,0 @@
-mod ItemTokens
-mod KnownReferences
-mod TermsRead
