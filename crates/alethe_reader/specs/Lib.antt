@@ -15,3 +15,4 @@ pub mod StepParts
 pub mod Arguments
 pub mod AddedSteps
 pub mod NeededImages
+pub mod RuleLengths
