@@ -6,6 +6,7 @@ pub mod NumberForms
 pub mod OpenSoFar
 pub mod OneNesting
 pub mod OneReading
+pub mod PartByPart
 pub mod Respelling
 pub mod Scanning
 pub mod Spelling

@@ -1,11 +1,13 @@
 //! The form of a text: whether its tokens are those of nested items.
 ghost use Rattle.std.specs.Prelude.{◌≡◌, ◌<◌, Ok, Err, OnOk, IfErr, MatchResult};
 ghost use Rattle.sexpr.specs.declared.causes.Refusal.{Refusal};
-ghost use Rattle.sexpr.specs.Depths.{lists_after};
+ghost use Rattle.sexpr.specs.Depths.{lists_after, bracket_kind};
 ghost use Rattle.sexpr.specs.Form.{HasForm, IsFormFault};
 
+use crate::bytes::is_white;
 use crate::causes::{Cause, Refusal};
-use crate::lexing::{Lexer, Token, TokenKind};
+use crate::lexing::{Token, TokenKind, past_token, token_of};
+use crate::scan::comment_end;
 
 /// How many lists are open, and the place where the outermost of them began, if there is one.
 #[derive(Clone, Copy)]
@@ -49,23 +51,34 @@ pub fn form(bytes: &[u8]) -> Result<(), Refusal>
     first_fault(bytes)
 }
 
-/// Reads the text up to its first fault of form.
+/// Reads the text up to its first fault of form. It goes from one part of the text to the next, and asks of what is no
+/// bracket only where it ends, which takes about half of the time of reading each token by a `Lexer`.
 fn first_fault(bytes: &[u8]) -> Result<(), Refusal>
     ensures { MatchResult result (λ _. HasForm bytes.now) (IsFormFault bytes.now) }
 {
-    let mut lexer = Lexer::new(bytes);
+    let mut place = 0;
     let mut lists = OpenLists {
         depth: 0,
         outermost: 0,
     };
-    while let Some(token) = lexer.next()? {
-        let Some(after) = lists.after(token) else {
-            return Err(Refusal {
-                cause: Cause::StrayClose,
-                at: token.start,
-            });
-        };
-        lists = after;
+    while place < bytes.len() {
+        let byte = bytes[place];
+        if is_white(byte) {
+            place += 1;
+        } else if let Some(kind) = bracket_kind(byte) {
+            let Some(after) = lists.after(token_of(kind, place, place + 1)) else {
+                return Err(Refusal {
+                    cause: Cause::StrayClose,
+                    at: place as u64,
+                });
+            };
+            lists = after;
+            place += 1;
+        } else if byte == b';' {
+            place = comment_end(bytes, place + 1);
+        } else {
+            place = past_token(bytes, place)?;
+        }
     }
     if lists.depth == 0 {
         Ok(())
@@ -74,5 +87,16 @@ fn first_fault(bytes: &[u8]) -> Result<(), Refusal>
             cause: Cause::OpenList,
             at: lists.outermost,
         })
+    }
+}
+
+/// Which bracket a byte is, if it is one.
+fn bracket_kind(byte: u8) -> Option<TokenKind>
+    ensures { result ≡ bracket_kind byte }
+{
+    match byte {
+        b'(' => Some(TokenKind::Open),
+        b')' => Some(TokenKind::Close),
+        _ => None,
     }
 }

@@ -2,6 +2,7 @@
 ghost use Rattle.std.specs.Prelude.{◌≡◌, ◌+◌, ◌≤◌, ◌<◌, length, drop, take_while, slice_index, not, ◌&&◌, IsTrue, IfOk, IfErr, IfSome};
 ghost use Rattle.std.specs.List.{prefix_len};
 ghost use Rattle.sexpr.specs.Characters.{is_between_bars, is_word_byte};
+ghost use Rattle.sexpr.specs.Depths.{end_of_read};
 ghost use Rattle.sexpr.specs.Words.{starts_with_digit, is_number};
 ghost use Rattle.sexpr.specs.Tokens as spec;
 ghost use Rattle.sexpr.specs.Tokens.{next_token, place_after, token_text, IsSpanFrom};
@@ -94,7 +95,7 @@ fn bad_byte(at: usize) -> Refusal
     }
 }
 
-fn token_of(kind: TokenKind, start: usize, end: usize) -> Token
+pub(crate) fn token_of(kind: TokenKind, start: usize, end: usize) -> Token
     ensures { result ≡ record { kind = kind; start = start; end = end } }
 {
     Token {
@@ -106,6 +107,7 @@ fn token_of(kind: TokenKind, start: usize, end: usize) -> Token
 
 /// The token that begins at `at`, and None at the end of the text.
 #[tactic(auto, using(crate::proofs::Lexemes::nothing_left, crate::proofs::Lexemes::opens, crate::proofs::Lexemes::closes, crate::proofs::Lexemes::string_begins, crate::proofs::Lexemes::bars_begin, crate::proofs::Lexemes::word_begins, crate::proofs::Lexemes::no_token))]
+#[inline(always)]
 fn token_at(bytes: &[u8], at: usize) -> Result<Option<Token>, Refusal>
     requires { at ≤ length bytes.now }
     ensures value { result ≡ spec.token_at at (drop at bytes.now) }
@@ -123,6 +125,27 @@ fn token_at(bytes: &[u8], at: usize) -> Result<Option<Token>, Refusal>
         b'|' => quoted_at(bytes, at),
         byte if is_word_byte(byte) => word_at(bytes, at),
         _ => Err(bad_byte(at)),
+    }
+}
+
+/// The place after the token that begins at `at`. A word is looked for first, since most tokens are words.
+#[tactic(auto, using(crate::proofs::Lexemes::word_at_its_byte))]
+#[inline(always)]
+pub(crate) fn past_token(bytes: &[u8], at: usize) -> Result<usize, Refusal>
+    requires { at < length bytes.now }
+    ensures value { result ≡ end_of_read (length bytes.now) (spec.token_at at (drop at bytes.now)) }
+    ensures after { IfOk result (λ end. (at < end) × (end ≤ length bytes.now)) }
+    ensures cause { IfErr result (λ refusal. refusal.cause ≡ Cause.BadByte) }
+{
+    let found = if is_word_byte(bytes[at]) {
+        word_at(bytes, at)
+    } else {
+        token_at(bytes, at)
+    };
+    match found {
+        Ok(Some(token)) => Ok(token.end as usize),
+        Ok(None) => Ok(bytes.len()),
+        Err(refusal) => Err(refusal),
     }
 }
 
@@ -160,6 +183,7 @@ fn quoted_at(bytes: &[u8], at: usize) -> Result<Option<Token>, Refusal>
 
 /// The word that begins at `at`.
 #[tactic(auto, using(crate::proofs::Lexemes::word_taken, crate::proofs::Lexemes::word_refused))]
+#[inline(always)]
 fn word_at(bytes: &[u8], at: usize) -> Result<Option<Token>, Refusal>
     requires inside { at < length bytes.now }
     requires word { IsTrue (is_word_byte (slice_index bytes.now at)) }

@@ -9,7 +9,7 @@ use crate::bytes::{is_white, is_word_byte};
 /// The place after a comment of which the byte at `at` is the first after the semicolon: at the byte that ends
 /// its line, or at the end of the text.
 #[tactic(auto, using(crate::proofs::Scanning::comment_goes, crate::proofs::Scanning::comment_stops_at_feed, crate::proofs::Scanning::comment_stops_at_return, crate::proofs::Scanning::blanks_end_at_end))]
-fn comment_end(bytes: &[u8], at: usize) -> usize
+pub(crate) fn comment_end(bytes: &[u8], at: usize) -> usize
     requires { at ≤ length bytes.now }
     ensures after { at ≤ result }
     ensures within { result ≤ length bytes.now }
