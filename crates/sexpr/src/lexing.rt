@@ -201,7 +201,7 @@ fn word_at(bytes: &[u8], at: usize) -> Result<Option<Token>, Refusal>
 }
 
 /// The word begins with a digit and is no number.
-#[inline]
+#[inline(always)]
 fn is_broken_number(word: &[u8]) -> bool
     ensures { result ≡ (starts_with_digit word.now && not (is_number word.now)) }
 {

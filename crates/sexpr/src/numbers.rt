@@ -58,6 +58,7 @@ pub(crate) fn is_ratio(word: &[u8]) -> bool
 
 /// A numeral, a decimal or a ratio.
 #[tactic(auto, unfolding(crate::specs::Words::is_number))]
+#[inline(never)]
 pub(crate) fn is_number(word: &[u8]) -> bool
     ensures { result ≡ spec.is_number word.now }
 {
