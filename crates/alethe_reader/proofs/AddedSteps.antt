@@ -23,11 +23,11 @@ use Rattle.alethe_reader.specs.declared.ids.Role.TheVariants as role
 use Rattle.alethe_reader.specs.declared.session.OpenAnchor.{OpenAnchor}
 use Rattle.alethe_reader.specs.declared.session.Session.{Session}
 use Rattle.alethe_reader.specs.declared.stepping.NewStep.{NewStep}
-use Rattle.alethe_reader.specs.AddedSteps.{step_of, AreSeen, IsToAdd}
+use Rattle.alethe_reader.specs.AddedSteps.{step_added, AreSeen, IsToAdd}
 use Rattle.alethe_reader.specs.Bound.{AreBound}
 use Rattle.alethe_reader.specs.Ids.{Used, IsUnused}
 use Rattle.alethe_reader.specs.IdsInUse.{in_use, sights_of, ids_in}
-use Rattle.alethe_reader.specs.Sessions.{StandForNesting, starts, counts, IsWritten, IsSession}
+use Rattle.alethe_reader.specs.Sessions.{StandForNesting, starts, counts, IsWritten, IsProofSession}
 use Rattle.alethe_reader.specs.Standing.{IsAnchorOf, IsClosing}
 use Rattle.alethe_reader.proofs.IdsInUse.{sights_seen, unused_new, ids_step, ids_close}
 use Rattle.alethe_reader.proofs.StandingSteps.{ends_with}
@@ -92,7 +92,7 @@ module _ (s : Table) (v : TermsView) where
 
 module _ (s : Table) (v : TermsView) (settings : ProofSettings) (d : Session) (n : NewStep) (of : Step Term) (p : ProofState) (h : IsToAdd s v settings d n of p) where
   abbrev step : Step ℕ
-  step = step_of d.parts n
+  step = step_added d.parts n
 
   is : IsStepOf s v step of
   is = record {
@@ -244,7 +244,7 @@ module _ (s : Table) (v : TermsView) (settings : ProofSettings) (d : Session) (n
       go outermost = refl
       go (inside around before anchor) = refl
 
-  is_session : (e : Session) → e.reader ≡ d.reader → IsWritten s v e (steps.with_step of p) → IsSession s v settings e (steps.with_step of p)
+  is_session : (e : Session) → e.reader ≡ d.reader → IsWritten s v e (steps.with_step of p) → IsProofSession s v settings e (steps.with_step of p)
   is_session e same written = record {
     lax = h.lax;
     reader = subst (λ r. IsReaderOf s v r p.script (place_in settings (steps.with_step of p).scope.nesting)) (sym same)
@@ -253,14 +253,14 @@ module _ (s : Table) (v : TermsView) (settings : ProofSettings) (d : Session) (n
   }
 
   pub added_here : (e : Session) → n.closes ≡ None → e.reader ≡ d.reader → e.builder ≡ take_step d.builder step → e.ids ≡ d.ids ++ in_use step.id role.Step (next_index d.builder) ∷ [] → e.anchors ≡ d.anchors → e.bound ≡ d.bound
-      → IsSession s v settings e (steps.with_step of p)
+      → IsProofSession s v settings e (steps.with_step of p)
   added_here e none same built used anchors bound = is_session e same (written_here e (subst (IsClosing d.ids p of.id h.here) none h.closes).0 built used anchors bound)
 
   pub added_around : (e : Session) (a : OpenAnchor) → n.closes ≡ Some a → e.reader ≡ d.reader → e.builder ≡ take_step d.builder step
       → e.ids ≡ take a.ids d.ids ++ in_use step.id role.Step (next_index d.builder) ∷ []
       → ((front : List OpenAnchor) (last : OpenAnchor) → d.anchors.items ≡ front ++ last ∷ [] → e.anchors.items ≡ front)
       → ((around : Nesting Var Term) (before : ProofItems Var Term) (other : Anchor Var Term) → a.variables ≡ length other.bindings → AreBound s v d.bound (inside around before other) → AreBound s v e.bound around)
-      → IsSession s v settings e (steps.with_step of p)
+      → IsProofSession s v settings e (steps.with_step of p)
   added_around e a some same built used popped left =
       let closes = subst (IsClosing d.ids p of.id h.here) some h.closes in
       is_session e same (written_around e a closes.0 closes.2 built used popped left)

@@ -39,11 +39,11 @@ use Rattle.alethe_reader.specs.declared.bound.BoundVariables.{BoundVariables}
 use Rattle.alethe_reader.specs.declared.ids.Role.TheVariants.{Anchor}
 use Rattle.alethe_reader.specs.declared.session.OpenAnchor.{OpenAnchor}
 use Rattle.alethe_reader.specs.declared.session.Session.{Session}
-use Rattle.alethe_reader.specs.Answers.{Answers, KeepsRead}
+use Rattle.alethe_reader.specs.Answers.{AnswersAs, KeepsRead}
 use Rattle.alethe_reader.specs.Ids.{IsUnused}
 use Rattle.alethe_reader.specs.IdsInUse.{in_use, ids_in}
 use Rattle.alethe_reader.specs.Opening.{AreFresh, AreArgumentsRead, entered}
-use Rattle.alethe_reader.specs.Sessions.{StandForNesting, starts, counts, IsSession, IsWritten, StandsAfter}
+use Rattle.alethe_reader.specs.Sessions.{StandForNesting, starts, counts, IsProofSession, IsWritten, StandsAfter}
 use Rattle.alethe_reader.proofs.Answering.{stops, goes, answers, refuses, no_memory, same_outcome}
 use Rattle.alethe_reader.proofs.BoundLemmas.{zip_joined}
 use Rattle.alethe_reader.proofs.IdsInUse.{ids_open, unused_new}
@@ -114,21 +114,21 @@ module _ (settings : ProofSettings) (place : ℕ) (n : Name) (others : List Argu
   unfolding anchor_read ◌>>=◌
   judged r e = ap (λ (o : Outcome ProofState ⊤). and_then o (λ _ q. and_then (arguments_read settings [] others q) opened)) e
 
-  pub bad_id : (s : Table) (v : TermsView) (d : Session) (refusal : Refusal) → id_judged Repeated n p ≡ given (Err refusal) p → Answers s v v (StandsAfter s v settings d) (anchor_read settings place n others p) (Err (ReadFault.Text refusal))
+  pub bad_id : (s : Table) (v : TermsView) (d : Session) (refusal : Refusal) → id_judged Repeated n p ≡ given (Err refusal) p → AnswersAs s v v (StandsAfter s v settings d) (anchor_read settings place n others p) (Err (ReadFault.Text refusal))
   bad_id s v d refusal e = same_outcome (judged (Err refusal) e) (refuses refl refl)
 
   module _ (new_id : id_judged Repeated n p ≡ given (Ok tt) p) (z : Table) (v w : TermsView) (r : ReaderView) (b : BoundVariables) where
     abbrev pub ReadsArguments : Result ⊤ ReadFault → Type 0
-    ReadsArguments result = Answers z v w (AreArgumentsRead z w settings r b p) (arguments_read settings [] others p) result
+    ReadsArguments result = AnswersAs z v w (AreArgumentsRead z w settings r b p) (arguments_read settings [] others p) result
 
-    pub bad_argument : (d : Session) (fault : ReadFault) → ReadsArguments (Err fault) → Answers z v w (StandsAfter z w settings d) (anchor_read settings place n others p) (Err fault)
+    pub bad_argument : (d : Session) (fault : ReadFault) → ReadsArguments (Err fault) → AnswersAs z v w (StandsAfter z w settings d) (anchor_read settings place n others p) (Err fault)
     bad_argument d fault h = same_outcome (judged (Ok tt) new_id) (stops opened keeps_opened h)
 
     module _ (h : ReadsArguments (Ok tt)) where
-      pub no_room : (d : Session) → Answers z v w (StandsAfter z w settings d) (anchor_read settings place n others p) (Err ReadFault.Memory)
+      pub no_room : (d : Session) → AnswersAs z v w (StandsAfter z w settings d) (anchor_read settings place n others p) (Err ReadFault.Memory)
       no_room d = same_outcome (judged (Ok tt) new_id) (goes opened keeps_opened h (adds_none z).keeps (keeps_none w) (λ bs q k. no_memory refl))
 
-      module _ (s : Table) (e : Session) (session : IsSession s v settings e p) (table : Keeps s z) (terms : KeepsTerms v w) where
+      module _ (s : Table) (e : Session) (session : IsProofSession s v settings e p) (table : Keeps s z) (terms : KeepsTerms v w) where
         before : IsWritten z w e p
         before = written_stays s z v w table terms e p session.written
 
@@ -152,7 +152,7 @@ module _ (settings : ProofSettings) (place : ℕ) (n : Name) (others : List Argu
             → ((sc : Script) (at : Place) (bs : List (Var × Term)) → AllZip (IsBindingOf z w) b.opened.items bs → IsReaderOf z w r sc at → IsReaderOf z w d.reader sc (record at { scope = entered (length bs) bs at.scope }))
             → d.builder ≡ open_anchor e.builder (anchor_with n.name b.opened.items) → d.ids ≡ e.ids ++ in_use n.name Anchor (next_scope e.builder) ∷ []
             → d.anchors.items ≡ e.anchors.items ++ record { place = place; ids = ids; variables = variables } ∷ [] → d.bound ≡ b
-            → Answers z v w (StandsAfter z w settings d) (anchor_read settings place n others p) (Ok tt)
+            → AnswersAs z v w (StandsAfter z w settings d) (anchor_read settings place n others p) (Ok tt)
         is_opened d ids variables ids_are variables_are enters built used anchors bound =
             same_outcome (judged (Ok tt) new_id)
             (goes opened keeps_opened h (adds_none z).keeps (keeps_none w) (λ bs q k. answers tt (with_anchor place n.name bs q) refl refl (record { session = after bs q k })))
@@ -182,7 +182,7 @@ module _ (settings : ProofSettings) (place : ℕ) (n : Name) (others : List Argu
               });
             }
 
-            after : (bs : List (Var × Term)) (q : ProofState) → AreArgumentsRead z w settings r b p tt bs q → IsSession z w settings d (with_anchor place n.name bs q)
+            after : (bs : List (Var × Term)) (q : ProofState) → AreArgumentsRead z w settings r b p tt bs q → IsProofSession z w settings d (with_anchor place n.name bs q)
             after bs q k = record {
               lax = session.lax;
               reader =

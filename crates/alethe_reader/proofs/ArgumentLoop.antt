@@ -22,7 +22,7 @@ use Rattle.alethe_text.specs.Anchors.{bound_names, argument_read, arguments_read
 use Rattle.alethe_text.specs.Commands.{Argument, argument_fault, each_argument_fault, argument_of, arguments_in}
 use Rattle.alethe_text.specs.ProofTerms.{place_in}
 use Rattle.alethe_text.specs.States.{ProofSettings, ProofState, Reading, ◌>>=◌, give}
-use Rattle.alethe_reader.specs.Answers.{WasRead, Answers, KeepsRead}
+use Rattle.alethe_reader.specs.Answers.{WasRead, AnswersAs, KeepsRead}
 use Rattle.alethe_reader.specs.Bound.{AreBound}
 use Rattle.alethe_reader.specs.Opening.{IsOpening, IsSameScope, IsArgumentRead, AreArgumentsRead}
 use Rattle.alethe_reader.specs.declared.bound.BoundVariables.{BoundVariables}
@@ -158,7 +158,7 @@ module _ (source : List ℕ) (nodes : List Node) (first : ℕ) (s : Table) (v : 
 
     -- all were read
     pub ends : k ≡ length nodes → (others : List Argument) (settings : ProofSettings) (p : ProofState) → AreArguments source nodes first others (length nodes) → IsReaderOf s v r p.script (place_in settings p.scope.nesting) → AreBound s v d p.scope.nesting
-        → Answers z v w (AreArgumentsRead z w settings t e p) (arguments_read settings [] others p) (Ok tt)
+        → AnswersAs z v w (AreArgumentsRead z w settings t e p) (arguments_read settings [] others p) (Ok tt)
     unfolding arguments_read
     ends same others settings p are reader bound =
         let l = h.left others settings p are reader bound in
@@ -190,16 +190,16 @@ module _ (source : List ℕ) (nodes : List Node) (first : ℕ) (s : Table) (v : 
           places_then z y v.pass w.pass x.pass (WasRead whole) symbols.keeps terms.pass l.placed (places_more y w.pass x.pass (WasRead (argument_read settings l.earlier (argument_of a.first) l.now)) (WasRead whole) first_read placed)
 
       module _ (u : ReaderView) (f : BoundVariables) where
-        first_fails : (fault : ReadFault) → Answers y w x (IsArgumentRead y x settings u f l.earlier l.read l.now) (argument_read settings l.earlier (argument_of a.first) l.now) (Err fault) → Answers y v x (AreArgumentsRead y x settings u f p) whole (Err fault)
+        first_fails : (fault : ReadFault) → AnswersAs y w x (IsArgumentRead y x settings u f l.earlier l.read l.now) (argument_read settings l.earlier (argument_of a.first) l.now) (Err fault) → AnswersAs y v x (AreArgumentsRead y x settings u f p) whole (Err fault)
         first_fails fault g =
-            let one : Answers y w x (AreArgumentsRead y x settings u f p) (and_then (argument_read settings l.earlier (argument_of a.first) l.now) (behind_one settings l.earlier a.rest)) (Err fault) = stops (behind_one settings l.earlier a.rest) (keeps_behind settings l.earlier a.rest) g in
-            let all : Answers y w x (AreArgumentsRead y x settings u f p) (and_then (and_then (argument_read settings l.earlier (argument_of a.first) l.now) (behind_one settings l.earlier a.rest)) (behind_all l.read)) (Err fault) = stops (behind_all l.read) (keeps_all l.read) one in
+            let one : AnswersAs y w x (AreArgumentsRead y x settings u f p) (and_then (argument_read settings l.earlier (argument_of a.first) l.now) (behind_one settings l.earlier a.rest)) (Err fault) = stops (behind_one settings l.earlier a.rest) (keeps_behind settings l.earlier a.rest) g in
+            let all : AnswersAs y w x (AreArgumentsRead y x settings u f p) (and_then (and_then (argument_read settings l.earlier (argument_of a.first) l.now) (behind_one settings l.earlier a.rest)) (behind_all l.read)) (Err fault) = stops (behind_all l.read) (keeps_all l.read) one in
             record {
-              answer = (subst (λ (o : Outcome ProofState (List (Var × Term))). Answers y w x (AreArgumentsRead y x settings u f p) o (Err fault)) whole_is all).answer;
+              answer = (subst (λ (o : Outcome ProofState (List (Var × Term))). AnswersAs y w x (AreArgumentsRead y x settings u f p) o (Err fault)) whole_is all).answer;
               placed = placed_now g.placed;
             }
 
-        first_goes : (next : ℕ) → next ≡ a.behind → Answers y w x (IsArgumentRead y x settings u f l.earlier l.read l.now) (argument_read settings l.earlier (argument_of a.first) l.now) (Ok tt) → AreLeft source nodes settings y v x u f next p whole
+        first_goes : (next : ℕ) → next ≡ a.behind → AnswersAs y w x (IsArgumentRead y x settings u f l.earlier l.read l.now) (argument_read settings l.earlier (argument_of a.first) l.now) (Ok tt) → AreLeft source nodes settings y v x u f next p whole
         unfolding ◌>>=◌
         first_goes next is g =
             let b = g.answer.value in
@@ -221,10 +221,10 @@ module _ (source : List ℕ) (nodes : List Node) (first : ℕ) (s : Table) (v : 
       -- what the reading of the argument answers
       abbrev pub Reads : Result ⊤ ReadFault → Type 0
       Reads result = (i : Item) (m : ℕ) (settings : ProofSettings) (earlier : List (List ℕ)) (bs : List (Var × Term)) (p : ProofState) → IsNode source nodes k i m → argument_fault i ≡ None → IsOpening z w settings t e earlier bs p
-          → Answers y w x (IsArgumentRead y x settings u f earlier bs p) (argument_read settings earlier (argument_of i) p) result
+          → AnswersAs y w x (IsArgumentRead y x settings u f earlier bs p) (argument_read settings earlier (argument_of i) p) result
 
       pub fails : k ≢ length nodes → (fault : ReadFault) → Reads (Err fault) → (others : List Argument) (settings : ProofSettings) (p : ProofState) → AreArguments source nodes first others (length nodes) → IsReaderOf s v r p.script (place_in settings p.scope.nesting) → AreBound s v d p.scope.nesting
-          → Answers y v x (AreArgumentsRead y x settings u f p) (arguments_read settings [] others p) (Err fault)
+          → AnswersAs y v x (AreArgumentsRead y x settings u f p) (arguments_read settings [] others p) (Err fault)
       fails differs fault reads others settings p are reader bound =
           let l = h.left others settings p are reader bound in
           let a = has_argument source nodes k l.others (length nodes) l.here differs in

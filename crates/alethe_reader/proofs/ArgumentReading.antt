@@ -30,7 +30,7 @@ use Rattle.alethe_text.specs.Anchors.{bound_names, sort_given, image_of, script_
 use Rattle.alethe_text.specs.Commands.{Argument, variable_alone, assigned}
 use Rattle.alethe_text.specs.ProofTerms.{place_in, term_in}
 use Rattle.alethe_text.specs.States.{ProofSettings, ProofState, ◌>>=◌, demand, given}
-use Rattle.alethe_reader.specs.Answers.{WasRead, Answers}
+use Rattle.alethe_reader.specs.Answers.{WasRead, AnswersAs}
 use Rattle.alethe_reader.specs.Bound.{images_in}
 use Rattle.alethe_reader.specs.Judging.{is_named}
 use Rattle.alethe_reader.specs.declared.judging.Named.{Named}
@@ -45,18 +45,18 @@ use Rattle.alethe_reader.proofs.ScopeReading.{reader_named, reader_more}
 use Rattle.alethe_reader.proofs.WrittenStays.{bindings_stay}
 
 -- a fault, or want of memory, whatever would have come after
-pub fails : {A T U : Type 0} {s : Table} {v w : TermsView} {M : T → A → ProofState → Type 0} (N : U → A → ProofState → Type 0) {o : Outcome ProofState A} (fault : ReadFault) → Answers s v w M o (Err fault) → Answers s v w N o (Err fault)
+pub fails : {A T U : Type 0} {s : Table} {v w : TermsView} {M : T → A → ProofState → Type 0} (N : U → A → ProofState → Type 0) {o : Outcome ProofState A} (fault : ReadFault) → AnswersAs s v w M o (Err fault) → AnswersAs s v w N o (Err fault)
 fails N fault h = record { answer = h.answer; placed = h.placed }
 
 -- in a table with more leaves
-pub ends_so : {A T U : Type 0} {s z : Table} {v w : TermsView} {M : T → A → ProofState → Type 0} (N : U → A → ProofState → Type 0) {o : Outcome ProofState A} {t : T} (u : U) → Keeps s z → Answers s v w M o (Ok t)
-    → ((a : A) (p : ProofState) → M t a p → N u a p) → Answers z v w N o (Ok u)
+pub ends_so : {A T U : Type 0} {s z : Table} {v w : TermsView} {M : T → A → ProofState → Type 0} (N : U → A → ProofState → Type 0) {o : Outcome ProofState A} {t : T} (u : U) → Keeps s z → AnswersAs s v w M o (Ok t)
+    → ((a : A) (p : ProofState) → M t a p → N u a p) → AnswersAs z v w N o (Ok u)
 ends_so {A} {T} {U} {s} {z} {v} {w} {M} N {o} {t} u keeps h more = record {
   answer = record { value = h.answer.value; state = h.answer.state; comes = h.answer.comes; after = more h.answer.value h.answer.state h.answer.after };
   placed = places_then s z v.pass w.pass w.pass (WasRead o) keeps (pass_keeps_none w.pass) h.placed (places_none z w.pass w.pass (WasRead o) refl);
 }
 
-pub lacks_memory : {A T U : Type 0} {s z : Table} {v w : TermsView} {M : T → A → ProofState → Type 0} (N : U → A → ProofState → Type 0) {o : Outcome ProofState A} {t : T} → Keeps s z → Answers s v w M o (Ok t) → Answers z v w N o (Err ReadFault.Memory)
+pub lacks_memory : {A T U : Type 0} {s z : Table} {v w : TermsView} {M : T → A → ProofState → Type 0} (N : U → A → ProofState → Type 0) {o : Outcome ProofState A} {t : T} → Keeps s z → AnswersAs s v w M o (Ok t) → AnswersAs z v w N o (Err ReadFault.Memory)
 lacks_memory {A} {T} {U} {s} {z} {v} {w} {M} N {o} {t} keeps h = record {
   answer = tt;
   placed = places_then s z v.pass w.pass w.pass (WasRead o) keeps (pass_keeps_none w.pass) h.placed (places_none z w.pass w.pass (WasRead o) refl);
@@ -121,11 +121,11 @@ module _ (settings : ProofSettings) (earlier : List (List ℕ)) (place : ℕ) (x
       unfolding ◌>>=◌
       to_term = so_far false false plain free ∙ ap (argument_so false false) given_sort
 
-      pub no_term : {T U : Type 0} {s : Table} {v w : TermsView} {M : T → Typed → ProofState → Type 0} (N : U → Var × Term → ProofState → Type 0) (fault : ReadFault) → Answers s v w M (term_in settings p.scope.nesting i named_state) (Err fault)
-          → Answers s v w N (argument_read settings earlier (assigned place x o i) p) (Err fault)
+      pub no_term : {T U : Type 0} {s : Table} {v w : TermsView} {M : T → Typed → ProofState → Type 0} (N : U → Var × Term → ProofState → Type 0) (fault : ReadFault) → AnswersAs s v w M (term_in settings p.scope.nesting i named_state) (Err fault)
+          → AnswersAs s v w N (argument_read settings earlier (assigned place x o i) p) (Err fault)
       no_term N fault h = same_outcome to_term (stops (image_read place x.name wanted p.scope.nesting) (λ t. keeps_image place x.name wanted p.scope.nesting t) h)
 
-      module _ (s : Table) (v mid w : TermsView) (r : ReaderView) (c : Value) (h : Answers s v mid (IsReadValue s mid settings p.scope.nesting r named_state) (term_in settings p.scope.nesting i named_state) (Ok c)) (keeps : KeepsTerms mid w) where
+      module _ (s : Table) (v mid w : TermsView) (r : ReaderView) (c : Value) (h : AnswersAs s v mid (IsReadValue s mid settings p.scope.nesting r named_state) (term_in settings p.scope.nesting i named_state) (Ok c)) (keeps : KeepsTerms mid w) where
         read_after : (t : Typed) (q : ProofState) → IsReadValue s mid settings p.scope.nesting r named_state c t q → (image : ℕ) (b : Var × Term) (z : ProofState) → IsImageRead s w x.name p.scope.nesting t q image b z
             → IsVariableRead s w settings r x.name c p image b z
         read_after t q m image b z g = record {
@@ -138,8 +138,8 @@ module _ (settings : ProofSettings) (earlier : List (List ℕ)) (place : ℕ) (x
         }
 
         pub variable_read : (result : Result ℕ ReadFault)
-            → ((t : Typed) (q : ProofState) → IsReadValue s mid settings p.scope.nesting r named_state c t q → Answers s mid w (IsImageRead s w x.name p.scope.nesting t q) (image_read place x.name wanted p.scope.nesting t q) result)
-            → Answers s v w (IsVariableRead s w settings r x.name c p) (argument_read settings earlier (assigned place x o i) p) result
+            → ((t : Typed) (q : ProofState) → IsReadValue s mid settings p.scope.nesting r named_state c t q → AnswersAs s mid w (IsImageRead s w x.name p.scope.nesting t q) (image_read place x.name wanted p.scope.nesting t q) result)
+            → AnswersAs s v w (IsVariableRead s w settings r x.name c p) (argument_read settings earlier (assigned place x o i) p) result
         variable_read result k =
             same_outcome to_term
             (goes (image_read place x.name wanted p.scope.nesting) (λ t. keeps_image place x.name wanted p.scope.nesting t) h (adds_none s).keeps keeps
@@ -176,7 +176,7 @@ module _ (s z : Table) (v w : TermsView) (settings : ProofSettings) (adds : Adds
 module _ (s z y : Table) (v w : TermsView) (settings : ProofSettings) (earlier : List (List ℕ)) (bs : List (Var × Term)) (p : ProofState) (d e : BoundVariables) (r t : ReaderView) (opening : IsOpening s v settings r d earlier bs p) (symbols : AddsNoSymbols s z) (added : AddsNoSymbols z y) (terms : KeepsTerms v w) where
   pub argument_done : {o : Outcome ProofState (Var × Term)} (n name : List ℕ) (c : Value) (leaf image : ℕ) → n ≡ name → is_among (map (λ u. u.id) d.names) n ≡ false → IsLeaf y leaf (variable_leaf (record { name = n; sort = c.sort }))
       → map (λ u. u.id) e.names ≡ map (λ u. u.id) d.names ++ n ∷ [] → e.images.items ≡ d.images.items ++ (leaf, image) ∷ [] → e.opened.items ≡ d.opened.items ++ (leaf, c.term) ∷ []
-      → Answers z v w (IsVariableRead z w settings t name c p) o (Ok image) → Answers y v w (IsArgumentRead y w settings t e earlier bs p) o (Ok tt)
+      → AnswersAs z v w (IsVariableRead z w settings t name c p) o (Ok image) → AnswersAs y v w (IsArgumentRead y w settings t e earlier bs p) o (Ok tt)
   argument_done n name c leaf image same free is names images opened h =
       ends_so (IsArgumentRead y w settings t e earlier bs p) tt added.keeps h (λ b q k. record { opening = joined b q k; same = k.same })
     where

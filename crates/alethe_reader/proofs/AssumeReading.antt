@@ -20,10 +20,10 @@ use Rattle.alethe_text.specs.States.{ProofSettings, ProofState, Reading, ◌>>=�
 use Rattle.alethe_text.specs.Steps.{assume_read}
 use Rattle.alethe_reader.specs.declared.ids.Role.TheVariants.{Assume}
 use Rattle.alethe_reader.specs.declared.session.Session.{Session}
-use Rattle.alethe_reader.specs.Answers.{Answers, KeepsRead}
+use Rattle.alethe_reader.specs.Answers.{AnswersAs, KeepsRead}
 use Rattle.alethe_reader.specs.IdsInUse.{in_use, ids_in}
 use Rattle.alethe_reader.specs.ReadTerms.{IsReadFormula}
-use Rattle.alethe_reader.specs.Sessions.{IsSession, IsWritten, StandsAfter}
+use Rattle.alethe_reader.specs.Sessions.{IsProofSession, IsWritten, StandsAfter}
 use Rattle.alethe_reader.proofs.Answering.{stops, goes, answers, refuses, no_memory, same_outcome}
 use Rattle.alethe_reader.proofs.IdsInUse.{ids_assume}
 use Rattle.alethe_reader.proofs.StillRead.{keeps_changed}
@@ -41,22 +41,22 @@ module _ (settings : ProofSettings) (n : Name) (i : Item) (p : ProofState) where
   unfolding assume_read ◌>>=◌
   judged r e = ap (λ (o : Outcome ProofState ⊤). and_then o (λ _ q. and_then (formula_in settings q.scope.nesting i q) assumed)) e
 
-  pub bad_id : (s : Table) (v w : TermsView) (d : Session) (refusal : Refusal) → w ≡ v → id_judged BadAnchor n p ≡ given (Err refusal) p → Answers s v w (StandsAfter s w settings d) (assume_read settings n i p) (Err (ReadFault.Text refusal))
+  pub bad_id : (s : Table) (v w : TermsView) (d : Session) (refusal : Refusal) → w ≡ v → id_judged BadAnchor n p ≡ given (Err refusal) p → AnswersAs s v w (StandsAfter s w settings d) (assume_read settings n i p) (Err (ReadFault.Text refusal))
   bad_id s v w d refusal same e = same_outcome (judged (Err refusal) e) (refuses same refl)
 
   module _ (new_id : id_judged BadAnchor n p ≡ given (Ok tt) p) where
-    pub no_formula : (s z : Table) (v w : TermsView) (d e : Session) (fault : ReadFault) → Answers z v w (IsReadFormula z w settings p.scope.nesting d.reader p) (formula_in settings p.scope.nesting i p) (Err fault)
-        → Answers z v w (StandsAfter z w settings e) (assume_read settings n i p) (Err fault)
+    pub no_formula : (s z : Table) (v w : TermsView) (d e : Session) (fault : ReadFault) → AnswersAs z v w (IsReadFormula z w settings p.scope.nesting d.reader p) (formula_in settings p.scope.nesting i p) (Err fault)
+        → AnswersAs z v w (StandsAfter z w settings e) (assume_read settings n i p) (Err fault)
     no_formula s z v w d e fault h = same_outcome (judged (Ok tt) new_id) (stops assumed keeps_assumed h)
 
-    module _ (z : Table) (v w : TermsView) (d : Session) (c : ℕ) (h : Answers z v w (IsReadFormula z w settings p.scope.nesting d.reader p) (formula_in settings p.scope.nesting i p) (Ok c)) where
-      pub no_room : (e : Session) → Answers z v w (StandsAfter z w settings e) (assume_read settings n i p) (Err ReadFault.Memory)
+    module _ (z : Table) (v w : TermsView) (d : Session) (c : ℕ) (h : AnswersAs z v w (IsReadFormula z w settings p.scope.nesting d.reader p) (formula_in settings p.scope.nesting i p) (Ok c)) where
+      pub no_room : (e : Session) → AnswersAs z v w (StandsAfter z w settings e) (assume_read settings n i p) (Err ReadFault.Memory)
       no_room e = same_outcome (judged (Ok tt) new_id) (goes assumed keeps_assumed h (adds_none z).keeps (keeps_none w) (λ t q k. no_memory refl))
 
       -- the assume is added, and its id put in use
-      pub is_assumed : (s : Table) (e : Session) → IsSession s v settings e p → Keeps s z → KeepsTerms v w
+      pub is_assumed : (s : Table) (e : Session) → IsProofSession s v settings e p → Keeps s z → KeepsTerms v w
           → d.builder ≡ add_assume e.builder n.name c → d.ids ≡ e.ids ++ in_use n.name Assume (next_index e.builder) ∷ [] → d.anchors ≡ e.anchors → d.bound ≡ e.bound
-          → Answers z v w (StandsAfter z w settings d) (assume_read settings n i p) (Ok tt)
+          → AnswersAs z v w (StandsAfter z w settings d) (assume_read settings n i p) (Ok tt)
       is_assumed s e session table terms built used anchors bound =
           same_outcome (judged (Ok tt) new_id)
           (goes assumed keeps_assumed h (adds_none z).keeps (keeps_none w) (λ t q k. answers tt (record q { scope = add_assume q.scope n.name t }) refl refl (record { session = after t q k })))
@@ -64,7 +64,7 @@ module _ (settings : ProofSettings) (n : Name) (i : Item) (p : ProofState) where
           before : IsWritten z w e p
           before = written_stays s z v w table terms e p session.written
 
-          after : (t : Term) (q : ProofState) → IsReadFormula z w settings p.scope.nesting d.reader p c t q → IsSession z w settings d (record q { scope = add_assume q.scope n.name t })
+          after : (t : Term) (q : ProofState) → IsReadFormula z w settings p.scope.nesting d.reader p c t q → IsProofSession z w settings d (record q { scope = add_assume q.scope n.name t })
           after t q k = record {
             lax = session.lax;
             reader = rw k.behind.scope k.behind.reader;

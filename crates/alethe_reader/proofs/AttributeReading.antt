@@ -29,10 +29,10 @@ use Rattle.alethe_text.specs.Ids as text
 use Rattle.alethe_text.specs.ProofTerms.{place_in}
 use Rattle.alethe_text.specs.States.{ProofSettings, ProofState, Reading, ◌>>=◌, give, given, demand}
 use Rattle.alethe_text.specs.Steps.{attribute_read, attributes_read}
-use Rattle.alethe_reader.specs.Answers.{WasRead, IsAnswer, Answers}
+use Rattle.alethe_reader.specs.Answers.{WasRead, IsAnswerOf, AnswersAs}
 use Rattle.alethe_reader.specs.Arguments.{AreNamed}
 use Rattle.alethe_reader.specs.Reach.{IsReach, AreIndices}
-use Rattle.alethe_reader.specs.StepParts.{ArePartsOf, StandsAt, AreReadAttributes, IsJudged, AreRatios, KeepsOthers, own_nodes, nodes_from}
+use Rattle.alethe_reader.specs.StepParts.{AreStepParts, StandsAt, AreReadAttributes, IsRuleJudged, AreRatios, KeepsOthers, own_nodes, nodes_from}
 use Rattle.alethe_reader.specs.declared.session.Session.{Session}
 use Rattle.alethe_reader.specs.declared.session.StepParts.{StepParts}
 use Rattle.alethe_reader.specs.declared.standing.Standing.{Standing}
@@ -49,9 +49,9 @@ other_of b one other p e = rw e refl
 
 -- An attribute's reading, by that of what stands in it.
 module _ (s : Table) (v : TermsView) (settings : ProofSettings) (at : text.Standing) (e : Session) (p : ProofState) (before : Step Term) where
-  pub rule_answers : (n : Name) (result : Result ⊤ ReadFault) → IsJudged (demand (not (is_among left_out_rules n.name)) LeftOut n.place p) p result
+  pub rule_answers : (n : Name) (result : Result ⊤ ReadFault) → IsRuleJudged (demand (not (is_among left_out_rules n.name)) LeftOut n.place p) p result
       → AreReadAttributes s v settings at.nesting e p before tt before p
-      → Answers s v v (AreReadAttributes s v settings at.nesting e p before) (attribute_read settings at (rule n) before p) result
+      → AnswersAs s v v (AreReadAttributes s v settings at.nesting e p before) (attribute_read settings at (rule n) before p) result
   unfolding attribute_read ◌>>=◌
   rule_answers n (Ok _) judged after = answers before p refl (ap (λ (o : Outcome ProofState ⊤). and_then o (λ _. give before)) judged) after
   rule_answers n (Err (ReadFault.Text refusal)) judged after =
@@ -61,7 +61,7 @@ module _ (s : Table) (v : TermsView) (settings : ProofSettings) (at : text.Stand
 
   indices_answer : (put : List ℕ → Step Term) (sights : List Sight) (ns : List Name) (indices : List ℕ) (result : Result ⊤ ReadFault) → AreIndices sights ns p indices result
       → AreReadAttributes s v settings at.nesting e p before tt (put indices) p
-      → Answers s v v (AreReadAttributes s v settings at.nesting e p before) (and_then (text.indices_of sights ns p) (λ is. give (put is))) result
+      → AnswersAs s v v (AreReadAttributes s v settings at.nesting e p before) (and_then (text.indices_of sights ns p) (λ is. give (put is))) result
   indices_answer put sights ns indices (Ok _) are after = answers (put indices) p refl (ap (λ (o : Outcome ProofState (List ℕ)). and_then o (λ is. give (put is))) are) after
   indices_answer put sights ns indices (Err (ReadFault.Text refusal)) are after =
       refuses refl (ap (λ (r : Result (List ℕ) Refusal). (going_on r (text.indices_of sights ns p).state (λ is. give (put is))).result) are)
@@ -70,13 +70,13 @@ module _ (s : Table) (v : TermsView) (settings : ProofSettings) (at : text.Stand
 
   pub premises_answer : (ns : List Name) (indices : List ℕ) (result : Result ⊤ ReadFault) → AreIndices at.sees ns p indices result
       → AreReadAttributes s v settings at.nesting e p before tt (record before { premises = indices }) p
-      → Answers s v v (AreReadAttributes s v settings at.nesting e p before) (attribute_read settings at (premises ns) before p) result
+      → AnswersAs s v v (AreReadAttributes s v settings at.nesting e p before) (attribute_read settings at (premises ns) before p) result
   unfolding attribute_read ◌>>=◌
   premises_answer ns indices result are after = indices_answer (λ is. record before { premises = is }) at.sees ns indices result are after
 
   pub discharge_answers : (ns : List Name) (indices : List ℕ) (result : Result ⊤ ReadFault) → AreIndices at.discharges ns p indices result
       → AreReadAttributes s v settings at.nesting e p before tt (record before { discharged = indices }) p
-      → Answers s v v (AreReadAttributes s v settings at.nesting e p before) (attribute_read settings at (discharge ns) before p) result
+      → AnswersAs s v v (AreReadAttributes s v settings at.nesting e p before) (attribute_read settings at (discharge ns) before p) result
   unfolding attribute_read ◌>>=◌
   discharge_answers ns indices result are after = indices_answer (λ is. record before { discharged = is }) at.discharges ns indices result are after
 
@@ -88,7 +88,7 @@ module _ (s : Table) (v : TermsView) (settings : ProofSettings) (at : text.Stand
 
   ratios_read : (parts : StepParts) (read : Result (Option (List Fraction)) Refusal) (result : Result ⊤ ReadFault) → AreRatios parts result read
       → AreReadAttributes s v settings at.nesting e p before tt (record before { ratios = if parts.has_ratios then Some (map fraction_of_ratio parts.ratios.items) else None }) p
-      → Answers s v v (AreReadAttributes s v settings at.nesting e p before) (and_then (given read p) (λ qs. give (record before { ratios = qs }))) result
+      → AnswersAs s v v (AreReadAttributes s v settings at.nesting e p before) (and_then (given read p) (λ qs. give (record before { ratios = qs }))) result
   ratios_read parts read (Ok _) are after =
       answers (record before { ratios = if parts.has_ratios then Some (map fraction_of_ratio parts.ratios.items) else None }) p refl
       (ap (λ (r : Result (Option (List Fraction)) Refusal). and_then (given r p) (λ qs. give (record before { ratios = qs }))) are) after
@@ -99,7 +99,7 @@ module _ (s : Table) (v : TermsView) (settings : ProofSettings) (at : text.Stand
 
   pub ratios_answer : (items : Items) → takes_coefficients before.rule ≡ true → (parts : StepParts) (result : Result ⊤ ReadFault) → AreRatios parts result (coefficients_from items)
       → AreReadAttributes s v settings at.nesting e p before tt (record before { ratios = if parts.has_ratios then Some (map fraction_of_ratio parts.ratios.items) else None }) p
-      → Answers s v v (AreReadAttributes s v settings at.nesting e p before) (attribute_read settings at (arguments items) before p) result
+      → AnswersAs s v v (AreReadAttributes s v settings at.nesting e p before) (attribute_read settings at (arguments items) before p) result
   ratios_answer items takes parts result are after = same_outcome (are_ratios items takes) (ratios_read parts (coefficients_from items) result are after)
 
 -- the arguments of another rule, where nothing is judged strictly
@@ -110,8 +110,8 @@ are_names settings at p before items lax takes =
     other_of (takes_coefficients before.rule) _ _ p takes ∙ other_of (settings.is_strict && takes_pivots before.rule) _ _ p (ap (λ b. b && takes_pivots before.rule) lax)
 
 pub names_answer : (s : Table) (old v : TermsView) (settings : ProofSettings) (at : text.Standing) (e : Session) (p : ProofState) (before : Step Term) (items : Items) → settings.is_strict ≡ false → takes_coefficients before.rule ≡ false
-    → (result : Result ⊤ ReadFault) → Answers s old v (AreNamed s v settings at.nesting e.reader p) (named_among settings at.nesting items p) result
-    → ArePartsOf e.parts before → Answers s old v (AreReadAttributes s v settings at.nesting e p before) (attribute_read settings at (arguments items) before p) result
+    → (result : Result ⊤ ReadFault) → AnswersAs s old v (AreNamed s v settings at.nesting e.reader p) (named_among settings at.nesting items p) result
+    → AreStepParts e.parts before → AnswersAs s old v (AreReadAttributes s v settings at.nesting e p before) (attribute_read settings at (arguments items) before p) result
 names_answer s old v settings at e p before items lax takes (Ok _) h parts =
     same_outcome (are_names settings at p before items lax takes)
     (goes (λ _. give before) (λ _. keeps_give before) h (adds_none s).keeps (keeps_none v)
@@ -140,7 +140,7 @@ stands_still s v settings at standing d e p h ids reader = record {
 }
 
 module _ (source : List ℕ) (nodes : List Node) (settings : ProofSettings) (at : text.Standing) (standing : Standing) (p : ProofState) (before : Step Term) (k m : ℕ) where
-  pub so_far_first : (s : Table) (v : TermsView) (d : Session) (attributes : List Attribute) → AreAttributes source nodes k attributes m → StandsAt s v settings at d standing p → ArePartsOf d.parts before
+  pub so_far_first : (s : Table) (v : TermsView) (d : Session) (attributes : List Attribute) → AreAttributes source nodes k attributes m → StandsAt s v settings at d standing p → AreStepParts d.parts before
       → AreSoFar source nodes settings at standing s v v d p before k m (attributes_read settings at attributes before p)
   so_far_first s v d attributes are stands parts = record {
     rest = attributes;
@@ -154,7 +154,7 @@ module _ (source : List ℕ) (nodes : List Node) (settings : ProofSettings) (at 
   }
 
   module _ (s z : Table) (old v w : TermsView) (d e : Session) (whole : Outcome ProofState (Step Term)) (h : AreSoFar source nodes settings at standing s old v d p before k m whole) where
-    pub all_read : h.rest ≡ [] → Answers s old v (AreReadAttributes s v settings at.nesting d p before) whole (Ok tt)
+    pub all_read : h.rest ≡ [] → AnswersAs s old v (AreReadAttributes s v settings at.nesting d p before) whole (Ok tt)
     unfolding attributes_read
     all_read none = record {
       answer = record { value = h.step; state = h.state; comes = h.comes ∙ ap (λ (xs : List Attribute). attributes_read settings at xs h.step h.state) none; after = h.read };
@@ -162,7 +162,7 @@ module _ (source : List ℕ) (nodes : List Node) (settings : ProofSettings) (at 
     }
 
     module _ (adds : AddsNoSymbols s z) (keeps : KeepsTerms v w) (said : StepAttribute) (next : ℕ) (f : HasFirstAttribute source nodes said next h.rest m) (result : Result ⊤ ReadFault)
-        (this : Answers z v w (AreReadAttributes z w settings at.nesting e h.state h.step) (attribute_read settings at f.first h.step h.state) result) where
+        (this : AnswersAs z v w (AreReadAttributes z w settings at.nesting e h.state h.step) (attribute_read settings at f.first h.step h.state) result) where
       splits : whole ≡ and_then (attribute_read settings at f.first h.step h.state) (attributes_read settings at f.others)
       unfolding attributes_read ◌>>=◌
       splits = h.comes ∙ ap (λ (xs : List Attribute). attributes_read settings at xs h.step h.state) f.split
@@ -175,18 +175,18 @@ module _ (source : List ℕ) (nodes : List Node) (settings : ProofSettings) (at 
       placed_then : PlacesCellsOf z old.pass w.pass (WasRead whole)
       placed_then = places_then s z old.pass v.pass w.pass (WasRead whole) adds.keeps keeps.pass h.placed (places_more z v.pass w.pass _ _ grows this.placed)
 
-      pub fails : (fault : ReadFault) → result ≡ Err fault → Answers z old w (AreReadAttributes z w settings at.nesting e p before) whole (Err fault)
+      pub fails : (fault : ReadFault) → result ≡ Err fault → AnswersAs z old w (AreReadAttributes z w settings at.nesting e p before) whole (Err fault)
       fails fault is =
-          let first : Answers z v w (AreReadAttributes z w settings at.nesting e h.state h.step) (attribute_read settings at f.first h.step h.state) (Err fault) =
-          subst (λ r. Answers z v w (AreReadAttributes z w settings at.nesting e h.state h.step) (attribute_read settings at f.first h.step h.state) r) is this in
-          let all : Answers z v w (AreReadAttributes z w settings at.nesting e p before) (and_then (attribute_read settings at f.first h.step h.state) (attributes_read settings at f.others)) (Err fault) =
+          let first : AnswersAs z v w (AreReadAttributes z w settings at.nesting e h.state h.step) (attribute_read settings at f.first h.step h.state) (Err fault) =
+          subst (λ r. AnswersAs z v w (AreReadAttributes z w settings at.nesting e h.state h.step) (attribute_read settings at f.first h.step h.state) r) is this in
+          let all : AnswersAs z v w (AreReadAttributes z w settings at.nesting e p before) (and_then (attribute_read settings at f.first h.step h.state) (attributes_read settings at f.others)) (Err fault) =
           stops (attributes_read settings at f.others) (keeps_attributes settings at f.others) first in
-          record { answer = subst (λ (o : Outcome ProofState (Step Term)). IsAnswer z w.pass (AreReadAttributes z w settings at.nesting e p before) o (Err fault)) (sym splits) all.answer; placed = placed_then }
+          record { answer = subst (λ (o : Outcome ProofState (Step Term)). IsAnswerOf z w.pass (AreReadAttributes z w settings at.nesting e p before) o (Err fault)) (sym splits) all.answer; placed = placed_then }
 
       pub so_far_next : result ≡ Ok tt → KeepsOthers d e → AreSoFar source nodes settings at standing z old w e p before next m whole
       so_far_next is others =
-          let first : Answers z v w (AreReadAttributes z w settings at.nesting e h.state h.step) (attribute_read settings at f.first h.step h.state) (Ok tt) =
-          subst (λ r. Answers z v w (AreReadAttributes z w settings at.nesting e h.state h.step) (attribute_read settings at f.first h.step h.state) r) is this in
+          let first : AnswersAs z v w (AreReadAttributes z w settings at.nesting e h.state h.step) (attribute_read settings at f.first h.step h.state) (Ok tt) =
+          subst (λ r. AnswersAs z v w (AreReadAttributes z w settings at.nesting e h.state h.step) (attribute_read settings at f.first h.step h.state) r) is this in
           let a = first.answer in
           record {
             rest = f.others;

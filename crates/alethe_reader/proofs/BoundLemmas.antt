@@ -18,7 +18,7 @@ use Rattle.proof_store.specs.Meaning.{IsBindingOf}
 use Rattle.problem_text.specs.Words.{is_among}
 use Rattle.alethe_text.specs.Anchors.{bound_names}
 use Rattle.alethe_reader.specs.Bound.{images_in, AreBound}
-use Rattle.alethe_reader.specs.Ids.{Used, IsUnused, IsFound}
+use Rattle.alethe_reader.specs.Ids.{Used, IsUnused, IsIdFound}
 use Rattle.alethe_reader.specs.declared.bound.BoundVariables.{BoundVariables}
 use Rattle.alethe_reader.specs.declared.ids.Found.{Found}
 
@@ -46,7 +46,7 @@ unused_among (v ∷ us) name h = go (bytes_eq name v.id) refl (unused_among us n
     go true e f = absurd (h 0 v refl (sym ((bytes_eq-Decides name v.id).0 e)))
     go false e f = f
 
-pub found_among : (us : List Used) (name : List ℕ) (o : Option Found) → IsFound us name o → is_some o ≡ is_among (map (λ u. u.id) us) name
+pub found_among : (us : List Used) (name : List ℕ) (o : Option Found) → IsIdFound us name o → is_some o ≡ is_among (map (λ u. u.id) us) name
 found_among us name None h = sym (unused_among us name h)
 found_among us name (Some f) h = sym (used_among us name f.place _ h.here refl)
 

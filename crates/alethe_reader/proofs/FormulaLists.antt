@@ -19,7 +19,7 @@ use Rattle.term_reader.specs.ProblemViews.{ReaderView, IsReaderOf}
 use Rattle.term_reader.proofs.Staying.{places_none, places_more, places_then, refers_stays}
 use Rattle.alethe_text.specs.ProofTerms.{place_in, formula_in, formulas_in}
 use Rattle.alethe_text.specs.States.{ProofSettings, ProofState, Reading, ◌>>=◌, give}
-use Rattle.alethe_reader.specs.Answers.{WasRead, IsAnswer, Answers, KeepsRead}
+use Rattle.alethe_reader.specs.Answers.{WasRead, IsAnswerOf, AnswersAs, KeepsRead}
 use Rattle.alethe_reader.specs.ReadTerms.{IsReadFormula, AreReadFormulas}
 use Rattle.alethe_reader.specs.Sessions.{IsBehind}
 use Rattle.alethe_reader.proofs.Answering.{read_on, stops}
@@ -73,7 +73,7 @@ module _ (source : List ℕ) (nodes : List Node) (settings : ProofSettings) (nes
   }
 
   module _ (s z : Table) (old v w : TermsView) (r q : ReaderView) (refs : List ℕ) (k end : ℕ) (whole : Outcome ProofState (List Term)) (h : AreSoFar source nodes s old v settings nesting r p refs k end whole) (adds : AddsNoSymbols s z) (keeps : KeepsTerms v w) where
-    pub all_read : k ≡ end → Answers s old v (AreReadFormulas s v settings nesting r p refs) whole (Ok tt)
+    pub all_read : k ≡ end → AnswersAs s old v (AreReadFormulas s v settings nesting r p refs) whole (Ok tt)
     unfolding formulas_in
     all_read same = record {
       answer = record {
@@ -86,11 +86,11 @@ module _ (source : List ℕ) (nodes : List Node) (settings : ProofSettings) (nes
     }
 
     module _ (differs : k ≢ end) (result : Result ℕ ReadFault)
-        (read : (i : Item) (m : ℕ) (t : ProofState) → IsNode source nodes k i m → IsReaderOf s v r t.script (place_in settings nesting) → Answers z v w (IsReadFormula z w settings nesting q t) (formula_in settings nesting i t) result) where
+        (read : (i : Item) (m : ℕ) (t : ProofState) → IsNode source nodes k i m → IsReaderOf s v r t.script (place_in settings nesting) → AnswersAs z v w (IsReadFormula z w settings nesting q t) (formula_in settings nesting i t) result) where
       abbrev pub there : AreMore source nodes k h.rest end
       there = more_nodes source nodes k h.rest end h.there differs
 
-      this : Answers z v w (IsReadFormula z w settings nesting q h.state) (formula_in settings nesting there.first h.state) result
+      this : AnswersAs z v w (IsReadFormula z w settings nesting q h.state) (formula_in settings nesting there.first h.state) result
       this = read there.first there.behind h.state there.here h.behind_it.reader
 
       abbrev tail : Term → Reading (List Term)
@@ -119,19 +119,19 @@ module _ (source : List ℕ) (nodes : List Node) (settings : ProofSettings) (nes
       placed_then : PlacesCellsOf z old.pass w.pass (WasRead whole)
       placed_then = places_then s z old.pass v.pass w.pass (WasRead whole) adds.keeps keeps.pass h.placed (places_more z v.pass w.pass _ _ grows this.placed)
 
-      pub fails : (fault : ReadFault) → result ≡ Err fault → Answers z old w (AreReadFormulas z w settings nesting q p refs) whole (Err fault)
+      pub fails : (fault : ReadFault) → result ≡ Err fault → AnswersAs z old w (AreReadFormulas z w settings nesting q p refs) whole (Err fault)
       fails fault e =
-          let first : Answers z v w (IsReadFormula z w settings nesting q h.state) (formula_in settings nesting there.first h.state) (Err fault) = subst (λ r. Answers z v w (IsReadFormula z w settings nesting q h.state) (formula_in settings nesting there.first h.state) r) e this in
-          let all : Answers z v w (AreReadFormulas z w settings nesting q p refs) (and_then (formula_in settings nesting there.first h.state) tail) (Err fault) = stops tail keeps_tail first in
-          record { answer = subst (λ (o : Outcome ProofState (List Term)). IsAnswer z w.pass (AreReadFormulas z w settings nesting q p refs) o (Err fault)) (sym splits) all.answer; placed = placed_then }
+          let first : AnswersAs z v w (IsReadFormula z w settings nesting q h.state) (formula_in settings nesting there.first h.state) (Err fault) = subst (λ r. AnswersAs z v w (IsReadFormula z w settings nesting q h.state) (formula_in settings nesting there.first h.state) r) e this in
+          let all : AnswersAs z v w (AreReadFormulas z w settings nesting q p refs) (and_then (formula_in settings nesting there.first h.state) tail) (Err fault) = stops tail keeps_tail first in
+          record { answer = subst (λ (o : Outcome ProofState (List Term)). IsAnswerOf z w.pass (AreReadFormulas z w settings nesting q p refs) o (Err fault)) (sym splits) all.answer; placed = placed_then }
 
-      pub no_room : (after : List ℕ) → Answers z old w (AreReadFormulas z w settings nesting q p after) whole (Err ReadFault.Memory)
+      pub no_room : (after : List ℕ) → AnswersAs z old w (AreReadFormulas z w settings nesting q p after) whole (Err ReadFault.Memory)
       no_room after = record { answer = tt; placed = placed_then }
 
       pub so_far_next : (c : ℕ) → result ≡ Ok c → (node : Node) → ((i : Item) (m : ℕ) → IsNode source nodes k i m → IsItemNode source i m node) → (after : List ℕ) → after ≡ refs ++ c ∷ []
           → AreSoFar source nodes z old w settings nesting q p after node.next end whole
       so_far_next c e node reads after pushed =
-          let first : Answers z v w (IsReadFormula z w settings nesting q h.state) (formula_in settings nesting there.first h.state) (Ok c) = subst (λ r. Answers z v w (IsReadFormula z w settings nesting q h.state) (formula_in settings nesting there.first h.state) r) e this in
+          let first : AnswersAs z v w (IsReadFormula z w settings nesting q h.state) (formula_in settings nesting there.first h.state) (Ok c) = subst (λ r. AnswersAs z v w (IsReadFormula z w settings nesting q h.state) (formula_in settings nesting there.first h.state) r) e this in
           let t = first.answer.value in
           let u = first.answer.state in
           record {

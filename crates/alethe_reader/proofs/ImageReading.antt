@@ -32,8 +32,8 @@ use Rattle.term_names.specs.declared.faults.ReadFault.{ReadFault}
 use Rattle.term_reader.proofs.Staying.{places_none, places_then, table_keeps_none}
 use Rattle.alethe_text.specs.Anchors.{bound_names, image_of, script_changed}
 use Rattle.alethe_text.specs.States.{ProofState, ◌>>=◌, give, demand}
-use Rattle.alethe_reader.specs.Answers.{WasRead, Answers, KeepsRead}
-use Rattle.alethe_reader.specs.Bound.{images_in, AreApart}
+use Rattle.alethe_reader.specs.Answers.{WasRead, AnswersAs, KeepsRead}
+use Rattle.alethe_reader.specs.Bound.{images_in, BindApart}
 use Rattle.alethe_reader.specs.Opening.{is_wanted, image_read, IsImageRead}
 use Rattle.alethe_reader.specs.NeededImages.{AreNeeded}
 use Rattle.alethe_reader.proofs.BoundLemmas.{images_named}
@@ -73,7 +73,7 @@ module _ (s : Table) (v w : TermsView) (names more : List (List ℕ)) (outer bs 
   pub needed_replace : AreReplacementBy s v bs
   needed_replace = record { means = put_in_for.0; are = needed_stand }
 
-  module _ (apart : AreApart nesting) where
+  module _ (apart : BindApart nesting) where
     is_image : put_in put_in_for.0 t.tree ≡ image_of nesting t.tree
     is_image = put_in_for.2 ∙ image_same nesting t.tree apart
 
@@ -153,7 +153,7 @@ module _ (place : ℕ) (name : List ℕ) (wanted : Option Sort) (nesting : Nesti
         cells_of : PlacesCellsOf s v.pass w.pass (WasRead (image_read place name wanted nesting t q))
         cells_of = places_of s v.pass w.pass image (WasRead (image_read place name wanted nesting t q)) image_was_read placed
 
-        pub no_image : (stop : TermStop) → (stop ≡ TermStop.PoolFull → LacksRoomFor s w.pass image) → Answers s v w (IsImageRead s w name nesting t q) (image_read place name wanted nesting t q) (Err (fault_of stop))
+        pub no_image : (stop : TermStop) → (stop ≡ TermStop.PoolFull → LacksRoomFor s w.pass image) → AnswersAs s v w (IsImageRead s w name nesting t q) (image_read place name wanted nesting t q) (Err (fault_of stop))
         no_image TermStop.PoolFull full = record { answer = lacks_of s w.pass image (WasRead (image_read place name wanted nesting t q)) image_was_read (full refl); placed = cells_of }
         no_image TermStop.Memory full = record { answer = tt; placed = cells_of }
 
@@ -163,14 +163,14 @@ module _ (place : ℕ) (name : List ℕ) (wanted : Option Sort) (nesting : Nesti
               places_then s s v.pass w.pass x.pass (WasRead (image_read place name wanted nesting t q)) (table_keeps_none s) keeps.pass cells_of
               (places_none s w.pass x.pass (WasRead (image_read place name wanted nesting t q)) unchanged.placed)
 
-          pub no_height : Answers s v x (IsImageRead s x name nesting t q) (image_read place name wanted nesting t q) (Err ReadFault.Memory)
+          pub no_height : AnswersAs s v x (IsImageRead s x name nesting t q) (image_read place name wanted nesting t q) (Err ReadFault.Memory)
           no_height = record { answer = tt; placed = cells_still }
 
           pub image_refused : nat_le (height image) most_height ≡ false → (refusal : Refusal) → refusal ≡ record { cause = TooHigh; at = place }
-              → Answers s v x (IsImageRead s x name nesting t q) (image_read place name wanted nesting t q) (Err (ReadFault.Text refusal))
+              → AnswersAs s v x (IsImageRead s x name nesting t q) (image_read place name wanted nesting t q) (Err (ReadFault.Text refusal))
           image_refused e refusal is = record { answer = too_high e ∙ ap (λ (r : Refusal). Err r) (sym is); placed = cells_still }
 
-          pub image_made : nat_le (height image) most_height ≡ true → (c : ℕ) → RefersTo s x c image → Answers s v x (IsImageRead s x name nesting t q) (image_read place name wanted nesting t q) (Ok c)
+          pub image_made : nat_le (height image) most_height ≡ true → (c : ℕ) → RefersTo s x c image → AnswersAs s v x (IsImageRead s x name nesting t q) (image_read place name wanted nesting t q) (Ok c)
           image_made e c refers = record {
             answer = record { value = variable_of; state = with_image; comes = image_done e; after = record { refers = refers; same = refl; state = refl } };
             placed = cells_still;

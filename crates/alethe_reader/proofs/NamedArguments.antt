@@ -23,7 +23,7 @@ use Rattle.term_reader.proofs.Staying.{places_none, places_more, places_then}
 use Rattle.alethe_text.specs.Arguments.{is_naming, named_in, named_among}
 use Rattle.alethe_text.specs.ProofTerms.{place_in, term_in}
 use Rattle.alethe_text.specs.States.{ProofSettings, ProofState, Reading, ◌>>=◌, give}
-use Rattle.alethe_reader.specs.Answers.{WasRead, IsAnswer, Answers, KeepsRead}
+use Rattle.alethe_reader.specs.Answers.{WasRead, IsAnswerOf, AnswersAs, KeepsRead}
 use Rattle.alethe_reader.specs.Arguments.{is_naming_item, AreNamed}
 use Rattle.alethe_reader.specs.ReadTerms.{IsReadValue}
 use Rattle.alethe_reader.specs.Sessions.{IsBehind}
@@ -148,7 +148,7 @@ module _ (source : List ℕ) (nodes : List Node) (settings : ProofSettings) (nes
   }
 
   module _ (s : Table) (old v : TermsView) (r : ReaderView) (k end : ℕ) (whole : Outcome ProofState ⊤) (h : AreLeft source nodes s old v settings nesting r p k end whole) where
-    pub none_left : k ≡ end → Answers s old v (AreNamed s v settings nesting r p) whole (Ok tt)
+    pub none_left : k ≡ end → AnswersAs s old v (AreNamed s v settings nesting r p) whole (Ok tt)
     unfolding named_in
     none_left same = record {
       answer = record {
@@ -185,7 +185,7 @@ module _ (source : List ℕ) (nodes : List Node) (settings : ProofSettings) (nes
       module _ (z : Table) (w : TermsView) (q : ReaderView) (adds : AddsNoSymbols s z) (keeps : KeepsTerms v w)
           (naming : Bool) (judged : (i : Item) (m : ℕ) → IsNode source nodes k i m → naming ≡ is_naming_item i) (is : naming ≡ true) (result : Result Value ReadFault)
           (read : (i : Item) (m : ℕ) (t : ProofState) → IsNode source nodes k i m → IsReaderOf s v r t.script (place_in settings nesting) → ReadsValue z v w q (place_in settings nesting) (read_term i (place_in settings nesting) t.script) result) where
-        this : Answers z v w (IsReadValue z w settings nesting q h.state) (term_in settings nesting more.first h.state) result
+        this : AnswersAs z v w (IsReadValue z w settings nesting q h.state) (term_in settings nesting more.first h.state) result
         this = value_answers z v w settings nesting q more.first h.state result (read more.first more.behind h.state more.here h.behind_it.reader)
 
         abbrev tail : Typed → Reading ⊤
@@ -206,16 +206,16 @@ module _ (source : List ℕ) (nodes : List Node) (settings : ProofSettings) (nes
         placed_then : PlacesCellsOf z old.pass w.pass (WasRead whole)
         placed_then = places_then s z old.pass v.pass w.pass (WasRead whole) adds.keeps keeps.pass h.placed (places_more z v.pass w.pass _ _ grows this.placed)
 
-        pub fails : (fault : ReadFault) → result ≡ Err fault → Answers z old w (AreNamed z w settings nesting q p) whole (Err fault)
+        pub fails : (fault : ReadFault) → result ≡ Err fault → AnswersAs z old w (AreNamed z w settings nesting q p) whole (Err fault)
         fails fault e =
-            let first : Answers z v w (IsReadValue z w settings nesting q h.state) (term_in settings nesting more.first h.state) (Err fault) = subst (λ r. Answers z v w (IsReadValue z w settings nesting q h.state) (term_in settings nesting more.first h.state) r) e this in
-            let all : Answers z v w (AreNamed z w settings nesting q p) (and_then (term_in settings nesting more.first h.state) tail) (Err fault) = stops tail keeps_tail first in
-            record { answer = subst (λ (o : Outcome ProofState ⊤). IsAnswer z w.pass (AreNamed z w settings nesting q p) o (Err fault)) (sym splits) all.answer; placed = placed_then }
+            let first : AnswersAs z v w (IsReadValue z w settings nesting q h.state) (term_in settings nesting more.first h.state) (Err fault) = subst (λ r. AnswersAs z v w (IsReadValue z w settings nesting q h.state) (term_in settings nesting more.first h.state) r) e this in
+            let all : AnswersAs z v w (AreNamed z w settings nesting q p) (and_then (term_in settings nesting more.first h.state) tail) (Err fault) = stops tail keeps_tail first in
+            record { answer = subst (λ (o : Outcome ProofState ⊤). IsAnswerOf z w.pass (AreNamed z w settings nesting q p) o (Err fault)) (sym splits) all.answer; placed = placed_then }
 
         pub left_behind : (c : Value) → result ≡ Ok c → (node : Node) → ((i : Item) (m : ℕ) → IsNode source nodes k i m → IsItemNode source i m node)
             → AreLeft source nodes z old w settings nesting q p node.next end whole
         left_behind c e node reads =
-            let first : Answers z v w (IsReadValue z w settings nesting q h.state) (term_in settings nesting more.first h.state) (Ok c) = subst (λ r. Answers z v w (IsReadValue z w settings nesting q h.state) (term_in settings nesting more.first h.state) r) e this in
+            let first : AnswersAs z v w (IsReadValue z w settings nesting q h.state) (term_in settings nesting more.first h.state) (Ok c) = subst (λ r. AnswersAs z v w (IsReadValue z w settings nesting q h.state) (term_in settings nesting more.first h.state) r) e this in
             record {
               rest = more.others;
               state = first.answer.state;

@@ -14,7 +14,7 @@ use Rattle.rule_model.specs.Substitution.{put_in, Replaces}
 use Rattle.rule_model.proofs.Substituting.{replaces-cases, term_at-none, put_in_agrees}
 use Rattle.problem_text.specs.Words.{is_among}
 use Rattle.alethe_text.specs.Anchors.{bound_names, image_of}
-use Rattle.alethe_reader.specs.Bound.{images_in, AreApart}
+use Rattle.alethe_reader.specs.Bound.{images_in, BindApart}
 use Rattle.alethe_reader.proofs.BoundLemmas.{images_named}
 
 -- one replacement behind another
@@ -60,12 +60,12 @@ swapped a b e x same apart = go (replaces-cases a x) (replaces-cases e x)
     go (inr n) (inl r) = at_back a e x n ∙ sym (at_front e b x r)
     go (inr n) (inr m) = at_back a e x n ∙ (term_at-none e x m ∙ (sym (term_at-none a x n) ∙ (same ∙ sym (at_back e b x m))))
 
-same_images : (n : Nesting Var Term) → AreApart n → (x : Var) → replaced_by (images_in n) x ≡ replaced_by (images (open_anchors n)) x
+same_images : (n : Nesting Var Term) → BindApart n → (x : Var) → replaced_by (images_in n) x ≡ replaced_by (images (open_anchors n)) x
 same_images outermost h x = refl
 same_images (inside around before anchor) h x =
     swapped (images_in around) (images (open_anchors around)) (put_in_each (images (open_anchors around)) anchor.bindings) x (same_images around h.0 x)
     (λ r. others_replaced (bound_names around) (images (open_anchors around)) anchor.bindings x h.1
     (subst (λ ns. is_among ns x.name ≡ true) (images_named around) (replaced_named (images_in around) x r)))
 
-pub image_same : (n : Nesting Var Term) (t : Term) → AreApart n → put_in (images_in n) t ≡ image_of n t
+pub image_same : (n : Nesting Var Term) (t : Term) → BindApart n → put_in (images_in n) t ≡ image_of n t
 image_same n t h = put_in_agrees t (images_in n) (images (open_anchors n)) (λ x free. same_images n h x)

@@ -29,9 +29,9 @@ use Rattle.alethe_items.specs.TextItems.{HasCommandItems, behind_list}
 use Rattle.alethe_reader.specs.Answers.{WasRead}
 use Rattle.alethe_reader.specs.Bound.{AreBound}
 use Rattle.alethe_reader.specs.IdsInUse.{ids_in}
-use Rattle.alethe_reader.specs.Reading.{IsCounted, IsProofOf}
-use Rattle.alethe_reader.specs.Sessions.{StandForNesting, starts, IsSession}
-use Rattle.alethe_reader.specs.TextReading.{closing_from, left_from, AreLeft, ReadsAll, IsFinished}
+use Rattle.alethe_reader.specs.Reading.{IsCountedOfProof, IsProofOf}
+use Rattle.alethe_reader.specs.Sessions.{StandForNesting, starts, IsProofSession}
+use Rattle.alethe_reader.specs.TextReading.{closing_from, left_from, AreCommandsLeft, ReadsProof, IsFinished}
 use Rattle.alethe_reader.specs.declared.session.OpenAnchor.{OpenAnchor}
 use Rattle.alethe_reader.specs.declared.session.Session.{Session}
 use Rattle.alethe_text.proofs.CommandNames.{commands_named}
@@ -43,7 +43,7 @@ lax_with replaces_lets = record { replaces_lets = replaces_lets; is_strict = fal
 
 -- nothing was read of a proof
 pub is_new : (s : Table) (v : TermsView) (settings : ProofSettings) (d : Session) (before : Script) → settings.is_strict ≡ false → d.builder ≡ unwritten → d.ids ≡ [] → d.anchors.items ≡ []
-    → AreBound s v d.bound outermost → IsReaderOf s v d.reader before (place_in settings outermost) → IsSession s v settings d (unread before)
+    → AreBound s v d.bound outermost → IsReaderOf s v d.reader before (place_in settings outermost) → IsProofSession s v settings d (unread before)
 is_new s v settings d before lax built none no_anchors bound reader = record {
   lax = lax;
   reader = reader;
@@ -111,7 +111,7 @@ pub none_there : (xs : List OpenAnchor) → slice_get xs 0 ≡ None → xs ≡ [
 none_there [] e = refl
 none_there (b ∷ bs) e = absurd (cc)
 
-module _ (s : Table) (v : TermsView) (settings : ProofSettings) (d : Session) (p : ProofState) (behind : Items) (session : IsSession s v settings d p) where
+module _ (s : Table) (v : TermsView) (settings : ProofSettings) (d : Session) (p : ProofState) (behind : Items) (session : IsProofSession s v settings d p) where
   pub item_behind : (place : ℕ) → Some place ≡ excess behind → IsFinished s v p (closing_from settings behind tt p) (Err (ReadFault.Text (record { cause = BadCommand; at = place })))
   item_behind place e = excess_refuses settings behind p place (sym e)
 
@@ -148,14 +148,14 @@ module _ (text : List ℕ) (l : Lexer) (whole : source l ≡ text) (start : posi
 
 -- Nothing was read of the text, and all its commands are left.
 pub record IsBegun (text : List ℕ) (settings : ProofSettings) (before : Script) (l : Lexer) (in_list : Bool) (s : Table) (v : TermsView) (d : Session) : Type 0 where
-  pub left : (items : Items) → StandsForItems text items → AreLeft (source l) settings in_list (position l) (unread before) (proof_from settings items (unread before))
-  pub session : IsSession s v settings d (unread before)
+  pub left : (items : Items) → StandsForItems text items → AreCommandsLeft (source l) settings in_list (position l) (unread before) (proof_from settings items (unread before))
+  pub session : IsProofSession s v settings d (unread before)
 
 -- behind the answer and inside the list
 pub begun : AreSpelled → (text : List ℕ) (settings : ProofSettings) (before : Script) (l m o : Lexer) (in_list : Bool) (s : Table) (v : TermsView) (d : Session) → source l ≡ text → position l ≡ 0
     → ((items : Items) → HasCommandItems (source l) false (position l) items no_items → HasCommandItems (source m) false (position m) (behind_answer items) no_items)
     → ((items : Items) → HasCommandItems (source m) false (position m) items no_items → HasCommandItems (source o) in_list (position o) (unwrapped_commands items) (behind_list items))
-    → IsSession s v settings d (unread before) → IsBegun text settings before o in_list s v d
+    → IsProofSession s v settings d (unread before) → IsBegun text settings before o in_list s v d
 begun spelled text settings before l m o in_list s v d whole start skips enters session = record {
   left = λ items h. record {
     items = unwrapped_commands (behind_answer items);
@@ -168,13 +168,13 @@ begun spelled text settings before l m o in_list s v d whole start skips enters 
 }
 
 module _ {text : List ℕ} {settings : ProofSettings} {before : Script} {l : Lexer} {in_list : Bool} {s : Table} {v : TermsView} {d : Session} (b : IsBegun text settings before l in_list s v d) where
-  pub some_left : HasForm text → (settings : ProofSettings) × (p : ProofState) × (whole : Outcome ProofState (Proof Var Term)) × AreLeft (source l) settings in_list (position l) p whole × IsSession s v settings d p
+  pub some_left : HasForm text → (settings : ProofSettings) × (p : ProofState) × (whole : Outcome ProofState (Proof Var Term)) × AreCommandsLeft (source l) settings in_list (position l) p whole × IsProofSession s v settings d p
   some_left (items, h) = (settings, unread before, proof_from settings items (unread before), b.left items h, b.session)
 
   -- so the reading of all commands is that of the whole text
   pub all_read : {text_after : List ℕ} {z : Table} {w : TermsView} {e : Session} {at : ℕ} {result : Result Unit ReadFault}
-      → ((settings : ProofSettings) (p : ProofState) (whole : Outcome ProofState (Proof Var Term)) → AreLeft (source l) settings in_list (position l) p whole → IsSession s v settings d p → ReadsAll text_after z v w settings e at whole result)
-      → (items : Items) → StandsForItems text items → ReadsAll text_after z v w settings e at (proof_from settings items (unread before)) result
+      → ((settings : ProofSettings) (p : ProofState) (whole : Outcome ProofState (Proof Var Term)) → AreCommandsLeft (source l) settings in_list (position l) p whole → IsProofSession s v settings d p → ReadsProof text_after z v w settings e at whole result)
+      → (items : Items) → StandsForItems text items → ReadsProof text_after z v w settings e at (proof_from settings items (unread before)) result
   all_read reads items h = reads settings (unread before) (proof_from settings items (unread before)) (b.left items h) b.session
 
 -- the items that are left behind the answer
@@ -187,7 +187,7 @@ module _ (text : List ℕ) (settings : ProofSettings) (before : Script) (form : 
   abbrev whole_of : Items → Outcome ProofState (Proof Var Term)
   whole_of items = proof_from settings items (unread before)
 
-  counted : (items : Items) → StandsForItems text items → (t : Term) → WasRead (whole_of items) t → IsCounted text settings before t
+  counted : (items : Items) → StandsForItems text items → (t : Term) → WasRead (whole_of items) t → IsCountedOfProof text settings before t
   counted items h t read = record { items = items; nested = h; read = read }
 
   first_fault : (items : Items) → StandsForItems text items → (r : Refusal) → (whole_of items).result ≡ Err r → IsFirstProofFault text settings before r
@@ -195,24 +195,24 @@ module _ (text : List ℕ) (settings : ProofSettings) (before : Script) (form : 
 
   module _ (source : List ℕ) (s : Table) (old new : TermsView) (d : Session) (at : ℕ) where
     abbrev pub Reads : Result Unit ReadFault → Type 0
-    Reads result = (items : Items) → StandsForItems text items → ReadsAll source s old new settings d at (whole_of items) result
+    Reads result = (items : Items) → StandsForItems text items → ReadsProof source s old new settings d at (whole_of items) result
 
-    pub read_placed : (result : Result Unit ReadFault) → Reads result → PlacesCellsOf s old.pass new.pass (IsCounted text settings before)
-    read_placed result reads = places_more s old.pass new.pass (WasRead (whole_of form.0)) (IsCounted text settings before) (counted form.0 form.1) (reads form.0 form.1).placed
+    pub read_placed : (result : Result Unit ReadFault) → Reads result → PlacesCellsOf s old.pass new.pass (IsCountedOfProof text settings before)
+    read_placed result reads = places_more s old.pass new.pass (WasRead (whole_of form.0)) (IsCountedOfProof text settings before) (counted form.0 form.1) (reads form.0 form.1).placed
 
     pub read_fault : (f : ReadFault) (r : Refusal) → f ≡ ReadFault.Text r → Reads (Err f) → IsFirstProofFault text settings before r
     read_fault f r is reads =
         first_fault form.0 form.1 r
         (subst (λ (x : ReadFault). EndsWith s new.pass (whole_of form.0).result (WasRead (whole_of form.0)) x) is (reads form.0 form.1).outcome)
 
-    pub read_full : (f : ReadFault) → f ≡ ReadFault.PoolFull → Reads (Err f) → LacksCellOf s new.pass (IsCounted text settings before)
+    pub read_full : (f : ReadFault) → f ≡ ReadFault.PoolFull → Reads (Err f) → LacksCellOf s new.pass (IsCountedOfProof text settings before)
     read_full f is reads =
-        lacks_more s new.pass (WasRead (whole_of form.0)) (IsCounted text settings before) (counted form.0 form.1)
+        lacks_more s new.pass (WasRead (whole_of form.0)) (IsCountedOfProof text settings before) (counted form.0 form.1)
         (subst (λ (x : ReadFault). EndsWith s new.pass (whole_of form.0).result (WasRead (whole_of form.0)) x) is (reads form.0 form.1).outcome)
 
     -- Once all commands were read, and what is left is finished.
     abbrev pub Finishes : Result (Proof ℕ ℕ) ReadFault → Type 0
-    Finishes result = (p : ProofState) (behind : Items) → HasCommandItems source false at behind no_items → IsSession s new settings d p → IsFinished s new p (closing_from settings behind tt p) result
+    Finishes result = (p : ProofState) (behind : Items) → HasCommandItems source false at behind no_items → IsProofSession s new settings d p → IsFinished s new p (closing_from settings behind tt p) result
 
     ended : {u : Unit {0}} (result : Result (Proof ℕ ℕ) ReadFault) → Reads (Ok u) → Finishes result → (p : ProofState) × IsFinished s new p (whole_of form.0) result
     ended result reads finishes =
@@ -236,7 +236,7 @@ module _ (text : List ℕ) (settings : ProofSettings) (before : Script) (form : 
     fault_of : (result : Result (Proof ℕ ℕ) ReadFault) (r : Refusal) → result ≡ Err (ReadFault.Text r) → (p : ProofState) × IsFinished s new p (whole_of form.0) result → (whole_of form.0).result ≡ Err r
     fault_of result r e (p, h) = subst (λ (x : Result (Proof ℕ ℕ) ReadFault). IsFinished s new p (whole_of form.0) x) e h
 
-    pub some_end : {u : Unit {0}} → Reads (Ok u) → (p : ProofState) × (behind : Items) × HasCommandItems source false at behind no_items × IsSession s new settings d p
+    pub some_end : {u : Unit {0}} → Reads (Ok u) → (p : ProofState) × (behind : Items) × HasCommandItems source false at behind no_items × IsProofSession s new settings d p
     some_end reads = let (p, none, session) = (reads form.0 form.1).outcome in (p, none.behind, none.here, session)
 
     module _ {u : Unit {0}} (result : Result (Proof ℕ ℕ) ReadFault) (reads : Reads (Ok u)) (finishes : Finishes result) where

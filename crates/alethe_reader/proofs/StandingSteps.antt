@@ -27,7 +27,7 @@ use Rattle.alethe_reader.specs.IdsInUse.{in_use, ids_in}
 use Rattle.alethe_reader.specs.Judging.{cause_of}
 use Rattle.alethe_reader.specs.Reach.{IsReach}
 use Rattle.alethe_reader.specs.Sessions.{StandForNesting, starts, counts, IsWritten}
-use Rattle.alethe_reader.specs.Standing.{IsAnchorOf, Stands, IsStanding}
+use Rattle.alethe_reader.specs.Standing.{IsAnchorOf, IsStandingOf, IsStanding}
 use Rattle.alethe_reader.proofs.IdsInUse.{unused_new}
 use Rattle.alethe_reader.proofs.JudgedIds.{judged_new, judged_used}
 use Rattle.alethe_reader.proofs.Reaches.{splits, reaches_none, reaches_all, reaches_outer, reaches_assumes}
@@ -130,7 +130,7 @@ module _ (s : Table) (v : TermsView) (d : Session) (p : ProofState) (n : Name) (
 
   -- a new id
   pub stands_here : (len : ℕ) → len ≡ length d.ids → IsSymbolName n.name → IsUnused d.ids n.name
-      → Stands d.ids p n (record { premises = record { first = 0; end = len; takes_steps = true }; discharges = record { first = 0; end = 0; takes_steps = false }; closes = None })
+      → IsStandingOf d.ids p n (record { premises = record { first = 0; end = len; takes_steps = true }; discharges = record { first = 0; end = 0; takes_steps = false }; closes = None })
   stands_here len e symbol unused =
       let new : IsUnused (ids_in p.scope) n.name = subst (λ us. IsUnused us n.name) same_ids unused in
       let not_open = not_open_id p.scope.nesting p.scope.items n.name new in
@@ -167,7 +167,7 @@ module _ (s : Table) (v : TermsView) (d : Session) (p : ProofState) (n : Name) (
 
     -- which is that of the innermost anchor
     pub stands_closing : (front : List OpenAnchor) (a : OpenAnchor) → d.anchors.items ≡ front ++ a ∷ [] → a.ids ≡ f.place → (first len : ℕ) → first ≡ a.ids + 1 → len ≡ length d.ids
-        → Stands d.ids p n (record { premises = record { first = 0; end = a.ids; takes_steps = true }; discharges = record { first = first; end = len; takes_steps = false }; closes = Some a })
+        → IsStandingOf d.ids p n (record { premises = record { first = 0; end = a.ids; takes_steps = true }; discharges = record { first = first; end = len; takes_steps = false }; closes = Some a })
     stands_closing front a split place first len e l =
         go d.builder.nesting p.scope.nesting h.nesting h.starts_kept h.counts_kept there refl
       where
@@ -179,7 +179,7 @@ module _ (s : Table) (v : TermsView) (d : Session) (p : ProofState) (n : Name) (
 
         go : (r : Nesting ℕ ℕ) (m : Nesting Var Term) → StandForNesting s v r m → map (λ (a : OpenAnchor). a.ids) d.anchors.items ≡ starts r → map (λ (a : OpenAnchor). a.variables) d.anchors.items ≡ counts r
             → IsUsedAt (ids_in (at m p.scope.items)) n.name f → m ≡ p.scope.nesting
-            → Stands d.ids p n (record { premises = record { first = 0; end = a.ids; takes_steps = true }; discharges = record { first = first; end = len; takes_steps = false }; closes = Some a })
+            → IsStandingOf d.ids p n (record { premises = record { first = 0; end = a.ids; takes_steps = true }; discharges = record { first = first; end = len; takes_steps = false }; closes = Some a })
         go outermost outermost k es cs u same = absurd (none (sym es ∙ ap (map (λ (a : OpenAnchor). a.ids)) split))
           where
             none : [] ≡ map (λ (a : OpenAnchor). a.ids) (front ++ a ∷ []) → ⊥

@@ -33,12 +33,12 @@ use Rattle.alethe_reader.specs.declared.session.StepParts.{StepParts}
 use Rattle.alethe_reader.specs.declared.standing.Standing.{Standing as ReaderStanding}
 use Rattle.alethe_reader.specs.declared.stepping.NewStep.{NewStep}
 use Rattle.alethe_reader.specs.AddedSteps.{IsToAdd}
-use Rattle.alethe_reader.specs.Answers.{Answers, KeepsRead}
+use Rattle.alethe_reader.specs.Answers.{AnswersAs, KeepsRead}
 use Rattle.alethe_reader.specs.Ids.{Used}
 use Rattle.alethe_reader.specs.Judging.{is_named}
 use Rattle.alethe_reader.specs.ReadTerms.{AreReadFormulas}
-use Rattle.alethe_reader.specs.Sessions.{IsSession, IsWritten, StandsAfter}
-use Rattle.alethe_reader.specs.Standing.{IsAnchorOf, IsClosing, Stands}
+use Rattle.alethe_reader.specs.Sessions.{IsProofSession, IsWritten, StandsAfter}
+use Rattle.alethe_reader.specs.Standing.{IsAnchorOf, IsClosing, IsStandingOf}
 use Rattle.alethe_reader.specs.StepParts.{AreReadAttributes, IsBare, KeepsOthers, StandsAt}
 use Rattle.alethe_reader.proofs.Answering.{stops, goes, answers, refuses, no_memory, same_outcome}
 use Rattle.alethe_text.proofs.FormedSteps.{read_has_rule}
@@ -47,7 +47,7 @@ use Rattle.alethe_reader.proofs.StillReadCommands.{keeps_attributes}
 use Rattle.alethe_reader.proofs.WrittenStays.{written_stays}
 
 -- the answer says what it is the outcome of
-pub with_outcome : {A T : Type 0} {s : Table} {v w : TermsView} {M : T → A → ProofState → Type 0} {o : Outcome ProofState A} {t : T} → Answers s v w M o (Ok t) → Answers s v w (λ t a p. M t a p × (o ≡ done a p)) o (Ok t)
+pub with_outcome : {A T : Type 0} {s : Table} {v w : TermsView} {M : T → A → ProofState → Type 0} {o : Outcome ProofState A} {t : T} → AnswersAs s v w M o (Ok t) → AnswersAs s v w (λ t a p. M t a p × (o ≡ done a p)) o (Ok t)
 with_outcome h = record {
   answer = record { value = h.answer.value; state = h.answer.state; comes = h.answer.comes; after = (h.answer.after, h.answer.comes) };
   placed = h.placed;
@@ -78,7 +78,7 @@ module _ (settings : ProofSettings) (n : Name) (literals : Items) (attributes : 
   unfolding ◌>>=◌
   keeps_after at clause = keeps_then (attributes_read settings at attributes (before clause)) added (keeps_attributes settings at attributes (before clause)) keeps_added
 
-  pub no_standing : {s : Table} {v w : TermsView} {M : ⊤ → ⊤ → ProofState → Type 0} (refusal : Refusal) → w ≡ v → (standing_of n p).result ≡ Err refusal → Answers s v w M (step_read settings n literals attributes p) (Err (ReadFault.Text refusal))
+  pub no_standing : {s : Table} {v w : TermsView} {M : ⊤ → ⊤ → ProofState → Type 0} (refusal : Refusal) → w ≡ v → (standing_of n p).result ≡ Err refusal → AnswersAs s v w M (step_read settings n literals attributes p) (Err (ReadFault.Text refusal))
   no_standing refusal same e = same_outcome stepped (refuses same (ap (λ (r : Result Standing Refusal). (going_on r (standing_of n p).state after_standing).result) e))
 
   module _ (here : Standing) (comes : standing_of n p ≡ done here p) where
@@ -86,25 +86,25 @@ module _ (settings : ProofSettings) (n : Name) (literals : Items) (attributes : 
     stood = stepped ∙ ap (λ (o : Outcome ProofState Standing). and_then o after_standing) comes
 
     pub no_clause : {z : Table} {v w : TermsView} {M : ⊤ → List Term → ProofState → Type 0} {N : ⊤ → ⊤ → ProofState → Type 0} {fault : ReadFault}
-        → Answers z v w M (formulas_in settings here.nesting literals p) (Err fault) → Answers z v w N (step_read settings n literals attributes p) (Err fault)
+        → AnswersAs z v w M (formulas_in settings here.nesting literals p) (Err fault) → AnswersAs z v w N (step_read settings n literals attributes p) (Err fault)
     no_clause h = same_outcome stood (stops (after_clause here) (keeps_after here) h)
 
-    module _ {z y : Table} {v w x : TermsView} {r : ReaderView} {refs : List ℕ} (h : Answers z v w (AreReadFormulas z w settings here.nesting r p refs) (formulas_in settings here.nesting literals p) (Ok tt)) (table : Keeps z y) (terms : KeepsTerms w x) where
+    module _ {z y : Table} {v w x : TermsView} {r : ReaderView} {refs : List ℕ} (h : AnswersAs z v w (AreReadFormulas z w settings here.nesting r p refs) (formulas_in settings here.nesting literals p) (Ok tt)) (table : Keeps z y) (terms : KeepsTerms w x) where
       pub no_attributes : {N : ⊤ → ⊤ → ProofState → Type 0} {e : Session} {fault : ReadFault}
-          → ((clause : List Term) (q : ProofState) → AreReadFormulas z w settings here.nesting r p refs tt clause q → Answers y w x (AreReadAttributes y x settings here.nesting e q (before clause)) (attributes_read settings here attributes (before clause) q) (Err fault))
-          → Answers y v x N (step_read settings n literals attributes p) (Err fault)
+          → ((clause : List Term) (q : ProofState) → AreReadFormulas z w settings here.nesting r p refs tt clause q → AnswersAs y w x (AreReadAttributes y x settings here.nesting e q (before clause)) (attributes_read settings here attributes (before clause) q) (Err fault))
+          → AnswersAs y v x N (step_read settings n literals attributes p) (Err fault)
       no_attributes a = same_outcome stood (goes (after_clause here) (keeps_after here) h table terms (λ clause q k. stops added keeps_added (a clause q k)))
 
-      module _ {e : Session} (a : (clause : List Term) (q : ProofState) → AreReadFormulas z w settings here.nesting r p refs tt clause q → Answers y w x (AreReadAttributes y x settings here.nesting e q (before clause)) (attributes_read settings here attributes (before clause) q) (Ok tt)) where
-        pub no_room : {N : ⊤ → ⊤ → ProofState → Type 0} → Answers y v x N (step_read settings n literals attributes p) (Err ReadFault.Memory)
+      module _ {e : Session} (a : (clause : List Term) (q : ProofState) → AreReadFormulas z w settings here.nesting r p refs tt clause q → AnswersAs y w x (AreReadAttributes y x settings here.nesting e q (before clause)) (attributes_read settings here attributes (before clause) q) (Ok tt)) where
+        pub no_room : {N : ⊤ → ⊤ → ProofState → Type 0} → AnswersAs y v x N (step_read settings n literals attributes p) (Err ReadFault.Memory)
         no_room = same_outcome stood
             (goes (after_clause here) (keeps_after here) h table terms
             (λ clause q k. goes added keeps_added (a clause q k) (adds_none y).keeps (keeps_none x) (λ step t l. no_memory refl)))
 
         pub is_stepped : (d : Session)
             → ((clause : List Term) (q : ProofState) → AreReadFormulas z w settings here.nesting r p refs tt clause q → (step : Step Term) (t : ProofState) → AreReadAttributes y x settings here.nesting e q (before clause) tt step t
-            → attributes_read settings here attributes (before clause) q ≡ done step t → IsSession y x settings d (with_step step t))
-            → Answers y v x (StandsAfter y x settings d) (step_read settings n literals attributes p) (Ok tt)
+            → attributes_read settings here attributes (before clause) q ≡ done step t → IsProofSession y x settings d (with_step step t))
+            → AnswersAs y v x (StandsAfter y x settings d) (step_read settings n literals attributes p) (Ok tt)
         is_stepped d f = same_outcome stood
             (goes (after_clause here) (keeps_after here) h table terms
             (λ clause q k. goes added keeps_added (with_outcome (a clause q k)) (adds_none y).keeps (keeps_none x)
@@ -144,13 +144,13 @@ closing_same used more p q id name here (Some x) a b c h = rw (a, b, c) h
 pub is_bare : (id word : List ℕ) (clause : List Term) → IsBare (bare_step id word clause)
 is_bare id word clause = record { premises = refl; discharged = refl; pivots = refl; ratios = refl }
 
-module _ (settings : ProofSettings) (n : Name) (p : ProofState) (d : Session) (standing : ReaderStanding) (stands : Stands d.ids p n standing) {z : Table} {w : TermsView} {r : ReaderView} {refs : List ℕ} (clause : List Term) (q : ProofState) (k : AreReadFormulas z w settings stands.here.nesting r p refs tt clause q) where
+module _ (settings : ProofSettings) (n : Name) (p : ProofState) (d : Session) (standing : ReaderStanding) (stands : IsStandingOf d.ids p n standing) {z : Table} {w : TermsView} {r : ReaderView} {refs : List ℕ} (clause : List Term) (q : ProofState) (k : AreReadFormulas z w settings stands.here.nesting r p refs tt clause q) where
   -- behind the literals the step stands as before
   pub stands_there : {parts : StepParts} → settings.is_strict ≡ false → StandsAt z w settings stands.here (record d { reader = r; parts = parts }) standing q
   stands_there lax = record { lax = lax; sees = stands.premises; discharges = stands.discharges; reader = k.behind.reader }
 
   -- The step that was read is to be added.
-  pub to_add : {s y : Table} {v x : TermsView} {parts : StepParts} {e : Session} → IsSession s v settings d p → AddsNoSymbols s z → AddsNoSymbols z y → KeepsTerms v w → KeepsTerms w x → KeepsOthers (record d { reader = r; parts = parts }) e → parts.clause.items ≡ refs
+  pub to_add : {s y : Table} {v x : TermsView} {parts : StepParts} {e : Session} → IsProofSession s v settings d p → AddsNoSymbols s z → AddsNoSymbols z y → KeepsTerms v w → KeepsTerms w x → KeepsOthers (record d { reader = r; parts = parts }) e → parts.clause.items ≡ refs
       → (attributes : List Attribute) → IsSymbolName (rule_word attributes) → (new : NewStep) → new.id.name.now ≡ n.name → new.rule ≡ rule_named (rule_word attributes) → new.word.now ≡ rule_word attributes → new.closes ≡ standing.closes
       → (step : Step Term) (t : ProofState) → AreReadAttributes y x settings stands.here.nesting e q (bare_step n.name (rule_word attributes) clause) tt step t
       → attributes_read settings stands.here attributes (bare_step n.name (rule_word attributes) clause) q ≡ done step t
@@ -243,5 +243,5 @@ module _ {source : List ℕ} {nodes : List Node} {id first others : ℕ} where
       subst IsSymbolName (sym (is attributes (said source nodes id first others n literals attributes says).attributes_here)) rule
 
 -- how a step stands by its id, under the name that the text gives
-pub stands_as : {used : List Used} {p : ProofState} {standing : ReaderStanding} {n : Name} (named : Named) → is_named named ≡ n → Stands used p (is_named named) standing → Stands used p n standing
-stands_as {used} {p} {standing} named same h = subst (λ x. Stands used p x standing) same h
+pub stands_as : {used : List Used} {p : ProofState} {standing : ReaderStanding} {n : Name} (named : Named) → is_named named ≡ n → IsStandingOf used p (is_named named) standing → IsStandingOf used p n standing
+stands_as {used} {p} {standing} named same h = subst (λ x. IsStandingOf used p x standing) same h

@@ -17,11 +17,11 @@ use Rattle.alethe_text.specs.ProofTexts.{performed, commands}
 use Rattle.alethe_text.specs.States.{ProofSettings, ProofState, Reading, ◌>>=◌}
 use Rattle.alethe_commands.specs.CommandNodes.{IsCommand, SaysCommand}
 use Rattle.alethe_commands.specs.declared.commands.Command as code
-use Rattle.alethe_reader.specs.Answers.{WasRead, Answers}
+use Rattle.alethe_reader.specs.Answers.{WasRead, AnswersAs}
 use Rattle.alethe_items.specs.TextItems.{HasCommandItems, IsFirst}
 use Rattle.alethe_text.specs.CommandNames.{HasNames, HaveNames, IsNamed}
-use Rattle.alethe_reader.specs.Sessions.{IsSession, StandsAfter}
-use Rattle.alethe_reader.specs.TextReading.{closing_from, left_from, AreLeft, NoneLeft, ReadsCommand}
+use Rattle.alethe_reader.specs.Sessions.{IsProofSession, StandsAfter}
+use Rattle.alethe_reader.specs.TextReading.{closing_from, left_from, AreCommandsLeft, NoneLeft, ReadsProofCommand}
 use Rattle.alethe_reader.specs.declared.session.Session.{Session}
 use Rattle.alethe_reader.proofs.Answering.{read_on, stops, same_outcome}
 use Rattle.alethe_text.proofs.CommandNames.{is_named_so}
@@ -65,7 +65,7 @@ pub record HasFirst (source : List ℕ) (nodes : List Node) (in_list : Bool) (at
 
 module _ (settings : ProofSettings) (in_list : Bool) (p : ProofState) (whole : Outcome ProofState (Proof Var Term)) where
   pub has_first : (old new : List ℕ) (nodes : List Node) (from at : ℕ) → ((items behind : Items) → HasCommandItems old in_list from items behind → IsFirst new in_list nodes at items behind)
-      → AreLeft old settings in_list from p whole → HasFirst new nodes in_list at settings p whole
+      → AreCommandsLeft old settings in_list from p whole → HasFirst new nodes in_list at settings p whole
   has_first old new nodes from at found h =
       let f = found h.items h.behind h.here in
       record {
@@ -79,7 +79,7 @@ module _ (settings : ProofSettings) (in_list : Bool) (p : ProofState) (whole : O
       }
 
   pub none_left : (old new : List ℕ) (from at : ℕ) → ((items behind : Items) → HasCommandItems old in_list from items behind → (items ≡ no_items) × HasCommandItems new false at behind no_items)
-      → AreLeft old settings in_list from p whole → NoneLeft new settings at p whole
+      → AreCommandsLeft old settings in_list from p whole → NoneLeft new settings at p whole
   none_left old new from at none h =
       let (e, left) = none h.items h.behind h.here in
       record {
@@ -107,7 +107,7 @@ module _ (settings : ProofSettings) (in_list : Bool) (p : ProofState) (whole : O
   -- a command more
   pub performs_well : {source : List ℕ} {s : Table} {old new : TermsView} {d : Session} {at : ℕ} {u : ⊤} (others behind : Items) (o : Outcome ProofState ⊤)
       → HasCommandItems source in_list at others behind → HaveNames others → then_rest settings others behind o ≡ whole
-      → Answers s old new (StandsAfter s new settings d) o (Ok u) → ReadsCommand source s old new settings d in_list at whole (Ok true)
+      → AnswersAs s old new (StandsAfter s new settings d) o (Ok u) → ReadsProofCommand source s old new settings d in_list at whole (Ok true)
   performs_well {source} {s} {old} {new} others behind o here named comes h = record {
     outcome = (
       h.answer.state,
@@ -119,25 +119,25 @@ module _ (settings : ProofSettings) (in_list : Bool) (p : ProofState) (whole : O
 
   pub performs_not : {source : List ℕ} {s : Table} {old new : TermsView} {d : Session} {at : ℕ} {fault : ReadFault} (others behind : Items) (o : Outcome ProofState ⊤)
       → then_rest settings others behind o ≡ whole
-      → Answers s old new (StandsAfter s new settings d) o (Err fault) → ReadsCommand source s old new settings d in_list at whole (Err fault)
+      → AnswersAs s old new (StandsAfter s new settings d) o (Err fault) → ReadsProofCommand source s old new settings d in_list at whole (Err fault)
   performs_not {source} {s} {old} {new} {d} {at} {fault} others behind o comes h =
       let N : ⊤ → Proof Var Term → ProofState → Type 0 = λ _ _ _. ⊤ in
-      let all : Answers s old new N whole (Err fault) = same_outcome (sym comes) (stops (λ _. left_from settings others behind) (λ _. keeps_left settings others behind) h) in
+      let all : AnswersAs s old new N whole (Err fault) = same_outcome (sym comes) (stops (λ _. left_from settings others behind) (λ _. keeps_left settings others behind) h) in
       record { outcome = all.answer; placed = all.placed }
 
-  pub ends_here : {source : List ℕ} {s : Table} {v : TermsView} {d : Session} {at : ℕ} → NoneLeft source settings at p whole → IsSession s v settings d p → ReadsCommand source s v v settings d in_list at whole (Ok false)
+  pub ends_here : {source : List ℕ} {s : Table} {v : TermsView} {d : Session} {at : ℕ} → NoneLeft source settings at p whole → IsProofSession s v settings d p → ReadsProofCommand source s v v settings d in_list at whole (Ok false)
   ends_here {source} {s} {v} none session = record { outcome = (p, none, session); placed = places_none s v.pass v.pass (WasRead whole) refl }
 
-  pub refused_here : {source : List ℕ} {s : Table} {v : TermsView} {d : Session} {at : ℕ} (r : Refusal) → whole.result ≡ Err r → ReadsCommand source s v v settings d in_list at whole (Err (ReadFault.Text r))
+  pub refused_here : {source : List ℕ} {s : Table} {v : TermsView} {d : Session} {at : ℕ} (r : Refusal) → whole.result ≡ Err r → ReadsProofCommand source s v v settings d in_list at whole (Err (ReadFault.Text r))
   refused_here {source} {s} {v} r is = record { outcome = is; placed = places_none s v.pass v.pass (WasRead whole) refl }
 
-  pub no_memory_here : {source : List ℕ} {s : Table} {v : TermsView} {d : Session} {at : ℕ} → ReadsCommand source s v v settings d in_list at whole (Err ReadFault.Memory)
+  pub no_memory_here : {source : List ℕ} {s : Table} {v : TermsView} {d : Session} {at : ℕ} → ReadsProofCommand source s v v settings d in_list at whole (Err ReadFault.Memory)
   no_memory_here {source} {s} {v} = record { outcome = tt; placed = places_none s v.pass v.pass (WasRead whole) refl }
 
 pub some_first : (in_list : Bool) (old new : List ℕ) (nodes slice : List Node) (from at : ℕ) (s : Table) (v : TermsView) (d : Session)
     → slice ≡ nodes
     → ((items behind : Items) → HasCommandItems old in_list from items behind → IsFirst new in_list nodes at items behind)
-    → (settings : ProofSettings) × (p : ProofState) × (whole : Outcome ProofState (Proof Var Term)) × AreLeft old settings in_list from p whole × IsSession s v settings d p
+    → (settings : ProofSettings) × (p : ProofState) × (whole : Outcome ProofState (Proof Var Term)) × AreCommandsLeft old settings in_list from p whole × IsProofSession s v settings d p
     → (i : Item) × IsNode new slice 0 i (length slice)
 some_first in_list old new nodes slice from at s v d same found (settings, p, whole, left, _) =
     let h = has_first settings in_list p whole old new nodes from at found left in
@@ -155,7 +155,7 @@ pub some_shape : (in_list : Bool) (old new : List ℕ) (nodes slice more : List 
     → slice ≡ nodes → more ≡ nodes
     → ((items behind : Items) → HasCommandItems old in_list from items behind → IsFirst new in_list nodes at items behind)
     → ((i : Item) → IsNode new slice 0 i (length slice) → IsCommand new slice (Ok c) (command_of i))
-    → (settings : ProofSettings) × (p : ProofState) × (whole : Outcome ProofState (Proof Var Term)) × AreLeft old settings in_list from p whole × IsSession s v settings d p
+    → (settings : ProofSettings) × (p : ProofState) × (whole : Outcome ProofState (Proof Var Term)) × AreCommandsLeft old settings in_list from p whole × IsProofSession s v settings d p
     → (x : Command) × SaysCommand new more c x × IsNamed x
 some_shape in_list old new nodes slice more from at s v d c same also found read (settings, p, whole, left, _) =
     let h = has_first settings in_list p whole old new nodes from at found left in

@@ -13,24 +13,24 @@ use Rattle.term_names.specs.declared.faults.ReadFault.{ReadFault}
 use Rattle.term_reader.proofs.Staying.{adds_none, adds_then, keeps_none, keeps_then, places_none, places_then}
 use Rattle.alethe_text.specs.States.{ProofSettings, ProofState}
 use Rattle.alethe_reader.specs.Answers.{WasRead}
-use Rattle.alethe_reader.specs.Sessions.{IsSession}
-use Rattle.alethe_reader.specs.TextReading.{AreLeft, ReadsCommand, ReadsAll, IsShort, most_after}
+use Rattle.alethe_reader.specs.Sessions.{IsProofSession}
+use Rattle.alethe_reader.specs.TextReading.{AreCommandsLeft, ReadsProofCommand, ReadsProof, IsBehindCommands, most_after}
 use Rattle.alethe_reader.specs.declared.session.Session.{Session}
 
 -- The reading began with these, and is here now.
 pub record IsUnderWay (in_list : Bool) (l : Lexer) (s : Table) (v : TermsView) (d : Session) (m : Lexer) (z : Table) (w : TermsView) (e : Session) : Type 0 where
-  pub left : (settings : ProofSettings) (p : ProofState) (whole : Outcome ProofState (Proof Var Term)) → AreLeft (source l) settings in_list (position l) p whole → IsSession s v settings d p
-      → (now : ProofState) × AreLeft (source m) settings in_list (position m) now whole × IsSession z w settings e now
-  pub placed : (settings : ProofSettings) (p : ProofState) (whole : Outcome ProofState (Proof Var Term)) → AreLeft (source l) settings in_list (position l) p whole → IsSession s v settings d p
+  pub left : (settings : ProofSettings) (p : ProofState) (whole : Outcome ProofState (Proof Var Term)) → AreCommandsLeft (source l) settings in_list (position l) p whole → IsProofSession s v settings d p
+      → (now : ProofState) × AreCommandsLeft (source m) settings in_list (position m) now whole × IsProofSession z w settings e now
+  pub placed : (settings : ProofSettings) (p : ProofState) (whole : Outcome ProofState (Proof Var Term)) → AreCommandsLeft (source l) settings in_list (position l) p whole → IsProofSession s v settings d p
       → PlacesCellsOf z v.pass w.pass (WasRead whole)
   pub symbols : AddsNoSymbols s z
   pub keeps : KeepsTerms v w
   pub same_text : source m ≡ source l
   pub inside : position m ≤ length (source l)
   pub few : most_after (length z.leaves) (source m) (position m) ≤ most_after (length s.leaves) (source l) (position l)
-  pub short : IsShort e.builder (position m)
+  pub short : IsBehindCommands e.builder (position m)
 
-pub begins : (in_list : Bool) (l : Lexer) (s : Table) (v : TermsView) (d : Session) → position l ≤ length (source l) → IsShort d.builder (position l) → IsUnderWay in_list l s v d l s v d
+pub begins : (in_list : Bool) (l : Lexer) (s : Table) (v : TermsView) (d : Session) → position l ≤ length (source l) → IsBehindCommands d.builder (position l) → IsUnderWay in_list l s v d l s v d
 begins in_list l s v d inside short = record {
   left = λ settings p whole left session. (p, left, session);
   placed = λ settings p whole left session. places_none s v.pass v.pass (WasRead whole) refl;
@@ -44,19 +44,19 @@ begins in_list l s v d inside short = record {
 
 module _ {in_list : Bool} {l : Lexer} {s : Table} {v : TermsView} {d : Session} {m : Lexer} {z : Table} {w : TermsView} {e : Session} (h : IsUnderWay in_list l s v d m z w e) where
   -- the commands that are left are those of some outcome
-  pub some_left : (settings : ProofSettings) × (p : ProofState) × (whole : Outcome ProofState (Proof Var Term)) × AreLeft (source l) settings in_list (position l) p whole × IsSession s v settings d p
-      → (settings : ProofSettings) × (p : ProofState) × (whole : Outcome ProofState (Proof Var Term)) × AreLeft (source m) settings in_list (position m) p whole × IsSession z w settings e p
+  pub some_left : (settings : ProofSettings) × (p : ProofState) × (whole : Outcome ProofState (Proof Var Term)) × AreCommandsLeft (source l) settings in_list (position l) p whole × IsProofSession s v settings d p
+      → (settings : ProofSettings) × (p : ProofState) × (whole : Outcome ProofState (Proof Var Term)) × AreCommandsLeft (source m) settings in_list (position m) p whole × IsProofSession z w settings e p
   some_left (settings, p, whole, left, session) = let (now, more, stands) = h.left settings p whole left session in (settings, now, whole, more, stands)
 
   module _ {y : Table} {x : TermsView} (symbols : AddsNoSymbols z y) (terms : KeepsTerms w x) where
-    placed_so_far : (settings : ProofSettings) (p : ProofState) (whole : Outcome ProofState (Proof Var Term)) → AreLeft (source l) settings in_list (position l) p whole → IsSession s v settings d p
+    placed_so_far : (settings : ProofSettings) (p : ProofState) (whole : Outcome ProofState (Proof Var Term)) → AreCommandsLeft (source l) settings in_list (position l) p whole → IsProofSession s v settings d p
         → PlacesCellsOf y w.pass x.pass (WasRead whole) → PlacesCellsOf y v.pass x.pass (WasRead whole)
     placed_so_far settings p whole left session placed =
         places_then z y v.pass w.pass x.pass (WasRead whole) symbols.keeps terms.pass (h.placed settings p whole left session) placed
 
   module _ (o : Lexer) {y : Table} {x : TermsView} {f : Session} (symbols : AddsNoSymbols z y) (terms : KeepsTerms w x) where
-    pub goes_on : ((settings : ProofSettings) (p : ProofState) (whole : Outcome ProofState (Proof Var Term)) → AreLeft (source m) settings in_list (position m) p whole → IsSession z w settings e p → ReadsCommand (source o) y w x settings f in_list (position o) whole (Ok true))
-        → source o ≡ source m → position o ≤ length (source m) → IsShort f.builder (position o)
+    pub goes_on : ((settings : ProofSettings) (p : ProofState) (whole : Outcome ProofState (Proof Var Term)) → AreCommandsLeft (source m) settings in_list (position m) p whole → IsProofSession z w settings e p → ReadsProofCommand (source o) y w x settings f in_list (position o) whole (Ok true))
+        → source o ≡ source m → position o ≤ length (source m) → IsBehindCommands f.builder (position o)
         → most_after (length y.leaves) (source o) (position o) ≤ most_after (length z.leaves) (source m) (position m)
         → IsUnderWay in_list l s v d o y x f
     goes_on reads text inside short few = record {
@@ -70,15 +70,15 @@ module _ {in_list : Bool} {l : Lexer} {s : Table} {v : TermsView} {d : Session} 
       short = short;
     }
 
-    pub fails : (fault : ReadFault) → ((settings : ProofSettings) (p : ProofState) (whole : Outcome ProofState (Proof Var Term)) → AreLeft (source m) settings in_list (position m) p whole → IsSession z w settings e p → ReadsCommand (source o) y w x settings f in_list (position o) whole (Err fault))
-        → (settings : ProofSettings) (p : ProofState) (whole : Outcome ProofState (Proof Var Term)) → AreLeft (source l) settings in_list (position l) p whole → IsSession s v settings d p → ReadsAll (source o) y v x settings f (position o) whole (Err fault)
+    pub fails : (fault : ReadFault) → ((settings : ProofSettings) (p : ProofState) (whole : Outcome ProofState (Proof Var Term)) → AreCommandsLeft (source m) settings in_list (position m) p whole → IsProofSession z w settings e p → ReadsProofCommand (source o) y w x settings f in_list (position o) whole (Err fault))
+        → (settings : ProofSettings) (p : ProofState) (whole : Outcome ProofState (Proof Var Term)) → AreCommandsLeft (source l) settings in_list (position l) p whole → IsProofSession s v settings d p → ReadsProof (source o) y v x settings f (position o) whole (Err fault)
     fails fault reads settings p whole left session =
         let (now, more, stands) = h.left settings p whole left session in
         let r = reads settings now whole more stands in
         record { outcome = r.outcome; placed = placed_so_far symbols terms settings p whole left session r.placed }
 
-    pub ends : ((settings : ProofSettings) (p : ProofState) (whole : Outcome ProofState (Proof Var Term)) → AreLeft (source m) settings in_list (position m) p whole → IsSession z w settings e p → ReadsCommand (source o) y w x settings f in_list (position o) whole (Ok false))
-        → (settings : ProofSettings) (p : ProofState) (whole : Outcome ProofState (Proof Var Term)) → AreLeft (source l) settings in_list (position l) p whole → IsSession s v settings d p → ReadsAll (source o) y v x settings f (position o) whole (Ok tt)
+    pub ends : ((settings : ProofSettings) (p : ProofState) (whole : Outcome ProofState (Proof Var Term)) → AreCommandsLeft (source m) settings in_list (position m) p whole → IsProofSession z w settings e p → ReadsProofCommand (source o) y w x settings f in_list (position o) whole (Ok false))
+        → (settings : ProofSettings) (p : ProofState) (whole : Outcome ProofState (Proof Var Term)) → AreCommandsLeft (source l) settings in_list (position l) p whole → IsProofSession s v settings d p → ReadsProof (source o) y v x settings f (position o) whole (Ok tt)
     ends reads settings p whole left session =
         let (now, more, stands) = h.left settings p whole left session in
         let r = reads settings now whole more stands in

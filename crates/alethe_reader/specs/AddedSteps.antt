@@ -13,17 +13,17 @@ use Rattle.alethe_text.specs.ProofTerms.{place_in}
 use Rattle.alethe_text.specs.States.{ProofSettings, ProofState}
 use Rattle.alethe_reader.specs.Sessions.{IsWritten}
 use Rattle.alethe_reader.specs.Standing.{IsClosing}
-use Rattle.alethe_reader.specs.StepParts.{ArePartsOf}
+use Rattle.alethe_reader.specs.StepParts.{AreStepParts}
 use Rattle.alethe_reader.specs.declared.session.Session.{Session}
 use Rattle.alethe_reader.specs.declared.session.StepParts.{StepParts}
 use Rattle.alethe_reader.specs.declared.stepping.NewStep.{NewStep}
 
 -- its coefficients, and the step over references
-abbrev pub ratios_of : StepParts → Option (List Fraction)
-ratios_of d = if d.has_ratios then Some (map fraction_of_ratio d.ratios.items) else None
+abbrev pub ratios_told : StepParts → Option (List Fraction)
+ratios_told d = if d.has_ratios then Some (map fraction_of_ratio d.ratios.items) else None
 
-abbrev pub step_of : StepParts → NewStep → Step ℕ
-step_of d n = record {
+abbrev pub step_added : StepParts → NewStep → Step ℕ
+step_added d n = record {
   id = n.id.name.now;
   rule = n.rule;
   rule_name = n.word.now;
@@ -31,7 +31,7 @@ step_of d n = record {
   premises = d.premises.items;
   discharged = d.discharged.items;
   pivots = [];
-  ratios = ratios_of d;
+  ratios = ratios_told d;
 }
 
 -- the indices are those of commands that are seen
@@ -52,4 +52,4 @@ pub record IsToAdd (s : Table) (v : TermsView) (settings : ProofSettings) (d : S
   pub premises : AreSeen here.sees step.premises
   pub discharged : AreSeen here.discharges step.discharged
   pub clause : ReferToAll s v d.parts.clause.items step.clause
-  pub parts : ArePartsOf d.parts step
+  pub parts : AreStepParts d.parts step

@@ -22,13 +22,13 @@ pub record Comes {A T : Type 0} (After : T → A → ProofState → Type 0) (o :
   pub after : After t value state
 
 -- an answer, or a fault: that of the outcome, or for want of room for a cell of a term that was read
-abbrev pub IsAnswer : {A T : Type 0} → Table → PassView → (T → A → ProofState → Type 0) → Outcome ProofState A → Result T ReadFault → Type 0
-IsAnswer s pass After o (Ok t) = Comes After o t
-IsAnswer s pass After o (Err fault) = EndsWith s pass o.result (WasRead o) fault
+abbrev pub IsAnswerOf : {A T : Type 0} → Table → PassView → (T → A → ProofState → Type 0) → Outcome ProofState A → Result T ReadFault → Type 0
+IsAnswerOf s pass After o (Ok t) = Comes After o t
+IsAnswerOf s pass After o (Err fault) = EndsWith s pass o.result (WasRead o) fault
 
 -- The result is that of the outcome, and what was placed are cells of terms that were read.
-pub record Answers {A T : Type 0} (s : Table) (old new : TermsView) (After : T → A → ProofState → Type 0) (o : Outcome ProofState A) (result : Result T ReadFault) : Type 0 where
-  pub answer : IsAnswer s new.pass After o result
+pub record AnswersAs {A T : Type 0} (s : Table) (old new : TermsView) (After : T → A → ProofState → Type 0) (o : Outcome ProofState A) (result : Result T ReadFault) : Type 0 where
+  pub answer : IsAnswerOf s new.pass After o result
   pub placed : PlacesCellsOf s old.pass new.pass (WasRead o)
 
 -- what was read stays read

@@ -19,12 +19,12 @@ images_in outermost = []
 images_in (inside around before anchor) = images_in around ++ put_in_each (images (open_anchors around)) anchor.bindings
 
 -- no anchor binds a name that an anchor around it binds
-abbrev pub AreApart : Nesting Var Term → Type 0
-AreApart outermost = ⊤
-AreApart (inside around before anchor) = AreApart around × AllByRecursion (λ b. is_among (bound_names around) b.0.name ≡ false) anchor.bindings
+abbrev pub BindApart : Nesting Var Term → Type 0
+BindApart outermost = ⊤
+BindApart (inside around before anchor) = BindApart around × AllByRecursion (λ b. is_among (bound_names around) b.0.name ≡ false) anchor.bindings
 
 -- the names and the images are those of the open anchors
 pub record AreBound (s : Table) (v : TermsView) (b : BoundVariables) (nesting : Nesting Var Term) : Type 0 where
   pub names : map (λ u. u.id) b.names ≡ bound_names nesting
   pub images : AllZip (IsBindingOf s v) b.images.items (images_in nesting)
-  pub apart : AreApart nesting
+  pub apart : BindApart nesting

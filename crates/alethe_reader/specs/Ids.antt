@@ -19,6 +19,6 @@ pub record IsUsedAt (used : List Used) (id : List ℕ) (f : Found) : Type 0 wher
   pub alone : (k : ℕ) (u : Used) → slice_get used k ≡ Some u → u.id ≡ id → k ≡ f.place
 
 -- what a look for an id answers
-abbrev pub IsFound : List Used → List ℕ → Option Found → Type 0
-IsFound used id (Some f) = IsUsedAt used id f
-IsFound used id None = IsUnused used id
+abbrev pub IsIdFound : List Used → List ℕ → Option Found → Type 0
+IsIdFound used id (Some f) = IsUsedAt used id f
+IsIdFound used id None = IsUnused used id

@@ -22,7 +22,7 @@ use Rattle.term_reader.specs.ProblemViews.{ReaderView, IsReaderOf}
 use Rattle.alethe_text.specs.Anchors.{bound_names, image_of, script_changed}
 use Rattle.alethe_text.specs.ProofTerms.{place_in}
 use Rattle.alethe_text.specs.States.{ProofSettings, ProofState, Reading, ◌>>=◌, give, demand}
-use Rattle.alethe_reader.specs.Bound.{images_in, AreApart}
+use Rattle.alethe_reader.specs.Bound.{images_in, BindApart}
 use Rattle.alethe_reader.specs.declared.bound.BoundVariables.{BoundVariables}
 
 -- none of the names is one of these, and no two are the same
@@ -37,7 +37,7 @@ pub record IsOpening (s : Table) (v : TermsView) (settings : ProofSettings) (r :
   pub judged : (name : List ℕ) → (is_among earlier name || is_among (bound_names p.scope.nesting) name) ≡ is_among (map (λ u. u.id) d.names) name
   pub images : AllZip (IsBindingOf s v) d.images.items (images_in p.scope.nesting ++ put_in_each (images (open_anchors p.scope.nesting)) bs)
   pub opened : AllZip (IsBindingOf s v) d.opened.items bs
-  pub apart : AreApart p.scope.nesting
+  pub apart : BindApart p.scope.nesting
   pub fresh : AreFresh (bound_names p.scope.nesting) bs
 
 -- The state is the same but for its script.

@@ -12,7 +12,7 @@ use Rattle.alethe_text.specs.States.{ProofSettings, unread}
 
 -- A term that counts as read of the text, behind a problem with this script: one that was read up to the text's end or its
 -- first fault.
-pub record IsCounted (source : List ℕ) (settings : ProofSettings) (before : Script) (t : Term) : Type 0 where
+pub record IsCountedOfProof (source : List ℕ) (settings : ProofSettings) (before : Script) (t : Term) : Type 0 where
   pub items : Items
   pub nested : StandsForItems source items
   pub read : Contains (proof_from settings items (unread before)).state.script.terms t

@@ -42,7 +42,7 @@ pub record IsWritten (s : Table) (v : TermsView) (d : Session) (p : ProofState) 
   pub bound : AreBound s v d.bound p.scope.nesting
 
 -- what was read of a proof, in which nothing is judged strictly, stands for the state
-pub record IsSession (s : Table) (v : TermsView) (settings : ProofSettings) (d : Session) (p : ProofState) : Type 0 where
+pub record IsProofSession (s : Table) (v : TermsView) (settings : ProofSettings) (d : Session) (p : ProofState) : Type 0 where
   pub lax : settings.is_strict ≡ false
   pub reader : IsReaderOf s v d.reader p.script (place_in settings p.scope.nesting)
   pub written : IsWritten s v d p
@@ -55,4 +55,4 @@ pub record IsBehind (s : Table) (v : TermsView) (settings : ProofSettings) (nest
 
 -- After a command what was read stands for the new state.
 pub record StandsAfter (s : Table) (v : TermsView) (settings : ProofSettings) (d : Session) (done answer : ⊤) (p : ProofState) : Type 0 where
-  pub session : IsSession s v settings d p
+  pub session : IsProofSession s v settings d p

@@ -27,7 +27,7 @@ IsClosing used p id here None =
 IsClosing used p id here (Some a) =
     (is_open_id p.scope.nesting id ≡ true) × (here ≡ text.closes_scope p.scope.nesting p.scope.items) × IsAnchorOf p.scope.nesting a × IsUnused (take a.ids used) id
 
-pub record Stands (used : List Used) (p : ProofState) (n : Name) (t : Standing) : Type 0 where
+pub record IsStandingOf (used : List Used) (p : ProofState) (n : Name) (t : Standing) : Type 0 where
   pub here : text.Standing
   pub comes : text.standing_of n p ≡ done here p
   pub closes : IsClosing used p n.name here t.closes
@@ -35,5 +35,5 @@ pub record Stands (used : List Used) (p : ProofState) (n : Name) (t : Standing) 
   pub discharges : IsReach used t.discharges here.discharges
 
 abbrev pub IsStanding : List Used → ProofState → Name → Result Standing Refusal → Type 0
-IsStanding used p n (Ok t) = Stands used p n t
+IsStanding used p n (Ok t) = IsStandingOf used p n t
 IsStanding used p n (Err refusal) = (text.standing_of n p).result ≡ Err refusal

@@ -23,7 +23,7 @@ use Rattle.alethe_reader.specs.Reach.{IsReach}
 use Rattle.alethe_reader.specs.Sessions.{IsBehind}
 
 -- the parts are those of the step
-pub record ArePartsOf (d : StepParts) (step : Step Term) : Type 0 where
+pub record AreStepParts (d : StepParts) (step : Step Term) : Type 0 where
   pub premises : d.premises.items ≡ step.premises
   pub discharged : d.discharged.items ≡ step.discharged
   pub pivots : step.pivots ≡ []
@@ -46,7 +46,7 @@ pub record StandsAt (s : Table) (v : TermsView) (settings : ProofSettings) (at :
 
 -- Attributes were read, and the step before them became this one, of which the session has the parts.
 pub record AreReadAttributes (s : Table) (v : TermsView) (settings : ProofSettings) (nesting : Nesting Var Term) (d : Session) (old : ProofState) (before : Step Term) (_ : ⊤) (step : Step Term) (new : ProofState) : Type 0 where
-  pub parts : ArePartsOf d.parts step
+  pub parts : AreStepParts d.parts step
   pub id : step.id ≡ before.id
   pub rule : step.rule ≡ before.rule
   pub rule_name : step.rule_name ≡ before.rule_name
@@ -71,11 +71,11 @@ nodes_from (StepAttribute.Arguments first last) count = count - first
 nodes_from _ count = 0
 
 -- a rule is none that is left out, or refused
-abbrev pub IsJudged : Outcome ProofState ⊤ → ProofState → Result ⊤ ReadFault → Type 0
-IsJudged o p (Ok _) = o ≡ done tt p
-IsJudged o p (Err (ReadFault.Text refusal)) = o.result ≡ Err refusal
-IsJudged o p (Err ReadFault.PoolFull) = ⊥
-IsJudged o p (Err ReadFault.Memory) = ⊥
+abbrev pub IsRuleJudged : Outcome ProofState ⊤ → ProofState → Result ⊤ ReadFault → Type 0
+IsRuleJudged o p (Ok _) = o ≡ done tt p
+IsRuleJudged o p (Err (ReadFault.Text refusal)) = o.result ≡ Err refusal
+IsRuleJudged o p (Err ReadFault.PoolFull) = ⊥
+IsRuleJudged o p (Err ReadFault.Memory) = ⊥
 
 -- the parts have these coefficients, or the first number is refused that is too wide, or memory was wanting
 abbrev pub AreRatios : StepParts → Result ⊤ ReadFault → Result (Option (List Fraction)) Refusal → Type 0
@@ -85,6 +85,6 @@ AreRatios d (Err ReadFault.PoolFull) expected = ⊥
 AreRatios d (Err ReadFault.Memory) expected = ⊤
 
 -- why coefficients were not read
-abbrev pub fault_of : Stop → ReadFault
-fault_of (Stop.Text refusal) = ReadFault.Text refusal
-fault_of Stop.Memory = ReadFault.Memory
+abbrev pub fault_of_coefficients : Stop → ReadFault
+fault_of_coefficients (Stop.Text refusal) = ReadFault.Text refusal
+fault_of_coefficients Stop.Memory = ReadFault.Memory

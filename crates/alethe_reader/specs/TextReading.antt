@@ -17,7 +17,7 @@ use Rattle.alethe_text.specs.States.{ProofSettings, ProofState, Reading, ◌>>=�
 use Rattle.alethe_reader.specs.Answers.{WasRead}
 use Rattle.alethe_items.specs.TextItems.{HasCommandItems}
 use Rattle.alethe_text.specs.CommandNames.{HaveNames}
-use Rattle.alethe_reader.specs.Sessions.{IsSession}
+use Rattle.alethe_reader.specs.Sessions.{IsProofSession}
 use Rattle.alethe_reader.specs.declared.session.Session.{Session}
 
 -- behind the commands: what stands behind their list, and the end of the proof
@@ -31,7 +31,7 @@ unfoldable pub left_from : ProofSettings → Items → Items → Reading (Proof 
 left_from settings items behind = commands settings items >>= closing_from settings behind
 
 -- The commands that are left of a text come to this outcome.
-pub record AreLeft (source : List ℕ) (settings : ProofSettings) (in_list : Bool) (at : ℕ) (p : ProofState) (whole : Outcome ProofState (Proof Var Term)) : Type 0 where
+pub record AreCommandsLeft (source : List ℕ) (settings : ProofSettings) (in_list : Bool) (at : ℕ) (p : ProofState) (whole : Outcome ProofState (Proof Var Term)) : Type 0 where
   pub items : Items
   pub behind : Items
   pub here : HasCommandItems source in_list at items behind
@@ -45,22 +45,22 @@ pub record NoneLeft (source : List ℕ) (settings : ProofSettings) (at : ℕ) (p
   pub comes : closing_from settings behind tt p ≡ whole
 
 -- A command was read, and others may be left; or none was left; or it has a fault.
-abbrev pub IsCommandRead : List ℕ → Table → TermsView → ProofSettings → Session → Bool → ℕ → Outcome ProofState (Proof Var Term) → Result Bool ReadFault → Type 0
-IsCommandRead source s v settings d in_list at whole (Ok true) = (p : ProofState) × AreLeft source settings in_list at p whole × IsSession s v settings d p
-IsCommandRead source s v settings d in_list at whole (Ok false) = (p : ProofState) × NoneLeft source settings at p whole × IsSession s v settings d p
-IsCommandRead source s v settings d in_list at whole (Err fault) = EndsWith s v.pass whole.result (WasRead whole) fault
+abbrev pub IsProofCommandRead : List ℕ → Table → TermsView → ProofSettings → Session → Bool → ℕ → Outcome ProofState (Proof Var Term) → Result Bool ReadFault → Type 0
+IsProofCommandRead source s v settings d in_list at whole (Ok true) = (p : ProofState) × AreCommandsLeft source settings in_list at p whole × IsProofSession s v settings d p
+IsProofCommandRead source s v settings d in_list at whole (Ok false) = (p : ProofState) × NoneLeft source settings at p whole × IsProofSession s v settings d p
+IsProofCommandRead source s v settings d in_list at whole (Err fault) = EndsWith s v.pass whole.result (WasRead whole) fault
 
-pub record ReadsCommand (source : List ℕ) (s : Table) (old new : TermsView) (settings : ProofSettings) (d : Session) (in_list : Bool) (at : ℕ) (whole : Outcome ProofState (Proof Var Term)) (result : Result Bool ReadFault) : Type 0 where
-  pub outcome : IsCommandRead source s new settings d in_list at whole result
+pub record ReadsProofCommand (source : List ℕ) (s : Table) (old new : TermsView) (settings : ProofSettings) (d : Session) (in_list : Bool) (at : ℕ) (whole : Outcome ProofState (Proof Var Term)) (result : Result Bool ReadFault) : Type 0 where
+  pub outcome : IsProofCommandRead source s new settings d in_list at whole result
   pub placed : PlacesCellsOf s old.pass new.pass (WasRead whole)
 
 -- All commands of a text were read, or one has a fault.
-abbrev pub AreRead : List ℕ → Table → TermsView → ProofSettings → Session → ℕ → Outcome ProofState (Proof Var Term) → Result Unit ReadFault → Type 0
-AreRead source s v settings d at whole (Ok _) = (p : ProofState) × NoneLeft source settings at p whole × IsSession s v settings d p
-AreRead source s v settings d at whole (Err fault) = EndsWith s v.pass whole.result (WasRead whole) fault
+abbrev pub AreAllRead : List ℕ → Table → TermsView → ProofSettings → Session → ℕ → Outcome ProofState (Proof Var Term) → Result Unit ReadFault → Type 0
+AreAllRead source s v settings d at whole (Ok _) = (p : ProofState) × NoneLeft source settings at p whole × IsProofSession s v settings d p
+AreAllRead source s v settings d at whole (Err fault) = EndsWith s v.pass whole.result (WasRead whole) fault
 
-pub record ReadsAll (source : List ℕ) (s : Table) (old new : TermsView) (settings : ProofSettings) (d : Session) (at : ℕ) (whole : Outcome ProofState (Proof Var Term)) (result : Result Unit ReadFault) : Type 0 where
-  pub outcome : AreRead source s new settings d at whole result
+pub record ReadsProof (source : List ℕ) (s : Table) (old new : TermsView) (settings : ProofSettings) (d : Session) (at : ℕ) (whole : Outcome ProofState (Proof Var Term)) (result : Result Unit ReadFault) : Type 0 where
+  pub outcome : AreAllRead source s new settings d at whole result
   pub placed : PlacesCellsOf s old.pass new.pass (WasRead whole)
 
 -- The proof that was read, or the fault of what stands behind the commands, or of an anchor that is open.
@@ -75,6 +75,6 @@ abbrev pub most_after : ℕ → List ℕ → ℕ → ℕ
 most_after count source at = count + (length source - at)
 
 -- each command that is written, and each scope, has a byte before this place
-pub record IsShort (scope : Scope ℕ ℕ) (at : ℕ) : Type 0 where
+pub record IsBehindCommands (scope : Scope ℕ ℕ) (at : ℕ) : Type 0 where
   pub commands : next_index scope ≤ at
   pub scopes : next_scope scope ≤ at + 1

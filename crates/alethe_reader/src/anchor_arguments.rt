@@ -20,8 +20,8 @@ ghost use Rattle.alethe_text.specs.Anchors.{bound_names, sort_given, argument_re
 ghost use Rattle.alethe_text.specs.Commands as shape;
 ghost use Rattle.alethe_text.specs.ProofTerms.{place_in};
 ghost use Rattle.alethe_text.specs.States.{ProofSettings, ProofState};
-ghost use Rattle.alethe_reader.specs.Answers.{Answers};
-ghost use Rattle.alethe_reader.specs.Bound.{AreBound, AreApart, images_in};
+ghost use Rattle.alethe_reader.specs.Answers.{AnswersAs};
+ghost use Rattle.alethe_reader.specs.Bound.{AreBound, BindApart, images_in};
 ghost use Rattle.alethe_reader.specs.Opening.{IsOpening, IsArgumentRead, AreArgumentsRead, IsNameJudged, is_wanted, image_read, IsImageRead};
 
 use crate::bound::{BoundVariables, OpenedVariable};
@@ -77,7 +77,7 @@ pub(crate) fn read_arguments(
     requires arguments { (others : List shape.Argument) × AreArguments (source text.now) nodes.now first others (length nodes.now) }
     requires scope { (settings : ProofSettings) × (p : ProofState) × IsReaderOf symbols.old terms.old reader.old p.script (place_in settings p.scope.nesting) × AreBound symbols.old terms.old bound.old p.scope.nesting }
     requires room { length symbols.old.leaves + (length nodes.now - first) ≤ 2 ^ 30 }
-    ensures read { (others : List shape.Argument) (settings : ProofSettings) (p : ProofState) → AreArguments (source text.now) nodes.now first others (length nodes.now) → IsReaderOf symbols.old terms.old reader.old p.script (place_in settings p.scope.nesting) → AreBound symbols.old terms.old bound.old p.scope.nesting → Answers symbols.new terms.old terms.new (AreArgumentsRead symbols.new terms.new settings reader.new bound.new p) (arguments_read settings [] others p) result }
+    ensures read { (others : List shape.Argument) (settings : ProofSettings) (p : ProofState) → AreArguments (source text.now) nodes.now first others (length nodes.now) → IsReaderOf symbols.old terms.old reader.old p.script (place_in settings p.scope.nesting) → AreBound symbols.old terms.old bound.old p.scope.nesting → AnswersAs symbols.new terms.old terms.new (AreArgumentsRead symbols.new terms.new settings reader.new bound.new p) (arguments_read settings [] others p) result }
     ensures few { length symbols.new.leaves ≤ length symbols.old.leaves + (length nodes.now - first) }
     ensures symbols { AddsNoSymbols symbols.old symbols.new }
     ensures keeps { KeepsTerms terms.old terms.new }
@@ -104,7 +104,7 @@ fn read_argument(
     requires argument { (i : Item) × (m : ℕ) × IsNode (source text.now) nodes.now k i m × (shape.argument_fault i ≡ None) }
     requires opening { (settings : ProofSettings) × (earlier : List (List ℕ)) × (bs : List (Var × Term)) × (p : ProofState) × IsOpening symbols.old terms.old settings reader.old bound.old earlier bs p }
     requires room { length symbols.old.leaves + (length nodes.now - k) ≤ 2 ^ 30 }
-    ensures read { (i : Item) (m : ℕ) (settings : ProofSettings) (earlier : List (List ℕ)) (bs : List (Var × Term)) (p : ProofState) → IsNode (source text.now) nodes.now k i m → shape.argument_fault i ≡ None → IsOpening symbols.old terms.old settings reader.old bound.old earlier bs p → Answers symbols.new terms.old terms.new (IsArgumentRead symbols.new terms.new settings reader.new bound.new earlier bs p) (argument_read settings earlier (shape.argument_of i) p) result }
+    ensures read { (i : Item) (m : ℕ) (settings : ProofSettings) (earlier : List (List ℕ)) (bs : List (Var × Term)) (p : ProofState) → IsNode (source text.now) nodes.now k i m → shape.argument_fault i ≡ None → IsOpening symbols.old terms.old settings reader.old bound.old earlier bs p → AnswersAs symbols.new terms.old terms.new (IsArgumentRead symbols.new terms.new settings reader.new bound.new earlier bs p) (argument_read settings earlier (shape.argument_of i) p) result }
     // Each leaf that is added has a node of the item.
     ensures spent { (i : Item) (m : ℕ) → IsNode (source text.now) nodes.now k i m → OnOk result (length symbols.new.leaves ≤ length symbols.old.leaves + (m - k)) }
     ensures few { length symbols.new.leaves ≤ length symbols.old.leaves + (length nodes.now - k) }
@@ -147,7 +147,7 @@ fn read_assigned(
     requires term { (i : Item) × (m : ℕ) × IsNode (source text.now) nodes.now assigned.term i m }
     requires opening { (settings : ProofSettings) × (earlier : List (List ℕ)) × (bs : List (Var × Term)) × (p : ProofState) × IsOpening symbols.old terms.old settings reader.old bound.old earlier bs p }
     requires room { length symbols.old.leaves + (length nodes.now - assigned.term) < 2 ^ 30 }
-    ensures read { (x : Name) (o : Option Item) (i : Item) (m : ℕ) (settings : ProofSettings) (earlier : List (List ℕ)) (bs : List (Var × Term)) (p : ProofState) → IsNameNode (source text.now) nodes.now assigned.variable x → IsSortNode (source text.now) nodes.now assigned.sort o → IsNode (source text.now) nodes.now assigned.term i m → IsOpening symbols.old terms.old settings reader.old bound.old earlier bs p → Answers symbols.new terms.old terms.new (IsArgumentRead symbols.new terms.new settings reader.new bound.new earlier bs p) (argument_read settings earlier (shape.assigned assigned.place x o i) p) result }
+    ensures read { (x : Name) (o : Option Item) (i : Item) (m : ℕ) (settings : ProofSettings) (earlier : List (List ℕ)) (bs : List (Var × Term)) (p : ProofState) → IsNameNode (source text.now) nodes.now assigned.variable x → IsSortNode (source text.now) nodes.now assigned.sort o → IsNode (source text.now) nodes.now assigned.term i m → IsOpening symbols.old terms.old settings reader.old bound.old earlier bs p → AnswersAs symbols.new terms.old terms.new (IsArgumentRead symbols.new terms.new settings reader.new bound.new earlier bs p) (argument_read settings earlier (shape.assigned assigned.place x o i) p) result }
     ensures spent { (i : Item) (m : ℕ) → IsNode (source text.now) nodes.now assigned.term i m → OnOk result (length symbols.new.leaves ≤ length symbols.old.leaves + (m - assigned.term) + 1) }
     ensures few { length symbols.new.leaves ≤ length symbols.old.leaves + (length nodes.now - assigned.term) + 1 }
     ensures symbols { AddsNoSymbols symbols.old symbols.new }
@@ -216,7 +216,7 @@ fn image_at(
     requires value { (t : Typed) × IsValue symbols.now terms.old value t }
     requires outer { length bound.now.opened.items ≤ length bound.now.images.items }
     requires images { (nesting : Nesting Var Term) × (more : List (List ℕ)) × AllZip (IsBindingOf symbols.now terms.old) (take (length bound.now.images.items - length bound.now.opened.items) bound.now.images.items) (images_in nesting) × (map (λ u. u.id) bound.now.names ≡ bound_names nesting ++ more) }
-    ensures read { (name : List ℕ) (t : Typed) (nesting : Nesting Var Term) (more : List (List ℕ)) (q : ProofState) → IsValue symbols.now terms.old value t → AreApart nesting → AllZip (IsBindingOf symbols.now terms.old) (take (length bound.now.images.items - length bound.now.opened.items) bound.now.images.items) (images_in nesting) → map (λ u. u.id) bound.now.names ≡ bound_names nesting ++ more → Answers symbols.now terms.old terms.new (IsImageRead symbols.now terms.new name nesting t q) (image_read wanted.place name wanted.sort nesting t q) result }
+    ensures read { (name : List ℕ) (t : Typed) (nesting : Nesting Var Term) (more : List (List ℕ)) (q : ProofState) → IsValue symbols.now terms.old value t → BindApart nesting → AllZip (IsBindingOf symbols.now terms.old) (take (length bound.now.images.items - length bound.now.opened.items) bound.now.images.items) (images_in nesting) → map (λ u. u.id) bound.now.names ≡ bound_names nesting ++ more → AnswersAs symbols.now terms.old terms.new (IsImageRead symbols.now terms.new name nesting t q) (image_read wanted.place name wanted.sort nesting t q) result }
     ensures keeps { KeepsTerms terms.old terms.new }
 {
     if !is_wanted(wanted.sort, value.sort) {

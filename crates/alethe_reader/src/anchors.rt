@@ -10,8 +10,8 @@ ghost use Rattle.alethe_commands.specs.CommandNodes.{SaysAnchor};
 ghost use Rattle.alethe_text.specs.Anchors.{anchor_read};
 ghost use Rattle.alethe_text.specs.Commands as shape;
 ghost use Rattle.alethe_text.specs.States.{ProofSettings, ProofState};
-ghost use Rattle.alethe_reader.specs.Answers.{Answers};
-ghost use Rattle.alethe_reader.specs.Sessions.{IsSession, StandsAfter};
+ghost use Rattle.alethe_reader.specs.Answers.{AnswersAs};
+ghost use Rattle.alethe_reader.specs.Sessions.{IsProofSession, StandsAfter};
 
 use crate::anchor_arguments::read_arguments;
 use crate::ids::Role;
@@ -47,10 +47,10 @@ pub fn read_anchor(
     session: &mut Session<'_>,
 ) -> Result<(), ReadFault>
     requires says { (n : Name) × (others : List shape.Argument) × SaysAnchor (source text.now) nodes.now anchor.place anchor.id anchor.first (shape.anchor anchor.place n others) × IsSymbolName n.name }
-    requires session { (settings : ProofSettings) × (p : ProofState) × IsSession symbols.old terms.old settings session.old p }
+    requires session { (settings : ProofSettings) × (p : ProofState) × IsProofSession symbols.old terms.old settings session.old p }
     requires room { length symbols.old.leaves + (length nodes.now - anchor.first) ≤ 2 ^ 30 }
     requires few { next_scope session.old.builder + 1 < 2 ^ 32 - 1 }
-    ensures read { (n : Name) (others : List shape.Argument) (settings : ProofSettings) (p : ProofState) → SaysAnchor (source text.now) nodes.now anchor.place anchor.id anchor.first (shape.anchor anchor.place n others) → IsSession symbols.old terms.old settings session.old p → Answers symbols.new terms.old terms.new (StandsAfter symbols.new terms.new settings session.new) (anchor_read settings anchor.place n others p) result }
+    ensures read { (n : Name) (others : List shape.Argument) (settings : ProofSettings) (p : ProofState) → SaysAnchor (source text.now) nodes.now anchor.place anchor.id anchor.first (shape.anchor anchor.place n others) → IsProofSession symbols.old terms.old settings session.old p → AnswersAs symbols.new terms.old terms.new (StandsAfter symbols.new terms.new settings session.new) (anchor_read settings anchor.place n others p) result }
     ensures few { length symbols.new.leaves ≤ length symbols.old.leaves + (length nodes.now - anchor.first) }
     ensures symbols { AddsNoSymbols symbols.old symbols.new }
     ensures keeps { KeepsTerms terms.old terms.new }

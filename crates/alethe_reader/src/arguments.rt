@@ -15,7 +15,7 @@ ghost use Rattle.alethe_text.specs.Arguments as shape;
 ghost use Rattle.alethe_text.specs.Arguments.{named_among};
 ghost use Rattle.alethe_text.specs.ProofTerms.{place_in};
 ghost use Rattle.alethe_text.specs.States.{ProofSettings, ProofState};
-ghost use Rattle.alethe_reader.specs.Answers.{Answers};
+ghost use Rattle.alethe_reader.specs.Answers.{AnswersAs};
 ghost use Rattle.alethe_reader.specs.Arguments as spec;
 ghost use Rattle.alethe_reader.specs.Arguments.{AreNamed};
 
@@ -98,7 +98,7 @@ pub(crate) fn names_at(
     requires items { AreItemsFrom (source text.now) nodes.now arguments.first arguments.end }
     requires reader { (settings : ProofSettings) × (nesting : Nesting Var Term) × (p : ProofState) × IsReaderOf symbols.old terms.old reader.old p.script (place_in settings nesting) }
     requires room { length symbols.old.leaves + (length nodes.now - arguments.first) ≤ 2 ^ 30 }
-    ensures read { (items : Items) (settings : ProofSettings) (nesting : Nesting Var Term) (p : ProofState) → AreNodes (source text.now) nodes.now arguments.first items arguments.end → IsReaderOf symbols.old terms.old reader.old p.script (place_in settings nesting) → Answers symbols.new terms.old terms.new (AreNamed symbols.new terms.new settings nesting reader.new p) (named_among settings nesting items p) result }
+    ensures read { (items : Items) (settings : ProofSettings) (nesting : Nesting Var Term) (p : ProofState) → AreNodes (source text.now) nodes.now arguments.first items arguments.end → IsReaderOf symbols.old terms.old reader.old p.script (place_in settings nesting) → AnswersAs symbols.new terms.old terms.new (AreNamed symbols.new terms.new settings nesting reader.new p) (named_among settings nesting items p) result }
     // Each leaf that is added has a node of its own.
     ensures spent { OnOk result (length symbols.new.leaves ≤ length symbols.old.leaves + (arguments.end - arguments.first)) }
     ensures few { length symbols.new.leaves ≤ length symbols.old.leaves + (length nodes.now - arguments.first) }

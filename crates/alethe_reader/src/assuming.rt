@@ -12,8 +12,8 @@ ghost use Rattle.text_items.specs.Stepping.{IsItemAt};
 ghost use Rattle.term_names.specs.Standing.{AddsNoSymbols};
 ghost use Rattle.alethe_text.specs.States.{ProofSettings, ProofState};
 ghost use Rattle.alethe_text.specs.Steps.{assume_read};
-ghost use Rattle.alethe_reader.specs.Answers.{Answers};
-ghost use Rattle.alethe_reader.specs.Sessions.{IsSession, StandsAfter};
+ghost use Rattle.alethe_reader.specs.Answers.{AnswersAs};
+ghost use Rattle.alethe_reader.specs.Sessions.{IsProofSession, StandsAfter};
 
 use crate::formulas::formula_at;
 use crate::ids::Role;
@@ -40,10 +40,10 @@ pub fn read_assume(
 ) -> Result<(), ReadFault>
     requires id { (n : Name) × IsNameNode (source text.now) nodes.now id n × IsSymbolName n.name }
     requires term { IsItemAt (source text.now) nodes.now term }
-    requires session { (settings : ProofSettings) × (p : ProofState) × IsSession symbols.old terms.old settings session.old p }
+    requires session { (settings : ProofSettings) × (p : ProofState) × IsProofSession symbols.old terms.old settings session.old p }
     requires room { length symbols.old.leaves + (length nodes.now - term) ≤ 2 ^ 30 }
     requires few { next_index session.old.builder + 1 < 2 ^ 32 - 1 }
-    ensures read { (n : Name) (i : Item) (m : ℕ) (settings : ProofSettings) (p : ProofState) → IsNameNode (source text.now) nodes.now id n → IsNode (source text.now) nodes.now term i m → IsSession symbols.old terms.old settings session.old p → Answers symbols.new terms.old terms.new (StandsAfter symbols.new terms.new settings session.new) (assume_read settings n i p) result }
+    ensures read { (n : Name) (i : Item) (m : ℕ) (settings : ProofSettings) (p : ProofState) → IsNameNode (source text.now) nodes.now id n → IsNode (source text.now) nodes.now term i m → IsProofSession symbols.old terms.old settings session.old p → AnswersAs symbols.new terms.old terms.new (StandsAfter symbols.new terms.new settings session.new) (assume_read settings n i p) result }
     ensures few { length symbols.new.leaves ≤ length symbols.old.leaves + (length nodes.now - term) }
     ensures symbols { AddsNoSymbols symbols.old symbols.new }
     ensures keeps { KeepsTerms terms.old terms.new }

@@ -12,7 +12,7 @@ ghost use Rattle.term_names.specs.Standing.{AddsNoSymbols};
 ghost use Rattle.term_reader.specs.ProblemViews.{IsReaderOf};
 ghost use Rattle.alethe_text.specs.ProofTerms.{place_in, formula_in, formulas_in};
 ghost use Rattle.alethe_text.specs.States.{ProofSettings, ProofState};
-ghost use Rattle.alethe_reader.specs.Answers.{Answers};
+ghost use Rattle.alethe_reader.specs.Answers.{AnswersAs};
 ghost use Rattle.alethe_reader.specs.ReadTerms.{IsReadFormula, AreReadFormulas};
 
 use pair_pool::Ref;
@@ -41,7 +41,7 @@ pub(crate) fn formula_at(
     requires item { IsItemAt (source text.now) nodes.now k }
     requires reader { (settings : ProofSettings) × (nesting : Nesting Var Term) × (p : ProofState) × IsReaderOf symbols.old terms.old reader.old p.script (place_in settings nesting) }
     requires room { length symbols.old.leaves + (length nodes.now - k) ≤ 2 ^ 30 }
-    ensures read { (i : Item) (m : ℕ) (settings : ProofSettings) (nesting : Nesting Var Term) (p : ProofState) → IsNode (source text.now) nodes.now k i m → IsReaderOf symbols.old terms.old reader.old p.script (place_in settings nesting) → Answers symbols.new terms.old terms.new (IsReadFormula symbols.new terms.new settings nesting reader.new p) (formula_in settings nesting i p) result }
+    ensures read { (i : Item) (m : ℕ) (settings : ProofSettings) (nesting : Nesting Var Term) (p : ProofState) → IsNode (source text.now) nodes.now k i m → IsReaderOf symbols.old terms.old reader.old p.script (place_in settings nesting) → AnswersAs symbols.new terms.old terms.new (IsReadFormula symbols.new terms.new settings nesting reader.new p) (formula_in settings nesting i p) result }
     // Each leaf that is added has a node of the item.
     ensures spent { (i : Item) (m : ℕ) → IsNode (source text.now) nodes.now k i m → OnOk result (length symbols.new.leaves ≤ length symbols.old.leaves + (m - k)) }
     ensures few { length symbols.new.leaves ≤ length symbols.old.leaves + (length nodes.now - k) }
@@ -79,7 +79,7 @@ pub(crate) fn formulas_at(
     requires items { AreItemsFrom (source text.now) nodes.now first end }
     requires reader { (settings : ProofSettings) × (nesting : Nesting Var Term) × (p : ProofState) × IsReaderOf symbols.old terms.old reader.old p.script (place_in settings nesting) }
     requires room { length symbols.old.leaves + (length nodes.now - first) ≤ 2 ^ 30 }
-    ensures read { (items : Items) (settings : ProofSettings) (nesting : Nesting Var Term) (p : ProofState) → AreNodes (source text.now) nodes.now first items end → IsReaderOf symbols.old terms.old reader.old p.script (place_in settings nesting) → Answers symbols.new terms.old terms.new (AreReadFormulas symbols.new terms.new settings nesting reader.new p formulas.new.items) (formulas_in settings nesting items p) result }
+    ensures read { (items : Items) (settings : ProofSettings) (nesting : Nesting Var Term) (p : ProofState) → AreNodes (source text.now) nodes.now first items end → IsReaderOf symbols.old terms.old reader.old p.script (place_in settings nesting) → AnswersAs symbols.new terms.old terms.new (AreReadFormulas symbols.new terms.new settings nesting reader.new p formulas.new.items) (formulas_in settings nesting items p) result }
     // Each leaf that is added has a node of its own.
     ensures spent { OnOk result (length symbols.new.leaves ≤ length symbols.old.leaves + (end - first)) }
     ensures few { length symbols.new.leaves ≤ length symbols.old.leaves + (length nodes.now - first) }

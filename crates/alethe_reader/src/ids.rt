@@ -1,7 +1,7 @@
 //! The ids that are in use: those of visible commands and of open anchors.
 ghost use Rattle.std.specs.Prelude.{◌≡◌, ◌++◌, [], ◌∷◌, length, take, IfOk, OnOk, OnErr};
 ghost use Rattle.term_names.specs.NameNumbers.{IsNumbered};
-ghost use Rattle.alethe_reader.specs.Ids.{IsUnused, IsFound};
+ghost use Rattle.alethe_reader.specs.Ids.{IsUnused, IsIdFound};
 
 use std::alloc::Global;
 use std::marker::Model;
@@ -80,7 +80,7 @@ impl Ids {
 
     /// The id, where it is in use.
     pub fn find(&self, id: &[u8]) -> Option<Found>
-        ensures { IsFound self.now id.now result }
+        ensures { IsIdFound self.now id.now result }
     {
         let name = self.names.find(id)?;
         let place = self.latest[name];

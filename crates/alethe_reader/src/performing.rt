@@ -8,9 +8,9 @@ ghost use Rattle.alethe_text.specs.Commands as shape;
 ghost use Rattle.alethe_text.specs.ProofTexts.{performed};
 ghost use Rattle.alethe_text.specs.States.{ProofSettings, ProofState};
 ghost use Rattle.alethe_commands.specs.CommandNodes.{SaysCommand};
-ghost use Rattle.alethe_reader.specs.Answers.{Answers};
+ghost use Rattle.alethe_reader.specs.Answers.{AnswersAs};
 ghost use Rattle.alethe_text.specs.CommandNames.{IsNamed};
-ghost use Rattle.alethe_reader.specs.Sessions.{IsSession, StandsAfter};
+ghost use Rattle.alethe_reader.specs.Sessions.{IsProofSession, StandsAfter};
 
 use crate::anchors::{AnchorNodes, read_anchor};
 use crate::assuming::read_assume;
@@ -33,11 +33,11 @@ pub(crate) fn perform(
     command: Command,
 ) -> Result<(), ReadFault>
     requires says { (c : shape.Command) × SaysCommand (source text.now) nodes.now command c × IsNamed c }
-    requires session { (settings : ProofSettings) × (p : ProofState) × IsSession symbols.old terms.old settings session.old p }
+    requires session { (settings : ProofSettings) × (p : ProofState) × IsProofSession symbols.old terms.old settings session.old p }
     requires room { length symbols.old.leaves + length nodes.now ≤ 2 ^ 30 }
     requires few { next_index session.old.builder + 1 < 2 ^ 32 - 1 }
     requires few_scopes { next_scope session.old.builder + 1 < 2 ^ 32 - 1 }
-    ensures read { (c : shape.Command) (settings : ProofSettings) (p : ProofState) → SaysCommand (source text.now) nodes.now command c → IsSession symbols.old terms.old settings session.old p → Answers symbols.new terms.old terms.new (StandsAfter symbols.new terms.new settings session.new) (performed settings c p) result }
+    ensures read { (c : shape.Command) (settings : ProofSettings) (p : ProofState) → SaysCommand (source text.now) nodes.now command c → IsProofSession symbols.old terms.old settings session.old p → AnswersAs symbols.new terms.old terms.new (StandsAfter symbols.new terms.new settings session.new) (performed settings c p) result }
     ensures few { length symbols.new.leaves ≤ length symbols.old.leaves + length nodes.now }
     ensures commands { OnOk result (next_index session.new.builder ≤ next_index session.old.builder + 1) }
     ensures scopes { OnOk result (next_scope session.new.builder ≤ next_scope session.old.builder + 1) }

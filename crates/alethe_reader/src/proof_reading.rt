@@ -13,9 +13,9 @@ ghost use Rattle.term_reader.specs.ProblemViews.{IsProblemOf};
 ghost use Rattle.alethe_text.specs.ProofTexts.{IsFirstProofFault};
 ghost use Rattle.alethe_text.specs.States.{ProofSettings, ProofState, unread};
 ghost use Rattle.alethe_items.specs.TextItems.{HasCommandItems};
-ghost use Rattle.alethe_reader.specs.Reading.{IsCounted, IsProofOf};
-ghost use Rattle.alethe_reader.specs.Sessions.{IsSession};
-ghost use Rattle.alethe_reader.specs.TextReading.{NoneLeft, IsFinished, IsShort, closing_from};
+ghost use Rattle.alethe_reader.specs.Reading.{IsCountedOfProof, IsProofOf};
+ghost use Rattle.alethe_reader.specs.Sessions.{IsProofSession};
+ghost use Rattle.alethe_reader.specs.TextReading.{NoneLeft, IsFinished, IsBehindCommands, closing_from};
 
 use crate::bound::BoundVariables;
 use crate::ids::Ids;
@@ -34,8 +34,8 @@ use text_items::refusals::refused;
 
 /// A proof of which nothing was read yet.
 fn new_session<'a>(alloc: Global, problem: &'a Problem, flags: Flags) -> Session<'a>
-    ensures session { (s : Table) (v : TermsView) (before : Script) → IsProblemOf s v problem.now before → IsSession s v (record { replaces_lets = flags.expand_lets; is_strict = false }) result (unread before) }
-    ensures short { IsShort result.builder 0 }
+    ensures session { (s : Table) (v : TermsView) (before : Script) → IsProblemOf s v problem.now before → IsProofSession s v (record { replaces_lets = flags.expand_lets; is_strict = false }) result (unread before) }
+    ensures short { IsBehindCommands result.builder 0 }
 {
     Session {
         reader: TermReader::new(alloc, problem, flags),
@@ -55,8 +55,8 @@ fn new_session<'a>(alloc: Global, problem: &'a Problem, flags: Flags) -> Session
 
 /// The proof that was read, where nothing stands behind the list of its commands and no anchor is open.
 fn finish(lexer: Lexer<'_>, session: Session<'_>) -> Result<Proof, ReadFault>
-    requires { (s : Table) × (v : TermsView) × (settings : ProofSettings) × (p : ProofState) × (behind : Items) × HasCommandItems (at.source lexer) false (at.position lexer) behind no_items × IsSession s v settings session p }
-    ensures { (s : Table) (v : TermsView) (settings : ProofSettings) (p : ProofState) (behind : Items) → HasCommandItems (at.source lexer.entry) false (at.position lexer.entry) behind no_items → IsSession s v settings session.entry p → IsFinished s v p (closing_from settings behind tt p) result }
+    requires { (s : Table) × (v : TermsView) × (settings : ProofSettings) × (p : ProofState) × (behind : Items) × HasCommandItems (at.source lexer) false (at.position lexer) behind no_items × IsProofSession s v settings session p }
+    ensures { (s : Table) (v : TermsView) (settings : ProofSettings) (p : ProofState) (behind : Items) → HasCommandItems (at.source lexer.entry) false (at.position lexer.entry) behind no_items → IsProofSession s v settings session.entry p → IsFinished s v p (closing_from settings behind tt p) result }
 {
     if let Some(place) = excess(lexer) {
         return Err(ReadFault::Text(refused(Cause::BadCommand, place)));
@@ -92,9 +92,9 @@ pub fn read_proof(
     ensures refused { (before : Script) (r : Refusal) → IsProblemOf symbols.old terms.old problem.now before →
         IsFirstProofFault bytes.now (record { replaces_lets = flags.expand_lets; is_strict = false }) before r → IfOk result (λ _. ⊥) }
     ensures placed { (before : Script) → IsProblemOf symbols.old terms.old problem.now before →
-        PlacesCellsOf symbols.new terms.old.pass terms.new.pass (IsCounted bytes.now (record { replaces_lets = flags.expand_lets; is_strict = false }) before) }
+        PlacesCellsOf symbols.new terms.old.pass terms.new.pass (IsCountedOfProof bytes.now (record { replaces_lets = flags.expand_lets; is_strict = false }) before) }
     ensures full { (before : Script) → IsProblemOf symbols.old terms.old problem.now before → result ≡ Err fault.PoolFull →
-        LacksCellOf symbols.new terms.new.pass (IsCounted bytes.now (record { replaces_lets = flags.expand_lets; is_strict = false }) before) }
+        LacksCellOf symbols.new terms.new.pass (IsCountedOfProof bytes.now (record { replaces_lets = flags.expand_lets; is_strict = false }) before) }
     ensures few { length symbols.new.leaves ≤ length symbols.old.leaves + length bytes.now }
     ensures symbols { AddsNoSymbols symbols.old symbols.new }
     ensures keeps { KeepsTerms terms.old terms.new }

@@ -20,8 +20,8 @@ ghost use Rattle.alethe_text.specs.Commands.{Attribute};
 ghost use Rattle.alethe_text.specs.Ids as ids;
 ghost use Rattle.alethe_text.specs.States.{ProofSettings, ProofState, demand};
 ghost use Rattle.alethe_text.specs.Steps.{attribute_read, attributes_read};
-ghost use Rattle.alethe_reader.specs.Answers.{Answers};
-ghost use Rattle.alethe_reader.specs.StepParts.{ArePartsOf, IsBare, StandsAt, AreReadAttributes, AreRatios, IsJudged, KeepsOthers, fault_of, own_nodes, nodes_from};
+ghost use Rattle.alethe_reader.specs.Answers.{AnswersAs};
+ghost use Rattle.alethe_reader.specs.StepParts.{AreStepParts, IsBare, StandsAt, AreReadAttributes, AreRatios, IsRuleJudged, KeepsOthers, fault_of_coefficients, own_nodes, nodes_from};
 
 use crate::arguments::{ArgumentNodes, names_at};
 use crate::judging::named_at;
@@ -73,7 +73,7 @@ pub(crate) fn attributes_at(
     requires attributes { (attributes : List Attribute) × AreAttributes (source text.now) nodes.now step.first attributes (length nodes.now) }
     requires stands { (settings : ProofSettings) × (at : ids.Standing) × (p : ProofState) × StandsAt symbols.old terms.old settings at session.old step.standing p }
     requires room { length symbols.old.leaves + (length nodes.now - step.first) ≤ 2 ^ 30 }
-    ensures read { (attributes : List Attribute) (settings : ProofSettings) (at : ids.Standing) (p : ProofState) (before : Step Term) → AreAttributes (source text.now) nodes.now step.first attributes (length nodes.now) → StandsAt symbols.old terms.old settings at session.old step.standing p → before.rule ≡ step.rule → IsBare before → Answers symbols.new terms.old terms.new (AreReadAttributes symbols.new terms.new settings at.nesting session.new p before) (attributes_read settings at attributes before p) result }
+    ensures read { (attributes : List Attribute) (settings : ProofSettings) (at : ids.Standing) (p : ProofState) (before : Step Term) → AreAttributes (source text.now) nodes.now step.first attributes (length nodes.now) → StandsAt symbols.old terms.old settings at session.old step.standing p → before.rule ≡ step.rule → IsBare before → AnswersAs symbols.new terms.old terms.new (AreReadAttributes symbols.new terms.new settings at.nesting session.new p before) (attributes_read settings at attributes before p) result }
     // Each leaf that is added has a node of its own.
     ensures few { length symbols.new.leaves ≤ length symbols.old.leaves + (length nodes.now - step.first) }
     ensures symbols { AddsNoSymbols symbols.old symbols.new }
@@ -95,7 +95,7 @@ pub(crate) fn attributes_at(
 
 /// Empties what attributes have of a step's parts. There are coefficients, though none so far, where its rule takes them.
 fn clear(parts: &mut StepParts, has_ratios: bool)
-    ensures parts { (before : Step Term) → IsBare before → spec.takes_coefficients before.rule ≡ has_ratios → ArePartsOf parts.new before }
+    ensures parts { (before : Step Term) → IsBare before → spec.takes_coefficients before.rule ≡ has_ratios → AreStepParts parts.new before }
     ensures clause { parts.new.clause ≡ parts.old.clause }
 {
     parts.premises.clear();
@@ -125,7 +125,7 @@ fn attribute_at(
     requires says { (a : Attribute) × SaysAttribute (source text.now) nodes.now one.attribute a }
     requires stands { (settings : ProofSettings) × (at : ids.Standing) × (p : ProofState) × StandsAt symbols.old terms.old settings at session.old one.standing p }
     requires room { length symbols.old.leaves + nodes_from one.attribute (length nodes.now) ≤ 2 ^ 30 }
-    ensures read { (a : Attribute) (settings : ProofSettings) (at : ids.Standing) (p : ProofState) (before : Step Term) → SaysAttribute (source text.now) nodes.now one.attribute a → StandsAt symbols.old terms.old settings at session.old one.standing p → before.rule ≡ one.rule → ArePartsOf session.old.parts before → Answers symbols.new terms.old terms.new (AreReadAttributes symbols.new terms.new settings at.nesting session.new p before) (attribute_read settings at a before p) result }
+    ensures read { (a : Attribute) (settings : ProofSettings) (at : ids.Standing) (p : ProofState) (before : Step Term) → SaysAttribute (source text.now) nodes.now one.attribute a → StandsAt symbols.old terms.old settings at session.old one.standing p → before.rule ≡ one.rule → AreStepParts session.old.parts before → AnswersAs symbols.new terms.old terms.new (AreReadAttributes symbols.new terms.new settings at.nesting session.new p before) (attribute_read settings at a before p) result }
     ensures spent { OnOk result (length symbols.new.leaves ≤ length symbols.old.leaves + own_nodes one.attribute) }
     ensures few { length symbols.new.leaves ≤ length symbols.old.leaves + nodes_from one.attribute (length nodes.now) }
     ensures symbols { AddsNoSymbols symbols.old symbols.new }
@@ -174,7 +174,7 @@ fn attribute_at(
 /// Judges the rule whose name is at a node: refused where it is left out.
 fn judge_rule(text: &Lexer<'_>, nodes: &[Node], k: usize) -> Result<(), ReadFault>
     requires { (n : Name) × IsNameNode (source text.now) nodes.now k n }
-    ensures { (n : Name) (p : ProofState) → IsNameNode (source text.now) nodes.now k n → IsJudged (demand (not (is_among left_out_rules n.name)) LeftOut n.place p) p result }
+    ensures { (n : Name) (p : ProofState) → IsNameNode (source text.now) nodes.now k n → IsRuleJudged (demand (not (is_among left_out_rules n.name)) LeftOut n.place p) p result }
 {
     let rule = named_at(text, nodes, k);
     if is_left_out(rule.name) {
@@ -213,7 +213,7 @@ fn ratios_at(
 }
 
 fn fault_of(stop: Stop) -> ReadFault
-    ensures { result ≡ fault_of stop }
+    ensures { result ≡ fault_of_coefficients stop }
 {
     match stop {
         Stop::Text(refusal) => ReadFault::Text(refusal),

@@ -23,10 +23,10 @@ ghost use Rattle.alethe_text.specs.States.{ProofSettings, ProofState};
 ghost use Rattle.alethe_text.specs.Steps as steps;
 ghost use Rattle.alethe_reader.specs.AddedSteps as spec;
 ghost use Rattle.alethe_reader.specs.AddedSteps.{IsToAdd};
-ghost use Rattle.alethe_reader.specs.Answers.{Answers};
+ghost use Rattle.alethe_reader.specs.Answers.{AnswersAs};
 ghost use Rattle.alethe_reader.specs.Bound.{AreBound};
 ghost use Rattle.alethe_reader.specs.Ids.{Used};
-ghost use Rattle.alethe_reader.specs.Sessions.{IsSession, StandsAfter};
+ghost use Rattle.alethe_reader.specs.Sessions.{IsProofSession, StandsAfter};
 ghost use Rattle.alethe_reader.specs.Standing.{IsClosing};
 ghost use Rattle.alethe_reader.specs.declared.session.OpenAnchor.{OpenAnchor};
 
@@ -81,10 +81,10 @@ pub fn read_step(
     session: &mut Session<'_>,
 ) -> Result<(), ReadFault>
     requires says { (n : Name) × (literals : Items) × (attributes : List shape.Attribute) × SaysStep (source text.now) nodes.now step.id step.first step.attributes (shape.step n literals attributes) × IsSymbolName n.name × IsSymbolName (steps.rule_word attributes) }
-    requires session { (settings : ProofSettings) × (p : ProofState) × IsSession symbols.old terms.old settings session.old p }
+    requires session { (settings : ProofSettings) × (p : ProofState) × IsProofSession symbols.old terms.old settings session.old p }
     requires room { length symbols.old.leaves + (length nodes.now - step.first) ≤ 2 ^ 30 }
     requires few { next_index session.old.builder + 1 < 2 ^ 32 - 1 }
-    ensures read { (n : Name) (literals : Items) (attributes : List shape.Attribute) (settings : ProofSettings) (p : ProofState) → SaysStep (source text.now) nodes.now step.id step.first step.attributes (shape.step n literals attributes) → IsSession symbols.old terms.old settings session.old p → Answers symbols.new terms.old terms.new (StandsAfter symbols.new terms.new settings session.new) (steps.step_read settings n literals attributes p) result }
+    ensures read { (n : Name) (literals : Items) (attributes : List shape.Attribute) (settings : ProofSettings) (p : ProofState) → SaysStep (source text.now) nodes.now step.id step.first step.attributes (shape.step n literals attributes) → IsProofSession symbols.old terms.old settings session.old p → AnswersAs symbols.new terms.old terms.new (StandsAfter symbols.new terms.new settings session.new) (steps.step_read settings n literals attributes p) result }
     ensures few { length symbols.new.leaves ≤ length symbols.old.leaves + (length nodes.now - step.first) }
     ensures symbols { AddsNoSymbols symbols.old symbols.new }
     ensures keeps { KeepsTerms terms.old terms.new }
@@ -138,7 +138,7 @@ fn stand(reader: &mut TermReader<'_>, closes: Option<OpenAnchor>)
 fn add_step(session: &mut Session<'_>, new: NewStep<'_>) -> Result<(), ReadFault>
     requires step { (s : Table) × (v : TermsView) × (settings : ProofSettings) × (step : Step Term) × (p : ProofState) × IsToAdd s v settings session.old new step p }
     requires few { next_index session.old.builder + 1 < 2 ^ 32 - 1 }
-    ensures added { OnOk result ((s : Table) (v : TermsView) (settings : ProofSettings) (step : Step Term) (p : ProofState) → IsToAdd s v settings session.old new.entry step p → IsSession s v settings session.new (steps.with_step step p)) }
+    ensures added { OnOk result ((s : Table) (v : TermsView) (settings : ProofSettings) (step : Step Term) (p : ProofState) → IsToAdd s v settings session.old new.entry step p → IsProofSession s v settings session.new (steps.with_step step p)) }
     ensures refused { IfErr result (λ fault. fault ≡ ReadFault.Memory) }
     ensures commands { OnOk result (next_index session.new.builder ≡ next_index session.old.builder + 1) }
     ensures scopes { OnOk result (next_scope session.new.builder ≡ next_scope session.old.builder) }
@@ -153,10 +153,10 @@ fn add_step(session: &mut Session<'_>, new: NewStep<'_>) -> Result<(), ReadFault
 
 /// Hands the step over to the builder, and answers its index.
 fn take_step(builder: &mut ProofBuilder, parts: &StepParts, new: NewStep<'_>) -> Result<u32, Memory>
-    requires may { MayTake builder.old (spec.step_of parts.now new) }
+    requires may { MayTake builder.old (spec.step_added parts.now new) }
     requires few { next_index builder.old + 1 < 2 ^ 32 - 1 }
     ensures index { IfOk result (λ i. i ≡ next_index builder.old) }
-    ensures written { OnOk result (builder.new ≡ writing.take_step builder.old (spec.step_of parts.now new.entry)) }
+    ensures written { OnOk result (builder.new ≡ writing.take_step builder.old (spec.step_added parts.now new.entry)) }
 {
     let clause = parts.clause.as_slice();
     let premises = parts.premises.as_slice();
@@ -176,7 +176,7 @@ fn take_step(builder: &mut ProofBuilder, parts: &StepParts, new: NewStep<'_>) ->
 
 /// The coefficients of the step, where it has any.
 fn ratios_of(parts: &StepParts) -> Option<&[Ratio]>
-    ensures { fractions result ≡ spec.ratios_of parts.now }
+    ensures { fractions result ≡ spec.ratios_told parts.now }
 {
     if parts.has_ratios {
         Some(parts.ratios.as_slice())

@@ -9,7 +9,7 @@ number_of [] = 0
 number_of (b ∷ bs) = (b - 97) + 16 * number_of bs
 
 -- no anchor is open, and there are so many commands, whose ids have numbers below their number
-pub record IsWritten (scope : Scope ℕ ℕ) (n : ℕ) : Type 0 where
+pub record IsNumberedScope (scope : Scope ℕ ℕ) (n : ℕ) : Type 0 where
   pub closed : scope.nesting ≡ outermost
   pub commands : commands_in scope.items ≡ n
   pub ids : All (λ id. number_of id < n) (visible_ids outermost scope.items)

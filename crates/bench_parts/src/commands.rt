@@ -2,7 +2,7 @@
 
 ghost use Rattle.std.specs.Prelude.{◌≡◌, ◌<◌, ◌+◌, ◌%◌, ◌^◌, IfOk, OnOk};
 ghost use Rattle.rule_model.specs.RuleNames.{IsSymbolName};
-ghost use Rattle.bench_parts.specs.Numbered.{IsWritten, number_of};
+ghost use Rattle.bench_parts.specs.Numbered.{IsNumberedScope, number_of};
 
 use pair_pool::{Memory, Ref};
 use proof_store::ProofBuilder;
@@ -24,9 +24,9 @@ pub fn run(alloc: Global, count: u32) -> Result<u32, Memory> {
 // Adds the assume with this number.
 #[tactic(auto, using(crate::proofs::NumberedLemmas::is_next))]
 fn assume(builder: &mut ProofBuilder, number: u32) -> Result<(), Memory>
-    requires written { IsWritten builder.old number }
+    requires written { IsNumberedScope builder.old number }
     requires few { number < 2 ^ 23 }
-    ensures { OnOk result (IsWritten builder.new (number + 1)) }
+    ensures { OnOk result (IsNumberedScope builder.new (number + 1)) }
 {
     let id = id_of(number);
     let _index = builder.assume(&id, Ref::leaf(number))?;

@@ -23,7 +23,7 @@ use Rattle.carcara_cli.specs.declared.answer.Answer.TheVariants.{Usage, ReadFaul
 use Rattle.carcara_cli.specs.declared.judgement.Hole as code
 use Rattle.carcara_cli.specs.declared.judgement.Judgement.{Judgement}
 use Rattle.carcara_cli.specs.declared.judgement.Judgement.TheVariants.{Valid, Holey, NoEmptyClause, Faulty, TooWide, RefusedProblem, RefusedProof, PoolFull}
-use Rattle.carcara_cli.specs.Exactness.{IsDefinedJudgement, IsDefinedOfTexts, IsDefinedOfFiles, IsDefined, IsExact, SaySame}
+use Rattle.carcara_cli.specs.Exactness.{IsDefinedJudgement, IsDefinedOfTexts, IsDefinedOfFiles, IsDefinedAnswer, IsExact, SaySame}
 use Rattle.carcara_cli.specs.Holes.{Hole, holes_from, told_hole}
 use Rattle.carcara_cli.specs.Judgement.{IsCheckedAs, IsJudgement}
 use Rattle.carcara_cli.specs.Printed.{line_end, text_of_step_cause, step_text, hole_line, refusal_text, text_of_judgement, status_of_judgement, status_of, text_of}
@@ -177,12 +177,12 @@ module _
       (subst (λ x. IsDefinedOfTexts x h.proof p.options a) (some_is h.problem k.problem (sym h.told_problem ∙ k.told_problem)) h.defined)
 
   -- the words and the files define one answer, as far as it is printed
-  pub one_answer : (content : List ℕ → Option (List ℕ)) (asked : Option Asked) (a b : Answer) → IsDefined content asked a → IsDefined content asked b → SaySame a b
+  pub one_answer : (content : List ℕ → Option (List ℕ)) (asked : Option Asked) (a b : Answer) → IsDefinedAnswer content asked a → IsDefinedAnswer content asked b → SaySame a b
   one_answer content None a b h k = rw (h, k) (record { status = refl; text = refl })
   one_answer content (Some p) a b h k = one_of_texts k.problem p.options k.proof a b (same_files content p a h b k) k.defined
 
 abbrev pub DefineOneAnswer : Type 0
-DefineOneAnswer = (content : List ℕ → Option (List ℕ)) (asked : Option Asked) (a b : Answer) → IsDefined content asked a → IsDefined content asked b → SaySame a b
+DefineOneAnswer = (content : List ℕ → Option (List ℕ)) (asked : Option Asked) (a b : Answer) → IsDefinedAnswer content asked a → IsDefinedAnswer content asked b → SaySame a b
 
 -- an answer that is given of told files, and no fault nor full pool, is defined
 given_of_texts : (problem proof : List ℕ) (options : Options) (j : Judgement) → IsJudgedOfFiles options (Some problem) (Some proof) j → j ≢ PoolFull → IsDefinedJudgement problem proof options j
@@ -197,7 +197,7 @@ no_room : (j : Judgement) → status_of (Judged j) ≢ 8 → j ≢ PoolFull
 no_room j h e = h (rw e refl)
 
 given_is_defined : (content : List ℕ → Option (List ℕ)) (before after : ℕ) (asked : Option Asked) (a b : Answer)
-    → IsDefined content asked a → IsAnswerTo content before after asked b → status_of b ≢ 5 → status_of b ≢ 8 → IsDefined content asked b
+    → IsDefinedAnswer content asked a → IsAnswerTo content before after asked b → status_of b ≢ 5 → status_of b ≢ 8 → IsDefinedAnswer content asked b
 given_is_defined content before after None a Usage h k not_fault not_full = refl
 given_is_defined content before after None a ReadFault h k not_fault not_full = absurd k
 given_is_defined content before after None a TooLong h k not_fault not_full = absurd k

@@ -25,10 +25,10 @@ NamesOneOf n (Verdict.Unknown i) = i < n
 NamesOneOf n v = ⊤
 
 -- the judgement that a verdict is, with the ids that it names
-abbrev pub IsNamed : {V T : Type 0} → List Status → ProofItems V T → Verdict → Judgement → Type 0
-IsNamed statuses proof v Valid = v ≡ Verdict.Valid
-IsNamed statuses proof v (Holey holes) = (v ≡ Verdict.Holey) × (map told_hole holes.items ≡ holes_from proof 0 statuses)
-IsNamed statuses proof v NoEmptyClause = v ≡ Verdict.NoEmpty
-IsNamed statuses proof v (Faulty id cause) = (i : ℕ) × (v ≡ Verdict.InvalidAt i cause) × (id.items ≡ id_at proof i)
-IsNamed statuses proof v (TooWide id) = (i : ℕ) × (v ≡ Verdict.Unknown i) × (id.items ≡ id_at proof i)
-IsNamed statuses proof v _ = ⊥
+abbrev pub NamesIds : {V T : Type 0} → List Status → ProofItems V T → Verdict → Judgement → Type 0
+NamesIds statuses proof v Valid = v ≡ Verdict.Valid
+NamesIds statuses proof v (Holey holes) = (v ≡ Verdict.Holey) × (map told_hole holes.items ≡ holes_from proof 0 statuses)
+NamesIds statuses proof v NoEmptyClause = v ≡ Verdict.NoEmpty
+NamesIds statuses proof v (Faulty id cause) = (i : ℕ) × (v ≡ Verdict.InvalidAt i cause) × (id.items ≡ id_at proof i)
+NamesIds statuses proof v (TooWide id) = (i : ℕ) × (v ≡ Verdict.Unknown i) × (id.items ≡ id_at proof i)
+NamesIds statuses proof v _ = ⊥

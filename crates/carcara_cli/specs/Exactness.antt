@@ -33,9 +33,9 @@ pub record IsDefinedOfFiles (content : List ℕ → Option (List ℕ)) (p : Aske
   pub defined : IsDefinedOfTexts problem proof p.options a
 
 -- The answer that the words and the files define. Words that spell no command define the usage line.
-abbrev pub IsDefined : (List ℕ → Option (List ℕ)) → Option Asked → Answer → Type 0
-IsDefined content None a = a ≡ Usage
-IsDefined content (Some p) a = IsDefinedOfFiles content p a
+abbrev pub IsDefinedAnswer : (List ℕ → Option (List ℕ)) → Option Asked → Answer → Type 0
+IsDefinedAnswer content None a = a ≡ Usage
+IsDefinedAnswer content (Some p) a = IsDefinedOfFiles content p a
 
 -- two answers that are printed alike and end with one status
 pub record SaySame (a b : Answer) : Type 0 where
@@ -46,5 +46,5 @@ pub record SaySame (a b : Answer) : Type 0 where
 -- the answer that is defined, and its whole text was printed.
 abbrev pub IsExact : (List ℕ → Option (List ℕ)) → Option Asked → Option (List ℕ) → Option (List ℕ) → ℕ → Type 0
 IsExact content asked old new status =
-    (a : Answer) → IsDefined content asked a → status ≢ 5 → status ≢ 6 → status ≢ 7 → status ≢ 8 →
+    (a : Answer) → IsDefinedAnswer content asked a → status ≢ 5 → status ≢ 6 → status ≢ 7 → status ≢ 8 →
     (status ≡ status_of a) × Appends old new (text_of a)

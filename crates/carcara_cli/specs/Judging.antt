@@ -16,7 +16,7 @@ use Rattle.alethe_reader.specs.Reading.{IsProofOf}
 use Rattle.term_reader.specs.declared.flags.Flags.{Flags}
 use Rattle.step_check.specs.Statuses.{AreStatusesOf}
 use Rattle.carcara_cli.specs.declared.judgement.Judgement.{Judgement}
-use Rattle.carcara_cli.specs.Answering.{IsNamed}
+use Rattle.carcara_cli.specs.Answering.{NamesIds}
 use Rattle.carcara_cli.specs.Reading.{settings_of}
 
 -- what was read of the two texts, in a table and a pool: the references of the assertions, and the proof over references
@@ -41,4 +41,4 @@ pub record IsJudgedProof (flags : Flags) (s : Table) (v : TermsView) (asserted :
   pub of : Verdict
   pub are : AreStatusesOf flags s v asserted refs statuses
   pub verdict : IsVerdict statuses refs of
-  pub named : IsNamed statuses refs of j
+  pub named : NamesIds statuses refs of j

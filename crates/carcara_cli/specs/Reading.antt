@@ -9,7 +9,7 @@ use Rattle.term_reader.specs.declared.flags.Flags.{Flags}
 use Rattle.command_words.specs.declared.request.Options.{Options}
 use Rattle.alethe_text.specs.ProofTexts.{StandsForProof}
 use Rattle.alethe_text.specs.States.{ProofSettings}
-use Rattle.alethe_reader.specs.Reading.{IsCounted as IsCountedOfProof}
+use Rattle.alethe_reader.specs.Reading.{IsCountedOfProof as IsCountedOfProof}
 use Rattle.step_check.specs.Statuses.{IsPlacedOf}
 
 -- The flags of a check: lets are replaced and steps by unknown rules are holes where the options ask for that, and

@@ -17,7 +17,7 @@ ghost use Rattle.carcara_cli.specs.Reading.{settings_of, IsPlacedByCheck, NeedsR
 ghost use Rattle.carcara_cli.specs.Cells.{HasMoreCells};
 ghost use Rattle.carcara_cli.specs.CellSums.{cells_in_all};
 ghost use Rattle.carcara_cli.specs.Judgement.{IsCheckedAs};
-ghost use Rattle.carcara_cli.specs.Exactness.{IsDefined, SaySame};
+ghost use Rattle.carcara_cli.specs.Exactness.{IsDefinedAnswer, SaySame};
 ghost use Rattle.carcara_cli.specs.declared.answer.Answer.{Answer};
 ghost use Rattle.command_words.specs.CommandLine.{Asked};
 
@@ -45,7 +45,7 @@ pub fn valid_proofs_are_sound()
 
 /// What the words ask for and the bytes of the two files define one answer, as far as it is printed.
 pub fn words_and_files_define_one_answer()
-    ensures { (content : List ℕ → Option (List ℕ)) (asked : Option Asked) (a b : Answer) → IsDefined content asked a → IsDefined content asked b → SaySame a b }
+    ensures { (content : List ℕ → Option (List ℕ)) (asked : Option Asked) (a b : Answer) → IsDefinedAnswer content asked a → IsDefinedAnswer content asked b → SaySame a b }
 {
     texts_have_one_reading();
     proof_texts_have_one_reading();

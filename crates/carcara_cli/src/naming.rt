@@ -2,7 +2,7 @@
 ghost use Rattle.std.specs.Prelude.{◌≡◌, ◌<◌, length, map, IfOk};
 ghost use Rattle.rule_model.specs.Reading.{id_at, rule_name_at};
 ghost use Rattle.rule_model.specs.Scopes.{commands_in};
-ghost use Rattle.carcara_cli.specs.Answering.{NamesOneOf, IsNamed};
+ghost use Rattle.carcara_cli.specs.Answering.{NamesOneOf, NamesIds};
 ghost use Rattle.carcara_cli.specs.Holes.{holes_from, told_hole};
 
 use crate::judgement::{Hole, Judgement};
@@ -51,7 +51,7 @@ pub fn named(
 ) -> Result<Judgement, AllocError>
     requires count { length statuses.now ≡ commands_in proof.now }
     requires within { NamesOneOf (commands_in proof.now) verdict }
-    ensures { IfOk result (IsNamed statuses.now proof.now verdict) }
+    ensures { IfOk result (NamesIds statuses.now proof.now verdict) }
 {
     match verdict {
         Verdict::Valid => Ok(Judgement::Valid),

@@ -2,13 +2,13 @@
 use Rattle.std.proofs.Common.{◌∙◌, ◌+◌, sym, ap, subst, refl, arith}
 use Rattle.std.proofs.lemmas.Option.{slice_get_within}
 use Rattle.alethe_reader.specs.Judging.{is_named}
-use Rattle.alethe_reader.specs.Standing.{Stands}
+use Rattle.alethe_reader.specs.Standing.{IsStandingOf}
 use Rattle.alethe_reader.proofs.StandingSteps.{stands_here, stands_nowhere, stands_closing}
 use Rattle.alethe_reader.proofs.standing.standing_at.Goals as goal
 
 pub returns-in_default : goal.returns-in_default
 returns-in_default c s v p symbol w =
-    subst (λ t. Stands c.args.session.now.ids p (is_named c.args.id) t) (sym c.standing_here.ensures)
+    subst (λ t. IsStandingOf c.args.session.now.ids p (is_named c.args.id) t) (sym c.standing_here.ensures)
     (stands_here s v c.args.session.now p (is_named c.args.id) w c.len.result c.len.ensures symbol c.in_default.ensures)
 
 pub closing-requires : goal.closing-requires
@@ -20,7 +20,7 @@ closing-requires c =
 pub returns-in-Some-closed_by : goal.returns-in-Some-closed_by
 returns-in-Some-closed_by c s v p symbol w =
     let (front, split, place) = c.in-Some-closed_by.ensures.some in
-    subst (λ t. Stands c.args.session.now.ids p (is_named c.args.id) t) (sym c.closing.ensures)
+    subst (λ t. IsStandingOf c.args.session.now.ids p (is_named c.args.id) t) (sym c.closing.ensures)
     (stands_closing s v c.args.session.now p (is_named c.args.id) w c.in-Some.found c.in-Some.ensures front c.in-Some-closed_by.anchor (sym c.deref.ensures.value ∙ split) place
     (c.in-Some-closed_by.anchor.ids + 1) c.len-in-Some-closed_by.result refl c.len-in-Some-closed_by.ensures)
 

@@ -10,7 +10,7 @@ use Rattle.alethe_text.specs.Commands.{Attribute}
 use Rattle.alethe_text.specs.Ids as ids
 use Rattle.alethe_text.specs.States.{ProofSettings, ProofState}
 use Rattle.alethe_text.specs.Steps.{attributes_read}
-use Rattle.alethe_reader.specs.StepParts.{ArePartsOf, IsBare, StandsAt, KeepsOthers}
+use Rattle.alethe_reader.specs.StepParts.{AreStepParts, IsBare, StandsAt, KeepsOthers}
 use Rattle.alethe_reader.proofs.AttributeReading.{AreSoFar}
 use Rattle.alethe_reader.proofs.step_attributes.attributes_at.Given as goal
 
@@ -23,7 +23,7 @@ invariant-attributes l = record {
   adds : AddsNoSymbols l.fn.symbols l.symbols;
   keeps : KeepsTerms l.fn.terms l.terms;
   others : KeepsOthers l.fn.session l.session;
-  some : (settings : ProofSettings) × (at : ids.Standing) × (p : ProofState) × (step : Step Term) × StandsAt l.symbols l.terms settings at l.session l.step.standing p × (step.rule ≡ l.step.rule) × ArePartsOf l.session.parts step;
+  some : (settings : ProofSettings) × (at : ids.Standing) × (p : ProofState) × (step : Step Term) × StandsAt l.symbols l.terms settings at l.session l.step.standing p × (step.rule ≡ l.step.rule) × AreStepParts l.session.parts step;
   so_far : (attributes : List Attribute) (settings : ProofSettings) (at : ids.Standing) (p : ProofState) (before : Step Term) → AreAttributes (source l.text) l.nodes l.step.first attributes (length l.nodes)
       → StandsAt l.fn.symbols l.fn.terms settings at l.fn.session l.step.standing p → before.rule ≡ l.step.rule → IsBare before
       → AreSoFar (source l.text) l.nodes settings at l.step.standing l.symbols l.fn.terms l.terms l.session p before l.at (length l.nodes) (attributes_read settings at attributes before p);

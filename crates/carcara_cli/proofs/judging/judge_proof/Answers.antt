@@ -1,7 +1,7 @@
 use Rattle.std.proofs.Common.{rules, ◌^◌, ◌∙◌, Err, ap, inl, inr}
 use Rattle.term_model.specs.Terms.{Term}
 use Rattle.term_names.specs.Making.{PlacesCellsOf, LacksCellOf}
-use Rattle.alethe_reader.specs.Reading.{IsCounted, IsProofOf}
+use Rattle.alethe_reader.specs.Reading.{IsCountedOfProof, IsProofOf}
 use Rattle.term_reader.specs.ProblemViews.{IsProblemOf}
 use Rattle.term_reader.proofs.Staying.{lacks_more}
 use Rattle.carcara_cli.specs.Cells.{HasMoreCells}
@@ -18,7 +18,7 @@ returns-in-Err-PoolFull c = λ bits places.
     let z = c.read_proof.new.symbols in
     let old = c.args.terms.pass in
     let new = c.read_proof.new.terms.pass in
-    let P : Term → Type 0 = IsCounted t.proof.now (settings_of t.options.replaces_lets) before.script in
+    let P : Term → Type 0 = IsCountedOfProof t.proof.now (settings_of t.options.replaces_lets) before.script in
     let Q : Term → Type 0 = IsReadOf t.problem.now t.options.replaces_lets t.proof.now in
     let more : (u : Term) → P u → Q u = λ u h. inr (record { script = before.script; stands = before.stands; counted = h }) in
     let placed : PlacesCellsOf z old new P = rw (c.flags_of-flags.ensures) at (c.read_proof.ensures.placed before.script before.is) in
@@ -47,7 +47,7 @@ judge_read-requires-clause-holds c =
     let z = c.read_proof.new.symbols in
     let old = c.args.terms.pass in
     let new = c.read_proof.new.terms.pass in
-    let P : Term → Type 0 = IsCounted t.proof.now (settings_of t.options.replaces_lets) before.script in
+    let P : Term → Type 0 = IsCountedOfProof t.proof.now (settings_of t.options.replaces_lets) before.script in
     let Q : Term → Type 0 = IsReadOf t.problem.now t.options.replaces_lets t.proof.now in
     let placed : PlacesCellsOf z old new P = rw (c.flags_of-flags.ensures) at (c.read_proof.ensures.placed before.script before.is) in
     holds_more c.args.symbols.now z old new P Q (λ u h. inr (record { script = before.script; stands = before.stands; counted = h })) c.read_proof.ensures.symbols.keeps c.read_proof.ensures.keeps.pass c.requires.holds placed
