@@ -17,3 +17,4 @@ mod TestTerms
 pub mod Keeping
 pub mod FrameLemmas
 pub mod KeptFrames
+pub mod FoundImages

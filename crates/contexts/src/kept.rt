@@ -1,12 +1,13 @@
 //! Putting terms in for the variables of one term after another, where what was gone through is remembered, and where more
 //! is put in from a place on until that place is left.
 
-ghost use Rattle.std.specs.Prelude.{◌≡◌, ◌++◌, ◌∷◌, [], ℕ, IfOk, IfErr, List, is_ok, if◌then◌else◌};
+ghost use Rattle.std.specs.Prelude.{◌≡◌, ◌↔◌, ◌++◌, ◌∷◌, [], ℕ, IfOk, IfErr, IfSome, IsSome, List, is_ok, if◌then◌else◌};
 ghost use Rattle.pair_pool.specs.Views.{IsKnown};
-ghost use Rattle.rule_model.specs.Replacement.{Replacement};
-ghost use Rattle.rule_model.specs.Substitution.{put_in};
-ghost use Rattle.sym_table.specs.Table.{Table};
-ghost use Rattle.term_model.specs.Terms.{Term};
+ghost use Rattle.rule_model.specs.Replacement.{Replacement, replaced_by};
+ghost use Rattle.rule_model.specs.Substitution.{put_in, Replaces};
+ghost use Rattle.sym_table.specs.Table.{Table, IsLeaf};
+ghost use Rattle.term_model.specs.Terms.{Var, Term};
+ghost use Rattle.term_pool.specs.StandsFor.{variable_leaf};
 ghost use Rattle.term_pool.specs.Views.{TermsView, IsTerm, RefersTo, KeepsTerms};
 ghost use Rattle.term_pool.specs.declared.stop.TermStop.TheVariants as TermStop;
 ghost use Rattle.contexts.specs.Kept.{IsRight, IsRightForSome, bindings_of, frames_of};
@@ -128,6 +129,19 @@ impl Substitution {
     {
         let _leaves = symbols.count();
         put(terms, &self.images, &mut self.here.walked, r)
+    }
+
+    /// What is put in for a variable, by its leaf, by all frames that were entered and not left, the last one first; `None`
+    /// exactly where nothing is. Of a leaf that is no variable's it says nothing.
+    ///
+    /// One look-up, which takes no memory and places no cell.
+    pub fn image(&self, symbols: &Symbols, variable: u32) -> Option<Ref>
+        requires { IsRightForSome self.now }
+        ensures image { (v : TermsView) (x : Var) (q : Replacement) → IsLeaf symbols.now variable (variable_leaf x) → StandForReplacement symbols.now v (bindings_of self.now) q → IfSome result (λ r. RefersTo symbols.now v r (replaced_by q x)) }
+        ensures replaced { (v : TermsView) (x : Var) (q : Replacement) → IsLeaf symbols.now variable (variable_leaf x) → StandForReplacement symbols.now v (bindings_of self.now) q → IsSome result ↔ Replaces q x }
+    {
+        let _leaves = symbols.count();
+        self.images.get(&variable).copied()
     }
 }
 

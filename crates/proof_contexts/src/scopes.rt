@@ -1,14 +1,17 @@
 //! The scopes that are open where a proof is looked at.
 
-ghost use Rattle.std.specs.Prelude.{◌≡◌, IfOk, IfErr, List};
+ghost use Rattle.std.specs.Prelude.{◌≡◌, ◌↔◌, IfOk, IfErr, IfSome, IsSome, List};
 ghost use Rattle.contexts.specs.PutIn.{LacksRoomFor, PlacesTerm};
 ghost use Rattle.pair_pool.specs.Views.{IsKnown};
 ghost use Rattle.proof_store.specs.Checks.{StandForSome};
 ghost use Rattle.proof_store.specs.Meaning.{StandForItems};
-ghost use Rattle.rule_model.specs.Contexts.{images};
+ghost use Rattle.rule_model.specs.Contexts.{images, IsBoundBy};
 ghost use Rattle.rule_model.specs.Proofs.{ProofItems};
+ghost use Rattle.rule_model.specs.Replacement.{replaced_by};
 ghost use Rattle.rule_model.specs.Substitution.{put_in};
+ghost use Rattle.sym_table.specs.Table.{IsLeaf};
 ghost use Rattle.term_model.specs.Terms.{Var, Term};
+ghost use Rattle.term_pool.specs.StandsFor.{variable_leaf};
 ghost use Rattle.term_pool.specs.Views.{IsTerm, RefersTo, KeepsTerms};
 ghost use Rattle.term_pool.specs.declared.stop.TermStop.TheVariants as TermStop;
 ghost use Rattle.proof_contexts.specs.OpenAnchors.{AreOpenIn, AreKept, scope_of};
@@ -16,6 +19,7 @@ ghost use Rattle.proof_contexts.specs.OpenAnchors.{AreOpenIn, AreKept, scope_of}
 use contexts::{Substitution, substitutions_stay};
 use pair_pool::{Memory, Ref};
 use proof_store::{Proof, proofs_stand_for_one, proofs_stay};
+use rule_model::laws::contexts::images_are_closed;
 use rule_model::laws::scopes::scopes_are_a_tree;
 use std::alloc::Global;
 use sym_table::Symbols;
@@ -95,5 +99,31 @@ impl OpenScopes {
         proofs_stay();
         substitutions_stay();
         self.substitution.put_in(symbols, terms, r)
+    }
+
+    /// The image of a variable, by its leaf, in the scope that was entered last: its term in the innermost open anchor that
+    /// binds it, with the images of the anchors outside that one put in (Alethe, contexts). `None` exactly where no open
+    /// anchor binds the variable. Of a leaf that is no variable's it says nothing.
+    ///
+    /// One look-up, which takes no memory and places no cell.
+    pub fn image(
+        &self,
+        proof: &Proof,
+        symbols: &Symbols,
+        terms: &Terms<'_>,
+        variable: u32,
+    ) -> Option<Ref>
+        requires kept { AreKept symbols.now terms.now proof.now self.now }
+        ensures image { (of : ProofItems Var Term) (anchors : List (List (Var × Term))) (x : Var) → StandForItems symbols.now terms.now proof.now of → AreOpenIn of (scope_of self.now) anchors →
+            IsLeaf symbols.now variable (variable_leaf x) → IfSome result (λ r. RefersTo symbols.now terms.now r (replaced_by (images anchors) x)) }
+        ensures bound { (of : ProofItems Var Term) (anchors : List (List (Var × Term))) (x : Var) → StandForItems symbols.now terms.now proof.now of → AreOpenIn of (scope_of self.now) anchors →
+            IsLeaf symbols.now variable (variable_leaf x) → IsSome result ↔ IsBoundBy anchors x }
+    {
+        let _ = proof;
+        let _leaves = symbols.count();
+        terms.one_to_one();
+        proofs_stand_for_one();
+        images_are_closed();
+        self.substitution.image(symbols, variable)
     }
 }
