@@ -1,1 +1,2 @@
 pub mod WeightLemmas
+pub mod FormLemmas
