@@ -1,2 +1,3 @@
 pub mod WeightLemmas
+pub mod LineLists
 pub mod FormLemmas

@@ -1,2 +1,4 @@
 pub mod Weights
 pub mod LineForms
+pub mod Totals
+pub mod Sums

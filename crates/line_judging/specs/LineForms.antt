@@ -1,4 +1,4 @@
--- Public. The linear form of a line, as it is found.
+-- Private. The linear form of a line, as it is found.
 use Rattle.std.specs.Prelude.{◌≤◌, ◌<◌, ◌+◌, List, Option, Some, None, unsigned_abs}
 use Rattle.sym_table.specs.Table.{Table}
 use Rattle.term_pool.specs.Views.{TermsView}

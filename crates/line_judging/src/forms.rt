@@ -36,7 +36,7 @@ fn copy(from: &[Found], into: &mut Vec<Coefficient>) -> Result<(), Memory>
 
 /// The linear form of a line's first term less that of its second, and `None` where its numbers are too wide. The coefficients
 /// take the place of those in the second list; the first is scratch.
-pub fn form_of(
+pub(crate) fn form_of(
     forms: &mut LinearForms,
     symbols: &Symbols,
     terms: &mut Terms<'_>,
