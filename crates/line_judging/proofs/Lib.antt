@@ -1,3 +1,5 @@
 pub mod WeightLemmas
 pub mod LineLists
 pub mod FormLemmas
+pub mod LeastLemmas
+pub mod BoundLemmas
