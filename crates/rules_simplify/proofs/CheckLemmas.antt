@@ -5,7 +5,12 @@ use Rattle.term_model.specs.Flips.{equality}
 use Rattle.term_model.specs.Terms.{Var, Term, operation, terms_of}
 use Rattle.term_pool.specs.Views.{TermsView, ReferToAll}
 use Rattle.rule_model.specs.declared.rules.Rule.{Rule}
-use Rattle.rule_model.specs.Conditions.{MeetsRule}
+use Rattle.rule_model.specs.Conditions.{MeetsRule, IsClauseOfTruths}
+use Rattle.std.proofs.lemmas.List.Elements.{All-head}
+use Rattle.term_model.specs.declared.symbols.Op.{Op}
+use Rattle.term_model.specs.declared.symbols.Sort.{Sort}
+use Rattle.term_model.specs.Sorts.{IsOf, IsWellSorted}
+use Rattle.rules_simplify.proofs.RowLemmas.{arguments_sorted}
 use Rattle.rule_model.specs.Judged.{Judged}
 use Rattle.rule_model.specs.Proofs.{ProofItems}
 use Rattle.rule_model.specs.Reading.{rule_at, clause_at, premises_at}
@@ -52,12 +57,19 @@ rewriting_is s v p table ts told is test = (
 pub no_rewriting : (table : Simplification) (ts : List Term) → ((u w : Term) → ts ≡ equality u w ∷ [] → ⊥) → IsTrue false ↔ MeetsSimplification (rows_of table) [] ts
 no_rewriting table ts other = (λ e. absurd cc, λ m. absurd (other m.left m.right m.literal))
 
+-- the left side of an equality that is a clause of terms of Bool
+pub left_sorted : (ts : List Term) (l r : Term) → ts ≡ equality l r ∷ [] → IsClauseOfTruths ts → IsWellSorted l
+left_sorted ts l r e truths =
+    let of = All-head (λ t. IsOf t Sort.Bool) (equality l r) [] (subst IsClauseOfTruths e truths) in
+    (arguments_sorted Op.Equal (l ∷ r ∷ []) Sort.Bool of).0
+
 -- a rule of this family asks what its case asks
 rule_meets : (rule : Rule) (j : Judged) → IsOfSimplification rule → MeetsRule rule j ↔ MeetsSimplify rule j.premises j.clause
 rule_meets Rule.AndSimplify j is = (λ h. h, λ h. h)
 rule_meets Rule.OrSimplify j is = (λ h. h, λ h. h)
 rule_meets Rule.NotSimplify j is = (λ h. h, λ h. h)
 rule_meets Rule.ImpliesSimplify j is = (λ h. h, λ h. h)
+rule_meets Rule.EquivSimplify j is = (λ h. h, λ h. h)
 rule_meets Rule.IteSimplify j is = (λ h. h, λ h. h)
 rule_meets _ j is = absurd cc
 
@@ -66,16 +78,18 @@ some_premise p ps ts Rule.AndSimplify met = absurd (let e = met.none in cc)
 some_premise p ps ts Rule.OrSimplify met = absurd (let e = met.none in cc)
 some_premise p ps ts Rule.NotSimplify met = absurd (let e = met.none in cc)
 some_premise p ps ts Rule.ImpliesSimplify met = absurd (let e = met.none in cc)
+some_premise p ps ts Rule.EquivSimplify met = absurd (let e = met.none in cc)
 some_premise p ps ts Rule.IteSimplify met = absurd (let e = met.none in cc)
 some_premise p ps ts rule met = absurd met
 
-pub other_rule : (ts : List Term) (rule : Rule) → (rule ≡ Rule.AndSimplify → ⊥) → (rule ≡ Rule.OrSimplify → ⊥) → (rule ≡ Rule.NotSimplify → ⊥) → (rule ≡ Rule.ImpliesSimplify → ⊥) → (rule ≡ Rule.IteSimplify → ⊥) → IsTrue false ↔ MeetsSimplify rule [] ts
-other_rule ts Rule.AndSimplify no_and no_or no_not no_implies no_ite = absurd (no_and refl)
-other_rule ts Rule.OrSimplify no_and no_or no_not no_implies no_ite = absurd (no_or refl)
-other_rule ts Rule.NotSimplify no_and no_or no_not no_implies no_ite = absurd (no_not refl)
-other_rule ts Rule.ImpliesSimplify no_and no_or no_not no_implies no_ite = absurd (no_implies refl)
-other_rule ts Rule.IteSimplify no_and no_or no_not no_implies no_ite = absurd (no_ite refl)
-other_rule ts rule no_and no_or no_not no_implies no_ite = (λ e. absurd cc, λ met. absurd met)
+pub other_rule : (ts : List Term) (rule : Rule) → (rule ≡ Rule.AndSimplify → ⊥) → (rule ≡ Rule.OrSimplify → ⊥) → (rule ≡ Rule.NotSimplify → ⊥) → (rule ≡ Rule.ImpliesSimplify → ⊥) → (rule ≡ Rule.EquivSimplify → ⊥) → (rule ≡ Rule.IteSimplify → ⊥) → IsTrue false ↔ MeetsSimplify rule [] ts
+other_rule ts Rule.AndSimplify no_and no_or no_not no_implies no_equiv no_ite = absurd (no_and refl)
+other_rule ts Rule.OrSimplify no_and no_or no_not no_implies no_equiv no_ite = absurd (no_or refl)
+other_rule ts Rule.NotSimplify no_and no_or no_not no_implies no_equiv no_ite = absurd (no_not refl)
+other_rule ts Rule.ImpliesSimplify no_and no_or no_not no_implies no_equiv no_ite = absurd (no_implies refl)
+other_rule ts Rule.EquivSimplify no_and no_or no_not no_implies no_equiv no_ite = absurd (no_equiv refl)
+other_rule ts Rule.IteSimplify no_and no_or no_not no_implies no_equiv no_ite = absurd (no_ite refl)
+other_rule ts rule no_and no_or no_not no_implies no_equiv no_ite = (λ e. absurd cc, λ met. absurd met)
 
 module _ (of : ProofItems Var Term) (i : ℕ) (rule : Rule) (simplification : IsOfSimplification rule) (same : rule ≡ rule_at of i) where
   pub case_of : (j : Judged) → MeetsRule (rule_at of i) j ↔ MeetsSimplify (rule_at of i) j.premises j.clause

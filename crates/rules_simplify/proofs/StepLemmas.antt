@@ -19,6 +19,13 @@ use Rattle.rules_simplify.proofs.ChainLemmas.{reached_none, reached_next, first_
 use Rattle.rules_simplify.proofs.RowLemmas.{last_fits_none, letter_settled, letter_refers, letters_refer, over_is, letter_there, rewrite_is}
 use Rattle.rules_simplify.proofs.WeightLemmas.{row_falls, weight_at, weight_is}
 use Rattle.std.specs.Borrow.{Bor}
+use Rattle.std.specs.List.{AllByRecursion}
+use Rattle.rule_model.proofs.Lists.{contains_head, contains_later}
+use Rattle.term_model.specs.Sorts.{IsWellSorted}
+
+each_sorted : (f : Letter → Term) (ls : List Letter) → ((l : Letter) → Contains ls l → IsWellSorted (f l)) → AllByRecursion IsWellSorted (map f ls)
+each_sorted f [] h = tt
+each_sorted f (l ∷ ls) h = (h l (contains_head l ls), each_sorted f ls (λ m there. h m (contains_later l m ls there)))
 
 module _ (s : Table) (v : TermsView) (rows : List RewriteRow) (fit : Fit) (t : Term) (is : IsFirst s v rows fit t) where
   -- what the row makes
@@ -39,6 +46,11 @@ module _ (s : Table) (v : TermsView) (rows : List RewriteRow) (fit : Fit) (t : T
   part_refers l r e there =
       subst (λ p. RefersTo s v r (fill is.fits.terms p)) (sym (part_is l e)) (letter_refers s v fit.letters is.fits.terms is.fits.agrees l r there)
 
+  pub part_sorted : (l : Letter) → fit.row.next ≡ Part l → IsWellSorted next_term
+  part_sorted l e =
+      subst (λ p. IsWellSorted (fill is.fits.terms p)) (sym (part_is l e))
+      (is.fits.sorted l (subst (λ p. IsTrue (has_letters_of is.row.left p)) (part_is l e) is.parts.4))
+
   pub over_at : (op : Op) (ls : Bor (List Letter)) (at : Application) → fit.row.next ≡ Over op ls → at.op ≡ op → map (slot fit.letters) ls.now ≡ map Some at.arguments.items → IsAt s v at next_term
   over_at op ls at e same loaded =
       let next = subst (IsNext rows is.row.right) e is.parts.5 in
@@ -46,6 +58,7 @@ module _ (s : Table) (v : TermsView) (rows : List RewriteRow) (fit : Fit) (t : T
         arguments = map is.fits.terms ls.now;
         is = over_is is.fits.terms is.row.right op ls.now next.0 next.1 ∙ ap (λ o. operation o (terms_of (map is.fits.terms ls.now))) (sym same);
         refer = letters_refer s v fit.letters is.fits.terms is.fits.agrees ls.now at.arguments.items loaded;
+        sorted = each_sorted is.fits.terms ls.now (λ l there. is.fits.sorted l (letter_there is.row.left is.row.right ls.now is.parts.4 next.1 l there));
       }
 
   pub over_missing : (op : Op) (ls : Bor (List Letter)) → fit.row.next ≡ Over op ls → IsMissing fit.letters ls.now → ⊥
@@ -55,10 +68,10 @@ module _ (s : Table) (v : TermsView) (rows : List RewriteRow) (fit : Fit) (t : T
 
   -- the first row that fits makes this and nothing else
   pub first_makes : IsFirstFit rows t next_term
-  first_makes = (is.first next_term).0 ((rewrite_is s v fit.letters is.row t next_term is.parts.3 is.parts.4 is.fits).1 refl)
+  first_makes = (is.first next_term).0 ((rewrite_is s v fit.letters is.row t next_term is.parts.4 is.fits).1 refl)
 
   pub only_makes : (u : Term) → IsFirstFit rows t u → u ≡ next_term
-  only_makes u h = (rewrite_is s v fit.letters is.row t u is.parts.3 is.parts.4 is.fits).0 ((is.first u).1 h)
+  only_makes u h = (rewrite_is s v fit.letters is.row t u is.parts.4 is.fits).0 ((is.first u).1 h)
 
   pub from_left : t ≡ fill is.fits.terms is.row.left
   from_left = (is.fits.gives is.fits.terms).1 is.fits.agrees

@@ -9,7 +9,7 @@ use Rattle.term_pool.specs.Views.{TermsView, ReferToAll}
 use Rattle.rule_model.specs.declared.letter.Letter.{Letter}
 use Rattle.rule_model.specs.Rewriting.{RewriteRow}
 use Rattle.rule_model.specs.Schemas.{fill}
-use Rattle.rule_model.specs.Simplification.{not_simplify, implies_simplify, ite_simplify}
+use Rattle.rule_model.specs.Simplification.{not_simplify, implies_simplify, equiv_simplify, ite_simplify}
 use Rattle.rules_simplify.specs.declared.rewrites.Application.{Application}
 use Rattle.rules_simplify.specs.declared.tables.Simplification.{Simplification}
 use Rattle.rules_simplify.specs.Chains.{heaviness, all_heaviness, first_heaviness, Falls, IsAt, and_then, terms_at}
@@ -81,6 +81,17 @@ implies_falls = (
   ),
 )
 
+pub equiv_falls : AllByRecursion Falls equiv_simplify
+equiv_falls = (λ f. (let a = some (f Letter.A) in let b = some (f Letter.B) in let c = some (f Letter.C) in let d = some (f Letter.D) in omega (arith, a, b, c, d)),
+  (λ f. (let a = some (f Letter.A) in let b = some (f Letter.B) in let c = some (f Letter.C) in let d = some (f Letter.D) in omega (arith, a, b, c, d)),
+  (λ f. (let a = some (f Letter.A) in let b = some (f Letter.B) in let c = some (f Letter.C) in let d = some (f Letter.D) in omega (arith, a, b, c, d)),
+  (λ f. (let a = some (f Letter.A) in let b = some (f Letter.B) in let c = some (f Letter.C) in let d = some (f Letter.D) in omega (arith, a, b, c, d)),
+  (λ f. (let a = some (f Letter.A) in let b = some (f Letter.B) in let c = some (f Letter.C) in let d = some (f Letter.D) in omega (arith, a, b, c, d)),
+  (λ f. (let a = some (f Letter.A) in let b = some (f Letter.B) in let c = some (f Letter.C) in let d = some (f Letter.D) in omega (arith, a, b, c, d)),
+  (λ f. (let a = some (f Letter.A) in let b = some (f Letter.B) in let c = some (f Letter.C) in let d = some (f Letter.D) in omega (arith, a, b, c, d)),
+  (λ f. (let a = some (f Letter.A) in let b = some (f Letter.B) in let c = some (f Letter.C) in let d = some (f Letter.D) in omega (arith, a, b, c, d)),
+  tt))))))))
+
 pub ite_falls : AllByRecursion Falls ite_simplify
 ite_falls = (
   λ f. (let a = some (f Letter.A) in let b = some (f Letter.B) in let c = some (f Letter.C) in let d = some (f Letter.D) in omega (arith, a, b, c, d)),
@@ -123,6 +134,7 @@ ite_falls = (
 all_fall : (table : Simplification) → AllByRecursion Falls (rows_of table)
 all_fall Simplification.Not = not_falls
 all_fall Simplification.Implies = implies_falls
+all_fall Simplification.Equiv = equiv_falls
 all_fall Simplification.Ite = ite_falls
 
 pub row_falls : (table : Simplification) (row : RewriteRow) → Contains (rows_of table) row → Falls row

@@ -1,13 +1,16 @@
 -- Private. The tables of rewrites as parts of patterns.
-use Rattle.std.specs.Prelude.{◌≡◌, List, [], ◌∷◌, Bool, true, false, not, ◌&&◌, ◌||◌, IsTrue, Option, Some, None, map}
+use Rattle.std.specs.Prelude.{◌≡◌, List, [], ◌∷◌, Bool, true, false, not, ◌&&◌, ◌||◌, IsTrue, Option, Some, None, map, ⊤}
 use Rattle.std.specs.List.{AllZip}
 use Rattle.term_model.specs.declared.symbols.Op.{Op}
 use Rattle.rule_model.specs.declared.letter.Letter.{Letter}
-use Rattle.rule_model.specs.Rewriting.{RewriteRow, always}
+use Rattle.rule_model.specs.Patterns.{equal}
+use Rattle.rule_model.specs.Rewriting.{RewriteRow, Guard, always, truths}
 use Rattle.rule_model.specs.Schemas.{Pattern, letter, constant, unary, binary, ternary}
-use Rattle.rule_model.specs.Simplification.{not_simplify, implies_simplify, ite_simplify}
+use Rattle.rule_model.specs.Simplification.{not_simplify, implies_simplify, equiv_simplify, ite_simplify}
 use Rattle.rule_model.specs.TermTests.{op_eq}
 use Rattle.schema_match.specs.Matching.{parts_of}
+use Rattle.rules_simplify.specs.declared.tables.Asked.{Asked}
+use Rattle.rules_simplify.specs.declared.tables.Asked.TheVariants.{Nothing, Truths}
 use Rattle.rules_simplify.specs.declared.tables.Next.{Next}
 use Rattle.rules_simplify.specs.declared.tables.Next.TheVariants.{Ends, Part, Over}
 use Rattle.rules_simplify.specs.declared.tables.RowParts.{RowParts}
@@ -17,6 +20,7 @@ use Rattle.rules_simplify.specs.declared.tables.Simplification.{Simplification}
 abbrev pub rows_of : Simplification → List RewriteRow
 rows_of Simplification.Not = not_simplify
 rows_of Simplification.Implies = implies_simplify
+rows_of Simplification.Equiv = equiv_simplify
 rows_of Simplification.Ite = ite_simplify
 
 -- the operator of a pattern that is an application to some arguments, and these
@@ -80,13 +84,19 @@ IsNext rows right Ends = IsTrue (is_last rows right)
 IsNext rows right (Part l) = right ≡ letter l
 IsNext rows right (Over op ls) = (root_of right ≡ Some op) × (arguments_in right ≡ map letter ls.now)
 
+-- what a guard asks of the left side: nothing, or that it is an equality of two terms of Bool
+abbrev pub IsAsked : Pattern → Guard → Asked → Type 0
+IsAsked left always Nothing = ⊤
+IsAsked left (truths p q) Truths = left ≡ equal p q
+IsAsked left guard asked = ⊥
+
 -- the parts of a row of a table: its left side is an application that has the right side's letters
 abbrev pub IsRow : List RewriteRow → RewriteRow → RowParts → Type 0
 IsRow rows row parts =
     (root_of row.left ≡ Some parts.op)
     × (parts.left.now ≡ parts_of (arguments_in row.left))
     × (parts.both.now ≡ parts_of (row.right ∷ arguments_in row.left))
-    × (row.guard ≡ always)
+    × IsAsked row.left row.guard parts.asked
     × IsTrue (has_letters_of row.left row.right)
     × IsNext rows row.right parts.next
 

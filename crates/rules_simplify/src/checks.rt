@@ -15,7 +15,7 @@ ghost use Rattle.term_pool.specs.Views.{IsTerm, ReferToAll};
 ghost use Rattle.schema_match.specs.Steps.{MeetAt};
 ghost use Rattle.rules_simplify.specs.Families.{IsOfSimplification};
 ghost use Rattle.rules_simplify.specs.Joins.{constant};
-ghost use Rattle.rules_simplify.specs.Steps.{MeetsSimplify};
+ghost use Rattle.rules_simplify.specs.Steps.{AreTruths, MeetsSimplify};
 ghost use Rattle.rules_simplify.specs.Tables.{rows_of};
 
 use crate::joins::{Junction, joins};
@@ -58,7 +58,7 @@ fn meets_rewriting(
     table: Simplification,
     clause: &[Ref],
 ) -> Result<bool, Memory>
-    requires { All (IsTerm symbols.now terms.old) clause.now }
+    requires { AreTruths symbols.now terms.old clause.now }
     ensures meets { IfOk result (λ yes. (ts : List Term) → ReferToAll symbols.now terms.old clause.now ts → IsTrue yes ↔ MeetsSimplification (rows_of table) [] ts) }
     ensures same { terms.new ≡ terms.old }
 {
@@ -76,7 +76,7 @@ fn meets(
     rule: Rule,
     clause: &[Ref],
 ) -> Result<bool, Memory>
-    requires { All (IsTerm symbols.now terms.old) clause.now }
+    requires { AreTruths symbols.now terms.old clause.now }
     ensures meets { IfOk result (λ yes. (ts : List Term) → ReferToAll symbols.now terms.old clause.now ts → IsTrue yes ↔ MeetsSimplify rule [] ts) }
     ensures same { terms.new ≡ terms.old }
 {
@@ -101,7 +101,12 @@ fn meets(
         Rule::ImpliesSimplify => {
             meets_rewriting(alloc, symbols, terms, Simplification::Implies, clause)
         }
-        Rule::IteSimplify => { meets_rewriting(alloc, symbols, terms, Simplification::Ite, clause) }
+        Rule::EquivSimplify => {
+            meets_rewriting(alloc, symbols, terms, Simplification::Equiv, clause)
+        }
+        Rule::IteSimplify => {
+            meets_rewriting(alloc, symbols, terms, Simplification::Ite, clause)
+        }
         _ => Ok(false),
     }
 }
@@ -117,6 +122,7 @@ fn meets_at(
 ) -> Result<bool, Memory>
     requires index { i < commands_in proof.now }
     requires stand { StandForSome symbols.now terms.old proof.now }
+    requires sorted { (of : ProofItems Var Term) → StandForItems symbols.now terms.old proof.now of → IsClauseOfTruths (clause_at of i) }
     ensures meets { IfOk result (λ yes. (of : ProofItems Var Term) → StandForItems symbols.now terms.old proof.now of → IsTrue yes ↔ MeetAt MeetsSimplify of i) }
     ensures same { terms.new ≡ terms.old }
 {
@@ -132,7 +138,7 @@ fn meets_at(
 }
 
 /// Whether the step at an index meets the condition of its rule (Alethe specification, "List of rules"). The rule is
-/// one of simplification: and_simplify, or_simplify, not_simplify, implies_simplify or ite_simplify. Both modes ask the same. A step that closes a scope meets none of these rules.
+/// one of simplification: and_simplify, or_simplify, not_simplify, implies_simplify, equiv_simplify or ite_simplify. Both modes ask the same. A step that closes a scope meets none of these rules.
 ///
 /// The step's own arguments are not looked at. Its clause has to be of terms of Bool. Places no cell, and refuses want of
 /// memory alone.

@@ -1,24 +1,28 @@
 //! Simplification by the rows of a table of rewrites.
 
-ghost use Rattle.std.specs.Prelude.{◌≡◌, ◌↔◌, List, Any, map, reverse, IsTrue, IfOk, OnOk, Some};
+ghost use Rattle.std.specs.Prelude.{◌≡◌, ◌↔◌, List, [], ◌∷◌, All, Any, map, reverse, IsTrue, IfOk, OnOk, Some};
 ghost use Rattle.std.specs.Bool.{OnTrue, OnFalse};
 ghost use Rattle.rule_model.specs.declared.letter.Letter.{Letter};
 ghost use Rattle.rule_model.specs.Rewriting.{RewriteRow, FitsRow, IsFirstFit, IsReached, Rewrites, Simplifies};
 ghost use Rattle.rule_model.specs.Schemas.{fill};
+ghost use Rattle.sort_check.specs.WellSorted.{IsWellSortedTerm};
+ghost use Rattle.term_model.specs.declared.symbols.Sort.{Sort};
+ghost use Rattle.term_model.specs.Sorts.{IsOf};
 ghost use Rattle.term_model.specs.Terms.{Term};
 ghost use Rattle.term_pool.specs.Views.{IsTerm, RefersTo, ReferToAll};
 ghost use Rattle.schema_match.specs.Letters.{slot};
 ghost use Rattle.rules_simplify.specs.Chains.{FitsBy, IsAt, IsFirst, IsMissing, IsSomeAt, IsSomeFit};
 ghost use Rattle.rules_simplify.specs.Tables.{IsRow, rows_of};
 
-use crate::tables::{Next, RowParts, Simplification, rows, some_row};
+use crate::tables::{Asked, Next, RowParts, Simplification, rows, some_row};
 use pair_pool::{Memory, Ref};
 use rule_model::Letter;
 use schema_match::{Letters, Scratch, Sign, Slot, fits, fits_with, load_arguments, push};
 use smallvec::SmallVec;
+use sort_check::sort_of;
 use std::alloc::Global;
 use sym_table::Symbols;
-use term_model::Op;
+use term_model::{Op, Sort};
 use term_pool::Terms;
 
 /// An application by its operator and the references of its arguments. It may be a term that has no cell.
@@ -55,7 +59,36 @@ fn stack_up(list: &[Slot], stack: &mut Scratch) -> Result<(), Memory>
     Ok(())
 }
 
-/// Whether an application fits the left side of a row. Where it does, the letters are what gives it. The stack is scratch.
+/// Whether a well-sorted term is of Bool.
+fn is_truth(symbols: &Symbols, terms: &mut Terms<'_>, r: Ref) -> bool
+    requires { IsWellSortedTerm symbols.now terms.old r }
+    ensures truth { (t : Term) → RefersTo symbols.now terms.old r t → IsTrue result ↔ IsOf t Sort.Bool }
+    ensures same { terms.new ≡ terms.old }
+{
+    match sort_of(symbols, terms, r) {
+        Sort::Bool => true,
+        _ => false,
+    }
+}
+
+/// Whether the terms of a list are two of Bool.
+fn are_truths(symbols: &Symbols, terms: &mut Terms<'_>, list: &[Slot]) -> bool
+    requires { All (IsWellSortedTerm symbols.now terms.old) list.now }
+    ensures truths { (t u : Term) → ReferToAll symbols.now terms.old list.now (t ∷ u ∷ []) → IsTrue result ↔ (IsOf t Sort.Bool × IsOf u Sort.Bool) }
+    ensures same { terms.new ≡ terms.old }
+{
+    if list.len() == 2 {
+        let first = list[0].get();
+        let second = list[1].get();
+        if !is_truth(symbols, terms, first) {
+            return false;
+        }
+        return is_truth(symbols, terms, second);
+    }
+    false
+}
+
+/// Whether an application fits the left side of a row and passes. Where it does, the letters are what gives it. The stack is scratch.
 fn fits_row(
     symbols: &Symbols,
     terms: &mut Terms<'_>,
@@ -75,7 +108,13 @@ fn fits_row(
         return Ok(false);
     }
     stack_up(&at.arguments, stack)?;
-    fits_with(symbols, terms, row.left, letters, stack)
+    if !fits_with(symbols, terms, row.left, letters, stack)? {
+        return Ok(false);
+    }
+    match row.asked {
+        Asked::Nothing => Ok(true),
+        Asked::Truths => Ok(are_truths(symbols, terms, &at.arguments)),
+    }
 }
 
 /// Whether a row whose left side an application fits makes a term of it. The stack is scratch.
@@ -174,12 +213,14 @@ fn open_by(
     r: Ref,
     at: &mut Application,
 ) -> Result<bool, Memory>
-    requires { IsTerm symbols.now terms.old r }
+    requires { IsWellSortedTerm symbols.now terms.old r }
     ensures open { IfOk result (λ yes. OnTrue yes ((t : Term) → RefersTo symbols.now terms.old r t → IsAt symbols.now terms.old at.new t)) }
     ensures other { IfOk result (λ yes. OnFalse yes ((table : List RewriteRow) (of : RewriteRow) (t : Term) → IsRow table of row →
         RefersTo symbols.now terms.old r t → ¬ FitsRow of t)) }
     ensures same { terms.new ≡ terms.old }
 {
+    let _leaves = symbols.count();
+    terms.equal_exactly_where_terms_are();
     at.op = row.op;
     load_arguments(symbols, terms, row.op, Sign::Itself, r, &mut at.arguments)
 }
@@ -192,7 +233,7 @@ fn open(
     r: Ref,
     at: &mut Application,
 ) -> Result<bool, Memory>
-    requires { IsTerm symbols.now terms.old r }
+    requires { IsWellSortedTerm symbols.now terms.old r }
     ensures open { IfOk result (λ yes. OnTrue yes ((t : Term) → RefersTo symbols.now terms.old r t → IsAt symbols.now terms.old at.new t)) }
     ensures other { IfOk result (λ yes. OnFalse yes ((t : Term) → RefersTo symbols.now terms.old r t → ¬ Any (λ row. FitsRow row t) (rows_of table))) }
     ensures same { terms.new ≡ terms.old }
@@ -296,7 +337,7 @@ pub(crate) fn simplifies(
     left: Ref,
     right: Ref,
 ) -> Result<bool, Memory>
-    requires left { IsTerm symbols.now terms.old left }
+    requires left { IsWellSortedTerm symbols.now terms.old left }
     requires right { IsTerm symbols.now terms.old right }
     ensures simplifies { IfOk result (λ yes. (t u : Term) → RefersTo symbols.now terms.old left t → RefersTo symbols.now terms.old right u →
         IsTrue yes ↔ Simplifies (rows_of table) t u) }

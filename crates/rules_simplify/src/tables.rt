@@ -11,6 +11,7 @@ use term_model::Op;
 pub(crate) enum Simplification {
     Not,
     Implies,
+    Equiv,
     Ite,
 }
 
@@ -25,6 +26,14 @@ pub(crate) enum Next {
     Over(Op, &'static [Letter]),
 }
 
+/// What a row asks besides that its left side fits.
+#[derive(Clone, Copy)]
+pub(crate) enum Asked {
+    Nothing,
+    /// The left side is an equality, and its sides are of Bool.
+    Truths,
+}
+
 /// A row of a table of rewrites. Its left side is an application.
 #[derive(Clone, Copy)]
 pub(crate) struct RowParts {
@@ -34,6 +43,7 @@ pub(crate) struct RowParts {
     pub(crate) left: &'static [Part],
     /// The parts of the right side, and then those of the left side's arguments.
     pub(crate) both: &'static [Part],
+    pub(crate) asked: Asked,
     pub(crate) next: Next,
 }
 
@@ -57,6 +67,8 @@ const OR: Part = Part::Apply(Op::Or, 2);
 
 const IMPLIES: Part = Part::Apply(Op::Implies, 2);
 
+const EQUAL: Part = Part::Apply(Op::Equal, 2);
+
 const ITE: Part = Part::Apply(Op::Ite, 3);
 
 static NOT_ROWS: [RowParts; 3] = [
@@ -64,18 +76,21 @@ static NOT_ROWS: [RowParts; 3] = [
         op: Op::Not,
         left: &[NOT, A],
         both: &[A, NOT, A],
+        asked: Asked::Nothing,
         next: Next::Part(Letter::A),
     },
     RowParts {
         op: Op::Not,
         left: &[FALSE],
         both: &[TRUE, FALSE],
+        asked: Asked::Nothing,
         next: Next::Ends,
     },
     RowParts {
         op: Op::Not,
         left: &[TRUE],
         both: &[FALSE, TRUE],
+        asked: Asked::Nothing,
         next: Next::Ends,
     },
 ];
@@ -92,54 +107,63 @@ static IMPLIES_ROWS: [RowParts; 9] = [
         op: Op::Implies,
         left: &[NOT, A, NOT, B],
         both: &[IMPLIES, B, A, NOT, A, NOT, B],
+        asked: Asked::Nothing,
         next: Next::Over(Op::Implies, &[Letter::B, Letter::A]),
     },
     RowParts {
         op: Op::Implies,
         left: &[FALSE, A],
         both: &[TRUE, FALSE, A],
+        asked: Asked::Nothing,
         next: Next::Ends,
     },
     RowParts {
         op: Op::Implies,
         left: &[A, TRUE],
         both: &[TRUE, A, TRUE],
+        asked: Asked::Nothing,
         next: Next::Ends,
     },
     RowParts {
         op: Op::Implies,
         left: &[TRUE, A],
         both: &[A, TRUE, A],
+        asked: Asked::Nothing,
         next: Next::Part(Letter::A),
     },
     RowParts {
         op: Op::Implies,
         left: &[A, FALSE],
         both: &[NOT, A, A, FALSE],
+        asked: Asked::Nothing,
         next: Next::Ends,
     },
     RowParts {
         op: Op::Implies,
         left: &[A, A],
         both: &[TRUE, A, A],
+        asked: Asked::Nothing,
         next: Next::Ends,
     },
     RowParts {
         op: Op::Implies,
         left: &[NOT, A, A],
         both: &[A, NOT, A, A],
+        asked: Asked::Nothing,
         next: Next::Part(Letter::A),
     },
     RowParts {
         op: Op::Implies,
         left: &[A, NOT, A],
         both: &[NOT, A, A, NOT, A],
+        asked: Asked::Nothing,
         next: Next::Ends,
     },
     RowParts {
         op: Op::Implies,
         left: &[IMPLIES, A, B, B],
         both: &[OR, A, B, IMPLIES, A, B, B],
+        asked: Asked::Nothing,
         next: Next::Ends,
     },
 ];
@@ -151,77 +175,155 @@ fn implies_rows() -> &'static [RowParts]
     &IMPLIES_ROWS
 }
 
+static EQUIV_ROWS: [RowParts; 8] = [
+    RowParts {
+        op: Op::Equal,
+        left: &[NOT, A, NOT, B],
+        both: &[EQUAL, A, B, NOT, A, NOT, B],
+        asked: Asked::Truths,
+        next: Next::Over(Op::Equal, &[Letter::A, Letter::B]),
+    },
+    RowParts {
+        op: Op::Equal,
+        left: &[A, A],
+        both: &[TRUE, A, A],
+        asked: Asked::Truths,
+        next: Next::Ends,
+    },
+    RowParts {
+        op: Op::Equal,
+        left: &[A, NOT, A],
+        both: &[FALSE, A, NOT, A],
+        asked: Asked::Truths,
+        next: Next::Ends,
+    },
+    RowParts {
+        op: Op::Equal,
+        left: &[NOT, A, A],
+        both: &[FALSE, NOT, A, A],
+        asked: Asked::Truths,
+        next: Next::Ends,
+    },
+    RowParts {
+        op: Op::Equal,
+        left: &[TRUE, A],
+        both: &[A, TRUE, A],
+        asked: Asked::Truths,
+        next: Next::Part(Letter::A),
+    },
+    RowParts {
+        op: Op::Equal,
+        left: &[A, TRUE],
+        both: &[A, A, TRUE],
+        asked: Asked::Truths,
+        next: Next::Part(Letter::A),
+    },
+    RowParts {
+        op: Op::Equal,
+        left: &[FALSE, A],
+        both: &[NOT, A, FALSE, A],
+        asked: Asked::Truths,
+        next: Next::Ends,
+    },
+    RowParts {
+        op: Op::Equal,
+        left: &[A, FALSE],
+        both: &[NOT, A, A, FALSE],
+        asked: Asked::Truths,
+        next: Next::Ends,
+    },
+];
+
+/// The rows of equiv_simplify.
+fn equiv_rows() -> &'static [RowParts]
+    ensures { AreRows (rows_of Simplification.Equiv) result.now }
+{
+    &EQUIV_ROWS
+}
+
 static ITE_ROWS: [RowParts; 12] = [
     RowParts {
         op: Op::Ite,
         left: &[TRUE, A, B],
         both: &[A, TRUE, A, B],
+        asked: Asked::Nothing,
         next: Next::Part(Letter::A),
     },
     RowParts {
         op: Op::Ite,
         left: &[FALSE, A, B],
         both: &[B, FALSE, A, B],
+        asked: Asked::Nothing,
         next: Next::Part(Letter::B),
     },
     RowParts {
         op: Op::Ite,
         left: &[C, A, A],
         both: &[A, C, A, A],
+        asked: Asked::Nothing,
         next: Next::Part(Letter::A),
     },
     RowParts {
         op: Op::Ite,
         left: &[NOT, C, A, B],
         both: &[ITE, C, B, A, NOT, C, A, B],
+        asked: Asked::Nothing,
         next: Next::Over(Op::Ite, &[Letter::C, Letter::B, Letter::A]),
     },
     RowParts {
         op: Op::Ite,
         left: &[C, ITE, C, A, B, D],
         both: &[ITE, C, A, D, C, ITE, C, A, B, D],
+        asked: Asked::Nothing,
         next: Next::Over(Op::Ite, &[Letter::C, Letter::A, Letter::D]),
     },
     RowParts {
         op: Op::Ite,
         left: &[C, A, ITE, C, B, D],
         both: &[ITE, C, A, D, C, A, ITE, C, B, D],
+        asked: Asked::Nothing,
         next: Next::Over(Op::Ite, &[Letter::C, Letter::A, Letter::D]),
     },
     RowParts {
         op: Op::Ite,
         left: &[C, TRUE, FALSE],
         both: &[C, C, TRUE, FALSE],
+        asked: Asked::Nothing,
         next: Next::Part(Letter::C),
     },
     RowParts {
         op: Op::Ite,
         left: &[C, FALSE, TRUE],
         both: &[NOT, C, C, FALSE, TRUE],
+        asked: Asked::Nothing,
         next: Next::Ends,
     },
     RowParts {
         op: Op::Ite,
         left: &[C, TRUE, A],
         both: &[OR, C, A, C, TRUE, A],
+        asked: Asked::Nothing,
         next: Next::Ends,
     },
     RowParts {
         op: Op::Ite,
         left: &[C, A, FALSE],
         both: &[AND, C, A, C, A, FALSE],
+        asked: Asked::Nothing,
         next: Next::Ends,
     },
     RowParts {
         op: Op::Ite,
         left: &[C, FALSE, A],
         both: &[AND, NOT, C, A, C, FALSE, A],
+        asked: Asked::Nothing,
         next: Next::Ends,
     },
     RowParts {
         op: Op::Ite,
         left: &[C, A, TRUE],
         both: &[OR, NOT, C, A, C, A, TRUE],
+        asked: Asked::Nothing,
         next: Next::Ends,
     },
 ];
@@ -245,6 +347,7 @@ pub(crate) fn rows(of: Simplification) -> &'static [RowParts]
     match of {
         Simplification::Not => not_rows(),
         Simplification::Implies => implies_rows(),
+        Simplification::Equiv => equiv_rows(),
         Simplification::Ite => ite_rows(),
     }
 }

@@ -1,8 +1,15 @@
 use Rattle.std.proofs.Common.{◌↔◌, [], IsTrue, sym, subst}
 use Rattle.std.proofs.lemmas.Result.{IfOk-weaker}
 use Rattle.rules_simplify.specs.Steps.{MeetsSimplify}
+use Rattle.rules_simplify.proofs.ItemLemmas.{refer_are_terms}
 use Rattle.rules_simplify.proofs.CheckLemmas.{other_rule}
 use Rattle.rules_simplify.proofs.checks.meets.Goals as goal
+
+pub meets_joining-requires : goal.meets_joining-requires
+meets_joining-requires c = refer_are_terms c.args.symbols.now c.args.terms.now c.args.clause.now c.requires.terms c.requires.refer
+
+pub meets_joining-in-OrSimplify-requires : goal.meets_joining-in-OrSimplify-requires
+meets_joining-in-OrSimplify-requires c = refer_are_terms c.args.symbols.now c.args.terms.now c.args.clause.now c.requires.terms c.requires.refer
 
 pub returns-in-AndSimplify-clause-meets : goal.returns-in-AndSimplify-clause-meets
 returns-in-AndSimplify-clause-meets c =
@@ -24,6 +31,11 @@ returns-in-ImpliesSimplify-clause-meets c =
     IfOk-weaker c.meets_rewriting-in-ImpliesSimplify.result _ _ (λ b test ts clause.
     subst (λ rule. IsTrue b ↔ MeetsSimplify rule [] ts) (sym c.in-ImpliesSimplify.is) (test ts clause)) c.meets_rewriting-in-ImpliesSimplify.ensures.meets
 
+pub returns-in-EquivSimplify-clause-meets : goal.returns-in-EquivSimplify-clause-meets
+returns-in-EquivSimplify-clause-meets c =
+    IfOk-weaker c.meets_rewriting-in-EquivSimplify.result _ _ (λ b test ts clause.
+    subst (λ rule. IsTrue b ↔ MeetsSimplify rule [] ts) (sym c.in-EquivSimplify.is) (test ts clause)) c.meets_rewriting-in-EquivSimplify.ensures.meets
+
 pub returns-in-IteSimplify-clause-meets : goal.returns-in-IteSimplify-clause-meets
 returns-in-IteSimplify-clause-meets c =
     IfOk-weaker c.meets_rewriting-in-IteSimplify.result _ _ (λ b test ts clause.
@@ -31,4 +43,4 @@ returns-in-IteSimplify-clause-meets c =
 
 pub returns-in_default-clause-meets : goal.returns-in_default-clause-meets
 returns-in_default-clause-meets c ts clause =
-    other_rule ts c.args.rule c.in_default.not-AndSimplify c.in_default.not-OrSimplify c.in_default.not-NotSimplify c.in_default.not-ImpliesSimplify c.in_default.not-IteSimplify
+    other_rule ts c.args.rule c.in_default.not-AndSimplify c.in_default.not-OrSimplify c.in_default.not-NotSimplify c.in_default.not-ImpliesSimplify c.in_default.not-EquivSimplify c.in_default.not-IteSimplify

@@ -2,7 +2,8 @@ use Rattle.std.proofs.Common.{◌≡◌, [], sym, ◌∙◌, arith}
 use Rattle.std.proofs.lemmas.List.{nil_from_length}
 use Rattle.std.proofs.lemmas.Result.{IfOk-weaker}
 use Rattle.schema_match.proofs.StepAnswers.{meets_given}
-use Rattle.schema_match.proofs.StepLemmas.{zip_refers, zip_terms}
+use Rattle.schema_match.proofs.StepLemmas.{zip_refers}
+use Rattle.rule_model.specs.Reading.{clause_at}
 use Rattle.rules_simplify.specs.Steps.{MeetsSimplify}
 use Rattle.rules_simplify.proofs.CheckLemmas.{no_premises, some_meet_none}
 use Rattle.rules_simplify.proofs.checks.meets_at.Goals as goal
@@ -11,7 +12,11 @@ pub meets-requires : goal.meets-requires
 meets-requires c =
     let stand = c.requires.stand in
     rw c.clause-clause.ensures
-    (zip_terms c.args.symbols.now c.args.terms.now _ _ (c.terms_correspond.ensures.clause c.args.symbols.now c.args.terms.now c.args.proof.now stand.proof c.args.i stand.stand))
+    (record {
+      terms = clause_at stand.proof c.args.i;
+      refer = zip_refers c.args.symbols.now c.args.terms.now _ _ (c.terms_correspond.ensures.clause c.args.symbols.now c.args.terms.now c.args.proof.now stand.proof c.args.i stand.stand);
+      sorted = c.requires.sorted stand.proof stand.stand;
+    })
 
 pub returns-in-empty-clause-meets : goal.returns-in-empty-clause-meets
 returns-in-empty-clause-meets c =

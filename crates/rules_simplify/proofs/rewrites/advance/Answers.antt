@@ -3,7 +3,7 @@ use Rattle.std.proofs.lemmas.Bool.{OnTrue_at, OnFalse_at, OnTrue_from, OnFalse_f
 use Rattle.std.proofs.lemmas.Result.{IfOk-weaker}
 use Rattle.rules_simplify.specs.Tables.{rows_of}
 use Rattle.rules_simplify.proofs.ChainLemmas.{first_is_any}
-use Rattle.rules_simplify.proofs.StepLemmas.{next_term, ends_here, part_settled, part_refers, over_at, over_missing}
+use Rattle.rules_simplify.proofs.StepLemmas.{next_term, ends_here, part_settled, part_refers, part_sorted, over_at, over_missing}
 use Rattle.rules_simplify.proofs.rewrites.advance.Goals as goal
 
 pub returns-in-Ends-clause-ends : goal.returns-in-Ends-clause-ends
@@ -19,6 +19,7 @@ open-requires c =
     record {
       means = next_term c.args.symbols.now c.args.terms.now (rows_of c.args.table) c.args.fit.now some.means some.is;
       refers = part_refers c.args.symbols.now c.args.terms.now (rows_of c.args.table) c.args.fit.now some.means some.is c.in-Part.letter c.in-Some.r c.in-Part.is (sym c.in-Some.ensures);
+      sorted = part_sorted c.args.symbols.now c.args.terms.now (rows_of c.args.table) c.args.fit.now some.means some.is c.in-Part.letter c.in-Part.is;
     }
 
 pub returns-in-Some-clause-next : goal.returns-in-Some-clause-next

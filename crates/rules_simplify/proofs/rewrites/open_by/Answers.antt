@@ -1,4 +1,7 @@
-use Rattle.std.proofs.Common.{◌∷◌}
+use Rattle.std.proofs.Common.{◌∷◌, ◌∙◌, refl, subst}
+use Rattle.term_model.specs.Sorts.{IsOf}
+use Rattle.term_model.specs.Terms.{Term}
+use Rattle.rules_simplify.proofs.RowLemmas.{arguments_sorted}
 use Rattle.std.proofs.lemmas.Bool.{OnTrue_at, OnFalse_at, OnTrue_from, OnFalse_from}
 use Rattle.std.proofs.lemmas.Result.{IfOk-weaker}
 use Rattle.rules_simplify.proofs.RewriteLemmas.{opened_not}
@@ -9,7 +12,15 @@ returns-clause-open c =
     IfOk-weaker c.load_arguments.result _ _ (λ b h.
     OnTrue_from b _ (λ e t refers.
     let loaded = OnTrue_at e h t refers in
-    record { arguments = loaded.first ∷ loaded.others; is = loaded.is; refer = loaded.refer })) c.load_arguments.ensures.loaded
+    let same = (c.equal_exactly_where_terms_are.ensures c.args.symbols.now c.count-leaves.ensures.table c.args.r c.args.r c.requires.means t c.requires.refers refers).0 refl in
+    record {
+      arguments = loaded.first ∷ loaded.others;
+      is = loaded.is;
+      refer = loaded.refer;
+      sorted =
+          arguments_sorted c.args.row.op (loaded.first ∷ loaded.others) c.requires.sorted.sort
+          (subst (λ (x : Term). IsOf x c.requires.sorted.sort) (same ∙ loaded.is) c.requires.sorted.of);
+    })) c.load_arguments.ensures.loaded
 
 pub returns-clause-other : goal.returns-clause-other
 returns-clause-other c =
