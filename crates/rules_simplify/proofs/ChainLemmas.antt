@@ -1,12 +1,12 @@
 -- Chains of first rows, and tables that are tried row after row.
-use Rattle.std.proofs.Common.{◌≡◌, ◌⊎◌, ◌↔◌, inl, inr, ◌≤◌, ◌<◌, ◌+◌, ℕ, zero, suc, List, [], ◌∷◌, length, drop, get_or, Bool, true, false, IsTrue, Any, Contains, refl, sym, ap, ◌∙◌, subst, arith, add-one}
+use Rattle.std.proofs.Common.{◌≡◌, ◌⊎◌, ◌↔◌, inl, inr, ◌≤◌, ◌<◌, ℕ, zero, suc, List, [], ◌∷◌, length, drop, get_or, Any, Contains, refl, sym, subst, arith}
 use Rattle.std.specs.List.{AllByRecursion}
 use Rattle.term_model.specs.Terms.{Term}
 use Rattle.term_model.proofs.Basics.{any_here, any_later, any_cases}
 use Rattle.rule_model.proofs.Lists.{contains_none, contains_cases, contains_head, contains_later}
 use Rattle.rule_model.specs.Rewriting.{RewriteRow, Rewrites, FitsRow, IsFirstFit, IsReached, once, again, Simplifies}
 use Rattle.rules_simplify.specs.declared.tables.RowParts.{RowParts}
-use Rattle.rules_simplify.specs.Tables.{AreRows, IsRow}
+use Rattle.rules_simplify.specs.Tables.{IsRow}
 use Rattle.std.specs.List.{AllZip}
 
 module _ (rows : List RewriteRow) where

@@ -71,6 +71,8 @@ rule_meets Rule.NotSimplify j is = (λ h. h, λ h. h)
 rule_meets Rule.ImpliesSimplify j is = (λ h. h, λ h. h)
 rule_meets Rule.EquivSimplify j is = (λ h. h, λ h. h)
 rule_meets Rule.IteSimplify j is = (λ h. h, λ h. h)
+rule_meets Rule.EqSimplify j is = (λ h. h, λ h. h)
+rule_meets Rule.CompSimplify j is = (λ h. h, λ h. h)
 rule_meets _ j is = absurd cc
 
 pub some_premise : (p : List Term) (ps : List (List Term)) (ts : List Term) (rule : Rule) → MeetsSimplify rule (p ∷ ps) ts → ⊥
@@ -80,16 +82,20 @@ some_premise p ps ts Rule.NotSimplify met = absurd (let e = met.none in cc)
 some_premise p ps ts Rule.ImpliesSimplify met = absurd (let e = met.none in cc)
 some_premise p ps ts Rule.EquivSimplify met = absurd (let e = met.none in cc)
 some_premise p ps ts Rule.IteSimplify met = absurd (let e = met.none in cc)
+some_premise p ps ts Rule.EqSimplify met = absurd (let e = met.none in cc)
+some_premise p ps ts Rule.CompSimplify met = absurd (let e = met.none in cc)
 some_premise p ps ts rule met = absurd met
 
-pub other_rule : (ts : List Term) (rule : Rule) → (rule ≡ Rule.AndSimplify → ⊥) → (rule ≡ Rule.OrSimplify → ⊥) → (rule ≡ Rule.NotSimplify → ⊥) → (rule ≡ Rule.ImpliesSimplify → ⊥) → (rule ≡ Rule.EquivSimplify → ⊥) → (rule ≡ Rule.IteSimplify → ⊥) → IsTrue false ↔ MeetsSimplify rule [] ts
-other_rule ts Rule.AndSimplify no_and no_or no_not no_implies no_equiv no_ite = absurd (no_and refl)
-other_rule ts Rule.OrSimplify no_and no_or no_not no_implies no_equiv no_ite = absurd (no_or refl)
-other_rule ts Rule.NotSimplify no_and no_or no_not no_implies no_equiv no_ite = absurd (no_not refl)
-other_rule ts Rule.ImpliesSimplify no_and no_or no_not no_implies no_equiv no_ite = absurd (no_implies refl)
-other_rule ts Rule.EquivSimplify no_and no_or no_not no_implies no_equiv no_ite = absurd (no_equiv refl)
-other_rule ts Rule.IteSimplify no_and no_or no_not no_implies no_equiv no_ite = absurd (no_ite refl)
-other_rule ts rule no_and no_or no_not no_implies no_equiv no_ite = (λ e. absurd cc, λ met. absurd met)
+pub other_rule : (ts : List Term) (rule : Rule) → (rule ≡ Rule.AndSimplify → ⊥) → (rule ≡ Rule.OrSimplify → ⊥) → (rule ≡ Rule.NotSimplify → ⊥) → (rule ≡ Rule.ImpliesSimplify → ⊥) → (rule ≡ Rule.EquivSimplify → ⊥) → (rule ≡ Rule.IteSimplify → ⊥) → (rule ≡ Rule.EqSimplify → ⊥) → (rule ≡ Rule.CompSimplify → ⊥) → IsTrue false ↔ MeetsSimplify rule [] ts
+other_rule ts Rule.AndSimplify no_and no_or no_not no_implies no_equiv no_ite no_eq no_comp = absurd (no_and refl)
+other_rule ts Rule.OrSimplify no_and no_or no_not no_implies no_equiv no_ite no_eq no_comp = absurd (no_or refl)
+other_rule ts Rule.NotSimplify no_and no_or no_not no_implies no_equiv no_ite no_eq no_comp = absurd (no_not refl)
+other_rule ts Rule.ImpliesSimplify no_and no_or no_not no_implies no_equiv no_ite no_eq no_comp = absurd (no_implies refl)
+other_rule ts Rule.EquivSimplify no_and no_or no_not no_implies no_equiv no_ite no_eq no_comp = absurd (no_equiv refl)
+other_rule ts Rule.IteSimplify no_and no_or no_not no_implies no_equiv no_ite no_eq no_comp = absurd (no_ite refl)
+other_rule ts Rule.EqSimplify no_and no_or no_not no_implies no_equiv no_ite no_eq no_comp = absurd (no_eq refl)
+other_rule ts Rule.CompSimplify no_and no_or no_not no_implies no_equiv no_ite no_eq no_comp = absurd (no_comp refl)
+other_rule ts rule no_and no_or no_not no_implies no_equiv no_ite no_eq no_comp = (λ e. absurd cc, λ met. absurd met)
 
 module _ (of : ProofItems Var Term) (i : ℕ) (rule : Rule) (simplification : IsOfSimplification rule) (same : rule ≡ rule_at of i) where
   pub case_of : (j : Judged) → MeetsRule (rule_at of i) j ↔ MeetsSimplify (rule_at of i) j.premises j.clause

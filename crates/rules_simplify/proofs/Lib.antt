@@ -8,7 +8,9 @@ pub mod OpposedItems
 pub mod ViewLemmas
 pub mod JoinLemmas
 pub mod RowLemmas
+pub mod AskingLemmas
 pub mod ChainLemmas
+pub mod SortLemmas
 pub mod WeightLemmas
 pub mod RewriteLemmas
 pub mod StepLemmas

@@ -1,34 +1,28 @@
 -- Applications on stacks, and rows that are tried on them.
-use Rattle.std.proofs.Common.{◌≡◌, ◌≢◌, ◌↔◌, inl, inr, ◌≤◌, ◌<◌, ◌+◌, ◌++◌, ℕ, zero, suc, List, [], ◌∷◌, length, drop, take, get_or, map, reverse, Bool, true, false, IsTrue, Any, Option, Some, None, Contains, All, refl, sym, ap, ◌∙◌, subst, arith, add-one}
+use Rattle.std.proofs.Common.{◌≡◌, ◌≢◌, ◌↔◌, inl, inr, ◌≤◌, ◌<◌, ◌+◌, ◌++◌, ℕ, suc, List, [], ◌∷◌, length, drop, take, get_or, map, reverse, Bool, true, false, IsTrue, Any, Option, Some, None, sym, ap, ◌∙◌, subst, add-one}
 use Rattle.std.proofs.lemmas.List.{reverse-reverse, map-append, take_more}
-use Rattle.std.proofs.lemmas.List.Elements.{Contains-get_or, All-cons}
+use Rattle.std.proofs.lemmas.List.Elements.{Contains-get_or}
 use Rattle.sym_table.specs.Table.{Table}
-use Rattle.term_model.specs.declared.symbols.Op.{Op}
-use Rattle.term_model.specs.declared.symbols.Sort.{Sort}
-use Rattle.term_model.specs.Sorts.{IsOf, IsWellSorted}
-use Rattle.term_model.specs.Terms.{Term, operation, term, no_terms, terms_of}
-use Rattle.sort_check.specs.WellSorted.{IsWellSortedTerm}
-use Rattle.std.specs.List.{AllByRecursion}
-use Rattle.rule_model.specs.Patterns.{equal}
+use Rattle.term_model.specs.Sorts.{IsWellSorted}
+use Rattle.term_model.specs.Terms.{Term, operation, terms_of}
 use Rattle.term_pool.specs.Views.{TermsView, IsTerm, RefersTo, ReferToAll}
 use Rattle.rule_model.specs.declared.letter.Letter.{Letter}
-use Rattle.rule_model.specs.Rewriting.{RewriteRow, PassesGuard, Rewrites, FitsRow, IsFirstFit, IsReached}
+use Rattle.rule_model.specs.Rewriting.{RewriteRow, PassesGuard, Rewrites, FitsRow, IsFirstFit}
 use Rattle.rule_model.specs.Schemas.{Pattern, letter, constant, unary, binary, ternary, fill}
-use Rattle.schema_match.specs.Letters.{slot}
+use Rattle.schema_match.specs.Letters.{slot, Agrees}
 use Rattle.schema_match.specs.Matching.{parts_of, Fits, Matches}
 use Rattle.schema_match.specs.Stack.{StackOf, IsStack}
 use Rattle.schema_match.specs.declared.letters.Letters.{Letters}
-use Rattle.schema_match.specs.declared.part.Part.{Part}
-use Rattle.schema_match.proofs.ReferLemmas.{stack_push, refer_length, refer_at}
-use Rattle.rules_simplify.proofs.JoinLemmas.{same_lists}
+use Rattle.schema_match.proofs.ReferLemmas.{stack_push}
 use Rattle.rules_simplify.specs.declared.rewrites.Application.{Application}
 use Rattle.rules_simplify.specs.declared.rewrites.Fit.{Fit}
-use Rattle.rules_simplify.specs.declared.tables.Asked.TheVariants.{Nothing, Truths}
 use Rattle.rules_simplify.specs.declared.tables.RowParts.{RowParts}
+use Rattle.rules_simplify.specs.Asking.{letters_asked, IsAsAsked, AreSortedLetters}
 use Rattle.rules_simplify.specs.Chains.{IsAt, IsSomeAt, IsMissing, FitsBy, IsFirst}
-use Rattle.rules_simplify.specs.Tables.{IsAsked, root_of, arguments_in, IsRow, AreRows}
+use Rattle.rules_simplify.specs.Tables.{root_of, arguments_in, IsRow, IsSomeRow, AreRows}
 use Rattle.rules_simplify.proofs.ChainLemmas.{row_at, rows_end, first_here, first_later, any_at, any_not_here, any_none}
-use Rattle.rules_simplify.proofs.RowLemmas.{nothing_passes, truths_pass, filled_is, other_op, no_arguments, fit_is, made_is, does_fit, rewrite_is}
+use Rattle.rules_simplify.proofs.AskingLemmas.{asked_is, sorted_letters}
+use Rattle.rules_simplify.proofs.RowLemmas.{arguments_are, from_arguments, filled_is, other_op, no_arguments, fit_is, made_is, does_fit, rewrite_is}
 use Rattle.term_model.proofs.Basics.{any_here, any_cases}
 
 -- a list on a stack, and one more item on top
@@ -50,9 +44,27 @@ module _ (s : Table) (v : TermsView) (table : List RewriteRow) (of : RewriteRow)
   pub op_differs : (row.op ≡ at.op → ⊥) → ¬ FitsRow of t
   op_differs other = other_op of row.op at.op here.arguments t is.0 here.is other
 
-  pub row_fits : (letters : Letters) (items : List ℕ) → row.op ≡ at.op → ((f : Letter → Term) → t ≡ fill f of.left → PassesGuard f of.guard) → items ≡ reverse at.arguments.items → ((ps : List Pattern) (ts : List Term) → row.left.now ≡ parts_of ps → StackOf s v items ts → Matches s v letters ps ts) → FitsBy s v letters of t
-  row_fits letters items same passes e test =
-      fit_is of row.op at.op here.arguments t is.0 here.is s v letters same here.sorted passes (test _ here.arguments is.1 (stack_of s v items at.arguments.items here.arguments e here.refer))
+  row_passes : (f : Letter → Term) → t ≡ fill f of.left → IsAsAsked f row.asked ↔ PassesGuard f of.guard
+  row_passes f e = asked_is of.left of.guard row.asked f is.3.0 (subst IsWellSorted e here.sorted)
+
+  module _ (letters : Letters) (items : List ℕ) (e : items ≡ reverse at.arguments.items) (test : (ps : List Pattern) (ts : List Term) → row.left.now ≡ parts_of ps → StackOf s v items ts → Matches s v letters ps ts) where
+    matched : Matches s v letters (arguments_in of.left) here.arguments
+    matched = test (arguments_in of.left) here.arguments is.1 (stack_of s v items at.arguments.items here.arguments e here.refer)
+
+    agreed : (f : Letter → Term) → t ≡ fill f of.left → Agrees s v letters f
+    agreed f fits = (matched.give f).0 (arguments_are of row.op at.op here.arguments t is.0 here.is f fits)
+
+    pub row_letters : row.op ≡ at.op → AreSortedLetters s v letters row.asked
+    row_letters same =
+        sorted_letters s v letters of.left t matched.terms matched.agrees
+        (λ f agrees. from_arguments of row.op at.op here.arguments t is.0 here.is same f ((matched.give f).1 agrees)) here.sorted (letters_asked row.asked) is.3.1
+
+    pub row_fits : row.op ≡ at.op → ((f : Letter → Term) → Agrees s v letters f → IsAsAsked f row.asked) → FitsBy s v letters of t
+    row_fits same asked =
+        fit_is of row.op at.op here.arguments t is.0 here.is s v letters same here.sorted (λ f fits. (row_passes f fits).0 (asked f (agreed f fits))) matched
+
+    pub row_denied : ((f : Letter → Term) → Agrees s v letters f → ¬ IsAsAsked f row.asked) → ¬ FitsRow of t
+    row_denied none (u, r) = none r.terms (agreed r.terms r.from) ((row_passes r.terms r.from).1 r.passes)
 
   pub row_other : (items : List ℕ) → items ≡ reverse at.arguments.items → ((ps : List Pattern) (ts : List Term) → row.left.now ≡ parts_of ps → StackOf s v items ts → ¬ Fits ps ts) → ¬ FitsRow of t
   row_other items e test =
@@ -71,50 +83,9 @@ module _ (s : Table) (v : TermsView) (table : List RewriteRow) (of : RewriteRow)
   pub row_fits_not : (u : Term) → (¬ FitsRow of t) → IsTrue false ↔ Rewrites of t u
   row_fits_not u none = (λ e. absurd cc, λ r. absurd (none (u, r)))
 
-equal_op : (op : Op) (ts : List Term) (f : Letter → Term) (p q : Pattern) → operation op (terms_of ts) ≡ fill f (equal p q) → Op.Equal ≡ op
-equal_op op ts f p q e = cc
-
--- an equality of two arguments, by their references
-module _ (s : Table) (v : TermsView) (at : Application) (p q : Pattern) (f : Letter → Term) (t : Term) (here : IsAt s v at t) (is : t ≡ fill f (equal p q)) where
-  two_are : here.arguments ≡ fill f p ∷ fill f q ∷ []
-  two_are = same_lists at.op here.arguments (fill f p ∷ fill f q ∷ []) (sym here.is ∙ (is ∙ ap (λ o. operation o (term (fill f p) (term (fill f q) no_terms))) (equal_op at.op here.arguments f p q (sym here.is ∙ is))))
-
-  pub two_refer : (v2 : TermsView) → v2 ≡ v → ReferToAll s v2 at.arguments.items (fill f p ∷ fill f q ∷ [])
-  two_refer v2 e = rw e (subst (λ (ts : List Term). ReferToAll s v at.arguments.items ts) two_are here.refer)
-
-module _ (s : Table) (v : TermsView) where
-  -- well-sorted arguments by their references
-  all_sorted : (rs : List ℕ) (ts : List Term) → ReferToAll s v rs ts → AllByRecursion IsWellSorted ts → All (IsWellSortedTerm s v) rs
-  all_sorted [] ts h w = λ k d below. absurd (omega (arith, below))
-  all_sorted (r ∷ rs) [] h w = absurd h
-  all_sorted (r ∷ rs) (t ∷ ts) h w =
-      All-cons (IsWellSortedTerm s v) r rs (record { means = t; refers = h.0; sorted = w.0 }) (all_sorted rs ts h.1 w.1)
-
-  pub arguments_are_sorted : (at : Application) → IsSomeAt s v at → All (IsWellSortedTerm s v) at.arguments.items
-  arguments_are_sorted at some = all_sorted at.arguments.items some.is.arguments some.is.refer some.is.sorted
-
-  module _ (rs : List ℕ) (t u : Term) (refer : ReferToAll s v rs (t ∷ u ∷ [])) where
-    pub there_are_two : length rs ≡ 2
-    there_are_two = refer_length s v rs (t ∷ u ∷ []) refer
-
-    pub first_refers : (r : ℕ) → r ≡ get_or rs 0 r → RefersTo s v r t
-    first_refers r e = subst (λ k. RefersTo s v k t) (sym e) (refer_at s v rs (t ∷ u ∷ []) refer 0 r t (let two = there_are_two in omega (arith, two)))
-
-    pub second_refers : (r : ℕ) → r ≡ get_or rs 1 r → RefersTo s v r u
-    second_refers r e = subst (λ k. RefersTo s v k u) (sym e) (refer_at s v rs (t ∷ u ∷ []) refer 1 r t (let two = there_are_two in omega (arith, two)))
-
-pub at_place : (P : ℕ → Type 0) (xs : List ℕ) (i r : ℕ) → All P xs → i < length xs → r ≡ get_or xs i r → P r
-at_place P xs i r all below e = subst P (sym e) (all i r below)
-
--- what a row asks of its sides, where they are told to be of Bool or not
-module _ (s : Table) (v v2 : TermsView) (kept : v2 ≡ v) (table : List RewriteRow) (of : RewriteRow) (row : RowParts) (at : Application) (t : Term) (is : IsRow table of row) (here : IsAt s v at t) (asked : row.asked ≡ Truths) (b : Bool) (test : (x y : Term) → ReferToAll s v2 at.arguments.items (x ∷ y ∷ []) → IsTrue b ↔ (IsOf x Sort.Bool × IsOf y Sort.Bool)) where
-  pub truths_told : (f : Letter → Term) → t ≡ fill f of.left → IsTrue b ↔ PassesGuard f of.guard
-  truths_told f fits =
-      truths_pass of.left of.guard f b (subst (IsAsked of.left of.guard) asked is.3)
-      (λ p q left. test (fill f p) (fill f q) (two_refer s v at p q f t here (fits ∙ ap (fill f) left) v2 kept))
-
-pub nothing_told : (table : List RewriteRow) (of : RewriteRow) (row : RowParts) → IsRow table of row → row.asked ≡ Nothing → (f : Letter → Term) → PassesGuard f of.guard
-nothing_told table of row is asked f = nothing_passes of.left of.guard f (subst (IsAsked of.left of.guard) asked is.3)
+-- a row of a table is one
+pub some_row_at : (rows : List RewriteRow) (parts : List RowParts) → AreRows rows parts → (i : ℕ) (d : RowParts) → i < length parts → IsSomeRow (get_or parts i d)
+some_row_at rows parts are i d below = let here = row_at rows i rows parts d are below in record { rows = rows; row = here.row; is = here.parts_are }
 
 -- the rows of a table are tried for one that rewrites
 module _ (rows : List RewriteRow) (parts : List RowParts) (are : AreRows rows parts) (i : ℕ) (t u : Term) where

@@ -1,15 +1,14 @@
 -- Rows of tables: what a row makes is told by what it is made of, and is lighter.
-use Rattle.std.proofs.Common.{◌≡◌, ◌≢◌, ◌↔◌, inl, inr, ◌+◌, ◌≤◌, ◌<◌, ℕ, List, [], ◌∷◌, map, Bool, true, false, not, ◌&&◌, ◌||◌, IsTrue, Option, Some, None, Any, Contains, refl, sym, ap, ◌∙◌, subst, arith}
+use Rattle.std.proofs.Common.{◌≡◌, ◌↔◌, inl, inr, ℕ, List, [], ◌∷◌, map, Bool, true, false, not, ◌&&◌, ◌||◌, IsTrue, Some, None, Contains, refl, sym, ap, ◌∙◌, subst}
 use Rattle.term_model.specs.declared.symbols.Op.{Op}
 use Rattle.term_model.specs.declared.symbols.Sort.{Sort}
 use Rattle.term_model.specs.Sorts.{IsOf, AreOf, IsWellSorted}
 use Rattle.term_model.specs.Terms.{Term, numeral, operation, no_terms, term, terms_of}
 use Rattle.term_model.proofs.Basics.{and-left, and-right}
 use Rattle.rule_model.proofs.Lists.{contains_none, contains_cases}
-use Rattle.rule_model.proofs.TruthTables.{or_cases, or_left, or_right}
+use Rattle.rule_model.proofs.TruthTables.{or_cases}
 use Rattle.rule_model.specs.declared.letter.Letter.{Letter}
-use Rattle.rule_model.specs.Rewriting.{RewriteRow, Guard, always, truths, PassesGuard, Rewrites, FitsRow, IsFirstFit}
-use Rattle.rule_model.specs.Patterns.{equal}
+use Rattle.rule_model.specs.Rewriting.{RewriteRow, PassesGuard, Rewrites, FitsRow, IsFirstFit}
 use Rattle.rule_model.specs.Schemas.{Pattern, letter, constant, unary, binary, ternary, fill}
 use Rattle.rule_model.specs.TermTests.{op_eq}
 use Rattle.std.specs.Bool.{⊤}
@@ -20,8 +19,7 @@ use Rattle.schema_match.specs.Letters.{slot, Agrees, IsSettledAt}
 use Rattle.schema_match.specs.Matching.{Fits, Matches}
 use Rattle.schema_match.specs.declared.letters.Letters.{Letters}
 use Rattle.rules_simplify.specs.Chains.{FitsBy}
-use Rattle.rules_simplify.specs.declared.tables.Asked.TheVariants.{Nothing, Truths}
-use Rattle.rules_simplify.specs.Tables.{IsAsked, root_of, arguments_in, same_letter, has_letter, has_letters_of, may_be, is_last}
+use Rattle.rules_simplify.specs.Tables.{root_of, arguments_in, same_letter, has_letter, has_letters_of, may_be, is_last}
 use Rattle.rules_simplify.proofs.JoinLemmas.{same_lists}
 
 same_letters : (l m : Letter) → same_letter l m ≡ true → l ≡ m
@@ -92,7 +90,7 @@ arguments_sorted op ts s h = go ts h.sorts h.arguments
     go (t ∷ ts) (s ∷ ss) k = (record { sort = s; of = k.0 }, go ts ss k.1)
 
 module _ (f : Letter → Term) where
-  letter_sorted : (l : Letter) (p : Pattern) → IsWellSorted (fill f p) → has_letter l p ≡ true → IsWellSorted (f l)
+  pub letter_sorted : (l : Letter) (p : Pattern) → IsWellSorted (fill f p) → has_letter l p ≡ true → IsWellSorted (f l)
   letter_sorted l (letter m) w e = subst (λ n. IsWellSorted (f n)) (sym (same_letters l m e)) w
   letter_sorted l (constant op) w e = absurd cc
   letter_sorted l (unary op p) w e = letter_sorted l p (arguments_sorted op (fill f p ∷ []) w.sort w.of).0 e
@@ -109,24 +107,6 @@ module _ (f : Letter → Term) where
         | inr h ↦ elim (or_cases (has_letter l q) (has_letter l r) h) [
           | inl k ↦ letter_sorted l q args.1.0 k
           | inr k ↦ letter_sorted l r args.1.1.0 k
-        ]
-      ]
-
-  pub letters_sorted : (p : Pattern) → AllByRecursion IsWellSorted (map (fill f) (arguments_in p)) → (l : Letter) → has_letter l p ≡ true → root_of p ≢ None → IsWellSorted (f l)
-  letters_sorted (letter m) sorted l e root = absurd (root refl)
-  letters_sorted (constant op) sorted l e root = absurd cc
-  letters_sorted (unary op p) sorted l e root = letter_sorted l p sorted.0 e
-  letters_sorted (binary op p q) sorted l e root =
-      elim (or_cases (has_letter l p) (has_letter l q) e) [
-        | inl h ↦ letter_sorted l p sorted.0 h
-        | inr h ↦ letter_sorted l q sorted.1.0 h
-      ]
-  letters_sorted (ternary op p q r) sorted l e root =
-      elim (or_cases (has_letter l p) (has_letter l q || has_letter l r) e) [
-        | inl h ↦ letter_sorted l p sorted.0 h
-        | inr h ↦ elim (or_cases (has_letter l q) (has_letter l r) h) [
-          | inl k ↦ letter_sorted l q sorted.1.0 k
-          | inr k ↦ letter_sorted l r sorted.1.1.0 k
         ]
       ]
 
@@ -151,13 +131,13 @@ module _ (row : RewriteRow) (op at_op : Op) (ts : List Term) (t : Term) (root : 
   pub no_arguments : ¬ Fits (arguments_in row.left) ts → ¬ FitsRow row t
   no_arguments none (u, r) = none (r.terms, arguments_are r.terms r.from)
 
-  pub fit_is : (s : Table) (v : TermsView) (letters : Letters) → op ≡ at_op → AllByRecursion IsWellSorted ts → ((f : Letter → Term) → t ≡ fill f row.left → PassesGuard f row.guard) → Matches s v letters (arguments_in row.left) ts → FitsBy s v letters row t
+  pub fit_is : (s : Table) (v : TermsView) (letters : Letters) → op ≡ at_op → IsWellSorted t → ((f : Letter → Term) → t ≡ fill f row.left → PassesGuard f row.guard) → Matches s v letters (arguments_in row.left) ts → FitsBy s v letters row t
   fit_is s v letters same sorted passes m = record {
     terms = m.terms;
     agrees = m.agrees;
     gives = λ f. (λ e. (m.give f).0 (arguments_are f e), λ agrees. from_arguments same f ((m.give f).1 agrees));
     passes = passes m.terms (from_arguments same m.terms ((m.give m.terms).1 m.agrees));
-    sorted = λ l has. letters_sorted m.terms row.left (subst (AllByRecursion IsWellSorted) ((m.give m.terms).1 m.agrees) sorted) l has (λ none. let some = root in cc);
+    sorted = sorted;
   }
 
   -- both sides are matched at once
@@ -217,11 +197,14 @@ unsettled s v letters f Letter.D t none Letter.D h = rw none tt
 zero_is_one : numeral 0 ≡ numeral 1 → ⊥
 zero_is_one e = absurd cc
 
+pub letter_given : (s : Table) (v : TermsView) (letters : Letters) (left : Pattern) (t : Term) (terms : Letter → Term) → Agrees s v letters terms → ((f : Letter → Term) → Agrees s v letters f → t ≡ fill f left) → (l : Letter) → has_letter l left ≡ true → slot letters l ≡ None → ⊥
+letter_given s v letters left t terms agrees gives l has none =
+    let at = λ (n : Term). gives (with_term terms l n) (λ m. unsettled s v letters terms l n none m (agrees m)) in
+    let same = letter_told (with_term terms l (numeral 0)) (with_term terms l (numeral 1)) l left has (sym (at (numeral 0)) ∙ at (numeral 1)) in
+    zero_is_one (sym (at_letter terms l (numeral 0)) ∙ (same ∙ at_letter terms l (numeral 1)))
+
 pub letter_settled : (s : Table) (v : TermsView) (letters : Letters) (row : RewriteRow) (t : Term) → FitsBy s v letters row t → (l : Letter) → has_letter l row.left ≡ true → slot letters l ≡ None → ⊥
-letter_settled s v letters row t fits l has none =
-    let at = λ (n : Term). (fits.gives (with_term fits.terms l n)).1 (λ m. unsettled s v letters fits.terms l n none m (fits.agrees m)) in
-    let same = letter_told (with_term fits.terms l (numeral 0)) (with_term fits.terms l (numeral 1)) l row.left has (sym (at (numeral 0)) ∙ at (numeral 1)) in
-    zero_is_one (sym (at_letter fits.terms l (numeral 0)) ∙ (same ∙ at_letter fits.terms l (numeral 1)))
+letter_settled s v letters row t fits = letter_given s v letters row.left t fits.terms fits.agrees (λ f. (fits.gives f).1)
 
 pub letter_refers : (s : Table) (v : TermsView) (letters : Letters) (f : Letter → Term) → Agrees s v letters f → (l : Letter) (r : ℕ) → slot letters l ≡ Some r → RefersTo s v r (f l)
 letter_refers s v letters f agrees l r e = rw e at (agrees l)
@@ -333,12 +316,3 @@ pub last_fits_none : (rows : List RewriteRow) (p : Pattern) (f : Letter → Term
 last_fits_none [] p f e u h = h
 last_fits_none (row ∷ rows) p f e u (inl r) = not_both (may_be row.left p) (and-left _ (is_last rows p) e) (one_term r.terms f row.left p (sym r.from))
 last_fits_none (row ∷ rows) p f e u (inr (none, h)) = last_fits_none rows p f (and-right (not (may_be row.left p)) _ e) u h
-
--- what a guard asks
-pub nothing_passes : (left : Pattern) (guard : Guard) (f : Letter → Term) → IsAsked left guard Nothing → PassesGuard f guard
-nothing_passes left always f h = tt
-nothing_passes left _ f h = absurd h
-
-pub truths_pass : (left : Pattern) (guard : Guard) (f : Letter → Term) (b : Bool) → IsAsked left guard Truths → ((p q : Pattern) → left ≡ equal p q → IsTrue b ↔ (IsOf (fill f p) Sort.Bool × IsOf (fill f q) Sort.Bool)) → IsTrue b ↔ PassesGuard f guard
-truths_pass left (truths p q) f b h test = test p q h
-truths_pass left _ f b h test = absurd h

@@ -1,31 +1,26 @@
 -- Steps of a chain of first rows.
-use Rattle.std.proofs.Common.{◌≡◌, ◌≢◌, ◌↔◌, inl, inr, ◌<◌, ℕ, List, [], ◌∷◌, map, Bool, true, false, IsTrue, Any, Some, None, Contains, refl, sym, ap, ◌∙◌, subst, arith}
+use Rattle.std.proofs.Common.{◌≡◌, ◌↔◌, inl, inr, ◌<◌, ℕ, List, map, Bool, true, false, IsTrue, Some, None, refl, sym, ap, ◌∙◌, subst, arith}
 use Rattle.sym_table.specs.Table.{Table, IsTable}
 use Rattle.term_model.specs.declared.symbols.Op.{Op}
 use Rattle.term_model.specs.Terms.{Term, operation, terms_of}
 use Rattle.term_pool.specs.Decoding.{HasTermsAt}
-use Rattle.term_pool.specs.Views.{TermsView, IsTerm, RefersTo, ReferToAll}
+use Rattle.term_pool.specs.Views.{TermsView, RefersTo}
 use Rattle.rule_model.specs.declared.letter.Letter.{Letter}
-use Rattle.rule_model.specs.Rewriting.{RewriteRow, Rewrites, FitsRow, IsFirstFit, IsReached, once, Simplifies}
+use Rattle.rule_model.specs.Rewriting.{RewriteRow, IsFirstFit, IsReached, once}
 use Rattle.rule_model.specs.Schemas.{letter, fill}
 use Rattle.schema_match.specs.Letters.{slot}
 use Rattle.rules_simplify.specs.declared.rewrites.Application.{Application}
 use Rattle.rules_simplify.specs.declared.rewrites.Fit.{Fit}
 use Rattle.rules_simplify.specs.declared.tables.Next.TheVariants.{Ends, Part, Over}
 use Rattle.rules_simplify.specs.declared.tables.Simplification.{Simplification}
-use Rattle.rules_simplify.specs.Chains.{heaviness, IsAt, IsSomeAt, IsFirst, IsMissing}
-use Rattle.rules_simplify.specs.Tables.{IsNext, has_letter, has_letters_of, rows_of}
-use Rattle.rules_simplify.proofs.ChainLemmas.{reached_none, reached_next, first_is_any}
+use Rattle.rules_simplify.specs.Chains.{heaviness, IsAt, IsFirst, IsMissing}
+use Rattle.rules_simplify.specs.Tables.{IsNext, has_letters_of, rows_of}
+use Rattle.rules_simplify.proofs.ChainLemmas.{reached_none, reached_next}
 use Rattle.rules_simplify.proofs.RowLemmas.{last_fits_none, letter_settled, letter_refers, letters_refer, over_is, letter_there, rewrite_is}
+use Rattle.rules_simplify.proofs.SortLemmas.{right_sorted}
 use Rattle.rules_simplify.proofs.WeightLemmas.{row_falls, weight_at, weight_is}
 use Rattle.std.specs.Borrow.{Bor}
-use Rattle.std.specs.List.{AllByRecursion}
-use Rattle.rule_model.proofs.Lists.{contains_head, contains_later}
 use Rattle.term_model.specs.Sorts.{IsWellSorted}
-
-each_sorted : (f : Letter → Term) (ls : List Letter) → ((l : Letter) → Contains ls l → IsWellSorted (f l)) → AllByRecursion IsWellSorted (map f ls)
-each_sorted f [] h = tt
-each_sorted f (l ∷ ls) h = (h l (contains_head l ls), each_sorted f ls (λ m there. h m (contains_later l m ls there)))
 
 module _ (s : Table) (v : TermsView) (rows : List RewriteRow) (fit : Fit) (t : Term) (is : IsFirst s v rows fit t) where
   -- what the row makes
@@ -46,19 +41,14 @@ module _ (s : Table) (v : TermsView) (rows : List RewriteRow) (fit : Fit) (t : T
   part_refers l r e there =
       subst (λ p. RefersTo s v r (fill is.fits.terms p)) (sym (part_is l e)) (letter_refers s v fit.letters is.fits.terms is.fits.agrees l r there)
 
-  pub part_sorted : (l : Letter) → fit.row.next ≡ Part l → IsWellSorted next_term
-  part_sorted l e =
-      subst (λ p. IsWellSorted (fill is.fits.terms p)) (sym (part_is l e))
-      (is.fits.sorted l (subst (λ p. IsTrue (has_letters_of is.row.left p)) (part_is l e) is.parts.4))
-
-  pub over_at : (op : Op) (ls : Bor (List Letter)) (at : Application) → fit.row.next ≡ Over op ls → at.op ≡ op → map (slot fit.letters) ls.now ≡ map Some at.arguments.items → IsAt s v at next_term
-  over_at op ls at e same loaded =
+  pub over_at : (op : Op) (ls : Bor (List Letter)) (at : Application) → fit.row.next ≡ Over op ls → at.op ≡ op → IsWellSorted next_term → map (slot fit.letters) ls.now ≡ map Some at.arguments.items → IsAt s v at next_term
+  over_at op ls at e same sorted loaded =
       let next = subst (IsNext rows is.row.right) e is.parts.5 in
       record {
         arguments = map is.fits.terms ls.now;
         is = over_is is.fits.terms is.row.right op ls.now next.0 next.1 ∙ ap (λ o. operation o (terms_of (map is.fits.terms ls.now))) (sym same);
         refer = letters_refer s v fit.letters is.fits.terms is.fits.agrees ls.now at.arguments.items loaded;
-        sorted = each_sorted is.fits.terms ls.now (λ l there. is.fits.sorted l (letter_there is.row.left is.row.right ls.now is.parts.4 next.1 l there));
+        sorted = sorted;
       }
 
   pub over_missing : (op : Op) (ls : Bor (List Letter)) → fit.row.next ≡ Over op ls → IsMissing fit.letters ls.now → ⊥
@@ -89,6 +79,11 @@ module _ (s : Table) (v : TermsView) (rows : List RewriteRow) (fit : Fit) (t : T
           ],
           λ rest. step.1 (inr rest),
         )
+
+-- what a row makes is well sorted
+pub next_sorted : (s : Table) (v : TermsView) (table : Simplification) (fit : Fit) (t : Term) (is : IsFirst s v (rows_of table) fit t) → IsWellSorted (next_term s v (rows_of table) fit t is)
+next_sorted s v table fit t is =
+    right_sorted table is.row is.there is.fits.terms is.fits.passes (subst IsWellSorted (from_left s v (rows_of table) fit t is) is.fits.sorted)
 
 -- a term reached by the chain so far: what can be reached from the first one can be reached from it
 pub record IsOnWay (s : Table) (v : TermsView) (rows : List RewriteRow) (at : Application) (t u : Term) : Type 0 where

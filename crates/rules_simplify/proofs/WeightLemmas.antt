@@ -1,18 +1,17 @@
 -- Each row of the tables of rewrites makes terms lighter.
-use Rattle.std.proofs.Common.{◌≡◌, ◌+◌, ◌*◌, ◌≤◌, ◌<◌, ℕ, List, [], ◌∷◌, Some, refl, sym, ap, ◌∙◌, subst, arith, Contains}
+use Rattle.std.proofs.Common.{◌≡◌, ◌≤◌, ℕ, List, [], ◌∷◌, refl, sym, ap, ◌∙◌, arith, Contains}
 use Rattle.std.specs.List.{AllByRecursion}
 use Rattle.sym_table.specs.Table.{Table, IsTable}
 use Rattle.term_model.specs.declared.symbols.Op.{Op}
-use Rattle.term_model.specs.Terms.{Term, Terms, numeral, variable, operation, call, let_in, term, terms_of}
+use Rattle.term_model.specs.Terms.{Term, numeral, variable, operation, call, let_in, terms_of}
 use Rattle.term_pool.specs.Decoding.{HasTermsAt}
 use Rattle.term_pool.specs.Views.{TermsView, ReferToAll}
 use Rattle.rule_model.specs.declared.letter.Letter.{Letter}
 use Rattle.rule_model.specs.Rewriting.{RewriteRow}
-use Rattle.rule_model.specs.Schemas.{fill}
-use Rattle.rule_model.specs.Simplification.{not_simplify, implies_simplify, equiv_simplify, ite_simplify}
+use Rattle.rule_model.specs.Simplification.{not_simplify, implies_simplify, equiv_simplify, ite_simplify, eq_simplify, comp_simplify}
 use Rattle.rules_simplify.specs.declared.rewrites.Application.{Application}
 use Rattle.rules_simplify.specs.declared.tables.Simplification.{Simplification}
-use Rattle.rules_simplify.specs.Chains.{heaviness, all_heaviness, first_heaviness, Falls, IsAt, and_then, terms_at}
+use Rattle.rules_simplify.specs.Chains.{heaviness, Falls, IsAt, terms_at}
 use Rattle.rules_simplify.specs.Tables.{rows_of}
 use Rattle.rules_simplify.proofs.ChainLemmas.{all_at}
 
@@ -82,15 +81,31 @@ implies_falls = (
 )
 
 pub equiv_falls : AllByRecursion Falls equiv_simplify
-equiv_falls = (λ f. (let a = some (f Letter.A) in let b = some (f Letter.B) in let c = some (f Letter.C) in let d = some (f Letter.D) in omega (arith, a, b, c, d)),
-  (λ f. (let a = some (f Letter.A) in let b = some (f Letter.B) in let c = some (f Letter.C) in let d = some (f Letter.D) in omega (arith, a, b, c, d)),
-  (λ f. (let a = some (f Letter.A) in let b = some (f Letter.B) in let c = some (f Letter.C) in let d = some (f Letter.D) in omega (arith, a, b, c, d)),
-  (λ f. (let a = some (f Letter.A) in let b = some (f Letter.B) in let c = some (f Letter.C) in let d = some (f Letter.D) in omega (arith, a, b, c, d)),
-  (λ f. (let a = some (f Letter.A) in let b = some (f Letter.B) in let c = some (f Letter.C) in let d = some (f Letter.D) in omega (arith, a, b, c, d)),
-  (λ f. (let a = some (f Letter.A) in let b = some (f Letter.B) in let c = some (f Letter.C) in let d = some (f Letter.D) in omega (arith, a, b, c, d)),
-  (λ f. (let a = some (f Letter.A) in let b = some (f Letter.B) in let c = some (f Letter.C) in let d = some (f Letter.D) in omega (arith, a, b, c, d)),
-  (λ f. (let a = some (f Letter.A) in let b = some (f Letter.B) in let c = some (f Letter.C) in let d = some (f Letter.D) in omega (arith, a, b, c, d)),
-  tt))))))))
+equiv_falls = (
+  λ f. (let a = some (f Letter.A) in let b = some (f Letter.B) in let c = some (f Letter.C) in let d = some (f Letter.D) in omega (arith, a, b, c, d)),
+  (
+    λ f. (let a = some (f Letter.A) in let b = some (f Letter.B) in let c = some (f Letter.C) in let d = some (f Letter.D) in omega (arith, a, b, c, d)),
+    (
+      λ f. (let a = some (f Letter.A) in let b = some (f Letter.B) in let c = some (f Letter.C) in let d = some (f Letter.D) in omega (arith, a, b, c, d)),
+      (
+        λ f. (let a = some (f Letter.A) in let b = some (f Letter.B) in let c = some (f Letter.C) in let d = some (f Letter.D) in omega (arith, a, b, c, d)),
+        (
+          λ f. (let a = some (f Letter.A) in let b = some (f Letter.B) in let c = some (f Letter.C) in let d = some (f Letter.D) in omega (arith, a, b, c, d)),
+          (
+            λ f. (let a = some (f Letter.A) in let b = some (f Letter.B) in let c = some (f Letter.C) in let d = some (f Letter.D) in omega (arith, a, b, c, d)),
+            (
+              λ f. (let a = some (f Letter.A) in let b = some (f Letter.B) in let c = some (f Letter.C) in let d = some (f Letter.D) in omega (arith, a, b, c, d)),
+              (
+                λ f. (let a = some (f Letter.A) in let b = some (f Letter.B) in let c = some (f Letter.C) in let d = some (f Letter.D) in omega (arith, a, b, c, d)),
+                tt,
+              ),
+            ),
+          ),
+        ),
+      ),
+    ),
+  ),
+)
 
 pub ite_falls : AllByRecursion Falls ite_simplify
 ite_falls = (
@@ -131,11 +146,19 @@ ite_falls = (
   ),
 )
 
+pub equality_falls : AllByRecursion Falls eq_simplify
+equality_falls = (λ f. (let a = some (f Letter.A) in let b = some (f Letter.B) in omega (arith, a, b)), (λ f. (let a = some (f Letter.A) in let b = some (f Letter.B) in omega (arith, a, b)), (λ f. (let a = some (f Letter.A) in let b = some (f Letter.B) in omega (arith, a, b)), tt)))
+
+pub comparison_falls : AllByRecursion Falls comp_simplify
+comparison_falls = (λ f. (let a = some (f Letter.A) in let b = some (f Letter.B) in omega (arith, a, b)), (λ f. (let a = some (f Letter.A) in let b = some (f Letter.B) in omega (arith, a, b)), (λ f. (let a = some (f Letter.A) in let b = some (f Letter.B) in omega (arith, a, b)), (λ f. (let a = some (f Letter.A) in let b = some (f Letter.B) in omega (arith, a, b)), (λ f. (let a = some (f Letter.A) in let b = some (f Letter.B) in omega (arith, a, b)), (λ f. (let a = some (f Letter.A) in let b = some (f Letter.B) in omega (arith, a, b)), (λ f. (let a = some (f Letter.A) in let b = some (f Letter.B) in omega (arith, a, b)), (λ f. (let a = some (f Letter.A) in let b = some (f Letter.B) in omega (arith, a, b)), (λ f. (let a = some (f Letter.A) in let b = some (f Letter.B) in omega (arith, a, b)), tt)))))))))
+
 all_fall : (table : Simplification) → AllByRecursion Falls (rows_of table)
 all_fall Simplification.Not = not_falls
 all_fall Simplification.Implies = implies_falls
 all_fall Simplification.Equiv = equiv_falls
 all_fall Simplification.Ite = ite_falls
+all_fall Simplification.Equality = equality_falls
+all_fall Simplification.Comparison = comparison_falls
 
 pub row_falls : (table : Simplification) (row : RewriteRow) → Contains (rows_of table) row → Falls row
 row_falls table row there = all_at Falls (rows_of table) row (all_fall table) there

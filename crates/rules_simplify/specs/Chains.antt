@@ -1,6 +1,6 @@
 -- Private. Applications by the references of their arguments, the rows that they fit, and how heavy they are.
-use Rattle.std.specs.Prelude.{◌≡◌, ◌↔◌, ◌+◌, ◌*◌, ◌<◌, ℕ, List, [], ◌∷◌, Option, Some, None, IsTrue}
-use Rattle.std.specs.List.{Contains, AllByRecursion}
+use Rattle.std.specs.Prelude.{◌≡◌, ◌↔◌, ◌+◌, ◌*◌, ◌<◌, ℕ, List, [], ◌∷◌, Option, Some, None}
+use Rattle.std.specs.List.{Contains}
 use Rattle.sym_table.specs.Table.{Table}
 use Rattle.term_model.specs.declared.symbols.Op.{Op}
 use Rattle.term_model.specs.Sorts.{IsWellSorted}
@@ -14,26 +14,26 @@ use Rattle.schema_match.specs.Letters.{slot, Agrees}
 use Rattle.schema_match.specs.declared.letters.Letters.{Letters}
 use Rattle.rules_simplify.specs.declared.rewrites.Application.{Application}
 use Rattle.rules_simplify.specs.declared.rewrites.Fit.{Fit}
-use Rattle.rules_simplify.specs.Tables.{IsRow, has_letter}
+use Rattle.rules_simplify.specs.Tables.{IsRow}
 
--- the operator over the terms of the references, which are well sorted, is this term
+-- the operator over the terms of the references is this term, which is well sorted
 pub record IsAt (s : Table) (v : TermsView) (at : Application) (t : Term) : Type 0 where
   pub arguments : List Term
   pub is : t ≡ operation at.op (terms_of arguments)
   pub refer : ReferToAll s v at.arguments.items arguments
-  pub sorted : AllByRecursion IsWellSorted arguments
+  pub sorted : IsWellSorted t
 
 pub record IsSomeAt (s : Table) (v : TermsView) (at : Application) : Type 0 where
   pub means : Term
   pub is : IsAt s v at means
 
--- the term fits the row's left side and passes, and the letters are what gives it
+-- the term, which is well sorted, fits the row's left side and passes, and the letters are what gives it
 pub record FitsBy (s : Table) (v : TermsView) (letters : Letters) (row : RewriteRow) (t : Term) : Type 0 where
   pub terms : Letter → Term
   pub agrees : Agrees s v letters terms
   pub gives : (f : Letter → Term) → (t ≡ fill f row.left) ↔ Agrees s v letters f
   pub passes : PassesGuard terms row.guard
-  pub sorted : (l : Letter) → IsTrue (has_letter l row.left) → IsWellSorted (terms l)
+  pub sorted : IsWellSorted t
 
 -- one of the letters is not settled
 pub record IsMissing (letters : Letters) (of : List Letter) : Type 0 where

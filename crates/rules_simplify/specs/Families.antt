@@ -10,6 +10,8 @@ is_of_simplification Rule.NotSimplify = true
 is_of_simplification Rule.ImpliesSimplify = true
 is_of_simplification Rule.EquivSimplify = true
 is_of_simplification Rule.IteSimplify = true
+is_of_simplification Rule.EqSimplify = true
+is_of_simplification Rule.CompSimplify = true
 is_of_simplification rule = false
 
 abbrev pub IsOfSimplification : Rule → Type 0

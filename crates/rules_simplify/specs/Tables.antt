@@ -1,20 +1,22 @@
 -- Private. The tables of rewrites as parts of patterns.
 use Rattle.std.specs.Prelude.{◌≡◌, List, [], ◌∷◌, Bool, true, false, not, ◌&&◌, ◌||◌, IsTrue, Option, Some, None, map, ⊤}
-use Rattle.std.specs.List.{AllZip}
+use Rattle.std.specs.List.{AllByRecursion, AllZip}
 use Rattle.term_model.specs.declared.symbols.Op.{Op}
 use Rattle.rule_model.specs.declared.letter.Letter.{Letter}
 use Rattle.rule_model.specs.Patterns.{equal}
-use Rattle.rule_model.specs.Rewriting.{RewriteRow, Guard, always, truths}
+use Rattle.rule_model.specs.Rewriting.{RewriteRow, Guard, always, truths, one_number, two_numbers, below, at_most}
 use Rattle.rule_model.specs.Schemas.{Pattern, letter, constant, unary, binary, ternary}
-use Rattle.rule_model.specs.Simplification.{not_simplify, implies_simplify, equiv_simplify, ite_simplify}
+use Rattle.rule_model.specs.Simplification.{not_simplify, implies_simplify, equiv_simplify, ite_simplify, eq_simplify, comp_simplify}
 use Rattle.rule_model.specs.TermTests.{op_eq}
 use Rattle.schema_match.specs.Matching.{parts_of}
-use Rattle.rules_simplify.specs.declared.tables.Asked.{Asked}
-use Rattle.rules_simplify.specs.declared.tables.Asked.TheVariants.{Nothing, Truths}
+use Rattle.rules_simplify.specs.declared.asked.Asked.{Asked}
+use Rattle.rules_simplify.specs.declared.asked.Asked.TheVariants.{Nothing, Truth, Numbers}
+use Rattle.rules_simplify.specs.declared.asked.NumberTest.{NumberTest}
 use Rattle.rules_simplify.specs.declared.tables.Next.{Next}
 use Rattle.rules_simplify.specs.declared.tables.Next.TheVariants.{Ends, Part, Over}
 use Rattle.rules_simplify.specs.declared.tables.RowParts.{RowParts}
 use Rattle.rules_simplify.specs.declared.tables.Simplification.{Simplification}
+use Rattle.rules_simplify.specs.Asking.{letters_asked}
 
 -- the rows of each table
 abbrev pub rows_of : Simplification → List RewriteRow
@@ -22,6 +24,8 @@ rows_of Simplification.Not = not_simplify
 rows_of Simplification.Implies = implies_simplify
 rows_of Simplification.Equiv = equiv_simplify
 rows_of Simplification.Ite = ite_simplify
+rows_of Simplification.Equality = eq_simplify
+rows_of Simplification.Comparison = comp_simplify
 
 -- the operator of a pattern that is an application to some arguments, and these
 abbrev pub root_of : Pattern → Option Op
@@ -84,11 +88,28 @@ IsNext rows right Ends = IsTrue (is_last rows right)
 IsNext rows right (Part l) = right ≡ letter l
 IsNext rows right (Over op ls) = (root_of right ≡ Some op) × (arguments_in right ≡ map letter ls.now)
 
--- what a guard asks of the left side: nothing, or that it is an equality of two terms of Bool
+-- whether what a pattern becomes is of Bool by its form
+abbrev pub is_of_bool : Pattern → Bool
+is_of_bool (constant Op.True) = true
+is_of_bool (constant Op.False) = true
+is_of_bool (unary Op.Not p) = true
+is_of_bool p = false
+
+-- What is asked of the letters is what the guard asks of a left side that is well sorted: the sides of an equality are of
+-- one sort, so both are of Bool where one is.
+abbrev pub IsAskedBy : Pattern → Guard → Asked → Type 0
+IsAskedBy left always Nothing = ⊤
+IsAskedBy left (truths p q) Nothing = (left ≡ equal p q) × IsTrue (is_of_bool p || is_of_bool q)
+IsAskedBy left (truths p q) (Truth l) = (left ≡ equal p q) × (p ≡ letter l)
+IsAskedBy left (one_number p q) (Numbers NumberTest.Equal l m) = (p ≡ letter l) × (q ≡ letter m)
+IsAskedBy left (two_numbers p q) (Numbers NumberTest.Different l m) = (p ≡ letter l) × (q ≡ letter m)
+IsAskedBy left (below p q) (Numbers NumberTest.Below l m) = (p ≡ letter l) × (q ≡ letter m)
+IsAskedBy left (at_most p q) (Numbers NumberTest.AtMost l m) = (p ≡ letter l) × (q ≡ letter m)
+IsAskedBy left guard asked = ⊥
+
+-- the same of letters that the left side has
 abbrev pub IsAsked : Pattern → Guard → Asked → Type 0
-IsAsked left always Nothing = ⊤
-IsAsked left (truths p q) Truths = left ≡ equal p q
-IsAsked left guard asked = ⊥
+IsAsked left guard asked = IsAskedBy left guard asked × AllByRecursion (λ l. IsTrue (has_letter l left)) (letters_asked asked)
 
 -- the parts of a row of a table: its left side is an application that has the right side's letters
 abbrev pub IsRow : List RewriteRow → RewriteRow → RowParts → Type 0
@@ -102,3 +123,9 @@ IsRow rows row parts =
 
 abbrev pub AreRows : List RewriteRow → List RowParts → Type 0
 AreRows rows parts = AllZip (IsRow rows) rows parts
+
+-- the parts of some row of some table
+pub record IsSomeRow (parts : RowParts) : Type 0 where
+  pub rows : List RewriteRow
+  pub row : RewriteRow
+  pub is : IsRow rows row parts

@@ -5,8 +5,10 @@
 //! list. A table of rewrites is tried row after row, at each step of a chain. No cell is placed.
 #![tactic(auto)]
 
+mod asked;
 mod checks;
 mod joins;
+mod number_tables;
 mod opposed;
 mod rewrites;
 mod shorter;

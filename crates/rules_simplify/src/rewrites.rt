@@ -1,28 +1,26 @@
 //! Simplification by the rows of a table of rewrites.
 
-ghost use Rattle.std.specs.Prelude.{◌≡◌, ◌↔◌, List, [], ◌∷◌, All, Any, map, reverse, IsTrue, IfOk, OnOk, Some};
+ghost use Rattle.std.specs.Prelude.{◌≡◌, ◌↔◌, List, Any, map, reverse, IsTrue, IfOk, OnOk, Some};
 ghost use Rattle.std.specs.Bool.{OnTrue, OnFalse};
 ghost use Rattle.rule_model.specs.declared.letter.Letter.{Letter};
 ghost use Rattle.rule_model.specs.Rewriting.{RewriteRow, FitsRow, IsFirstFit, IsReached, Rewrites, Simplifies};
 ghost use Rattle.rule_model.specs.Schemas.{fill};
 ghost use Rattle.sort_check.specs.WellSorted.{IsWellSortedTerm};
-ghost use Rattle.term_model.specs.declared.symbols.Sort.{Sort};
-ghost use Rattle.term_model.specs.Sorts.{IsOf};
 ghost use Rattle.term_model.specs.Terms.{Term};
 ghost use Rattle.term_pool.specs.Views.{IsTerm, RefersTo, ReferToAll};
 ghost use Rattle.schema_match.specs.Letters.{slot};
 ghost use Rattle.rules_simplify.specs.Chains.{FitsBy, IsAt, IsFirst, IsMissing, IsSomeAt, IsSomeFit};
-ghost use Rattle.rules_simplify.specs.Tables.{IsRow, rows_of};
+ghost use Rattle.rules_simplify.specs.Tables.{IsRow, IsSomeRow, rows_of};
 
-use crate::tables::{Asked, Next, RowParts, Simplification, rows, some_row};
+use crate::asked::passes;
+use crate::tables::{Next, RowParts, Simplification, rows, some_row};
 use pair_pool::{Memory, Ref};
 use rule_model::Letter;
 use schema_match::{Letters, Scratch, Sign, Slot, fits, fits_with, load_arguments, push};
 use smallvec::SmallVec;
-use sort_check::sort_of;
 use std::alloc::Global;
 use sym_table::Symbols;
-use term_model::{Op, Sort};
+use term_model::Op;
 use term_pool::Terms;
 
 /// An application by its operator and the references of its arguments. It may be a term that has no cell.
@@ -59,36 +57,8 @@ fn stack_up(list: &[Slot], stack: &mut Scratch) -> Result<(), Memory>
     Ok(())
 }
 
-/// Whether a well-sorted term is of Bool.
-fn is_truth(symbols: &Symbols, terms: &mut Terms<'_>, r: Ref) -> bool
-    requires { IsWellSortedTerm symbols.now terms.old r }
-    ensures truth { (t : Term) → RefersTo symbols.now terms.old r t → IsTrue result ↔ IsOf t Sort.Bool }
-    ensures same { terms.new ≡ terms.old }
-{
-    match sort_of(symbols, terms, r) {
-        Sort::Bool => true,
-        _ => false,
-    }
-}
-
-/// Whether the terms of a list are two of Bool.
-fn are_truths(symbols: &Symbols, terms: &mut Terms<'_>, list: &[Slot]) -> bool
-    requires { All (IsWellSortedTerm symbols.now terms.old) list.now }
-    ensures truths { (t u : Term) → ReferToAll symbols.now terms.old list.now (t ∷ u ∷ []) → IsTrue result ↔ (IsOf t Sort.Bool × IsOf u Sort.Bool) }
-    ensures same { terms.new ≡ terms.old }
-{
-    if list.len() == 2 {
-        let first = list[0].get();
-        let second = list[1].get();
-        if !is_truth(symbols, terms, first) {
-            return false;
-        }
-        return is_truth(symbols, terms, second);
-    }
-    false
-}
-
-/// Whether an application fits the left side of a row and passes. Where it does, the letters are what gives it. The stack is scratch.
+/// Whether an application fits the left side of a row and passes what the row asks besides. Where it does, the letters are
+/// what gives it. The stack is scratch.
 fn fits_row(
     symbols: &Symbols,
     terms: &mut Terms<'_>,
@@ -97,7 +67,8 @@ fn fits_row(
     letters: &mut Letters,
     stack: &mut Scratch,
 ) -> Result<bool, Memory>
-    requires { IsSomeAt symbols.now terms.old at.now }
+    requires row { IsSomeRow row }
+    requires at { IsSomeAt symbols.now terms.old at.now }
     ensures fit { IfOk result (λ yes. OnTrue yes ((table : List RewriteRow) (of : RewriteRow) (t : Term) → IsRow table of row →
         IsAt symbols.now terms.old at.now t → FitsBy symbols.now terms.old letters.new of t)) }
     ensures other { IfOk result (λ yes. OnFalse yes ((table : List RewriteRow) (of : RewriteRow) (t : Term) → IsRow table of row →
@@ -111,10 +82,7 @@ fn fits_row(
     if !fits_with(symbols, terms, row.left, letters, stack)? {
         return Ok(false);
     }
-    match row.asked {
-        Asked::Nothing => Ok(true),
-        Asked::Truths => Ok(are_truths(symbols, terms, &at.arguments)),
-    }
+    Ok(passes(symbols, terms, row.asked, letters))
 }
 
 /// Whether a row whose left side an application fits makes a term of it. The stack is scratch.
@@ -146,6 +114,7 @@ fn rewrites(
     right: Ref,
     stack: &mut Scratch,
 ) -> Result<bool, Memory>
+    requires row { IsSomeRow row }
     requires at { IsSomeAt symbols.now terms.old at.now }
     requires right { IsTerm symbols.now terms.old right }
     ensures rewrites { IfOk result (λ yes. (table : List RewriteRow) (of : RewriteRow) (t u : Term) → IsRow table of row →

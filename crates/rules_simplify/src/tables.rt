@@ -2,6 +2,8 @@
 
 ghost use Rattle.rules_simplify.specs.Tables.{AreRows, rows_of};
 
+use crate::asked::Asked;
+use crate::number_tables::{comparison_rows, equality_rows};
 use rule_model::Letter;
 use schema_match::Part;
 use term_model::Op;
@@ -13,6 +15,8 @@ pub(crate) enum Simplification {
     Implies,
     Equiv,
     Ite,
+    Equality,
+    Comparison,
 }
 
 /// What a row makes of a term, as the next term of a chain.
@@ -24,14 +28,6 @@ pub(crate) enum Next {
     Part(Letter),
     /// An operator over what letters stand for.
     Over(Op, &'static [Letter]),
-}
-
-/// What a row asks besides that its left side fits.
-#[derive(Clone, Copy)]
-pub(crate) enum Asked {
-    Nothing,
-    /// The left side is an equality, and its sides are of Bool.
-    Truths,
 }
 
 /// A row of a table of rewrites. Its left side is an application.
@@ -47,19 +43,19 @@ pub(crate) struct RowParts {
     pub(crate) next: Next,
 }
 
-const A: Part = Part::Any(Letter::A);
+pub(crate) const A: Part = Part::Any(Letter::A);
 
-const B: Part = Part::Any(Letter::B);
+pub(crate) const B: Part = Part::Any(Letter::B);
 
 const C: Part = Part::Any(Letter::C);
 
 const D: Part = Part::Any(Letter::D);
 
-const TRUE: Part = Part::Apply(Op::True, 0);
+pub(crate) const TRUE: Part = Part::Apply(Op::True, 0);
 
-const FALSE: Part = Part::Apply(Op::False, 0);
+pub(crate) const FALSE: Part = Part::Apply(Op::False, 0);
 
-const NOT: Part = Part::Apply(Op::Not, 1);
+pub(crate) const NOT: Part = Part::Apply(Op::Not, 1);
 
 const AND: Part = Part::Apply(Op::And, 2);
 
@@ -67,7 +63,7 @@ const OR: Part = Part::Apply(Op::Or, 2);
 
 const IMPLIES: Part = Part::Apply(Op::Implies, 2);
 
-const EQUAL: Part = Part::Apply(Op::Equal, 2);
+pub(crate) const EQUAL: Part = Part::Apply(Op::Equal, 2);
 
 const ITE: Part = Part::Apply(Op::Ite, 3);
 
@@ -180,56 +176,56 @@ static EQUIV_ROWS: [RowParts; 8] = [
         op: Op::Equal,
         left: &[NOT, A, NOT, B],
         both: &[EQUAL, A, B, NOT, A, NOT, B],
-        asked: Asked::Truths,
+        asked: Asked::Nothing,
         next: Next::Over(Op::Equal, &[Letter::A, Letter::B]),
     },
     RowParts {
         op: Op::Equal,
         left: &[A, A],
         both: &[TRUE, A, A],
-        asked: Asked::Truths,
+        asked: Asked::Truth(Letter::A),
         next: Next::Ends,
     },
     RowParts {
         op: Op::Equal,
         left: &[A, NOT, A],
         both: &[FALSE, A, NOT, A],
-        asked: Asked::Truths,
+        asked: Asked::Nothing,
         next: Next::Ends,
     },
     RowParts {
         op: Op::Equal,
         left: &[NOT, A, A],
         both: &[FALSE, NOT, A, A],
-        asked: Asked::Truths,
+        asked: Asked::Nothing,
         next: Next::Ends,
     },
     RowParts {
         op: Op::Equal,
         left: &[TRUE, A],
         both: &[A, TRUE, A],
-        asked: Asked::Truths,
+        asked: Asked::Nothing,
         next: Next::Part(Letter::A),
     },
     RowParts {
         op: Op::Equal,
         left: &[A, TRUE],
         both: &[A, A, TRUE],
-        asked: Asked::Truths,
+        asked: Asked::Nothing,
         next: Next::Part(Letter::A),
     },
     RowParts {
         op: Op::Equal,
         left: &[FALSE, A],
         both: &[NOT, A, FALSE, A],
-        asked: Asked::Truths,
+        asked: Asked::Nothing,
         next: Next::Ends,
     },
     RowParts {
         op: Op::Equal,
         left: &[A, FALSE],
         both: &[NOT, A, A, FALSE],
-        asked: Asked::Truths,
+        asked: Asked::Nothing,
         next: Next::Ends,
     },
 ];
@@ -349,5 +345,7 @@ pub(crate) fn rows(of: Simplification) -> &'static [RowParts]
         Simplification::Implies => implies_rows(),
         Simplification::Equiv => equiv_rows(),
         Simplification::Ite => ite_rows(),
+        Simplification::Equality => equality_rows(),
+        Simplification::Comparison => comparison_rows(),
     }
 }

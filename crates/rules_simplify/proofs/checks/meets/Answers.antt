@@ -8,8 +8,8 @@ use Rattle.rules_simplify.proofs.checks.meets.Goals as goal
 pub meets_joining-requires : goal.meets_joining-requires
 meets_joining-requires c = refer_are_terms c.args.symbols.now c.args.terms.now c.args.clause.now c.requires.terms c.requires.refer
 
-pub meets_joining-in-OrSimplify-requires : goal.meets_joining-in-OrSimplify-requires
-meets_joining-in-OrSimplify-requires c = refer_are_terms c.args.symbols.now c.args.terms.now c.args.clause.now c.requires.terms c.requires.refer
+pub meets_joining-requires-in-OrSimplify : goal.meets_joining-requires-in-OrSimplify
+meets_joining-requires-in-OrSimplify c = refer_are_terms c.args.symbols.now c.args.terms.now c.args.clause.now c.requires.terms c.requires.refer
 
 pub returns-in-AndSimplify-clause-meets : goal.returns-in-AndSimplify-clause-meets
 returns-in-AndSimplify-clause-meets c =
@@ -41,6 +41,16 @@ returns-in-IteSimplify-clause-meets c =
     IfOk-weaker c.meets_rewriting-in-IteSimplify.result _ _ (λ b test ts clause.
     subst (λ rule. IsTrue b ↔ MeetsSimplify rule [] ts) (sym c.in-IteSimplify.is) (test ts clause)) c.meets_rewriting-in-IteSimplify.ensures.meets
 
+pub returns-in-EqSimplify-clause-meets : goal.returns-in-EqSimplify-clause-meets
+returns-in-EqSimplify-clause-meets c =
+    IfOk-weaker c.meets_rewriting-in-EqSimplify.result _ _ (λ b test ts clause.
+    subst (λ rule. IsTrue b ↔ MeetsSimplify rule [] ts) (sym c.in-EqSimplify.is) (test ts clause)) c.meets_rewriting-in-EqSimplify.ensures.meets
+
+pub returns-in-CompSimplify-clause-meets : goal.returns-in-CompSimplify-clause-meets
+returns-in-CompSimplify-clause-meets c =
+    IfOk-weaker c.meets_rewriting-in-CompSimplify.result _ _ (λ b test ts clause.
+    subst (λ rule. IsTrue b ↔ MeetsSimplify rule [] ts) (sym c.in-CompSimplify.is) (test ts clause)) c.meets_rewriting-in-CompSimplify.ensures.meets
+
 pub returns-in_default-clause-meets : goal.returns-in_default-clause-meets
 returns-in_default-clause-meets c ts clause =
-    other_rule ts c.args.rule c.in_default.not-AndSimplify c.in_default.not-OrSimplify c.in_default.not-NotSimplify c.in_default.not-ImpliesSimplify c.in_default.not-EquivSimplify c.in_default.not-IteSimplify
+    other_rule ts c.args.rule c.in_default.not-AndSimplify c.in_default.not-OrSimplify c.in_default.not-NotSimplify c.in_default.not-ImpliesSimplify c.in_default.not-EquivSimplify c.in_default.not-IteSimplify c.in_default.not-EqSimplify c.in_default.not-CompSimplify

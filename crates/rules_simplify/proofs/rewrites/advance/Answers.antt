@@ -3,7 +3,7 @@ use Rattle.std.proofs.lemmas.Bool.{OnTrue_at, OnFalse_at, OnTrue_from, OnFalse_f
 use Rattle.std.proofs.lemmas.Result.{IfOk-weaker}
 use Rattle.rules_simplify.specs.Tables.{rows_of}
 use Rattle.rules_simplify.proofs.ChainLemmas.{first_is_any}
-use Rattle.rules_simplify.proofs.StepLemmas.{next_term, ends_here, part_settled, part_refers, part_sorted, over_at, over_missing}
+use Rattle.rules_simplify.proofs.StepLemmas.{next_term, ends_here, part_settled, part_refers, next_sorted, over_at, over_missing}
 use Rattle.rules_simplify.proofs.rewrites.advance.Goals as goal
 
 pub returns-in-Ends-clause-ends : goal.returns-in-Ends-clause-ends
@@ -19,7 +19,7 @@ open-requires c =
     record {
       means = next_term c.args.symbols.now c.args.terms.now (rows_of c.args.table) c.args.fit.now some.means some.is;
       refers = part_refers c.args.symbols.now c.args.terms.now (rows_of c.args.table) c.args.fit.now some.means some.is c.in-Part.letter c.in-Some.r c.in-Part.is (sym c.in-Some.ensures);
-      sorted = part_sorted c.args.symbols.now c.args.terms.now (rows_of c.args.table) c.args.fit.now some.means some.is c.in-Part.letter c.in-Part.is;
+      sorted = next_sorted c.args.symbols.now c.args.terms.now c.args.table c.args.fit.now some.means some.is;
     }
 
 pub returns-in-Some-clause-next : goal.returns-in-Some-clause-next
@@ -41,7 +41,7 @@ pub returns-in-Over-clause-next : goal.returns-in-Over-clause-next
 returns-in-Over-clause-next c =
     IfOk-weaker c.load_letters.result _ _ (λ b h.
     OnTrue_from b _ (λ e t is.
-    over_at c.args.symbols.now c.args.terms.now (rows_of c.args.table) c.args.fit.now t is c.in-Over.op _ _ c.in-Over.is refl (OnTrue_at e h))) c.load_letters.ensures.loaded
+    over_at c.args.symbols.now c.args.terms.now (rows_of c.args.table) c.args.fit.now t is c.in-Over.op _ _ c.in-Over.is refl (next_sorted c.args.symbols.now c.args.terms.now c.args.table c.args.fit.now t is) (OnTrue_at e h))) c.load_letters.ensures.loaded
 
 pub returns-in-Over-clause-ends : goal.returns-in-Over-clause-ends
 returns-in-Over-clause-ends c =

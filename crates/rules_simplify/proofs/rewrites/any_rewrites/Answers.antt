@@ -1,10 +1,13 @@
 use Rattle.std.proofs.Common.{◌∙◌, refl}
 use Rattle.rules_simplify.specs.Tables.{rows_of}
-use Rattle.rules_simplify.proofs.RewriteLemmas.{any_found, any_not_yet, any_never}
+use Rattle.rules_simplify.proofs.RewriteLemmas.{some_row_at, any_found, any_not_yet, any_never}
 use Rattle.rules_simplify.proofs.rewrites.any_rewrites.Goals as goal
 
 pub loop-row-init : goal.loop-row-init
 loop-row-init c = record { same = refl; are = c.rows-row-items.ensures; left = λ t u at refers h. h }
+
+pub rewrites-requires-clause-row : goal.rewrites-requires-clause-row
+rewrites-requires-clause-row c = some_row_at (rows_of c.args.table) c.rows-row-items.result.now c.loop-row.invariant.are c.loop-row.row-index _ c.loop-row-test.true
 
 pub returns-then-branch-clause-any : goal.returns-then-branch-clause-any
 returns-then-branch-clause-any c t u at refers =

@@ -1,11 +1,14 @@
 use Rattle.std.proofs.Common.{◌∙◌, refl}
 use Rattle.std.proofs.lemmas.Bool.{OnTrue_at, OnFalse_at}
 use Rattle.rules_simplify.specs.Tables.{rows_of}
-use Rattle.rules_simplify.proofs.RewriteLemmas.{first_found, first_not_yet, first_never}
+use Rattle.rules_simplify.proofs.RewriteLemmas.{some_row_at, first_found, first_not_yet, first_never}
 use Rattle.rules_simplify.proofs.rewrites.first_fit.Goals as goal
 
 pub loop-row-init : goal.loop-row-init
 loop-row-init c = record { same = refl; are = c.rows-row-items.ensures; left = λ t at u. (λ h. h, λ h. h) }
+
+pub fits_row-requires-clause-row : goal.fits_row-requires-clause-row
+fits_row-requires-clause-row c = some_row_at (rows_of c.args.table) c.rows-row-items.result.now c.loop-row.invariant.are c.loop-row.row-index _ c.loop-row-test.true
 
 pub returns-then-branch-clause-first : goal.returns-then-branch-clause-first
 returns-then-branch-clause-first c t at =

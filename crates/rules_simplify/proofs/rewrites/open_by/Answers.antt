@@ -1,7 +1,5 @@
-use Rattle.std.proofs.Common.{◌∷◌, ◌∙◌, refl, subst}
-use Rattle.term_model.specs.Sorts.{IsOf}
-use Rattle.term_model.specs.Terms.{Term}
-use Rattle.rules_simplify.proofs.RowLemmas.{arguments_sorted}
+use Rattle.std.proofs.Common.{◌∷◌, refl, subst}
+use Rattle.term_model.specs.Sorts.{IsWellSorted}
 use Rattle.std.proofs.lemmas.Bool.{OnTrue_at, OnFalse_at, OnTrue_from, OnFalse_from}
 use Rattle.std.proofs.lemmas.Result.{IfOk-weaker}
 use Rattle.rules_simplify.proofs.RewriteLemmas.{opened_not}
@@ -17,9 +15,7 @@ returns-clause-open c =
       arguments = loaded.first ∷ loaded.others;
       is = loaded.is;
       refer = loaded.refer;
-      sorted =
-          arguments_sorted c.args.row.op (loaded.first ∷ loaded.others) c.requires.sorted.sort
-          (subst (λ (x : Term). IsOf x c.requires.sorted.sort) (same ∙ loaded.is) c.requires.sorted.of);
+      sorted = subst IsWellSorted same c.requires.sorted;
     })) c.load_arguments.ensures.loaded
 
 pub returns-clause-other : goal.returns-clause-other

@@ -1,0 +1,172 @@
+-- What is asked of letters is what the guards of rows ask, and constants are read by their form.
+use Rattle.std.proofs.Common.{◌≡◌, ◌↔◌, inl, inr, ℕ, ℤ, pos, neg_ℤ, ◌≤ℤ◌, ◌-ℤ◌, FitsSigned, to_z, of_z, List, [], ◌∷◌, Bool, true, false, IsTrue, Option, Some, None, refl, sym, ap, ◌∙◌, subst, arith}
+use Rattle.std.proofs.lemmas.Int.{ints}
+use Rattle.std.specs.List.{AllByRecursion, slice_get}
+use mir.Syntax.{w128}
+use Rattle.sym_table.specs.Table.{Table}
+use Rattle.term_model.specs.declared.symbols.Op.{Op}
+use Rattle.term_model.specs.declared.symbols.Sort.{Sort}
+use Rattle.term_model.specs.Flips.{equality}
+use Rattle.term_model.specs.Sorts.{IsOf, AreOf, IsWellSorted, application_sort}
+use Rattle.term_model.specs.Terms.{sort_eq, Term, numeral, variable, operation, call, let_in, no_terms, term}
+use Rattle.term_model.proofs.Basics.{and-left}
+use Rattle.term_model.proofs.Sorting.{when-true, when-same, one_sort}
+use Rattle.term_model.proofs.Tests.{sort_eq_decides}
+use Rattle.term_parts.specs.Parts.{IsOver}
+use Rattle.term_parts.proofs.PartLemmas.{over_one}
+use Rattle.term_pool.specs.declared.shape.Shape.{Shape}
+use Rattle.term_pool.specs.Reading.{IsShapeOf, arguments_of}
+use Rattle.term_pool.specs.Views.{TermsView, RefersTo}
+use Rattle.rule_model.proofs.TruthTables.{or_cases}
+use Rattle.rule_model.specs.Constants.{constant_of}
+use Rattle.rule_model.specs.declared.letter.Letter.{Letter}
+use Rattle.rule_model.specs.Rewriting.{Guard, always, truths, one_number, two_numbers, below, at_most, AreConstantsBy, PassesGuard}
+use Rattle.rule_model.specs.Schemas.{Pattern, constant, unary, fill}
+use Rattle.schema_match.specs.Letters.{slot, Agrees}
+use Rattle.schema_match.specs.declared.letters.Letters.{Letters}
+use Rattle.rules_simplify.specs.declared.asked.Asked.{Asked}
+use Rattle.rules_simplify.specs.declared.asked.Asked.TheVariants.{Nothing, Truth, Numbers}
+use Rattle.rules_simplify.specs.declared.asked.NumberTest.{NumberTest}
+use Rattle.rules_simplify.specs.Asking.{numeral_of, NumbersStand, IsAsAsked, IsSortedLetter}
+use Rattle.rules_simplify.specs.Tables.{has_letter, is_of_bool, IsAskedBy}
+use Rattle.rules_simplify.proofs.RowLemmas.{letter_sorted, letter_given, letter_refers}
+
+-- the sides of an equality are of one sort
+pub record AreAlike (t u : Term) : Type 0 where
+  pub sort : Sort
+  pub first : IsOf t sort
+  pub second : IsOf u sort
+
+sides_alike : (t u : Term) → IsWellSorted (equality t u) → AreAlike t u
+sides_alike t u w = go w.sort w.of.sorts w.of.arguments w.of.is
+  where
+    go : (s : Sort) (ss : List Sort) → AreOf (term t (term u no_terms)) ss → application_sort Op.Equal ss ≡ Some s → AreAlike t u
+    go s [] k e = absurd k
+    go s (x ∷ []) k e = absurd k.1
+    go s (x ∷ y ∷ z ∷ rest) k e = absurd k.1.1
+    go s (x ∷ y ∷ []) k e =
+        let same = (sort_eq_decides x y).0 (and-left (sort_eq x y) true (when-true _ _ s e)) in
+        record { sort = x; first = k.0; second = subst (IsOf u) (sym same) k.1.0 }
+
+bool_by_form : (f : Letter → Term) (p : Pattern) (s : Sort) → is_of_bool p ≡ true → IsOf (fill f p) s → s ≡ Sort.Bool
+bool_by_form f (constant Op.True) s e h = when-same _ _ s h.is
+bool_by_form f (constant Op.False) s e h = when-same _ _ s h.is
+bool_by_form f (unary Op.Not p) s e h = when-same _ _ s h.is
+bool_by_form f _ s e h = absurd cc
+
+both_bool : (t u : Term) (alike : AreAlike t u) → alike.sort ≡ Sort.Bool → IsOf t Sort.Bool × IsOf u Sort.Bool
+both_bool t u alike e = (subst (IsOf t) e alike.first, subst (IsOf u) e alike.second)
+
+-- what is asked of the letters is what the guard asks
+pub asked_is : (left : Pattern) (guard : Guard) (asked : Asked) (f : Letter → Term) → IsAskedBy left guard asked → IsWellSorted (fill f left) → IsAsAsked f asked ↔ PassesGuard f guard
+asked_is left always Nothing f h w = (λ e. tt, λ e. tt)
+asked_is left (truths p q) Nothing f h w =
+    let alike = sides_alike (fill f p) (fill f q) (subst (λ x. IsWellSorted (fill f x)) h.0 w) in (
+      λ e. both_bool (fill f p) (fill f q) alike
+          (elim (or_cases (is_of_bool p) (is_of_bool q) h.1) [
+            | inl k ↦ bool_by_form f p alike.sort k alike.first
+            | inr k ↦ bool_by_form f q alike.sort k alike.second
+          ]),
+      λ e. tt,
+    )
+asked_is left (truths p q) (Truth l) f h w =
+    let alike = sides_alike (fill f p) (fill f q) (subst (λ x. IsWellSorted (fill f x)) h.0 w) in (
+      λ e. both_bool (fill f p) (fill f q) alike
+          (one_sort (fill f p) alike.sort Sort.Bool alike.first (subst (λ x. IsOf (fill f x) Sort.Bool) (sym h.1) e)),
+      λ e. subst (λ x. IsOf (fill f x) Sort.Bool) h.1 e.0,
+    )
+asked_is left (one_number p q) (Numbers NumberTest.Equal l m) f h w = rw (h.0, h.1) (λ e. e, λ e. e)
+asked_is left (two_numbers p q) (Numbers NumberTest.Different l m) f h w = rw (h.0, h.1) (λ e. e, λ e. e)
+asked_is left (below p q) (Numbers NumberTest.Below l m) f h w = rw (h.0, h.1) (λ e. e, λ e. e)
+asked_is left (at_most p q) (Numbers NumberTest.AtMost l m) f h w = rw (h.0, h.1) (λ e. e, λ e. e)
+asked_is left _ _ f h w = absurd h
+
+-- letters that the left side has stand for well-sorted terms where the left side is one
+module _ (s : Table) (v : TermsView) (letters : Letters) (left : Pattern) (t : Term) (terms : Letter → Term) (agrees : Agrees s v letters terms) (gives : (f : Letter → Term) → Agrees s v letters f → t ≡ fill f left) (w : IsWellSorted t) where
+  sorted_letter : (l : Letter) → has_letter l left ≡ true → IsSortedLetter s v letters l
+  sorted_letter l has = go (slot letters l) refl
+    where
+      go : (o : Option ℕ) → slot letters l ≡ o → IsSortedLetter s v letters l
+      go None e = absurd (letter_given s v letters left t terms agrees gives l has e)
+      go (Some r) e = record {
+        reference = r;
+        settled = e;
+        term = record {
+          means = terms l;
+          refers = letter_refers s v letters terms agrees l r e;
+          sorted = letter_sorted terms l left (subst IsWellSorted (gives terms agrees) w) has;
+        };
+      }
+
+  pub sorted_letters : (ls : List Letter) → AllByRecursion (λ l. IsTrue (has_letter l left)) ls → AllByRecursion (IsSortedLetter s v letters) ls
+  sorted_letters [] h = tt
+  sorted_letters (l ∷ ls) h = (sorted_letter l h.0, sorted_letters ls h.1)
+
+-- numerals by their shape
+pub numeral_shape : (s : Table) (t : Term) (n : ℤ) → IsShapeOf s t (Shape.Num n) → Some n ≡ numeral_of t
+numeral_shape s (numeral k) n h = cc
+numeral_shape s (variable x) n h = absurd (let e = h.2 in cc)
+numeral_shape s (operation op ts) n h = absurd (let e = h.2 in cc)
+numeral_shape s (call f ts) n h = absurd (let e = h.2 in cc)
+numeral_shape s (let_in bs u) n h = absurd cc
+
+pub natural_shape : (s : Table) (t : Term) (n : ℤ) → IsShapeOf s t (Shape.Num n) → pos 0 ≤ℤ n
+natural_shape s (numeral k) n h = let e : n ≡ pos k = cc in rw e (omega (arith, ints))
+natural_shape s (variable x) n h = absurd (let e = h.2 in cc)
+natural_shape s (operation op ts) n h = absurd (let e = h.2 in cc)
+natural_shape s (call f ts) n h = absurd (let e = h.2 in cc)
+natural_shape s (let_in bs u) n h = absurd cc
+
+pub other_shape : (s : Table) (t : Term) (shape : Shape) → IsShapeOf s t shape → ((n : ℤ) → shape ≡ Shape.Num n → ⊥) → None ≡ numeral_of t
+other_shape s (numeral k) shape h other = absurd (other (pos k) h)
+other_shape s _ shape h other = refl
+
+-- constants by the application of `-` to one term
+pub no_minus : (t : Term) → ¬ IsOver Op.Minus 1 t → numeral_of t ≡ constant_of t
+no_minus (operation Op.Minus (term x no_terms)) other = absurd (other (refl, refl))
+no_minus (operation Op.Minus (term (numeral n) (term y ts))) other = refl
+no_minus _ other = refl
+
+pub record IsMinus (s : Table) (v : TermsView) (a : ℕ) (t : Term) : Type 0 where
+  pub inner : Term
+  pub refers : RefersTo s v a inner
+  pub is : t ≡ operation Op.Minus (term inner no_terms)
+
+pub minus_refers : (s : Table) (v : TermsView) (a : ℕ) (t : Term) → IsOver Op.Minus 1 t → ((x : Term) → slice_get (arguments_of t) 0 ≡ Some x → RefersTo s v a x) → IsMinus s v a t
+minus_refers s v a t over argument =
+    let one = over_one Op.Minus t over in
+    record { inner = one.0; refers = argument one.0 (ap (λ y. slice_get (arguments_of y) 0) one.1); is = one.1 }
+
+pub negated_back : (n : ℤ) → pos 0 ≤ℤ n → FitsSigned w128 n → to_z w128 (of_z w128 (pos 0 -ℤ to_z w128 (of_z w128 n))) ≡ neg_ℤ n
+negated_back n natural fits = omega (arith, ints)
+
+minus_of : (x : Term) (n : ℤ) → Some n ≡ numeral_of x → Some (neg_ℤ n) ≡ constant_of (operation Op.Minus (term x no_terms))
+minus_of (numeral k) n e = let same : n ≡ pos k = cc in ap (λ z. Some (neg_ℤ z)) same
+minus_of _ n e = absurd cc
+
+no_minus_of : (x : Term) → None ≡ numeral_of x → None ≡ constant_of (operation Op.Minus (term x no_terms))
+no_minus_of (numeral k) e = absurd cc
+no_minus_of _ e = refl
+
+module _ (s : Table) (v : TermsView) (a : ℕ) (t : Term) (is : IsMinus s v a t) where
+  pub minus_number : (n : ℤ) → Some n ≡ numeral_of is.inner → Some (neg_ℤ n) ≡ constant_of t
+  minus_number n e = minus_of is.inner n e ∙ ap constant_of (sym is.is)
+
+  pub minus_no_number : None ≡ numeral_of is.inner → None ≡ constant_of t
+  minus_no_number e = no_minus_of is.inner e ∙ ap constant_of (sym is.is)
+
+-- two constants whose numbers are told to stand so to each other
+pub numbers_are : (test : NumberTest) (t u : Term) (m n : ℤ) (b : Bool) → Some m ≡ constant_of t → Some n ≡ constant_of u → IsTrue b ↔ NumbersStand test m n → IsTrue b ↔ AreConstantsBy (NumbersStand test) t u
+numbers_are test t u m n b first second told = (
+  λ e. record { number = m; other = n; first = sym first; second = sym second; are = told.0 e },
+  λ h.
+      (let one : h.number ≡ m = (let e = first ∙ h.first in cc) in
+      let two : h.other ≡ n = (let e = second ∙ h.second in cc) in
+      told.1 (subst (λ x. NumbersStand test x n) one (subst (λ y. NumbersStand test h.number y) two h.are))),
+)
+
+pub not_first : (test : NumberTest) (t u : Term) → None ≡ constant_of t → IsTrue false ↔ AreConstantsBy (NumbersStand test) t u
+not_first test t u none = (λ e. absurd cc, λ h. absurd (let e = none ∙ h.first in cc))
+
+pub not_second : (test : NumberTest) (t u : Term) → None ≡ constant_of u → IsTrue false ↔ AreConstantsBy (NumbersStand test) t u
+not_second test t u none = (λ e. absurd cc, λ h. absurd (let e = none ∙ h.second in cc))
