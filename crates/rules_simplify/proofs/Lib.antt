@@ -11,7 +11,12 @@ pub mod RowLemmas
 pub mod AskingLemmas
 pub mod ChainLemmas
 pub mod SortLemmas
+pub mod OperandLemmas
+pub mod ConjoinedLemmas
+pub mod TakingLemmas
 pub mod WeightLemmas
+pub mod WalkLemmas
+pub mod OverNegationLemmas
 pub mod RewriteLemmas
 pub mod StepLemmas
 pub mod CheckLemmas

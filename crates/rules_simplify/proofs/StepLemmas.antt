@@ -1,5 +1,5 @@
 -- Steps of a chain of first rows.
-use Rattle.std.proofs.Common.{◌≡◌, ◌↔◌, inl, inr, ◌<◌, ℕ, List, map, Bool, true, false, IsTrue, Some, None, refl, sym, ap, ◌∙◌, subst, arith}
+use Rattle.std.proofs.Common.{◌≡◌, ◌↔◌, inl, inr, ◌<◌, ◌&&◌, ℕ, List, map, Bool, true, false, IsTrue, Option, Some, None, refl, sym, ap, ◌∙◌, subst, arith}
 use Rattle.sym_table.specs.Table.{Table, IsTable}
 use Rattle.term_model.specs.declared.symbols.Op.{Op}
 use Rattle.term_model.specs.Terms.{Term, operation, terms_of}
@@ -7,20 +7,34 @@ use Rattle.term_pool.specs.Decoding.{HasTermsAt}
 use Rattle.term_pool.specs.Views.{TermsView, RefersTo}
 use Rattle.rule_model.specs.declared.letter.Letter.{Letter}
 use Rattle.rule_model.specs.Rewriting.{RewriteRow, IsFirstFit, IsReached, once}
+use Rattle.rule_model.specs.Patterns.{a, b, c, no, conj, implies}
 use Rattle.rule_model.specs.Schemas.{letter, fill}
-use Rattle.schema_match.specs.Letters.{slot}
+use Rattle.rule_model.specs.Simplification.{bool_simplify}
+use Rattle.term_model.proofs.Basics.{and-left, and-right}
+use Rattle.schema_match.specs.Letters.{slot, Agrees}
 use Rattle.rules_simplify.specs.declared.rewrites.Application.{Application}
 use Rattle.rules_simplify.specs.declared.rewrites.Fit.{Fit}
-use Rattle.rules_simplify.specs.declared.tables.Next.TheVariants.{Ends, Part, Over}
+use Rattle.rules_simplify.specs.declared.tables.Next.TheVariants.{Ends, Part, Over, OverNegation, Conjoins}
 use Rattle.rules_simplify.specs.declared.tables.Simplification.{Simplification}
+use Rattle.rules_simplify.specs.declared.rewrites.Step.{Step}
+use Rattle.rules_simplify.specs.ChainSteps.{step_where, IsStepTo, IsNegationSettled, IsConjoiningStep}
 use Rattle.rules_simplify.specs.Chains.{heaviness, IsAt, IsFirst, IsMissing}
-use Rattle.rules_simplify.specs.Tables.{IsNext, has_letters_of, rows_of}
+use Rattle.rules_simplify.specs.Tables.{IsNext, has_letter, has_letters_of, rows_of}
 use Rattle.rules_simplify.proofs.ChainLemmas.{reached_none, reached_next}
 use Rattle.rules_simplify.proofs.RowLemmas.{last_fits_none, letter_settled, letter_refers, letters_refer, over_is, letter_there, rewrite_is}
 use Rattle.rules_simplify.proofs.SortLemmas.{right_sorted}
 use Rattle.rules_simplify.proofs.WeightLemmas.{row_falls, weight_at, weight_is}
 use Rattle.std.specs.Borrow.{Bor}
 use Rattle.term_model.specs.Sorts.{IsWellSorted}
+
+some_of : (o : Option ℕ) → (o ≡ None → ⊥) → (r : ℕ) × (o ≡ Some r)
+some_of None other = absurd (other refl)
+some_of (Some r) other = (r, refl)
+
+-- a step by whether it goes on
+pub step_is : (s : Table) (v : TermsView) (rows : List RewriteRow) (at : Application) (t : Term) (goes : Bool) (step : Step) → step ≡ step_where goes → (goes ≡ true → IsAt s v at t) → (goes ≡ false → (u : Term) → ¬ IsFirstFit rows t u) → IsStepTo s v rows at t step
+step_is s v rows at t true step e next ends = subst (IsStepTo s v rows at t) (sym e) (next refl)
+step_is s v rows at t false step e next ends = subst (IsStepTo s v rows at t) (sym e) (ends refl)
 
 module _ (s : Table) (v : TermsView) (rows : List RewriteRow) (fit : Fit) (t : Term) (is : IsFirst s v rows fit t) where
   -- what the row makes
@@ -55,6 +69,63 @@ module _ (s : Table) (v : TermsView) (rows : List RewriteRow) (fit : Fit) (t : T
   over_missing op ls e missing =
       let next = subst (IsNext rows is.row.right) e is.parts.5 in
       letter_settled s v fit.letters is.row t is.fits missing.letter (letter_there is.row.left is.row.right ls.now is.parts.4 next.1 missing.letter missing.there) missing.none
+
+  -- letters of the right side are settled
+  settled_at : (l : Letter) → has_letter l is.row.left ≡ true → (r : ℕ) × (slot fit.letters l ≡ Some r)
+  settled_at l has = some_of (slot fit.letters l) (letter_settled s v fit.letters is.row t is.fits l has)
+
+  negation_is : fit.row.next ≡ OverNegation → (rows ≡ bool_simplify) × (is.row.right ≡ conj a (no b))
+  negation_is e = subst (IsNext rows is.row.right) e is.parts.5
+
+  pub negation_settled : fit.row.next ≡ OverNegation → IsNegationSettled s v fit.letters
+  negation_settled e =
+      let told = subst (λ p. has_letters_of is.row.left p ≡ true) (negation_is e).1 is.parts.4 in
+      let first = settled_at Letter.A (and-left (has_letter Letter.A is.row.left) (has_letter Letter.B is.row.left) told) in
+      let second = settled_at Letter.B (and-right (has_letter Letter.A is.row.left) (has_letter Letter.B is.row.left) told) in
+      record {
+        terms = is.fits.terms;
+        agrees = is.fits.agrees;
+        first = first.0;
+        second = second.0;
+        has_first = first.1;
+        has_second = second.1;
+      }
+
+  pub negation_at : (at : Application) → fit.row.next ≡ OverNegation → IsWellSorted next_term → ((f : Letter → Term) → Agrees s v fit.letters f → IsWellSorted (fill f (conj a (no b))) → IsAt s v at (fill f (conj a (no b)))) → IsAt s v at next_term
+  negation_at at e sorted next =
+      subst (λ p. IsAt s v at (fill is.fits.terms p)) (sym (negation_is e).1)
+      (next is.fits.terms is.fits.agrees (subst (λ p. IsWellSorted (fill is.fits.terms p)) (negation_is e).1 sorted))
+
+  pub negation_ends : fit.row.next ≡ OverNegation → ((f : Letter → Term) (u : Term) → Agrees s v fit.letters f → ¬ IsFirstFit bool_simplify (fill f (conj a (no b))) u) → (u : Term) → ¬ IsFirstFit rows next_term u
+  negation_ends e none u h =
+      none is.fits.terms u is.fits.agrees
+      (subst (λ p. IsFirstFit bool_simplify (fill is.fits.terms p) u) (negation_is e).1 (subst (λ rs. IsFirstFit rs next_term u) (negation_is e).0 h))
+
+  conjoins_is : fit.row.next ≡ Conjoins → (rows ≡ bool_simplify) × (is.row.right ≡ implies (conj a b) c)
+  conjoins_is e = subst (IsNext rows is.row.right) e is.parts.5
+
+  pub conjoins_to : (at : Application) (step : Step) → fit.row.next ≡ Conjoins → IsConjoiningStep fit.letters step → IsStepTo s v rows at next_term step
+  conjoins_to at step e steps =
+      let A = has_letter Letter.A is.row.left in
+      let B = has_letter Letter.B is.row.left in
+      let C = has_letter Letter.C is.row.left in
+      let told = subst (λ p. has_letters_of is.row.left p ≡ true) (conjoins_is e).1 is.parts.4 in
+      let both = and-left (A && B) C told in
+      let first = settled_at Letter.A (and-left A B both) in
+      let second = settled_at Letter.B (and-right A B both) in
+      let conclusion = settled_at Letter.C (and-right (A && B) C told) in
+      subst (IsStepTo s v rows at next_term) (sym (steps first.0 second.0 conclusion.0 first.1 second.1 conclusion.1)) (
+        (conjoins_is e).0,
+        record {
+          first = is.fits.terms Letter.A;
+          second = is.fits.terms Letter.B;
+          conclusion = is.fits.terms Letter.C;
+          first_refers = letter_refers s v fit.letters is.fits.terms is.fits.agrees Letter.A first.0 first.1;
+          second_refers = letter_refers s v fit.letters is.fits.terms is.fits.agrees Letter.B second.0 second.1;
+          conclusion_refers = letter_refers s v fit.letters is.fits.terms is.fits.agrees Letter.C conclusion.0 conclusion.1;
+          is = ap (fill is.fits.terms) (conjoins_is e).1;
+        },
+      )
 
   -- the first row that fits makes this and nothing else
   pub first_makes : IsFirstFit rows t next_term
@@ -107,6 +178,12 @@ module _ (s : Table) (v : TermsView) (rows : List RewriteRow) (at : Application)
       λ e. absurd cc,
       λ h. absurd (reached_none rows (next_term s v rows fit way.here is) u none ((reached_later s v rows fit way.here is b u test fails).0 (way.same.0 h))),
     )
+
+    pub way_conjoins : (told : Bool) → b ≡ false → rows ≡ bool_simplify → IsTrue told ↔ IsReached bool_simplify (next_term s v rows fit way.here is) u → IsTrue told ↔ IsReached rows t u
+    way_conjoins told fails bool reaches =
+        let later = reached_later s v rows fit way.here is b u test fails in
+        let here = subst (λ rs. IsTrue told ↔ IsReached rs (next_term s v rows fit way.here is) u) (sym bool) reaches in
+        (λ e. way.same.1 (later.1 (here.0 e)), λ h. here.1 (later.0 (way.same.0 h)))
 
     pub way_goes : (new : Application) → b ≡ false → IsAt s v new (next_term s v rows fit way.here is) → IsOnWay s v rows new t u
     way_goes new fails next =

@@ -8,7 +8,7 @@ use Rattle.term_pool.specs.Decoding.{HasTermsAt}
 use Rattle.term_pool.specs.Views.{TermsView, ReferToAll}
 use Rattle.rule_model.specs.declared.letter.Letter.{Letter}
 use Rattle.rule_model.specs.Rewriting.{RewriteRow}
-use Rattle.rule_model.specs.Simplification.{not_simplify, implies_simplify, equiv_simplify, ite_simplify, eq_simplify, comp_simplify}
+use Rattle.rule_model.specs.Simplification.{not_simplify, implies_simplify, equiv_simplify, bool_simplify, ite_simplify, eq_simplify, comp_simplify}
 use Rattle.rules_simplify.specs.declared.rewrites.Application.{Application}
 use Rattle.rules_simplify.specs.declared.tables.Simplification.{Simplification}
 use Rattle.rules_simplify.specs.Chains.{heaviness, Falls, IsAt, terms_at}
@@ -72,6 +72,30 @@ implies_falls = (
                   tt,
                 ),
               ),
+            ),
+          ),
+        ),
+      ),
+    ),
+  ),
+)
+
+pub bool_falls : AllByRecursion Falls bool_simplify
+bool_falls = (
+  λ f. (let a = some (f Letter.A) in let b = some (f Letter.B) in let c = some (f Letter.C) in let d = some (f Letter.D) in omega (arith, a, b, c, d)),
+  (
+    λ f. (let a = some (f Letter.A) in let b = some (f Letter.B) in let c = some (f Letter.C) in let d = some (f Letter.D) in omega (arith, a, b, c, d)),
+    (
+      λ f. (let a = some (f Letter.A) in let b = some (f Letter.B) in let c = some (f Letter.C) in let d = some (f Letter.D) in omega (arith, a, b, c, d)),
+      (
+        λ f. (let a = some (f Letter.A) in let b = some (f Letter.B) in let c = some (f Letter.C) in let d = some (f Letter.D) in omega (arith, a, b, c, d)),
+        (
+          λ f. (let a = some (f Letter.A) in let b = some (f Letter.B) in let c = some (f Letter.C) in let d = some (f Letter.D) in omega (arith, a, b, c, d)),
+          (
+            λ f. (let a = some (f Letter.A) in let b = some (f Letter.B) in let c = some (f Letter.C) in let d = some (f Letter.D) in omega (arith, a, b, c, d)),
+            (
+              λ f. (let a = some (f Letter.A) in let b = some (f Letter.B) in let c = some (f Letter.C) in let d = some (f Letter.D) in omega (arith, a, b, c, d)),
+              tt,
             ),
           ),
         ),
@@ -156,6 +180,7 @@ all_fall : (table : Simplification) → AllByRecursion Falls (rows_of table)
 all_fall Simplification.Not = not_falls
 all_fall Simplification.Implies = implies_falls
 all_fall Simplification.Equiv = equiv_falls
+all_fall Simplification.Bool = bool_falls
 all_fall Simplification.Ite = ite_falls
 all_fall Simplification.Equality = equality_falls
 all_fall Simplification.Comparison = comparison_falls
@@ -168,7 +193,7 @@ abbrev pub weight_at : Table → TermsView → Application → ℕ
 weight_at s v at = heaviness (operation at.op (terms_at s v at.arguments.items))
 
 module _ (s : Table) (v : TermsView) (table : IsTable s) (terms : HasTermsAt v) where
-  terms_are : (rs : List ℕ) (ts : List Term) → ReferToAll s v rs ts → terms_at s v rs ≡ terms_of ts
+  pub terms_are : (rs : List ℕ) (ts : List Term) → ReferToAll s v rs ts → terms_at s v rs ≡ terms_of ts
   terms_are [] [] h = refl
   terms_are [] (t ∷ ts) h = absurd h
   terms_are (r ∷ rs) [] h = absurd h

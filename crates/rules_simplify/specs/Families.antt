@@ -9,6 +9,7 @@ is_of_simplification Rule.OrSimplify = true
 is_of_simplification Rule.NotSimplify = true
 is_of_simplification Rule.ImpliesSimplify = true
 is_of_simplification Rule.EquivSimplify = true
+is_of_simplification Rule.BoolSimplify = true
 is_of_simplification Rule.IteSimplify = true
 is_of_simplification Rule.EqSimplify = true
 is_of_simplification Rule.CompSimplify = true

@@ -3,17 +3,17 @@ use Rattle.std.specs.Prelude.{◌≡◌, List, [], ◌∷◌, Bool, true, false,
 use Rattle.std.specs.List.{AllByRecursion, AllZip}
 use Rattle.term_model.specs.declared.symbols.Op.{Op}
 use Rattle.rule_model.specs.declared.letter.Letter.{Letter}
-use Rattle.rule_model.specs.Patterns.{equal}
+use Rattle.rule_model.specs.Patterns.{a, b, c, no, conj, implies, equal}
 use Rattle.rule_model.specs.Rewriting.{RewriteRow, Guard, always, truths, one_number, two_numbers, below, at_most}
 use Rattle.rule_model.specs.Schemas.{Pattern, letter, constant, unary, binary, ternary}
-use Rattle.rule_model.specs.Simplification.{not_simplify, implies_simplify, equiv_simplify, ite_simplify, eq_simplify, comp_simplify}
+use Rattle.rule_model.specs.Simplification.{not_simplify, implies_simplify, equiv_simplify, bool_simplify, ite_simplify, eq_simplify, comp_simplify}
 use Rattle.rule_model.specs.TermTests.{op_eq}
 use Rattle.schema_match.specs.Matching.{parts_of}
 use Rattle.rules_simplify.specs.declared.asked.Asked.{Asked}
 use Rattle.rules_simplify.specs.declared.asked.Asked.TheVariants.{Nothing, Truth, Numbers}
 use Rattle.rules_simplify.specs.declared.asked.NumberTest.{NumberTest}
 use Rattle.rules_simplify.specs.declared.tables.Next.{Next}
-use Rattle.rules_simplify.specs.declared.tables.Next.TheVariants.{Ends, Part, Over}
+use Rattle.rules_simplify.specs.declared.tables.Next.TheVariants.{Ends, Part, Over, OverNegation, Conjoins}
 use Rattle.rules_simplify.specs.declared.tables.RowParts.{RowParts}
 use Rattle.rules_simplify.specs.declared.tables.Simplification.{Simplification}
 use Rattle.rules_simplify.specs.Asking.{letters_asked}
@@ -23,6 +23,7 @@ abbrev pub rows_of : Simplification → List RewriteRow
 rows_of Simplification.Not = not_simplify
 rows_of Simplification.Implies = implies_simplify
 rows_of Simplification.Equiv = equiv_simplify
+rows_of Simplification.Bool = bool_simplify
 rows_of Simplification.Ite = ite_simplify
 rows_of Simplification.Equality = eq_simplify
 rows_of Simplification.Comparison = comp_simplify
@@ -82,11 +83,14 @@ abbrev pub is_last : List RewriteRow → Pattern → Bool
 is_last [] p = true
 is_last (row ∷ rows) p = not (may_be row.left p) && is_last rows p
 
--- what is said of a row's right side: it fits no row, or is a letter, or is an operator over letters
+-- what is said of a row's right side: it fits no row, or is a letter, or is an operator over letters; the last two are of
+-- bool_simplify alone
 abbrev pub IsNext : List RewriteRow → Pattern → Next → Type 0
 IsNext rows right Ends = IsTrue (is_last rows right)
 IsNext rows right (Part l) = right ≡ letter l
 IsNext rows right (Over op ls) = (root_of right ≡ Some op) × (arguments_in right ≡ map letter ls.now)
+IsNext rows right OverNegation = (rows ≡ bool_simplify) × (right ≡ conj a (no b))
+IsNext rows right Conjoins = (rows ≡ bool_simplify) × (right ≡ implies (conj a b) c)
 
 -- whether what a pattern becomes is of Bool by its form
 abbrev pub is_of_bool : Pattern → Bool

@@ -104,6 +104,9 @@ fn meets(
         Rule::EquivSimplify => {
             meets_rewriting(alloc, symbols, terms, Simplification::Equiv, clause)
         }
+        Rule::BoolSimplify => {
+            meets_rewriting(alloc, symbols, terms, Simplification::Bool, clause)
+        }
         Rule::IteSimplify => { meets_rewriting(alloc, symbols, terms, Simplification::Ite, clause) }
         Rule::EqSimplify => {
             meets_rewriting(alloc, symbols, terms, Simplification::Equality, clause)
@@ -142,8 +145,8 @@ fn meets_at(
 }
 
 /// Whether the step at an index meets the condition of its rule (Alethe specification, "List of rules"). The rule is
-/// one of simplification: and_simplify, or_simplify, not_simplify, implies_simplify, equiv_simplify, ite_simplify,
-/// eq_simplify or comp_simplify. Both modes ask the same. A step that closes a scope meets none of these rules.
+/// one of simplification: and_simplify, or_simplify, not_simplify, implies_simplify, equiv_simplify, bool_simplify,
+/// ite_simplify, eq_simplify or comp_simplify. Both modes ask the same. A step that closes a scope meets none of these rules.
 ///
 /// The step's own arguments are not looked at. Its clause has to be of terms of Bool. Places no cell, and refuses want of
 /// memory alone.

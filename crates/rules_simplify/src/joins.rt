@@ -6,6 +6,7 @@ ghost use Rattle.term_pool.specs.Views.{IsTerm, RefersTo, ReferToAll};
 ghost use Rattle.rule_model.specs.Simplification.{StandsAs};
 ghost use Rattle.rules_simplify.specs.Joins.{constant, IsAbsorbed, IsJoined, IsShorter, Joins};
 
+use crate::operands::is_same;
 use crate::opposed::has_opposed;
 use crate::shorter::{has_constant, is_constant, once_each, without};
 use pair_pool::{Memory, Ref};
@@ -47,13 +48,6 @@ fn is_applied(
         return Ok(false);
     }
     Ok(arguments.as_slice() == list)
-}
-
-/// Whether two references are the same.
-fn is_same(one: Ref, other: Ref) -> bool
-    ensures { IsTrue result ↔ (one ≡ other) }
-{
-    one == other
 }
 
 /// Whether a term is what a list of arguments stands as: the neutral constant where there are none, and one argument either

@@ -7,8 +7,10 @@
 
 mod asked;
 mod checks;
+mod conjoining;
 mod joins;
 mod number_tables;
+mod operands;
 mod opposed;
 mod rewrites;
 mod shorter;

@@ -4,15 +4,21 @@ ghost use Rattle.std.specs.Prelude.{◌≡◌, ◌↔◌, List, Any, map, revers
 ghost use Rattle.std.specs.Bool.{OnTrue, OnFalse};
 ghost use Rattle.rule_model.specs.declared.letter.Letter.{Letter};
 ghost use Rattle.rule_model.specs.Rewriting.{RewriteRow, FitsRow, IsFirstFit, IsReached, Rewrites, Simplifies};
+ghost use Rattle.rule_model.specs.Patterns.{a, b, no, conj};
 ghost use Rattle.rule_model.specs.Schemas.{fill};
+ghost use Rattle.rule_model.specs.Simplification.{bool_simplify};
 ghost use Rattle.sort_check.specs.WellSorted.{IsWellSortedTerm};
+ghost use Rattle.term_model.specs.Sorts.{IsWellSorted};
 ghost use Rattle.term_model.specs.Terms.{Term};
 ghost use Rattle.term_pool.specs.Views.{IsTerm, RefersTo, ReferToAll};
-ghost use Rattle.schema_match.specs.Letters.{slot};
+ghost use Rattle.schema_match.specs.Letters.{slot, Agrees};
 ghost use Rattle.rules_simplify.specs.Chains.{FitsBy, IsAt, IsFirst, IsMissing, IsSomeAt, IsSomeFit};
+ghost use Rattle.rules_simplify.specs.ChainSteps.{step_where, IsConjoiningStep, IsNegationSettled, IsStepTo};
 ghost use Rattle.rules_simplify.specs.Tables.{IsRow, IsSomeRow, rows_of};
 
 use crate::asked::passes;
+use crate::conjoining::{FromConjunction, reaches_conjoined};
+use crate::operands::{is_negation_of, operands};
 use crate::tables::{Next, RowParts, Simplification, rows, some_row};
 use pair_pool::{Memory, Ref};
 use rule_model::Letter;
@@ -35,6 +41,17 @@ pub(crate) struct Application {
 pub(crate) struct Fit {
     pub(crate) row: RowParts,
     pub(crate) letters: Letters,
+}
+
+/// What the chain goes on to from a row that fits.
+#[derive(Clone, Copy)]
+pub(crate) enum Step {
+    /// To no term that fits a row.
+    Ends,
+    /// To an application by references.
+    Goes,
+    /// To an implication whose premise is an `and`, by a row of bool_simplify.
+    Conjoins(FromConjunction),
 }
 
 /// Whether two operators are the same.
@@ -230,6 +247,64 @@ fn load_letters(letters: &Letters, of: &[Letter], into: &mut Scratch) -> Result<
     Ok(true)
 }
 
+/// The step to a term that may fit a row, or to none.
+fn step_of(goes: bool) -> Step
+    ensures { result ≡ step_where goes }
+{
+    if goes { Step::Goes } else { Step::Ends }
+}
+
+/// Goes to `(and a (not b))`, where that fits a row again: `a` is an implication from `(not b)` then, and so that has a cell.
+fn over_negation(
+    symbols: &Symbols,
+    terms: &mut Terms<'_>,
+    letters: &Letters,
+    at: &mut Application,
+) -> Result<bool, Memory>
+    requires { IsNegationSettled symbols.now terms.old letters.now }
+    ensures next { IfOk result (λ yes. OnTrue yes ((f : Letter → Term) → Agrees symbols.now terms.old letters.now f → IsWellSorted (fill f (conj a (no b))) → IsAt symbols.now terms.old at.new (fill f (conj a (no b))))) }
+    ensures ends { IfOk result (λ yes. OnFalse yes ((f : Letter → Term) (u : Term) → Agrees symbols.now terms.old letters.now f → ¬ IsFirstFit bool_simplify (fill f (conj a (no b))) u)) }
+    ensures same { terms.new ≡ terms.old }
+{
+    let Some(first) = letters.get(Letter::A) else {
+        return Ok(false);
+    };
+    let Some(second) = letters.get(Letter::B) else {
+        return Ok(false);
+    };
+    let Some((negation, _)) = operands(symbols, terms, Op::Implies, first) else {
+        return Ok(false);
+    };
+    if !is_negation_of(symbols, terms, negation, second) {
+        return Ok(false);
+    }
+    at.op = Op::And;
+    at.arguments.clear();
+    push(&mut at.arguments, first)?;
+    push(&mut at.arguments, negation)?;
+    Ok(true)
+}
+
+/// The step to `(=> (and a b) c)`.
+fn conjoining(letters: &Letters) -> Step
+    ensures { IsConjoiningStep letters.now result }
+{
+    let Some(first) = letters.get(Letter::A) else {
+        return Step::Ends;
+    };
+    let Some(second) = letters.get(Letter::B) else {
+        return Step::Ends;
+    };
+    let Some(conclusion) = letters.get(Letter::C) else {
+        return Step::Ends;
+    };
+    Step::Conjoins(FromConjunction {
+        first,
+        second,
+        conclusion,
+    })
+}
+
 /// Goes to what a row that fits makes, where that may fit a row again.
 fn advance(
     symbols: &Symbols,
@@ -237,26 +312,31 @@ fn advance(
     table: Simplification,
     fit: &Fit,
     at: &mut Application,
-) -> Result<bool, Memory>
+) -> Result<Step, Memory>
     requires { IsSomeFit symbols.now terms.old (rows_of table) fit.now }
-    ensures next { IfOk result (λ yes. OnTrue yes ((t : Term) (is : IsFirst symbols.now terms.old (rows_of table) fit.now t) →
-        IsAt symbols.now terms.old at.new (fill is.fits.terms is.row.right))) }
-    ensures ends { IfOk result (λ yes. OnFalse yes ((t u : Term) (is : IsFirst symbols.now terms.old (rows_of table) fit.now t) →
-        ¬ IsFirstFit (rows_of table) (fill is.fits.terms is.row.right) u)) }
+    ensures step { IfOk result (λ step. (t : Term) (is : IsFirst symbols.now terms.old (rows_of table) fit.now t) →
+        IsStepTo symbols.now terms.old (rows_of table) at.new (fill is.fits.terms is.row.right) step) }
     ensures same { terms.new ≡ terms.old }
 {
     match fit.row.next {
-        Next::Ends => Ok(false),
+        Next::Ends => Ok(Step::Ends),
         Next::Part(letter) => {
             let Some(r) = fit.letters.get(letter) else {
-                return Ok(false);
+                return Ok(Step::Ends);
             };
-            open(symbols, terms, table, r, at)
+            let goes = open(symbols, terms, table, r, at)?;
+            Ok(step_of(goes))
         }
         Next::Over(op, letters) => {
             at.op = op;
-            load_letters(&fit.letters, letters, &mut at.arguments)
+            let goes = load_letters(&fit.letters, letters, &mut at.arguments)?;
+            Ok(step_of(goes))
         }
+        Next::OverNegation => {
+            let goes = over_negation(symbols, terms, &fit.letters, at)?;
+            Ok(step_of(goes))
+        }
+        Next::Conjoins => Ok(conjoining(&fit.letters)),
     }
 }
 
@@ -290,8 +370,10 @@ fn reaches(
         if makes(symbols, terms, fit.row, at, right, &mut stack)? {
             return Ok(true);
         }
-        if !advance(symbols, terms, table, &fit, at)? {
-            return Ok(false);
+        match advance(symbols, terms, table, &fit, at)? {
+            Step::Goes => {}
+            Step::Ends => return Ok(false),
+            Step::Conjoins(from) => return reaches_conjoined(alloc, symbols, terms, from, right),
         }
     }
     Ok(false)

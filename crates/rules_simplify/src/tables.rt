@@ -14,6 +14,7 @@ pub(crate) enum Simplification {
     Not,
     Implies,
     Equiv,
+    Bool,
     Ite,
     Equality,
     Comparison,
@@ -28,6 +29,11 @@ pub(crate) enum Next {
     Part(Letter),
     /// An operator over what letters stand for.
     Over(Op, &'static [Letter]),
+    /// `(and a (not b))`: the negation may have no cell, and has one where the term fits a row.
+    OverNegation,
+    /// `(=> (and a b) c)`: the term fits a row as long as `c` is an implication, whose premise joins the others in the
+    /// `and`, which may have no cell.
+    Conjoins,
 }
 
 /// A row of a table of rewrites. Its left side is an application.
@@ -237,6 +243,65 @@ fn equiv_rows() -> &'static [RowParts]
     &EQUIV_ROWS
 }
 
+static BOOL_ROWS: [RowParts; 7] = [
+    RowParts {
+        op: Op::Not,
+        left: &[IMPLIES, A, B],
+        both: &[AND, A, NOT, B, IMPLIES, A, B],
+        asked: Asked::Nothing,
+        next: Next::OverNegation,
+    },
+    RowParts {
+        op: Op::Not,
+        left: &[OR, A, B],
+        both: &[AND, NOT, A, NOT, B, OR, A, B],
+        asked: Asked::Nothing,
+        next: Next::Ends,
+    },
+    RowParts {
+        op: Op::Not,
+        left: &[AND, A, B],
+        both: &[OR, NOT, A, NOT, B, AND, A, B],
+        asked: Asked::Nothing,
+        next: Next::Ends,
+    },
+    RowParts {
+        op: Op::Implies,
+        left: &[A, IMPLIES, B, C],
+        both: &[IMPLIES, AND, A, B, C, A, IMPLIES, B, C],
+        asked: Asked::Nothing,
+        next: Next::Conjoins,
+    },
+    RowParts {
+        op: Op::Implies,
+        left: &[IMPLIES, A, B, B],
+        both: &[OR, A, B, IMPLIES, A, B, B],
+        asked: Asked::Nothing,
+        next: Next::Ends,
+    },
+    RowParts {
+        op: Op::And,
+        left: &[A, IMPLIES, A, B],
+        both: &[AND, A, B, A, IMPLIES, A, B],
+        asked: Asked::Nothing,
+        next: Next::Over(Op::And, &[Letter::A, Letter::B]),
+    },
+    RowParts {
+        op: Op::And,
+        left: &[IMPLIES, A, B, A],
+        both: &[AND, A, B, IMPLIES, A, B, A],
+        asked: Asked::Nothing,
+        next: Next::Over(Op::And, &[Letter::A, Letter::B]),
+    },
+];
+
+/// The rows of bool_simplify.
+fn bool_rows() -> &'static [RowParts]
+    ensures { AreRows (rows_of Simplification.Bool) result.now }
+{
+    &BOOL_ROWS
+}
+
 static ITE_ROWS: [RowParts; 12] = [
     RowParts {
         op: Op::Ite,
@@ -344,6 +409,7 @@ pub(crate) fn rows(of: Simplification) -> &'static [RowParts]
         Simplification::Not => not_rows(),
         Simplification::Implies => implies_rows(),
         Simplification::Equiv => equiv_rows(),
+        Simplification::Bool => bool_rows(),
         Simplification::Ite => ite_rows(),
         Simplification::Equality => equality_rows(),
         Simplification::Comparison => comparison_rows(),

@@ -142,6 +142,7 @@ fn is_simplification(rule: Rule) -> bool
     match rule {
         Rule::NotSimplify => true,
         Rule::ImpliesSimplify => true,
+        Rule::BoolSimplify => true,
         Rule::IteSimplify => true,
         Rule::AndSimplify => true,
         Rule::OrSimplify => true,

@@ -36,6 +36,11 @@ returns-in-EquivSimplify-clause-meets c =
     IfOk-weaker c.meets_rewriting-in-EquivSimplify.result _ _ (λ b test ts clause.
     subst (λ rule. IsTrue b ↔ MeetsSimplify rule [] ts) (sym c.in-EquivSimplify.is) (test ts clause)) c.meets_rewriting-in-EquivSimplify.ensures.meets
 
+pub returns-in-BoolSimplify-clause-meets : goal.returns-in-BoolSimplify-clause-meets
+returns-in-BoolSimplify-clause-meets c =
+    IfOk-weaker c.meets_rewriting-in-BoolSimplify.result _ _ (λ b test ts clause.
+    subst (λ rule. IsTrue b ↔ MeetsSimplify rule [] ts) (sym c.in-BoolSimplify.is) (test ts clause)) c.meets_rewriting-in-BoolSimplify.ensures.meets
+
 pub returns-in-IteSimplify-clause-meets : goal.returns-in-IteSimplify-clause-meets
 returns-in-IteSimplify-clause-meets c =
     IfOk-weaker c.meets_rewriting-in-IteSimplify.result _ _ (λ b test ts clause.
@@ -53,4 +58,4 @@ returns-in-CompSimplify-clause-meets c =
 
 pub returns-in_default-clause-meets : goal.returns-in_default-clause-meets
 returns-in_default-clause-meets c ts clause =
-    other_rule ts c.args.rule c.in_default.not-AndSimplify c.in_default.not-OrSimplify c.in_default.not-NotSimplify c.in_default.not-ImpliesSimplify c.in_default.not-EquivSimplify c.in_default.not-IteSimplify c.in_default.not-EqSimplify c.in_default.not-CompSimplify
+    other_rule ts c.args.rule c.in_default.not-AndSimplify c.in_default.not-OrSimplify c.in_default.not-NotSimplify c.in_default.not-ImpliesSimplify c.in_default.not-EquivSimplify c.in_default.not-BoolSimplify c.in_default.not-IteSimplify c.in_default.not-EqSimplify c.in_default.not-CompSimplify

@@ -1,16 +1,12 @@
 use Rattle.std.proofs.Common.{refl, sym}
-use Rattle.std.proofs.lemmas.Bool.{OnTrue_at, OnFalse_at, OnTrue_from, OnFalse_from}
-use Rattle.std.proofs.lemmas.Result.{IfOk-weaker}
+use Rattle.std.proofs.lemmas.Bool.{OnTrue_at, OnFalse_at}
 use Rattle.rules_simplify.specs.Tables.{rows_of}
 use Rattle.rules_simplify.proofs.ChainLemmas.{first_is_any}
-use Rattle.rules_simplify.proofs.StepLemmas.{next_term, ends_here, part_settled, part_refers, next_sorted, over_at, over_missing}
+use Rattle.rules_simplify.proofs.StepLemmas.{next_term, step_is, part_settled, part_refers, next_sorted, over_at, over_missing, negation_settled, negation_at, negation_ends, conjoins_to}
 use Rattle.rules_simplify.proofs.rewrites.advance.Goals as goal
 
-pub returns-in-Ends-clause-ends : goal.returns-in-Ends-clause-ends
-returns-in-Ends-clause-ends c t u is = ends_here c.args.symbols.now c.args.terms.now (rows_of c.args.table) c.args.fit.now t is c.in-Ends.is u
-
-pub returns-in_default-clause-ends : goal.returns-in_default-clause-ends
-returns-in_default-clause-ends c t u is =
+pub returns-in_default-clause-step : goal.returns-in_default-clause-step
+returns-in_default-clause-step c t is =
     absurd (part_settled c.args.symbols.now c.args.terms.now (rows_of c.args.table) c.args.fit.now t is c.in-Part.letter c.in-Part.is (sym c.in_default.ensures))
 
 pub open-requires : goal.open-requires
@@ -22,29 +18,34 @@ open-requires c =
       sorted = next_sorted c.args.symbols.now c.args.terms.now c.args.table c.args.fit.now some.means some.is;
     }
 
-pub returns-in-Some-clause-next : goal.returns-in-Some-clause-next
-returns-in-Some-clause-next c =
-    IfOk-weaker c.open.result _ _ (λ b h.
-    OnTrue_from b _ (λ e t is.
-    OnTrue_at e h (next_term c.args.symbols.now c.args.terms.now (rows_of c.args.table) c.args.fit.now t is)
-    (part_refers c.args.symbols.now c.args.terms.now (rows_of c.args.table) c.args.fit.now t is c.in-Part.letter c.in-Some.r c.in-Part.is (sym c.in-Some.ensures)))) c.open.ensures.open
+pub returns-in_ok-goes-in-Part-clause-step : goal.returns-in_ok-goes-in-Part-clause-step
+returns-in_ok-goes-in-Part-clause-step c t is =
+    let rows = rows_of c.args.table in
+    let next = next_term c.args.symbols.now c.args.terms.now rows c.args.fit.now t is in
+    let refers = part_refers c.args.symbols.now c.args.terms.now rows c.args.fit.now t is c.in-Part.letter c.in-Some.r c.in-Part.is (sym c.in-Some.ensures) in
+    step_is c.args.symbols.now c.args.terms.now rows _ next c.in_ok-goes-in-Part.goes c.step_of.result c.step_of.ensures
+    (λ e. OnTrue_at e c.in_ok-goes-in-Part.ensures.open next refers)
+    (λ e u first. OnFalse_at e c.in_ok-goes-in-Part.ensures.other next refers (first_is_any rows next u first))
 
-pub returns-in-Some-clause-ends : goal.returns-in-Some-clause-ends
-returns-in-Some-clause-ends c =
-    IfOk-weaker c.open.result _ _ (λ b h.
-    OnFalse_from b _ (λ e t u is first.
-    OnFalse_at e h (next_term c.args.symbols.now c.args.terms.now (rows_of c.args.table) c.args.fit.now t is)
-    (part_refers c.args.symbols.now c.args.terms.now (rows_of c.args.table) c.args.fit.now t is c.in-Part.letter c.in-Some.r c.in-Part.is (sym c.in-Some.ensures))
-    (first_is_any (rows_of c.args.table) (next_term c.args.symbols.now c.args.terms.now (rows_of c.args.table) c.args.fit.now t is) u first))) c.open.ensures.other
+pub returns-in_ok-goes-in-Over-clause-step : goal.returns-in_ok-goes-in-Over-clause-step
+returns-in_ok-goes-in-Over-clause-step c t is =
+    let rows = rows_of c.args.table in
+    step_is c.args.symbols.now c.args.terms.now rows _ (next_term c.args.symbols.now c.args.terms.now rows c.args.fit.now t is) c.in_ok-goes-in-Over.goes c.step_of-in-Over.result c.step_of-in-Over.ensures
+    (λ e. over_at c.args.symbols.now c.args.terms.now rows c.args.fit.now t is c.in-Over.op _ _ c.in-Over.is refl (next_sorted c.args.symbols.now c.args.terms.now c.args.table c.args.fit.now t is) (OnTrue_at e c.in_ok-goes-in-Over.ensures.loaded))
+    (λ e u first. absurd (over_missing c.args.symbols.now c.args.terms.now rows c.args.fit.now t is c.in-Over.op _ c.in-Over.is (OnFalse_at e c.in_ok-goes-in-Over.ensures.other)))
 
-pub returns-in-Over-clause-next : goal.returns-in-Over-clause-next
-returns-in-Over-clause-next c =
-    IfOk-weaker c.load_letters.result _ _ (λ b h.
-    OnTrue_from b _ (λ e t is.
-    over_at c.args.symbols.now c.args.terms.now (rows_of c.args.table) c.args.fit.now t is c.in-Over.op _ _ c.in-Over.is refl (next_sorted c.args.symbols.now c.args.terms.now c.args.table c.args.fit.now t is) (OnTrue_at e h))) c.load_letters.ensures.loaded
+pub over_negation-requires : goal.over_negation-requires
+over_negation-requires c = negation_settled c.args.symbols.now c.args.terms.now (rows_of c.args.table) c.args.fit.now c.requires.means c.requires.is c.in-OverNegation.is
 
-pub returns-in-Over-clause-ends : goal.returns-in-Over-clause-ends
-returns-in-Over-clause-ends c =
-    IfOk-weaker c.load_letters.result _ _ (λ b h.
-    OnFalse_from b _ (λ e t u is.
-    absurd (over_missing c.args.symbols.now c.args.terms.now (rows_of c.args.table) c.args.fit.now t is c.in-Over.op _ c.in-Over.is (OnFalse_at e h)))) c.load_letters.ensures.other
+pub returns-in_ok-goes-in-OverNegation-clause-step : goal.returns-in_ok-goes-in-OverNegation-clause-step
+returns-in_ok-goes-in-OverNegation-clause-step c t is =
+    let rows = rows_of c.args.table in
+    step_is c.args.symbols.now c.args.terms.now rows _ (next_term c.args.symbols.now c.args.terms.now rows c.args.fit.now t is) c.in_ok-goes-in-OverNegation.goes c.step_of-in-OverNegation.result
+    c.step_of-in-OverNegation.ensures
+    (λ e. negation_at c.args.symbols.now c.args.terms.now rows c.args.fit.now t is _ c.in-OverNegation.is
+    (next_sorted c.args.symbols.now c.args.terms.now c.args.table c.args.fit.now t is) (OnTrue_at e c.in_ok-goes-in-OverNegation.ensures.next))
+    (λ e. negation_ends c.args.symbols.now c.args.terms.now rows c.args.fit.now t is c.in-OverNegation.is (OnFalse_at e c.in_ok-goes-in-OverNegation.ensures.ends))
+
+pub returns-in-Conjoins-clause-step : goal.returns-in-Conjoins-clause-step
+returns-in-Conjoins-clause-step c t is =
+    conjoins_to c.args.symbols.now c.args.terms.now (rows_of c.args.table) c.args.fit.now t is _ c.conjoining.result c.in-Conjoins.is c.conjoining.ensures
