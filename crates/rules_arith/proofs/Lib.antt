@@ -1,2 +1,4 @@
 pub mod CheckLemmas
 pub mod FormLemmas
+pub mod RatioLemmas
+pub mod LineLemmas

@@ -3,6 +3,7 @@ use Rattle.std.specs.Prelude.{Bool, true, false, IsTrue}
 use Rattle.rule_model.specs.declared.rules.Rule.{Rule}
 
 abbrev pub is_of_arithmetic : Rule → Bool
+is_of_arithmetic Rule.LaGeneric = true
 is_of_arithmetic Rule.LaDisequality = true
 is_of_arithmetic Rule.LaTotality = true
 is_of_arithmetic Rule.LaRwEq = true

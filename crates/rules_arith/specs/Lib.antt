@@ -1,3 +1,4 @@
 pub mod Families
 pub mod Answers
 pub mod Steps
+pub mod Lines

@@ -1,12 +1,14 @@
--- Private. What each rule asks of the clause of a step that has no premise.
+-- Private. What each rule asks of the coefficients and the clause of a step that has no premise.
 use Rattle.std.specs.Prelude.{List, [], ◌∷◌, Bool, true, false, Option, None}
+use Rattle.line_judging.specs.declared.judging.Absurdity.{Absurdity}
 use Rattle.linear_forms.specs.declared.forms.OneForm.{OneForm}
 use Rattle.proof_store.specs.declared.answers.Answer.{Answer}
 use Rattle.term_model.specs.declared.symbols.Op.{Op}
 use Rattle.term_model.specs.Terms.{Term}
 use Rattle.rule_model.specs.declared.rules.Rule.{Rule}
-use Rattle.rule_model.specs.Arithmetic.{MeetsFormSimplification, IsWideFormSimplification}
+use Rattle.rule_model.specs.Arithmetic.{MeetsFormSimplification, IsWideFormSimplification, MeetsLaGeneric, IsWideLaGeneric}
 use Rattle.rule_model.specs.Patterns.{a, b, no, conj, disj, equal, less_eq}
+use Rattle.rule_model.specs.Proofs.{Fraction}
 use Rattle.rule_model.specs.Schemas.{Schema, ternary, tautology, IsInstanceOf}
 
 abbrev pub schema_of : Rule → Option Schema
@@ -15,21 +17,23 @@ schema_of Rule.LaTotality = tautology (disj (less_eq a b) (less_eq b a) ∷ [])
 schema_of Rule.LaRwEq = tautology (equal (equal a b) (conj (less_eq a b) (less_eq b a)) ∷ [])
 schema_of rule = None
 
-abbrev pub MeetsArithmetic : Rule → List Term → Type 0
-MeetsArithmetic Rule.SumSimplify clause = MeetsFormSimplification [] clause
-MeetsArithmetic Rule.ProdSimplify clause = MeetsFormSimplification [] clause
-MeetsArithmetic Rule.MinusSimplify clause = MeetsFormSimplification [] clause
-MeetsArithmetic Rule.UnaryMinusSimplify clause = MeetsFormSimplification [] clause
-MeetsArithmetic rule clause = IsInstanceOf (schema_of rule) [] clause
+abbrev pub MeetsArithmetic : Rule → Option (List Fraction) → List Term → Type 0
+MeetsArithmetic Rule.LaGeneric ratios clause = MeetsLaGeneric ratios [] clause
+MeetsArithmetic Rule.SumSimplify ratios clause = MeetsFormSimplification [] clause
+MeetsArithmetic Rule.ProdSimplify ratios clause = MeetsFormSimplification [] clause
+MeetsArithmetic Rule.MinusSimplify ratios clause = MeetsFormSimplification [] clause
+MeetsArithmetic Rule.UnaryMinusSimplify ratios clause = MeetsFormSimplification [] clause
+MeetsArithmetic rule ratios clause = IsInstanceOf (schema_of rule) [] clause
 
-abbrev pub IsWideArithmetic : Rule → List Term → Type 0
-IsWideArithmetic Rule.SumSimplify clause = IsWideFormSimplification [] clause
-IsWideArithmetic Rule.ProdSimplify clause = IsWideFormSimplification [] clause
-IsWideArithmetic Rule.MinusSimplify clause = IsWideFormSimplification [] clause
-IsWideArithmetic Rule.UnaryMinusSimplify clause = IsWideFormSimplification [] clause
-IsWideArithmetic rule clause = ⊥
+abbrev pub IsWideArithmetic : Rule → Option (List Fraction) → List Term → Type 0
+IsWideArithmetic Rule.LaGeneric ratios clause = IsWideLaGeneric ratios [] clause
+IsWideArithmetic Rule.SumSimplify ratios clause = IsWideFormSimplification [] clause
+IsWideArithmetic Rule.ProdSimplify ratios clause = IsWideFormSimplification [] clause
+IsWideArithmetic Rule.MinusSimplify ratios clause = IsWideFormSimplification [] clause
+IsWideArithmetic Rule.UnaryMinusSimplify ratios clause = IsWideFormSimplification [] clause
+IsWideArithmetic rule ratios clause = ⊥
 
--- the answer by a test, and by whether two sides have one form
+-- the answer by a test, by whether two sides have one form, and by whether lines are absurd
 abbrev pub met_if : Bool → Answer
 met_if true = Answer.Met
 met_if false = Answer.NotMet
@@ -38,3 +42,8 @@ abbrev pub form_answer : OneForm → Answer
 form_answer OneForm.Yes = Answer.Met
 form_answer OneForm.No = Answer.NotMet
 form_answer OneForm.TooWide = Answer.TooWide
+
+abbrev pub absurd_answer : Absurdity → Answer
+absurd_answer Absurdity.Yes = Answer.Met
+absurd_answer Absurdity.No = Answer.NotMet
+absurd_answer Absurdity.TooWide = Answer.TooWide

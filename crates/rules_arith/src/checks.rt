@@ -1,14 +1,16 @@
 //! Whether a step meets the condition of its rule.
 
-ghost use Rattle.std.specs.Prelude.{◌≡◌, ◌<◌, List, All, IfErr, IfOk, None};
+ghost use Rattle.std.specs.Prelude.{◌≡◌, ◌<◌, List, All, IfErr, IfOk, IfSome, None};
 ghost use Rattle.proof_store.specs.Checks.{KeepsTruthAt, StandForSome};
 ghost use Rattle.proof_store.specs.Meaning.{StandForItems};
+ghost use Rattle.proof_store.specs.Ratios.{fractions};
 ghost use Rattle.proof_store.specs.declared.answers.Answer.TheVariants as Answer;
 ghost use Rattle.proof_store.specs.declared.answers.RuleStop.TheVariants as RuleStop;
 ghost use Rattle.rule_model.specs.Conditions.{IsClauseOfTruths, IsMetAt, IsTooWideAt};
 ghost use Rattle.rule_model.specs.Proofs.{ProofItems};
 ghost use Rattle.rule_model.specs.Reading.{clause_at, rule_at};
 ghost use Rattle.rule_model.specs.Scopes.{commands_in};
+ghost use Rattle.rule_model.specs.WellFormed.{IsLowest};
 ghost use Rattle.sort_check.specs.WellSorted.{IsWellSortedTerm};
 ghost use Rattle.term_model.specs.Terms.{Var, Term};
 ghost use Rattle.term_pool.specs.Views.{ReferToAll};
@@ -17,10 +19,11 @@ ghost use Rattle.rules_arith.specs.Families.{IsOfArithmetic};
 ghost use Rattle.rules_arith.specs.Steps.{MeetsArithmetic, IsWideArithmetic, met_if};
 
 use crate::forms::judged_form;
+use crate::lines::judged_lines;
 use crate::schemas::arithmetic_schema;
 use crate::scratch::Scratch;
 use pair_pool::{Memory, Ref};
-use proof_store::{Answer, Proof, RuleStop, commands_correspond, terms_correspond};
+use proof_store::{Answer, Proof, Ratio, RuleStop, commands_correspond, terms_correspond};
 use rule_model::laws::conditions::conditions_keep_truth;
 use rule_model::{Mode, Rule};
 use schema_match::{SchemaParts, Scratch as Stack, is_instance};
@@ -40,18 +43,23 @@ fn answer_of(met: bool) -> Answer
 fn judged(
     scratch: &mut Scratch,
     rule: Rule,
+    ratios: Option<&[Ratio]>,
     symbols: &Symbols,
     terms: &mut Terms<'_>,
     clause: &[Ref],
 ) -> Result<Answer, Memory>
     requires rule { IsOfArithmetic rule }
+    requires lowest { IfSome (fractions ratios) (All IsLowest) }
     requires clause { All (IsWellSortedTerm symbols.now terms.old) clause.now }
     ensures tells { IfOk result (λ answer. (ts : List Term) → ReferToAll symbols.now terms.old clause.now ts →
-        Tells answer (IsWideArithmetic rule ts) (MeetsArithmetic rule ts)) }
+        Tells answer (IsWideArithmetic rule (fractions ratios.entry) ts) (MeetsArithmetic rule (fractions ratios.entry) ts)) }
     ensures same { terms.new ≡ terms.old }
 {
+    if let Rule::LaGeneric = rule {
+        return judged_lines(scratch, symbols, terms, clause, ratios);
+    }
     let Some(parts) = arithmetic_schema(rule) else {
-        return judged_form(&mut scratch.forms, symbols, terms, clause);
+        return judged_form(&mut scratch.judging.forms, symbols, terms, clause);
     };
     let mut stack: Stack = SmallVec::new(scratch.alloc);
     let met = is_instance(symbols, terms, parts, &[], clause, &mut stack)?;
@@ -93,7 +101,8 @@ pub fn check(
         return Ok(Answer::NotMet);
     }
     let rule = proof.rule(i);
+    let ratios = proof.ratios(i);
     let clause = proof.clause(i);
-    let answer = judged(scratch, rule, symbols, terms, clause)?;
+    let answer = judged(scratch, rule, ratios, symbols, terms, clause)?;
     Ok(answer)
 }

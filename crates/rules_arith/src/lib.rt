@@ -2,11 +2,12 @@
 //! numbers that are too wide to tell.
 //!
 //! A rule of fixed shape looks at a few cells. The simplifications of linear forms take time in proportion to the distinct
-//! cells of both sides. No cell is placed.
+//! cells of both sides, and la_generic to those of both terms of each literal. No cell is placed.
 #![tactic(auto)]
 
 mod checks;
 mod forms;
+mod lines;
 mod schemas;
 mod scratch;
 

@@ -1,6 +1,7 @@
 //! What a check keeps from step to step.
 
-use linear_forms::LinearForms;
+use line_judging::Scratch as Judging;
+use linear_lines::Line;
 use std::alloc::Global;
 
 /// Memory that a check keeps from step to step, so that a step of few literals takes none once it has grown. What it holds
@@ -8,7 +9,9 @@ use std::alloc::Global;
 #[derive(Drop)]
 pub struct Scratch {
     pub(crate) alloc: Global,
-    pub(crate) forms: LinearForms,
+    /// Its forms serve the simplifications too.
+    pub(crate) judging: Judging,
+    pub(crate) lines: Vec<Line>,
 }
 
 impl Scratch {
@@ -16,7 +19,8 @@ impl Scratch {
     pub fn new(alloc: Global) -> Scratch {
         Scratch {
             alloc,
-            forms: LinearForms::new(alloc),
+            judging: Judging::new(alloc),
+            lines: Vec::new(alloc),
         }
     }
 }

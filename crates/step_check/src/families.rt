@@ -158,6 +158,7 @@ fn is_arithmetic(rule: Rule) -> bool
     ensures { result ≡ is_arithmetic rule }
 {
     match rule {
+        Rule::LaGeneric => true,
         Rule::LaDisequality => true,
         Rule::LaTotality => true,
         Rule::LaRwEq => true,
