@@ -10,7 +10,7 @@ use Rattle.contexts.specs.declared.frames.Frame.{Frame}
 use Rattle.contexts.specs.declared.kept.Substitution.{Substitution}
 use Rattle.contexts.specs.Becoming.{Look}
 use Rattle.contexts.specs.Firsts.{first_for}
-use Rattle.contexts.specs.Frames.{PutsBack, turned, IsFrame, AreFrames}
+use Rattle.contexts.specs.Frames.{PutsBack, frames_in_front, IsFrame, AreRightFrames}
 use Rattle.contexts.specs.Kept.{IsRight}
 use Rattle.contexts.specs.PutIn.{StandForReplacement, joined}
 use Rattle.contexts.proofs.Keeping.{walked_later}
@@ -60,15 +60,15 @@ over_none old bs outer n e h k = h k ∙ sym (ap (λ (z : List (ℕ × ℕ)). fi
     all (x ∷ xs) m e = rw e (all xs (length xs) refl)
 
 -- frames in order
-pub turned_more : (outer : List (List (ℕ × ℕ))) (fs : List Frame) (f : Frame) → turned outer (fs ++ f ∷ []) ≡ f.bindings.items ∷ turned outer fs
+pub turned_more : (outer : List (List (ℕ × ℕ))) (fs : List Frame) (f : Frame) → frames_in_front outer (fs ++ f ∷ []) ≡ f.bindings.items ∷ frames_in_front outer fs
 turned_more outer [] f = refl
 turned_more outer (g ∷ fs) f = turned_more (g.bindings.items ∷ outer) fs f
 
-pub frames_more : (p : PassView) (outer : List (List (ℕ × ℕ))) (fs : List Frame) (f : Frame) → AreFrames p outer fs → IsFrame p (joined (turned outer fs)) f → AreFrames p outer (fs ++ f ∷ [])
+pub frames_more : (p : PassView) (outer : List (List (ℕ × ℕ))) (fs : List Frame) (f : Frame) → AreRightFrames p outer fs → IsFrame p (joined (frames_in_front outer fs)) f → AreRightFrames p outer (fs ++ f ∷ [])
 frames_more p outer [] f h g = (g, tt)
 frames_more p outer (x ∷ fs) f h g = (h.0, frames_more p (x.bindings.items ∷ outer) fs f h.1 g)
 
-pub frames_less : (p : PassView) (outer : List (List (ℕ × ℕ))) (fs : List Frame) (f : Frame) → AreFrames p outer (fs ++ f ∷ []) → AreFrames p outer fs × IsFrame p (joined (turned outer fs)) f
+pub frames_less : (p : PassView) (outer : List (List (ℕ × ℕ))) (fs : List Frame) (f : Frame) → AreRightFrames p outer (fs ++ f ∷ []) → AreRightFrames p outer fs × IsFrame p (joined (frames_in_front outer fs)) f
 frames_less p outer [] f h = (tt, h.0)
 frames_less p outer (x ∷ fs) f h = let rest = frames_less p (x.bindings.items ∷ outer) fs f h.1 in ((h.0, rest.0), rest.1)
 
@@ -79,14 +79,14 @@ frame_later p q keeps outer f h = record {
   walked = walked_later p q keeps (first_for (f.bindings.items ++ outer)) f.walked.layers.lists.items f.walked.memo h.walked;
 }
 
-pub frames_later : (p q : PassView) → KeepsPass p q → (outer : List (List (ℕ × ℕ))) (fs : List Frame) → AreFrames p outer fs → AreFrames q outer fs
+pub frames_later : (p q : PassView) → KeepsPass p q → (outer : List (List (ℕ × ℕ))) (fs : List Frame) → AreRightFrames p outer fs → AreRightFrames q outer fs
 frames_later p q keeps outer [] h = tt
 frames_later p q keeps outer (f ∷ fs) h = (frame_later p q keeps (joined outer) f h.0, frames_later p q keeps (f.bindings.items ∷ outer) fs h.1)
 
 pub right_stays : (v w : TermsView) (x : Substitution) → KeepsTerms v w → IsRight v x → IsRight w x
 right_stays v w x k h = record {
   images = h.images;
-  here = frame_later v.pass w.pass k.pass (joined (turned [] x.around.items)) x.here h.here;
+  here = frame_later v.pass w.pass k.pass (joined (frames_in_front [] x.around.items)) x.here h.here;
   around = frames_later v.pass w.pass k.pass [] x.around.items h.around;
 }
 

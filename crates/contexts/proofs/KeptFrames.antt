@@ -9,8 +9,8 @@ use Rattle.contexts.specs.declared.kept.Substitution.{Substitution}
 use Rattle.contexts.specs.declared.walked.Walked.{Walked}
 use Rattle.contexts.specs.Becoming.{Images, IsImageAt, Look, look_of}
 use Rattle.contexts.specs.Firsts.{first_for}
-use Rattle.contexts.specs.Frames.{PutsBack, LeadsBack, turned, IsFrame, AreFrames}
-use Rattle.contexts.specs.Kept.{IsRight, frames_of, bindings_of}
+use Rattle.contexts.specs.Frames.{PutsBack, LeadsBack, frames_in_front, IsFrame, AreRightFrames}
+use Rattle.contexts.specs.Kept.{IsRight, frames_of, all_bindings}
 use Rattle.contexts.specs.Places.{IsWalked}
 use Rattle.contexts.specs.PutIn.{joined}
 use Rattle.contexts.proofs.FrameLemmas.{turned_more, frames_more, frames_less, frames_later}
@@ -39,7 +39,7 @@ first_where true z x y e h = h
 first_where false z x y e h = absurd cc
 
 module _ (v : TermsView) (x : Substitution) (h : IsRight v x) where
-  look_is : look_of x.images ≡ first_for (x.here.bindings.items ++ joined (turned [] x.around.items))
+  look_is : look_of x.images ≡ first_for (x.here.bindings.items ++ joined (frames_in_front [] x.around.items))
   look_is = λ i. λ k. h.images k i
 
   -- what the last frame remembers, where a walk begins
@@ -47,11 +47,11 @@ module _ (v : TermsView) (x : Substitution) (h : IsRight v x) where
   walked_here = subst (λ (put : Look). IsWalked v.pass put x.here.walked.layers.lists.items x.here.walked.memo) (sym look_is) h.here.walked
 
   -- the last frame leads back to what stands around it
-  pub back_here : PutsBack x.here.before.items (look_of x.images) (first_for (joined (turned [] x.around.items)))
-  back_here = subst (λ (now : Look). PutsBack x.here.before.items now (first_for (joined (turned [] x.around.items)))) (sym look_is) h.here.back
+  pub back_here : PutsBack x.here.before.items (look_of x.images) (first_for (joined (frames_in_front [] x.around.items)))
+  back_here = subst (λ (now : Look). PutsBack x.here.before.items now (first_for (joined (frames_in_front [] x.around.items)))) (sym look_is) h.here.back
 
   pub leads_back : LeadsBack x.here.before.items (look_of x.images)
-  leads_back = record { before = first_for (joined (turned [] x.around.items)); back = back_here }
+  leads_back = record { before = first_for (joined (frames_in_front [] x.around.items)); back = back_here }
 
 -- a walk has ended in the last frame
 pub right_walked : (v w : TermsView) (x : Substitution) (walked : Walked) → KeepsTerms v w → IsWalked w.pass (look_of x.images) walked.layers.lists.items walked.memo → IsRight v x → IsRight w (record { images = x.images; around = x.around; here = record { bindings = x.here.bindings; before = x.here.before; walked = walked } })
@@ -69,16 +69,16 @@ pub right_start : (v : TermsView) (x : Substitution) → x.images.entries ≡ []
 right_start v x empty around bindings before walked = record {
   images = λ k. found k ∙ sym (ap (λ bs. first_for bs k) none);
   here = record {
-    back = subst (λ es. PutsBack es (first_for (x.here.bindings.items ++ joined (turned [] x.around.items))) (first_for (joined (turned [] x.around.items)))) (sym before)
-        (λ k. ap (λ bs. first_for (bs ++ joined (turned [] x.around.items)) k) bindings);
-    walked = walked (first_for (x.here.bindings.items ++ joined (turned [] x.around.items))) leaf
+    back = subst (λ es. PutsBack es (first_for (x.here.bindings.items ++ joined (frames_in_front [] x.around.items))) (first_for (joined (frames_in_front [] x.around.items)))) (sym before)
+        (λ k. ap (λ bs. first_for (bs ++ joined (frames_in_front [] x.around.items)) k) bindings);
+    walked = walked (first_for (x.here.bindings.items ++ joined (frames_in_front [] x.around.items))) leaf
         (λ k. subst (λ bs. IsImageAt v.pass (first_for bs k) k (leaf k)) (sym none) refl);
   };
-  around = subst (AreFrames v.pass []) (sym around) tt;
+  around = subst (AreRightFrames v.pass []) (sym around) tt;
 }
   where
-    none : x.here.bindings.items ++ joined (turned [] x.around.items) ≡ []
-    none = ap (λ bs. bs ++ joined (turned [] x.around.items)) bindings ∙ ap (λ fs. joined (turned [] fs)) around
+    none : x.here.bindings.items ++ joined (frames_in_front [] x.around.items) ≡ []
+    none = ap (λ bs. bs ++ joined (frames_in_front [] x.around.items)) bindings ∙ ap (λ fs. joined (frames_in_front [] fs)) around
 
     found : (k : ℕ) → look_of x.images k ≡ None
     found k = rw empty
@@ -87,36 +87,36 @@ right_start v x empty around bindings before walked = record {
 pub right_again : (v : TermsView) (x y : Substitution) → ((k : ℕ) → look_of y.images k ≡ look_of x.images k) → y.around.items ≡ x.around.items → y.here ≡ x.here → IsRight v x → IsRight v y
 right_again v x y images around here h = record {
   images = λ k. images k ∙ h.images k ∙ ap (λ bs. first_for bs k) same;
-  here = subst (IsFrame v.pass (joined (turned [] y.around.items))) (sym here)
-      (subst (λ fs. IsFrame v.pass (joined (turned [] fs)) x.here) (sym around) h.here);
-  around = subst (AreFrames v.pass []) (sym around) h.around;
+  here = subst (IsFrame v.pass (joined (frames_in_front [] y.around.items))) (sym here)
+      (subst (λ fs. IsFrame v.pass (joined (frames_in_front [] fs)) x.here) (sym around) h.here);
+  around = subst (AreRightFrames v.pass []) (sym around) h.around;
 }
   where
-    same : bindings_of x ≡ bindings_of y
+    same : all_bindings x ≡ all_bindings y
     same =
-        ap (λ (f : Frame). f.bindings.items ++ joined (turned [] x.around.items)) (sym here)
-        ∙ ap (λ fs. y.here.bindings.items ++ joined (turned [] fs)) (sym around)
+        ap (λ (f : Frame). f.bindings.items ++ joined (frames_in_front [] x.around.items)) (sym here)
+        ∙ ap (λ fs. y.here.bindings.items ++ joined (frames_in_front [] fs)) (sym around)
 
 -- a frame is entered
-inner_frames : (x y : Substitution) → y.around.items ≡ x.around.items ++ x.here ∷ [] → turned [] y.around.items ≡ frames_of x
-inner_frames x y e = ap (turned []) e ∙ turned_more [] x.around.items x.here
+inner_frames : (x y : Substitution) → y.around.items ≡ x.around.items ++ x.here ∷ [] → frames_in_front [] y.around.items ≡ frames_of x
+inner_frames x y e = ap (frames_in_front []) e ∙ turned_more [] x.around.items x.here
 
 pub frames_in : (x y : Substitution) (bs : List (ℕ × ℕ)) → y.around.items ≡ x.around.items ++ x.here ∷ [] → y.here.bindings.items ≡ bs → frames_of y ≡ bs ∷ frames_of x
-frames_in x y bs e here = ap (λ b. b ∷ turned [] y.around.items) here ∙ ap (λ fs. bs ∷ fs) (inner_frames x y e)
+frames_in x y bs e here = ap (λ b. b ∷ frames_in_front [] y.around.items) here ∙ ap (λ fs. bs ∷ fs) (inner_frames x y e)
 
-pub right_in : (v : TermsView) (x y : Substitution) → y.around.items ≡ x.around.items ++ x.here ∷ [] → ((k : ℕ) → look_of y.images k ≡ first_for (y.here.bindings.items ++ bindings_of x) k) → PutsBack y.here.before.items (look_of y.images) (look_of x.images) → IsWalked v.pass (first_for (y.here.bindings.items ++ bindings_of x)) y.here.walked.layers.lists.items y.here.walked.memo → IsRight v x → IsRight v y
+pub right_in : (v : TermsView) (x y : Substitution) → y.around.items ≡ x.around.items ++ x.here ∷ [] → ((k : ℕ) → look_of y.images k ≡ first_for (y.here.bindings.items ++ all_bindings x) k) → PutsBack y.here.before.items (look_of y.images) (look_of x.images) → IsWalked v.pass (first_for (y.here.bindings.items ++ all_bindings x)) y.here.walked.layers.lists.items y.here.walked.memo → IsRight v x → IsRight v y
 right_in v x y e images back walked h = record {
   images = λ k. images k ∙ ap (λ fs. first_for (y.here.bindings.items ++ joined fs) k) (sym (inner_frames x y e));
   here = subst (λ fs. IsFrame v.pass (joined fs) y.here) (sym (inner_frames x y e)) inner;
-  around = subst (AreFrames v.pass []) (sym e) (frames_more v.pass [] x.around.items x.here h.around h.here);
+  around = subst (AreRightFrames v.pass []) (sym e) (frames_more v.pass [] x.around.items x.here h.around h.here);
 }
   where
-    look : look_of y.images ≡ first_for (y.here.bindings.items ++ bindings_of x)
+    look : look_of y.images ≡ first_for (y.here.bindings.items ++ all_bindings x)
     look = λ i. λ k. images k i
 
-    inner : IsFrame v.pass (bindings_of x) y.here
+    inner : IsFrame v.pass (all_bindings x) y.here
     inner = record {
-      back = subst (λ (now : Look). PutsBack y.here.before.items now (first_for (bindings_of x))) look
+      back = subst (λ (now : Look). PutsBack y.here.before.items now (first_for (all_bindings x))) look
           (subst (λ (outer : Look). PutsBack y.here.before.items (look_of y.images) outer) (look_is v x h) back);
       walked = walked;
     }
@@ -130,9 +130,9 @@ frames_left x y e bs cs rest is = sym (inner_frames y x e) ∙ rest_same is
 
 pub right_left : (v : TermsView) (x y : Substitution) → x.around.items ≡ y.around.items ++ y.here ∷ [] → ((outer : Look) → PutsBack x.here.before.items (look_of x.images) outer → (k : ℕ) → look_of y.images k ≡ outer k) → IsRight v x → IsRight v y
 right_left v x y e back h =
-    let frames = frames_less v.pass [] y.around.items y.here (subst (AreFrames v.pass []) e h.around) in
+    let frames = frames_less v.pass [] y.around.items y.here (subst (AreRightFrames v.pass []) e h.around) in
     record {
-      images = λ k. back (first_for (joined (turned [] x.around.items))) (back_here v x h) k ∙ ap (λ fs. first_for (joined fs) k) (inner_frames y x e);
+      images = λ k. back (first_for (joined (frames_in_front [] x.around.items))) (back_here v x h) k ∙ ap (λ fs. first_for (joined fs) k) (inner_frames y x e);
       here = frames.1;
       around = frames.0;
     }

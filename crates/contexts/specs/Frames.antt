@@ -21,9 +21,9 @@ pub record LeadsBack (es : List (ℕ × Option ℕ)) (now : Look) : Type 0 where
   pub back : PutsBack es now before
 
 -- the bindings of frames, the last first, before these
-abbrev pub turned : List (List (ℕ × ℕ)) → List Frame → List (List (ℕ × ℕ))
-turned outer [] = outer
-turned outer (f ∷ fs) = turned (f.bindings.items ∷ outer) fs
+abbrev pub frames_in_front : List (List (ℕ × ℕ)) → List Frame → List (List (ℕ × ℕ))
+frames_in_front outer [] = outer
+frames_in_front outer (f ∷ fs) = frames_in_front (f.bindings.items ∷ outer) fs
 
 -- the frame leads back to what stands around it, and what it remembers is right
 pub record IsFrame (pass : PassView) (outer : List (ℕ × ℕ)) (frame : Frame) : Type 0 where
@@ -31,6 +31,6 @@ pub record IsFrame (pass : PassView) (outer : List (ℕ × ℕ)) (frame : Frame)
   pub walked : IsWalked pass (first_for (frame.bindings.items ++ outer)) frame.walked.layers.lists.items frame.walked.memo
 
 -- the same of each, the outermost first, inside these
-abbrev pub AreFrames : PassView → List (List (ℕ × ℕ)) → List Frame → Type 0
-AreFrames pass outer [] = ⊤
-AreFrames pass outer (f ∷ fs) = IsFrame pass (joined outer) f × AreFrames pass (f.bindings.items ∷ outer) fs
+abbrev pub AreRightFrames : PassView → List (List (ℕ × ℕ)) → List Frame → Type 0
+AreRightFrames pass outer [] = ⊤
+AreRightFrames pass outer (f ∷ fs) = IsFrame pass (joined outer) f × AreRightFrames pass (f.bindings.items ∷ outer) fs

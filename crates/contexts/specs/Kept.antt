@@ -4,23 +4,23 @@ use Rattle.term_pool.specs.Views.{TermsView}
 use Rattle.contexts.specs.declared.kept.Substitution.{Substitution}
 use Rattle.contexts.specs.Becoming.{look_of}
 use Rattle.contexts.specs.Firsts.{first_for}
-use Rattle.contexts.specs.Frames.{turned, IsFrame, AreFrames}
+use Rattle.contexts.specs.Frames.{frames_in_front, IsFrame, AreRightFrames}
 use Rattle.contexts.specs.PutIn.{joined}
 
 -- the bindings of its frames, of leaves and references, the innermost frame first
 abbrev pub frames_of : Substitution → List (List (ℕ × ℕ))
-frames_of x = x.here.bindings.items ∷ turned [] x.around.items
+frames_of x = x.here.bindings.items ∷ frames_in_front [] x.around.items
 
 -- all its bindings: of two for one leaf the first counts
-abbrev pub bindings_of : Substitution → List (ℕ × ℕ)
-bindings_of x = joined (frames_of x)
+abbrev pub all_bindings : Substitution → List (ℕ × ℕ)
+all_bindings x = joined (frames_of x)
 
 -- What it remembers of terms is right, by what the pass knows. What the fields say is not for other crates: they get this
 -- from `new`, and it stays.
 pub record IsRight (v : TermsView) (x : Substitution) : Type 0 where
-  pub images : (k : ℕ) → look_of x.images k ≡ first_for (bindings_of x) k
-  pub here : IsFrame v.pass (joined (turned [] x.around.items)) x.here
-  pub around : AreFrames v.pass [] x.around.items
+  pub images : (k : ℕ) → look_of x.images k ≡ first_for (all_bindings x) k
+  pub here : IsFrame v.pass (joined (frames_in_front [] x.around.items)) x.here
+  pub around : AreRightFrames v.pass [] x.around.items
 
 -- it is right for some terms
 pub record IsRightForSome (x : Substitution) : Type 0 where

@@ -10,7 +10,7 @@ ghost use Rattle.term_model.specs.Terms.{Var, Term};
 ghost use Rattle.term_pool.specs.StandsFor.{variable_leaf};
 ghost use Rattle.term_pool.specs.Views.{TermsView, IsTerm, RefersTo, KeepsTerms};
 ghost use Rattle.term_pool.specs.declared.stop.TermStop.TheVariants as TermStop;
-ghost use Rattle.contexts.specs.Kept.{IsRight, IsRightForSome, bindings_of, frames_of};
+ghost use Rattle.contexts.specs.Kept.{IsRight, IsRightForSome, all_bindings, frames_of};
 ghost use Rattle.contexts.specs.PutIn.{AreReplacementBy, LacksRoomFor, PlacesTerm, StandForReplacement};
 
 use crate::frames::{Frame, put_all, put_all_back};
@@ -63,7 +63,7 @@ impl Substitution {
         symbols: &Symbols,
         terms: &Terms<'_>,
     ) -> Result<(), Memory>
-        requires bindings { AreReplacementBy symbols.now terms.now (bindings.items ++ bindings_of self.old) }
+        requires bindings { AreReplacementBy symbols.now terms.now (bindings.items ++ all_bindings self.old) }
         requires right { IsRight terms.now self.old }
         ensures frames { frames_of self.new ≡ (if is_ok result then bindings.items ∷ frames_of self.old else frames_of self.old) }
         ensures right { IsRight terms.now self.new }
@@ -115,13 +115,13 @@ impl Substitution {
         r: Ref,
     ) -> Result<Ref, TermStop>
         requires term { IsTerm symbols.now terms.old r }
-        requires bindings { AreReplacementBy symbols.now terms.old (bindings_of self.old) }
+        requires bindings { AreReplacementBy symbols.now terms.old (all_bindings self.old) }
         requires right { IsRight terms.old self.old }
-        ensures term { IfOk result (λ i. (t : Term) (q : Replacement) → RefersTo symbols.now terms.old r t → StandForReplacement symbols.now terms.old (bindings_of self.old) q → RefersTo symbols.now terms.new i (put_in q t)) }
+        ensures term { IfOk result (λ i. (t : Term) (q : Replacement) → RefersTo symbols.now terms.old r t → StandForReplacement symbols.now terms.old (all_bindings self.old) q → RefersTo symbols.now terms.new i (put_in q t)) }
 
         // It places only cells of its answer, and is refused for want of room for one.
-        ensures placed { (t : Term) (q : Replacement) → RefersTo symbols.now terms.old r t → StandForReplacement symbols.now terms.old (bindings_of self.old) q → PlacesTerm symbols.now terms.old.pass terms.new.pass (put_in q t) }
-        ensures full { IfErr result (λ e. e ≡ TermStop.PoolFull → (t : Term) (q : Replacement) → RefersTo symbols.now terms.old r t → StandForReplacement symbols.now terms.old (bindings_of self.old) q → LacksRoomFor symbols.now terms.new.pass (put_in q t)) }
+        ensures placed { (t : Term) (q : Replacement) → RefersTo symbols.now terms.old r t → StandForReplacement symbols.now terms.old (all_bindings self.old) q → PlacesTerm symbols.now terms.old.pass terms.new.pass (put_in q t) }
+        ensures full { IfErr result (λ e. e ≡ TermStop.PoolFull → (t : Term) (q : Replacement) → RefersTo symbols.now terms.old r t → StandForReplacement symbols.now terms.old (all_bindings self.old) q → LacksRoomFor symbols.now terms.new.pass (put_in q t)) }
         ensures known { IfOk result (IsKnown terms.new.pass) }
         ensures keeps { KeepsTerms terms.old terms.new }
         ensures right { IsRight terms.new self.new }
@@ -137,8 +137,8 @@ impl Substitution {
     /// One look-up, which takes no memory and places no cell.
     pub fn image(&self, symbols: &Symbols, variable: u32) -> Option<Ref>
         requires { IsRightForSome self.now }
-        ensures image { (v : TermsView) (x : Var) (q : Replacement) → IsLeaf symbols.now variable (variable_leaf x) → StandForReplacement symbols.now v (bindings_of self.now) q → IfSome result (λ r. RefersTo symbols.now v r (replaced_by q x)) }
-        ensures replaced { (v : TermsView) (x : Var) (q : Replacement) → IsLeaf symbols.now variable (variable_leaf x) → StandForReplacement symbols.now v (bindings_of self.now) q → IsSome result ↔ Replaces q x }
+        ensures image { (v : TermsView) (x : Var) (q : Replacement) → IsLeaf symbols.now variable (variable_leaf x) → StandForReplacement symbols.now v (all_bindings self.now) q → IfSome result (λ r. RefersTo symbols.now v r (replaced_by q x)) }
+        ensures replaced { (v : TermsView) (x : Var) (q : Replacement) → IsLeaf symbols.now variable (variable_leaf x) → StandForReplacement symbols.now v (all_bindings self.now) q → IsSome result ↔ Replaces q x }
     {
         let _leaves = symbols.count();
         self.images.get(&variable).copied()

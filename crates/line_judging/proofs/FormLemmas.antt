@@ -13,11 +13,11 @@ use Rattle.linear_forms.specs.Coefficients as forms
 use Rattle.linear_forms.specs.Forms.{IsDifferenceForm}
 use Rattle.linear_forms.specs.Forms as forms_referred
 use Rattle.scaled_sums.specs.declared.coefficients.Coefficient.{Coefficient}
-use Rattle.scaled_sums.specs.Coefficients.{number_at, sizes_of, AreApart}
+use Rattle.scaled_sums.specs.Coefficients.{sum_at, sizes_of, AreApart}
 use Rattle.linear_lines.specs.Lines.{IsReferred}
 use Rattle.line_judging.specs.LineForms.{as_sum, IsNarrowForm}
 
-same_number : (cs : List found.Coefficient) (r : ℕ) → number_at (map as_sum cs) r ≡ forms.number_at cs r
+same_number : (cs : List found.Coefficient) (r : ℕ) → sum_at (map as_sum cs) r ≡ forms.sum_at cs r
 same_number [] r = refl
 same_number (c ∷ cs) r = ap (λ x. (if c.term == r then c.number else pos 0) +ℤ x) (same_number cs r)
 

@@ -5,7 +5,7 @@ use Rattle.std.proofs.lemmas.List.Elements.{All-head, All-tail}
 use Rattle.sym_table.specs.Table.{Table}
 use Rattle.term_pool.specs.Views.{TermsView}
 use Rattle.rule_model.specs.Arithmetic.{CoefficientLine}
-use Rattle.scaled_sums.specs.Relations.{relation_of}
+use Rattle.scaled_sums.specs.Relations.{relation_meant}
 use Rattle.linear_lines.specs.declared.lines.Line.{Line}
 use Rattle.linear_lines.specs.Lines.{StandsForLine}
 use Rattle.line_judging.specs.Weights.{IsLineOfTerms}
@@ -50,7 +50,7 @@ module _ (s : Table) (v : TermsView) where
   pub some_line : (line : Line) → IsLineOfTerms s v line → (l : CoefficientLine) × StandsForLine s v line l
   some_line line is = (
     record {
-      comparison = record { relation = relation_of line.comparison.relation; first = is.first.means; second = is.second.means };
+      comparison = record { relation = relation_meant line.comparison.relation; first = is.first.means; second = is.second.means };
       ratio = record { num = line.numerator; den = pos line.denominator };
     },
     record {

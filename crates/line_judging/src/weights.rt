@@ -2,7 +2,7 @@
 
 ghost use Rattle.std.specs.Prelude.{◌≤◌, ◌<◌, ◌+◌};
 ghost use Rattle.rule_model.specs.Arithmetic.{limit};
-ghost use Rattle.linear_forms.specs.Forms.{IsWithin};
+ghost use Rattle.linear_forms.specs.Forms.{IsToldWeight};
 ghost use Rattle.linear_lines.specs.Lines.{own_weight};
 
 use linear_lines::Line;
@@ -10,7 +10,7 @@ use scaled_sums::line_weight;
 
 /// The weight, and `None` where it is over 2^127 - 1.
 fn within(weight: u128) -> Option<u128>
-    ensures { IsWithin result weight }
+    ensures { IsToldWeight result weight }
 {
     if weight < 170141183460469231731687303715884105728 {
         Some(weight)
@@ -24,7 +24,7 @@ pub(crate) fn weight_with(line: &Line, plain: u128, multiple: u128, others: u128
     requires denominator { 0 < line.now.denominator }
     requires share { line.now.denominator ≤ multiple }
     requires plain { plain < limit }
-    ensures { IsWithin result (own_weight multiple line.now plain + others) }
+    ensures { IsToldWeight result (own_weight multiple line.now plain + others) }
 {
     let share = multiple / line.denominator;
     let Some(weight) = line_weight(line.numerator, share, plain + 1, multiple, others) else {

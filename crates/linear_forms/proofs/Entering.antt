@@ -18,24 +18,24 @@ use Rattle.linear_forms.specs.declared.memory.Item.TheVariants.{Term as TermItem
 use Rattle.linear_forms.specs.declared.nodes.Factors.{Factors}
 use Rattle.linear_forms.specs.declared.nodes.Factors.TheVariants.{Constants, Single, Many}
 use Rattle.linear_forms.specs.declared.nodes.Info.{Info}
-use Rattle.linear_forms.specs.Entries.{once, less, term_info, constant_info, constant_entry, number_entry, opaque_entry, sum_entry, negated_entry, difference_entry, product_entry, single_entry, pair_entry}
+use Rattle.linear_forms.specs.Entries.{once, taken_away, term_info, constant_info, constant_entry, number_entry, opaque_entry, sum_entry, negated_entry, difference_entry, product_entry, single_entry, pair_entry}
 use Rattle.linear_forms.specs.Factors.{IsAbove}
-use Rattle.linear_forms.specs.Graphs.{IsFilled, IsNumberNode, IsNode, AreFactors, IsInfo, IsOwn, IsEntry}
+use Rattle.linear_forms.specs.Graphs.{AreSome, IsNumberNode, IsNode, AreFactors, IsInfo, IsOwn, IsEntry}
 use Rattle.linear_forms.specs.Infos.{limit_weight}
-use Rattle.linear_forms.specs.Readings.{Reading, for_constants, for_parts, unit_of, opaque_in, read, sum_in, product_in}
+use Rattle.linear_forms.specs.Readings.{FormReading, for_constants, for_parts, unit_of, opaque_in, read, sum_in, product_in}
 use Rattle.linear_forms.proofs.Products.{sum_first, sum_one, difference_first, product_constant, product_other, info_joined}
 use Rattle.linear_forms.proofs.Weighing.{sum_positive, min_sum}
 
 -- what an opaque term is
 pub record IsOpaqueTerm (t : Term) : Type 0 where
   pub weight_is : weight t ≡ 1
-  pub counts : (reading : Reading) → read reading t ≡ opaque_in reading t
+  pub counts : (reading : FormReading) → read reading t ≡ opaque_in reading t
   pub none : is_constant t ≡ false
 
 -- a number that is no constant by its form
 pub record IsNumberTerm (t : Term) (z : ℤ) : Type 0 where
   pub weight_is : weight t ≡ 1
-  pub counts : (reading : Reading) → read reading t ≡ z *ℤ unit_of reading
+  pub counts : (reading : FormReading) → read reading t ≡ z *ℤ unit_of reading
   pub size : unsigned_abs z ≤ 1
   pub none : is_constant t ≡ false
 
@@ -57,15 +57,15 @@ single_sum t = omega arith
 single_product : (t : Term) → weight_product (term t no_terms) ≡ weight t
 single_product t = omega arith
 
-plus_read : (reading : Reading) (us : Terms) → read reading (operation Op.Plus us) ≡ sum_in reading us
+plus_read : (reading : FormReading) (us : Terms) → read reading (operation Op.Plus us) ≡ sum_in reading us
 plus_read for_constants us = refl
 plus_read (for_parts w) us = refl
 
-negation_read : (reading : Reading) (u : Term) → read reading (operation Op.Minus (term u no_terms)) ≡ neg_ℤ (read reading u)
+negation_read : (reading : FormReading) (u : Term) → read reading (operation Op.Minus (term u no_terms)) ≡ neg_ℤ (read reading u)
 negation_read for_constants u = refl
 negation_read (for_parts w) u = refl
 
-empty_product : (reading : Reading) → product_in reading no_terms ≡ unit_of reading
+empty_product : (reading : FormReading) → product_in reading no_terms ≡ unit_of reading
 empty_product for_constants = refl
 empty_product (for_parts w) = refl
 
@@ -75,7 +75,7 @@ linear_is us h = grind (arith, nat_tests)
 nonlinear_is : (us : Terms) → 2 ≤ others us → is_linear us ≡ false
 nonlinear_is us h = grind (arith, nat_tests)
 
-times_read : (reading : Reading) (us : Terms) → is_linear us ≡ true → read reading (operation Op.Times us) ≡ product_in reading us
+times_read : (reading : FormReading) (us : Terms) → is_linear us ≡ true → read reading (operation Op.Times us) ≡ product_in reading us
 times_read for_constants us e = rw e refl
 times_read (for_parts w) us e = rw e refl
 
@@ -85,11 +85,11 @@ times_weight us e = rw e refl
 pub times_opaque : (us : Terms) → is_linear us ≡ false → IsOpaqueTerm (operation Op.Times us)
 times_opaque us e = record { weight_is = rw e refl; counts = go; none = refl }
   where
-    go : (reading : Reading) → read reading (operation Op.Times us) ≡ opaque_in reading (operation Op.Times us)
+    go : (reading : FormReading) → read reading (operation Op.Times us) ≡ opaque_in reading (operation Op.Times us)
     go for_constants = rw e refl
     go (for_parts w) = rw e refl
 
-minus_more : (u : Term) (us : Terms) → IsFilled us → is_constant (operation Op.Minus (term u us)) ≡ false
+minus_more : (u : Term) (us : Terms) → AreSome us → is_constant (operation Op.Minus (term u us)) ≡ false
 minus_more u no_terms h = absurd h
 minus_more (numeral n) (term w ws) h = refl
 minus_more u (term w ws) h = refl
@@ -122,11 +122,11 @@ module _ (s : Table) (v : TermsView) (at : ℕ → Terms) (own : ℕ) where
     own = mine;
   }
 
-  -- a part once, and less
-  once_is : (reading : Reading) (ts : Terms) (f : Found) → IsMet at own ts f → (once f.number).times *ℤ sum_in reading (at f.number) ≡ sum_in reading ts
+  -- a part once, and taken_away
+  once_is : (reading : FormReading) (ts : Terms) (f : Found) → IsMet at own ts f → (once f.number).times *ℤ sum_in reading (at f.number) ≡ sum_in reading ts
   once_is reading ts f met = rw met.terms_are (one-mul (sum_in reading ts))
 
-  less_is : (reading : Reading) (ts : Terms) (f : Found) → IsMet at own ts f → (less f.number).times *ℤ sum_in reading (at f.number) ≡ neg_ℤ (sum_in reading ts)
+  less_is : (reading : FormReading) (ts : Terms) (f : Found) → IsMet at own ts f → (taken_away f.number).times *ℤ sum_in reading (at f.number) ≡ neg_ℤ (sum_in reading ts)
   less_is reading ts f met =
       rw met.terms_are
       (let e : neg_ℤ (pos 1) *ℤ sum_in reading ts ≡ neg_ℤ (pos 1 *ℤ sum_in reading ts) = neg-mul (pos 1) (sum_in reading ts) in
@@ -136,7 +136,7 @@ module _ (s : Table) (v : TermsView) (at : ℕ → Terms) (own : ℕ) where
   once_weight ts f met = rw met.terms_are (omega arith)
 
   module _ (t : Term) (e : at own ≡ term t no_terms) where
-    own_sum : (reading : Reading) → sum_in reading (at own) ≡ read reading t
+    own_sum : (reading : FormReading) → sum_in reading (at own) ≡ read reading t
     own_sum reading = ap (sum_in reading) e ∙ sum_one reading t
 
     own_weight : weight_sum (at own) ≡ weight t
@@ -169,7 +169,7 @@ module _ (s : Table) (v : TermsView) (at : ℕ → Terms) (own : ℕ) where
     constant_node : (z : ℤ) → IsConstantTerm t z → IsNumberNode at (term t no_terms) z
     constant_node z h = record { counts = go; weighs = omega (arith, single_sum t, h.weight_is, max_more (unsigned_abs z)) }
       where
-        go : (reading : Reading) → sum_in reading (term t no_terms) ≡ z *ℤ unit_of reading
+        go : (reading : FormReading) → sum_in reading (term t no_terms) ≡ z *ℤ unit_of reading
         go for_constants = h.value ∙ sym (*ℤ_comm z (pos 1) ∙ one-mul z)
         go (for_parts w) = constant_part w t h.test ∙ sym (*ℤ_comm z (pos 0) ∙ zero-*ℤ z)
 
@@ -189,7 +189,7 @@ module _ (s : Table) (v : TermsView) (at : ℕ → Terms) (own : ℕ) where
         (λ narrow. record { one = record { means = t; refers = refers; alone = refl }; counts = λ reading. sum_one reading t ∙ h.counts reading })
         (term_known 1 h.none (ap (λ n. min n limit_weight) (sym h.weight_is))) (λ q f. cc)
 
-    pub sum_right : (x : Item) (us : Terms) (f : Found) → t ≡ operation Op.Plus us → IsFilled us → IsMet at own us f → IsEntry s v at own x (sum_entry f own)
+    pub sum_right : (x : Item) (us : Terms) (f : Found) → t ≡ operation Op.Plus us → AreSome us → IsMet at own us f → IsEntry s v at own x (sum_entry f own)
     sum_right x us f is filled met =
         let heavy : weight t ≡ weight_sum us = ap weight is ∙ max_filled (weight_sum us) (sum_positive us filled) in
         entry_of x (term t no_terms) (sum_entry f own) e met.below
@@ -211,7 +211,7 @@ module _ (s : Table) (v : TermsView) (at : ℕ → Terms) (own : ℕ) where
         (term_known f.info.sum (ap is_constant is ∙ minus_other u other) (met.known.sum_is ∙ ap (λ n. min n limit_weight) (sym heavy)))
         (λ r g. absurd (cc))
 
-    pub difference_right : (x : Item) (u : Term) (us : Terms) (f g : Found) → t ≡ operation Op.Minus (term u us) → IsFilled us → IsMet at own (term u no_terms) f → IsMet at own us g → IsEntry s v at own x (difference_entry f g own)
+    pub difference_right : (x : Item) (u : Term) (us : Terms) (f g : Found) → t ≡ operation Op.Minus (term u us) → AreSome us → IsMet at own (term u no_terms) f → IsMet at own us g → IsEntry s v at own x (difference_entry f g own)
     difference_right x u us f g is filled one rest =
         let heavy : weight t ≡ (weight u + 0) + weight_sum us = ap weight is ∙ max_filled (weight u + weight_sum us) (sum_positive (term u us) tt) ∙ plain (weight u) (weight_sum us) in
         entry_of x (term t no_terms) (difference_entry f g own) e (one.below, rest.below)
@@ -248,7 +248,7 @@ module _ (s : Table) (v : TermsView) (at : ℕ → Terms) (own : ℕ) where
         known_is linear =
             term_known f.info.product (ap is_constant is) (met.known.product_is ∙ ap (λ n. min n limit_weight) (sym (ap weight is ∙ times_weight us linear)))
 
-        reads : is_linear us ≡ true → (reading : Reading) → sum_in reading (term t no_terms) ≡ product_in reading us
+        reads : is_linear us ≡ true → (reading : FormReading) → sum_in reading (term t no_terms) ≡ product_in reading us
         reads linear reading = sum_one reading t ∙ ap (read reading) is ∙ times_read reading us linear
 
         heavy : is_linear us ≡ true → weight_sum (term t no_terms) ≡ weight_product us

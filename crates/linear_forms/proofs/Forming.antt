@@ -24,13 +24,13 @@ use Rattle.linear_forms.specs.declared.nodes.Coefficient.{Coefficient}
 use Rattle.linear_forms.specs.declared.nodes.Info.{Info}
 use Rattle.linear_forms.specs.declared.nodes.Node.{Node}
 use Rattle.linear_forms.specs.declared.nodes.Node.TheVariants.{Number, Opaque, Multiple, Sum}
-use Rattle.linear_forms.specs.Coefficients.{number_at, sizes_of, AreApart}
-use Rattle.linear_forms.specs.Factors.{added, total, load, total_of, IsCounted, IsWeighed}
-use Rattle.linear_forms.specs.Forms.{IsReferred, AreCoefficients, IsWithin, IsLinearForm, IsDifferenceForm, TellsOneForm}
+use Rattle.linear_forms.specs.Coefficients.{sum_at, sizes_of, AreApart}
+use Rattle.linear_forms.specs.Factors.{added, total, load, total_value, CountsUnits, IsWeighed}
+use Rattle.linear_forms.specs.Forms.{IsReferred, ListsCoefficients, IsToldWeight, IsLinearForm, IsDifferenceForm, TellsOneForm}
 use Rattle.linear_forms.specs.Graphs.{IsOneTerm, IsNode, IsGraphAt, IsGraph, IsRemembered, no_info, info_at}
 use Rattle.linear_forms.specs.Infos.{limit_weight}
-use Rattle.linear_forms.specs.Readings.{Reading, for_constants, for_parts, unit_of, opaque_in, read, sum_in}
-use Rattle.linear_forms.specs.Roots.{limited, single_factors, pair_factors, IsExpandedForm, IsTold}
+use Rattle.linear_forms.specs.Readings.{FormReading, for_constants, for_parts, unit_of, opaque_in, read, sum_in}
+use Rattle.linear_forms.specs.Roots.{told_weight, single_factors, pair_factors, IsExpandedForm, IsTold}
 use Rattle.linear_forms.specs.Sweeps.{node_at, factor_at, AreWeighed, AreCounted, IsOpaqueFrom, HaveOwnNodes, CanSweep, IsSwept}
 use Rattle.linear_forms.proofs.Meaning.{term_one}
 use Rattle.linear_forms.proofs.Passing.{total_added, load_added, added_length}
@@ -91,11 +91,11 @@ pair_load : (w : ℕ → ℕ) (n k l : ℕ) → k < n → l < n → load w (pair
 pair_load w n k l h j = omega (arith, load_added w (single_factors n k) l (neg_ℤ (pos 1)) (rw (single_length n k) j), single_load w n k h)
 
 -- lists of coefficients
-total_nothing : (cs : List Coefficient) → total_of (λ r. pos 0) cs ≡ pos 0
+total_nothing : (cs : List Coefficient) → total_value (λ r. pos 0) cs ≡ pos 0
 total_nothing [] = refl
 total_nothing (c ∷ cs) = omega (arith, ints, *ℤ_comm c.number (pos 0), zero-*ℤ c.number, total_nothing cs)
 
-total_at : (q : ℕ) (cs : List Coefficient) → total_of (λ r. if nat_eq r q then pos 1 else pos 0) cs ≡ number_at cs q
+total_at : (q : ℕ) (cs : List Coefficient) → total_value (λ r. if nat_eq r q then pos 1 else pos 0) cs ≡ sum_at cs q
 total_at q [] = refl
 total_at q (c ∷ cs) = omega (arith, ints, here (nat_eq c.term q), total_at q cs)
   where
@@ -103,7 +103,7 @@ total_at q (c ∷ cs) = omega (arith, ints, here (nat_eq c.term q), total_at q c
     here true = *ℤ_comm c.number (pos 1) ∙ one-mul c.number
     here false = *ℤ_comm c.number (pos 0) ∙ zero-*ℤ c.number
 
-number_absent : (q : ℕ) (cs : List Coefficient) → All (λ (d : Coefficient). d.term ≢ q) cs → number_at cs q ≡ pos 0
+number_absent : (q : ℕ) (cs : List Coefficient) → All (λ (d : Coefficient). d.term ≢ q) cs → sum_at cs q ≡ pos 0
 number_absent q [] h = refl
 number_absent q (c ∷ cs) h =
     let other : c.term ≢ q = All-head (λ (d : Coefficient). d.term ≢ q) c cs h in
@@ -111,31 +111,31 @@ number_absent q (c ∷ cs) h =
     let rest = number_absent q cs (All-tail (λ (d : Coefficient). d.term ≢ q) c cs h) in
     rw e (omega (arith, ints, rest))
 
-number_first : (c : Coefficient) (cs : List Coefficient) → AreApart (c ∷ cs) → number_at (c ∷ cs) c.term ≡ c.number
+number_first : (c : Coefficient) (cs : List Coefficient) → AreApart (c ∷ cs) → sum_at (c ∷ cs) c.term ≡ c.number
 number_first c cs h =
     let e : nat_eq c.term c.term ≡ true = grind (arith, nat_tests) in
     let rest = number_absent c.term cs h.0 in
     rw e (omega (arith, ints, rest))
 
 -- weights up to the limit
-pub limited_none : (w n : ℕ) → w ≡ min n limit_weight → limited w ≡ None → limit_weight ≤ n
+pub limited_none : (w n : ℕ) → w ≡ min n limit_weight → told_weight w ≡ None → limit_weight ≤ n
 limited_none w n is e = go (nat_lt w limit_weight) refl e
   where
     go : (b : Bool) → nat_lt w limit_weight ≡ b → (if b then Some w else None) ≡ None → limit_weight ≤ n
     go true f e = absurd (cc)
     go false f e = grind (arith, nat_tests)
 
-pub limited_some : (w n x : ℕ) → w ≡ min n limit_weight → limited w ≡ Some x → (x ≡ n) × (n < limit_weight)
+pub limited_some : (w n x : ℕ) → w ≡ min n limit_weight → told_weight w ≡ Some x → (x ≡ n) × (n < limit_weight)
 limited_some w n x is e = go (nat_lt w limit_weight) refl e
   where
     go : (b : Bool) → nat_lt w limit_weight ≡ b → (if b then Some w else None) ≡ Some x → (x ≡ n) × (n < limit_weight)
     go true f e = let same : w ≡ x = cc in let less : w < limit_weight = grind (arith, nat_tests) in (omega (arith, same, is, less), omega (arith, is, less))
     go false f e = absurd (cc)
 
-pub limited_within : (w n : ℕ) → w ≡ min n limit_weight → IsWithin (limited w) n
-limited_within w n is = go (limited w) refl
+pub limited_within : (w n : ℕ) → w ≡ min n limit_weight → IsToldWeight (told_weight w) n
+limited_within w n is = go (told_weight w) refl
   where
-    go : (o : Option ℕ) → limited w ≡ o → IsWithin o n
+    go : (o : Option ℕ) → told_weight w ≡ o → IsToldWeight o n
     go None e = limited_none w n is e
     go (Some x) e = limited_some w n x is e
 
@@ -159,13 +159,13 @@ module _ (s : Table) (v : TermsView) (graph : Graph) (at : ℕ → Terms) (right
   }
 
   -- values of opaque terms by their references
-  abbrev AreOpaqueValues : Reading → (ℕ → ℤ) → Type 0
+  abbrev AreOpaqueValues : FormReading → (ℕ → ℤ) → Type 0
   AreOpaqueValues reading o = (k r : ℕ) (t : Term) → node_at nodes k ≡ Opaque r → RefersTo s v r t → o r ≡ opaque_in reading t
 
-  counted : (reading : Reading) (o : ℕ → ℤ) → AreOpaqueValues reading o → AreCounted nodes weights (unit_of reading) o (λ k. sum_in reading (at k))
+  counted : (reading : FormReading) (o : ℕ → ℤ) → AreOpaqueValues reading o → AreCounted nodes weights (unit_of reading) o (λ k. sum_in reading (at k))
   counted reading o values k below narrow = go (node_at nodes k) refl (right.right k below narrow)
     where
-      go : (node : Node) → node_at nodes k ≡ node → IsNode s v at (at k) node → IsCounted (unit_of reading) o (λ j. sum_in reading (at j)) node (sum_in reading (at k))
+      go : (node : Node) → node_at nodes k ≡ node → IsNode s v at (at k) node → CountsUnits (unit_of reading) o (λ j. sum_in reading (at j)) node (sum_in reading (at k))
       go (Number n) e h = h.counts reading
       go (Opaque r) e h = h.counts reading ∙ sym (values k r h.one.means e h.one.refers)
       go (Multiple p) e h = h.counts reading
@@ -262,7 +262,7 @@ module _ (s : Table) (v : TermsView) (graph : Graph) (at : ℕ → Terms) (right
           one-mul c,
         )
 
-    swept_parts : (x : Term) (o : ℕ → ℤ) → AreOpaqueValues (for_parts (one_at x)) o → total (λ k. sum_in (for_parts (one_at x)) (at k)) factors ≡ total_of o found
+    swept_parts : (x : Term) (o : ℕ → ℤ) → AreOpaqueValues (for_parts (one_at x)) o → total (λ k. sum_in (for_parts (one_at x)) (at k)) factors ≡ total_value o found
     swept_parts x o values =
         omega (
           arith,
@@ -272,7 +272,7 @@ module _ (s : Table) (v : TermsView) (graph : Graph) (at : ℕ → Terms) (right
           zero-*ℤ c,
         )
 
-    pub swept_coefficients : (f : Term → ℤ) → ((x : Term) → total (λ k. sum_in (for_parts (one_at x)) (at k)) factors ≡ f x) → AreCoefficients s v found f
+    pub swept_coefficients : (f : Term → ℤ) → ((x : Term) → total (λ k. sum_in (for_parts (one_at x)) (at k)) factors ≡ f x) → ListsCoefficients s v found f
     swept_coefficients f is = record {
       right = λ r t refers. sym (is t) ∙ swept_parts t (λ q. if nat_eq q r then pos 1 else pos 0) (referred_values r t refers) ∙ total_at r found;
       covered = λ t. elim (scan t (length nodes)) [
@@ -303,7 +303,7 @@ module _ (s : Table) (v : TermsView) (graph : Graph) (at : ℕ → Terms) (right
         plain : (n : ℕ) → n + 0 ≡ n
         plain n = omega arith
 
-    number_reads : (reading : Reading) → sum_in reading (at k) ≡ read reading t
+    number_reads : (reading : FormReading) → sum_in reading (at k) ≡ read reading t
     number_reads reading = ap (sum_in reading) number_terms ∙ sum_one reading t
 
     pub number_info : (info_at graph k).sum ≡ min (weight t) limit_weight
@@ -370,7 +370,7 @@ tells_yes s v t u n found h zero_constant none = (h.narrow, record { constants_a
     gone x =
         elim (h.coefficients.covered x) [
           | inl e ↦ e
-          | inr e ↦ h.coefficients.right e.reference x e.refers ∙ ap (λ cs. number_at cs e.reference) none
+          | inr e ↦ h.coefficients.right e.reference x e.refers ∙ ap (λ cs. sum_at cs e.reference) none
         ]
 
     same : (x : Term) → coefficient t x ≡ coefficient u x

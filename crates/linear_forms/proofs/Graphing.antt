@@ -16,7 +16,7 @@ use Rattle.linear_forms.specs.declared.nodes.Factors.TheVariants.{Constants, Sin
 use Rattle.linear_forms.specs.declared.nodes.Info.{Info}
 use Rattle.linear_forms.specs.declared.visiting.Visit.TheVariants as Visit
 use Rattle.linear_forms.specs.Factors.{IsAbove}
-use Rattle.linear_forms.specs.Graphs.{IsFilled, IsMeant, IsItem, IsNode, AreFactors, IsInfo, IsEntry, no_info, info_at, IsGraphAt, IsGraph, Settles, KeepsNumbers, IsVisit}
+use Rattle.linear_forms.specs.Graphs.{AreSome, IsItemMeant, IsItem, IsNode, AreFactors, IsInfo, IsEntry, no_info, info_at, IsGraphAt, IsGraph, AddsEntry, KeepsNumbers, IsVisitOfItem}
 use Rattle.linear_forms.specs.Memos.{Memo, number_remembered}
 use Rattle.linear_forms.specs.Sweeps.{node_at}
 use Rattle.linear_forms.proofs.Walking.{same_item}
@@ -81,7 +81,7 @@ info_agrees at to k ts info agrees h = record { sum_is = h.sum_is; product_is = 
         record { others_are = x.others_are; low = x.low; counts = λ narrow reading. rw e (x.counts narrow reading); weighs = λ narrow. rw e (x.weighs narrow) }
     go Many x = x
 
-graph_agrees : (s : Table) (v : TermsView) (graph : Graph) (at to : ℕ → Terms) → ((j : ℕ) → j < length graph.nodes.items → to j ≡ at j) → ((k : ℕ) → IsFilled (to k)) → IsGraphAt s v graph at → IsGraphAt s v graph to
+graph_agrees : (s : Table) (v : TermsView) (graph : Graph) (at to : ℕ → Terms) → ((j : ℕ) → j < length graph.nodes.items → to j ≡ at j) → ((k : ℕ) → AreSome (to k)) → IsGraphAt s v graph at → IsGraphAt s v graph to
 graph_agrees s v graph at to agrees filled h = record {
   long = h.long;
   filled = filled;
@@ -97,12 +97,12 @@ graph_agrees s v graph at to agrees filled h = record {
       subst (λ ts. IsInfo to k ts (info_at graph k)) (sym e)
       (info_agrees at to k (at k) (info_at graph k) (λ j less. agrees j (omega (arith, less, below))) (h.known k below));
   there = h.there;
-  meant = λ x k e. subst (IsMeant s v x) (sym (agrees k (h.there x k e))) (h.meant x k e);
+  meant = λ x k e. subst (IsItemMeant s v x) (sym (agrees k (h.there x k e))) (h.meant x k e);
   own = h.own;
 }
 
-meant_filled : (s : Table) (v : TermsView) (x : Item) (ts : Terms) → IsMeant s v x ts → IsFilled ts
-meant_filled s v (TermItem r) ts h = subst IsFilled (sym h.alone) tt
+meant_filled : (s : Table) (v : TermsView) (x : Item) (ts : Terms) → IsItemMeant s v x ts → AreSome ts
+meant_filled s v (TermItem r) ts h = subst AreSome (sym h.alone) tt
 meant_filled s v (ListItem r) ts h = h.filled
 
 -- the terms of the next number
@@ -117,16 +117,16 @@ next_other : (at : ℕ → Terms) (own : ℕ) (ts : Terms) (k : ℕ) → k ≢ o
 unfolding next
 next_other at own ts k h = let e : nat_eq k own ≡ false = grind (arith, nat_tests) in rw e refl
 
-next_filled : (at : ℕ → Terms) (own : ℕ) (ts : Terms) → ((k : ℕ) → IsFilled (at k)) → IsFilled ts → (k : ℕ) → IsFilled (next at own ts k)
+next_filled : (at : ℕ → Terms) (own : ℕ) (ts : Terms) → ((k : ℕ) → AreSome (at k)) → AreSome ts → (k : ℕ) → AreSome (next at own ts k)
 unfolding next
 next_filled at own ts h filled k = go (nat_eq k own)
   where
-    go : (b : Bool) → IsFilled (if b then ts else at k)
+    go : (b : Bool) → AreSome (if b then ts else at k)
     go true = filled
     go false = h k
 
 -- one entry more
-module _ (s : Table) (v : TermsView) (old new : Graph) (x : Item) (entry : Entry) (graph : IsGraph s v old) (item : IsItem s v x) (unmet : number_remembered old.memo x ≡ None) (visit : IsVisit s v old x (Visit.Done entry)) (settles : Settles old new x entry) where
+module _ (s : Table) (v : TermsView) (old new : Graph) (x : Item) (entry : Entry) (graph : IsGraph s v old) (item : IsItem s v x) (unmet : number_remembered old.memo x ≡ None) (visit : IsVisitOfItem s v old x (Visit.Done entry)) (settles : AddsEntry old new x entry) where
   abbrev own : ℕ
   own = length old.nodes.items
 
@@ -142,7 +142,7 @@ module _ (s : Table) (v : TermsView) (old new : Graph) (x : Item) (entry : Entry
       (next_filled graph.at own item.terms graph.right.filled (meant_filled s v x item.terms item.meant)) graph.right
 
   here : IsEntry s v to own x entry
-  here = visit to right (subst (IsMeant s v x) (sym to_own) item.meant)
+  here = visit to right (subst (IsItemMeant s v x) (sym to_own) item.meant)
 
   long : length new.nodes.items ≡ suc own
   long = ap length settles.nodes ∙ longer old.nodes.items entry.node
@@ -226,7 +226,7 @@ module _ (s : Table) (v : TermsView) (old new : Graph) (x : Item) (entry : Entry
           ];
       meant = λ y k e.
           elim (remembered_cases y k e) [
-            | inl both ↦ subst (λ n. IsMeant s v y (to n)) (sym both.1) (subst (λ z. IsMeant s v z (to own)) (sym both.0) (subst (IsMeant s v x) (sym to_own) item.meant))
+            | inl both ↦ subst (λ n. IsItemMeant s v y (to n)) (sym both.1) (subst (λ z. IsItemMeant s v z (to own)) (sym both.0) (subst (IsItemMeant s v x) (sym to_own) item.meant))
             | inr before ↦ right.meant y k before
           ];
       own = λ k r e.

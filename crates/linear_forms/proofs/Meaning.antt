@@ -17,9 +17,9 @@ use Rattle.linear_forms.specs.declared.entries.Head.{Head}
 use Rattle.linear_forms.specs.declared.memory.Item.{Item}
 use Rattle.linear_forms.specs.declared.memory.Item.TheVariants.{Term as TermItem, List as ListItem}
 use Rattle.linear_forms.specs.Entries.{leaf_entry, leaf_numeral, head_of}
-use Rattle.linear_forms.specs.Graphs.{IsFilled, IsTermList, IsMeant, IsEntry}
-use Rattle.linear_forms.specs.Readings.{Reading, for_constants, for_parts, unit_of, opaque_in, read}
-use Rattle.linear_forms.specs.Visits.{HasParts, IsNumeralLeaf}
+use Rattle.linear_forms.specs.Graphs.{AreSome, IsTermList, IsItemMeant, IsEntry}
+use Rattle.linear_forms.specs.Readings.{FormReading, for_constants, for_parts, unit_of, opaque_in, read}
+use Rattle.linear_forms.specs.Visits.{HasCellParts, IsNumeralLeaf}
 use Rattle.linear_forms.proofs.Entering.{IsOpaqueTerm, IsNumberTerm, numeral_constant, constant_right, number_right, opaque_right}
 
 -- what a leaf meets
@@ -29,26 +29,26 @@ meets_leaf s k P l h e = subst (λ o. IsSomeAnd o P) e h
 opaque_call : (f : Fun) (ts : Terms) → IsOpaqueTerm (call f ts)
 opaque_call f ts = record { weight_is = refl; counts = go; none = refl }
   where
-    go : (reading : Reading) → read reading (call f ts) ≡ opaque_in reading (call f ts)
+    go : (reading : FormReading) → read reading (call f ts) ≡ opaque_in reading (call f ts)
     go for_constants = refl
     go (for_parts w) = refl
 
 opaque_let : (bs : Bindings) (u : Term) → IsOpaqueTerm (let_in bs u)
 opaque_let bs u = record { weight_is = refl; counts = go; none = refl }
   where
-    go : (reading : Reading) → read reading (let_in bs u) ≡ opaque_in reading (let_in bs u)
+    go : (reading : FormReading) → read reading (let_in bs u) ≡ opaque_in reading (let_in bs u)
     go for_constants = refl
     go (for_parts w) = refl
 
 opaque_variable : (x : Var) → IsOpaqueTerm (variable x)
 opaque_variable x = record { weight_is = refl; counts = go; none = refl }
   where
-    go : (reading : Reading) → read reading (variable x) ≡ opaque_in reading (variable x)
+    go : (reading : FormReading) → read reading (variable x) ≡ opaque_in reading (variable x)
     go for_constants = refl
     go (for_parts w) = refl
 
 -- an operation that is no sum, difference or product
-same_read : (t : Term) → ((w : Term → ℤ) → read (for_parts w) t ≡ w t) → read for_constants t ≡ pos 0 → (reading : Reading) → read reading t ≡ opaque_in reading t
+same_read : (t : Term) → ((w : Term → ℤ) → read (for_parts w) t ≡ w t) → read for_constants t ≡ pos 0 → (reading : FormReading) → read reading t ≡ opaque_in reading t
 same_read t p c for_constants = c
 same_read t p c (for_parts w) = p w
 
@@ -74,21 +74,21 @@ times_head op e = absurd (cc)
 plus_none : IsNumberTerm (operation Op.Plus no_terms) (pos 0)
 plus_none = record { weight_is = refl; counts = go; size = omega arith; none = refl }
   where
-    go : (reading : Reading) → read reading (operation Op.Plus no_terms) ≡ pos 0 *ℤ unit_of reading
+    go : (reading : FormReading) → read reading (operation Op.Plus no_terms) ≡ pos 0 *ℤ unit_of reading
     go for_constants = refl
     go (for_parts w) = refl
 
 minus_none : IsNumberTerm (operation Op.Minus no_terms) (pos 0)
 minus_none = record { weight_is = refl; counts = go; size = omega arith; none = refl }
   where
-    go : (reading : Reading) → read reading (operation Op.Minus no_terms) ≡ pos 0 *ℤ unit_of reading
+    go : (reading : FormReading) → read reading (operation Op.Minus no_terms) ≡ pos 0 *ℤ unit_of reading
     go for_constants = refl
     go (for_parts w) = refl
 
 times_none : IsNumberTerm (operation Op.Times no_terms) (pos 1)
 times_none = record { weight_is = refl; counts = go; size = omega arith; none = refl }
   where
-    go : (reading : Reading) → read reading (operation Op.Times no_terms) ≡ pos 1 *ℤ unit_of reading
+    go : (reading : FormReading) → read reading (operation Op.Times no_terms) ≡ pos 1 *ℤ unit_of reading
     go for_constants = refl
     go (for_parts w) = refl
 
@@ -135,7 +135,7 @@ module _ (s : Table) (v : TermsView) (table : IsTable s) (one : IsOneToOne v.pas
       let same = one.one_tree r h.tree k.tree h.known k.known in
       one_term s table k.tree t u (subst (λ a. StandsFor s a t) same h.stands) k.stands
 
-  pub meant_one : (x : Item) (ts us : Terms) → IsMeant s v x ts → IsMeant s v x us → ts ≡ us
+  pub meant_one : (x : Item) (ts us : Terms) → IsItemMeant s v x ts → IsItemMeant s v x us → ts ≡ us
   meant_one (TermItem r) ts us h k =
       h.alone ∙ ap (λ t. term t no_terms) (term_one r h.means k.means h.refers k.refers) ∙ sym k.alone
   meant_one (ListItem r) ts us h k =
@@ -169,35 +169,35 @@ module _ (s : Table) (v : TermsView) (table : IsTable s) (one : IsOneToOne v.pas
         is_opaque = opaque_let bs u;
       })
 
-  cell_term : (r a b : ℕ) (t : Term) → RefersTo s v r t → HasParts v.pass r a b → IsSomeOperation s v a b t ⊎ IsOtherCell s a t
+  cell_term : (r a b : ℕ) (t : Term) → RefersTo s v r t → HasCellParts v.pass r a b → IsSomeOperation s v a b t ⊎ IsOtherCell s a t
   cell_term r a b t h p =
       let same = one.one_tree r h.tree (cell p.first p.second) h.known p.whole in
       cell_cases a b p.first p.second t p.first_known p.second_known (subst (λ x. StandsFor s x t) same h.stands)
 
-  pub head_there : (r a b : ℕ) (t : Term) → RefersTo s v r t → HasParts v.pass r a b → a < length s.leaves
+  pub head_there : (r a b : ℕ) (t : Term) → RefersTo s v r t → HasCellParts v.pass r a b → a < length s.leaves
   head_there r a b t h p =
       elim (cell_term r a b t h p) [
         | inl x ↦ slice_get_within s.leaves a (operator x.op) x.head
         | inr x ↦ slice_get_within s.leaves a x.symbol x.head
       ]
 
-  applied : (r a b : ℕ) (t : Term) (head : Head) (op : Op) → head ≢ Head.Other → ((p : Op) → head ≡ head_of (operator p) → p ≡ op) → RefersTo s v r t → HasParts v.pass r a b → LeafMeets s a (λ (l : Leaf). head ≡ head_of l) → IsOperation s v op b t
+  applied : (r a b : ℕ) (t : Term) (head : Head) (op : Op) → head ≢ Head.Other → ((p : Op) → head ≡ head_of (operator p) → p ≡ op) → RefersTo s v r t → HasCellParts v.pass r a b → LeafMeets s a (λ (l : Leaf). head ≡ head_of l) → IsOperation s v op b t
   applied r a b t head op other only h p meets =
       elim (cell_term r a b t h p) [
         | inl x ↦ (let e = only x.op (meets_leaf s a (λ (l : Leaf). head ≡ head_of l) (operator x.op) meets x.head) in subst (λ q. IsOperation s v q b t) e x.operation_is)
         | inr x ↦ absurd (other (meets_leaf s a (λ (l : Leaf). head ≡ head_of l) x.symbol meets x.head ∙ x.other))
       ]
 
-  pub plus_cell : (r a b : ℕ) (t : Term) → RefersTo s v r t → HasParts v.pass r a b → LeafMeets s a (λ (l : Leaf). Head.Plus ≡ head_of l) → IsOperation s v Op.Plus b t
+  pub plus_cell : (r a b : ℕ) (t : Term) → RefersTo s v r t → HasCellParts v.pass r a b → LeafMeets s a (λ (l : Leaf). Head.Plus ≡ head_of l) → IsOperation s v Op.Plus b t
   plus_cell r a b t h p meets = applied r a b t Head.Plus Op.Plus (λ e. cc) plus_head h p meets
 
-  pub minus_cell : (r a b : ℕ) (t : Term) → RefersTo s v r t → HasParts v.pass r a b → LeafMeets s a (λ (l : Leaf). Head.Minus ≡ head_of l) → IsOperation s v Op.Minus b t
+  pub minus_cell : (r a b : ℕ) (t : Term) → RefersTo s v r t → HasCellParts v.pass r a b → LeafMeets s a (λ (l : Leaf). Head.Minus ≡ head_of l) → IsOperation s v Op.Minus b t
   minus_cell r a b t h p meets = applied r a b t Head.Minus Op.Minus (λ e. cc) minus_head h p meets
 
-  pub times_cell : (r a b : ℕ) (t : Term) → RefersTo s v r t → HasParts v.pass r a b → LeafMeets s a (λ (l : Leaf). Head.Times ≡ head_of l) → IsOperation s v Op.Times b t
+  pub times_cell : (r a b : ℕ) (t : Term) → RefersTo s v r t → HasCellParts v.pass r a b → LeafMeets s a (λ (l : Leaf). Head.Times ≡ head_of l) → IsOperation s v Op.Times b t
   times_cell r a b t h p meets = applied r a b t Head.Times Op.Times (λ e. cc) times_head h p meets
 
-  pub other_cell : (r a b : ℕ) (t : Term) → RefersTo s v r t → HasParts v.pass r a b → LeafMeets s a (λ (l : Leaf). Head.Other ≡ head_of l) → IsOpaqueTerm t
+  pub other_cell : (r a b : ℕ) (t : Term) → RefersTo s v r t → HasCellParts v.pass r a b → LeafMeets s a (λ (l : Leaf). Head.Other ≡ head_of l) → IsOpaqueTerm t
   other_cell r a b t h p meets =
       elim (cell_term r a b t h p) [
         | inl x ↦ (let o = x.operation_is in subst IsOpaqueTerm (sym o.is) (opaque_operation x.op o.arguments (meets_leaf s a (λ (l : Leaf). Head.Other ≡ head_of l) (operator x.op) meets x.head)))
@@ -205,7 +205,7 @@ module _ (s : Table) (v : TermsView) (table : IsTable s) (one : IsOneToOne v.pas
       ]
 
   -- lists
-  list_cell : (a b : ℕ) (x y : Tree) (ts : Terms) → Knows v.pass a x → Knows v.pass b y → IsFilled ts → StandsForList s (cell x y) ts → ListParts s v a b ts
+  list_cell : (a b : ℕ) (x y : Tree) (ts : Terms) → Knows v.pass a x → Knows v.pass b y → AreSome ts → StandsForList s (cell x y) ts → ListParts s v a b ts
   list_cell a b x y no_terms known list filled h = absurd filled
   list_cell a b x y (term t ts) known list filled h = record {
     first = t;
@@ -220,18 +220,18 @@ module _ (s : Table) (v : TermsView) (table : IsTable s) (one : IsOneToOne v.pas
       last no_terms e k = refl
       last (term u us) e k = absurd (subst (λ z. StandsForList s z (term u us)) e k)
 
-      more : (z : Tree) (us : Terms) → 2 ^ 30 ≤ b → Knows v.pass b z → StandsForList s z us → IsFilled us
+      more : (z : Tree) (us : Terms) → 2 ^ 30 ≤ b → Knows v.pass b z → StandsForList s z us → AreSome us
       more z (term u us) high k stands = tt
       more (leaf n) no_terms high k stands = absurd (let e = parts.leaf_number b n k in omega (arith, e.0, e.1, high))
       more (cell p q) no_terms high k stands = absurd (cc)
 
-  pub list_parts : (list a b : ℕ) (ts : Terms) → IsTermList s v list ts → HasParts v.pass list a b → ListParts s v a b ts
+  pub list_parts : (list a b : ℕ) (ts : Terms) → IsTermList s v list ts → HasCellParts v.pass list a b → ListParts s v a b ts
   list_parts list a b ts h p =
       let same = one.one_tree list h.tree (cell p.first p.second) h.known p.whole in
       list_cell a b p.first p.second ts p.first_known p.second_known h.filled (subst (λ x. StandsForList s x ts) same h.stands)
 
   -- a list of one term or more is a cell
-  list_tree_cell : (tree : Tree) (ts : Terms) → IsFilled ts → StandsForList s tree ts → (x : Tree) × (y : Tree) × (tree ≡ cell x y)
+  list_tree_cell : (tree : Tree) (ts : Terms) → AreSome ts → StandsForList s tree ts → (x : Tree) × (y : Tree) × (tree ≡ cell x y)
   list_tree_cell tree no_terms filled h = absurd filled
   list_tree_cell (leaf k) (term t ts) filled h = absurd h
   list_tree_cell (cell x y) (term t ts) filled h = (x, y, refl)

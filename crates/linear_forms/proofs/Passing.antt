@@ -5,7 +5,7 @@ use Rattle.std.proofs.lemmas.Int.{ints, unsigned_abs-mul}
 use Rattle.rule_model.proofs.Ring.{add-mul}
 use Rattle.linear_forms.specs.declared.nodes.Part.{Part}
 use Rattle.linear_forms.specs.declared.nodes.Node.TheVariants.{Multiple, Sum}
-use Rattle.linear_forms.specs.Factors.{added, total, load, HasRoomFor}
+use Rattle.linear_forms.specs.Factors.{added, total, load, HasRoomToPass}
 
 pub total_added : (v : ℕ → ℤ) (fs : List ℤ) (i : ℕ) (n : ℤ) → i < length fs → total v (added fs i n) ≡ total v fs +ℤ n *ℤ v i
 total_added v [] i n h = absurd (omega (arith, h))
@@ -61,12 +61,12 @@ room_at w fs i n rest positive there h =
 pub number_room : (f n c : ℤ) (own load : ℕ) → unsigned_abs n ≤ own → unsigned_abs f * own + (unsigned_abs c + load) < 2 ^ 127 → unsigned_abs c + unsigned_abs (f *ℤ n) < 2 ^ 127
 number_room f n c own load h k = omega (arith, unsigned_abs-mul f n, times_le (unsigned_abs f) (unsigned_abs n) own h, k)
 
-pub multiple_room : (p : Part) (f c : ℤ) (fs : List ℤ) → HasRoomFor (Multiple p) f c fs → unsigned_abs (slice_index_or fs p.node (pos 0)) + unsigned_abs (f *ℤ p.times) < 2 ^ 127
+pub multiple_room : (p : Part) (f c : ℤ) (fs : List ℤ) → HasRoomToPass (Multiple p) f c fs → unsigned_abs (slice_index_or fs p.node (pos 0)) + unsigned_abs (f *ℤ p.times) < 2 ^ 127
 multiple_room p f c fs h =
     room_at h.weights fs p.node (f *ℤ p.times) (unsigned_abs c) (h.positive p.node) h.parts
     (omega (arith, part_load f p.times (h.weights p.node), times_le (unsigned_abs f) (unsigned_abs p.times * h.weights p.node) h.own h.weighed, h.within))
 
-pub first_room : (p q : Part) (f c : ℤ) (fs : List ℤ) → HasRoomFor (Sum p q) f c fs → unsigned_abs (slice_index_or fs p.node (pos 0)) + unsigned_abs (f *ℤ p.times) < 2 ^ 127
+pub first_room : (p q : Part) (f c : ℤ) (fs : List ℤ) → HasRoomToPass (Sum p q) f c fs → unsigned_abs (slice_index_or fs p.node (pos 0)) + unsigned_abs (f *ℤ p.times) < 2 ^ 127
 first_room p q f c fs h =
     room_at h.weights fs p.node (f *ℤ p.times) (unsigned_abs c) (h.positive p.node) h.parts.0
     (omega (
@@ -77,7 +77,7 @@ first_room p q f c fs h =
       h.within,
     ))
 
-pub second_room : (p q : Part) (f c : ℤ) (fs : List ℤ) → HasRoomFor (Sum p q) f c fs → unsigned_abs (slice_index_or (added fs p.node (f *ℤ p.times)) q.node (pos 0)) + unsigned_abs (f *ℤ q.times) < 2 ^ 127
+pub second_room : (p q : Part) (f c : ℤ) (fs : List ℤ) → HasRoomToPass (Sum p q) f c fs → unsigned_abs (slice_index_or (added fs p.node (f *ℤ p.times)) q.node (pos 0)) + unsigned_abs (f *ℤ q.times) < 2 ^ 127
 second_room p q f c fs h =
     room_at h.weights (added fs p.node (f *ℤ p.times)) q.node (f *ℤ q.times) (unsigned_abs c) (h.positive q.node)
     (rw (added_length fs p.node (f *ℤ p.times)) h.parts.1)

@@ -14,29 +14,29 @@ use Rattle.linear_forms.specs.declared.nodes.Part.{Part}
 use Rattle.linear_forms.specs.declared.nodes.Factors.{Factors}
 use Rattle.linear_forms.specs.declared.nodes.Factors.TheVariants.{Constants, Single, Many}
 use Rattle.linear_forms.specs.declared.nodes.Info.{Info}
-use Rattle.linear_forms.specs.Graphs.{IsFilled, AreConstants, HasSingle, AreFactors, IsInfo}
-use Rattle.linear_forms.specs.Infos.{limit_weight, joined_factors, narrowed, joined_info}
-use Rattle.linear_forms.specs.Readings.{Reading, for_constants, for_parts, unit_of, read, sum_in, product_in}
+use Rattle.linear_forms.specs.Graphs.{AreSome, AreConstants, HasSingle, AreFactors, IsInfo}
+use Rattle.linear_forms.specs.Infos.{limit_weight, joined_factors, without_number, joined_info}
+use Rattle.linear_forms.specs.Readings.{FormReading, for_constants, for_parts, unit_of, read, sum_in, product_in}
 use Rattle.linear_forms.proofs.Weighing.{weight_positive, product_positive, left_narrow, right_narrow, min_sum, min_product}
 
-pub sum_first : (reading : Reading) (t : Term) (ts : Terms) → sum_in reading (term t ts) ≡ read reading t +ℤ sum_in reading ts
+pub sum_first : (reading : FormReading) (t : Term) (ts : Terms) → sum_in reading (term t ts) ≡ read reading t +ℤ sum_in reading ts
 sum_first for_constants t ts = summed (constant t) (constants ts)
 sum_first (for_parts w) t ts = summed (part w t) (form_parts w ts)
 
-pub sum_one : (reading : Reading) (t : Term) → sum_in reading (term t no_terms) ≡ read reading t
+pub sum_one : (reading : FormReading) (t : Term) → sum_in reading (term t no_terms) ≡ read reading t
 sum_one for_constants t = refl
 sum_one (for_parts w) t = refl
 
-pub difference_first : (reading : Reading) (t : Term) (ts : Terms) → IsFilled ts → read reading (operation Op.Minus (term t ts)) ≡ read reading t -ℤ sum_in reading ts
+pub difference_first : (reading : FormReading) (t : Term) (ts : Terms) → AreSome ts → read reading (operation Op.Minus (term t ts)) ≡ read reading t -ℤ sum_in reading ts
 difference_first reading t no_terms h = absurd h
 difference_first for_constants t (term s ts) h = omega (arith, ints, lessened (constant t -ℤ constant s) (constants ts), summed (constant s) (constants ts))
 difference_first (for_parts w) t (term s ts) h = omega (arith, ints, lessened (part w t -ℤ part w s) (form_parts w ts), summed (part w s) (form_parts w ts))
 
-pub product_constant : (reading : Reading) (t : Term) (ts : Terms) → is_constant t ≡ true → product_in reading (term t ts) ≡ constant t *ℤ product_in reading ts
+pub product_constant : (reading : FormReading) (t : Term) (ts : Terms) → is_constant t ≡ true → product_in reading (term t ts) ≡ constant t *ℤ product_in reading ts
 product_constant for_constants t ts e = product_is (constant t) (constants ts)
 product_constant (for_parts w) t ts e = rw e refl
 
-pub product_other : (reading : Reading) (t : Term) (ts : Terms) → is_constant t ≡ false → product_in reading (term t ts) ≡ read reading t *ℤ product (constants ts)
+pub product_other : (reading : FormReading) (t : Term) (ts : Terms) → is_constant t ≡ false → product_in reading (term t ts) ≡ read reading t *ℤ product (constants ts)
 product_other for_constants t ts e = product_is (constant t) (constants ts)
 product_other (for_parts w) t ts e = rw e refl
 
@@ -140,16 +140,16 @@ module _ (at : ℕ → Terms) (k : ℕ) (t : Term) (ts : Terms) where
       first_size : weight_product whole < 2 ^ 127 → unsigned_abs p.times * weight_sum (at p.node) ≤ weight t
       first_size narrow = omega (arith, f.weighs (first_narrow narrow))
 
-      read_is : weight_product whole < 2 ^ 127 → (reading : Reading) → read reading t ≡ p.times *ℤ sum_in reading (at p.node)
+      read_is : weight_product whole < 2 ^ 127 → (reading : FormReading) → read reading t ≡ p.times *ℤ sum_in reading (at p.node)
       read_is narrow reading =
           omega (arith, ints, product_other reading t no_terms other, f.counts (first_narrow narrow) reading, *ℤ_comm (read reading t) (pos 1), one-mul (read reading t))
 
-      counted : weight_product whole < 2 ^ 127 → (reading : Reading) → product_in reading whole ≡ (b *ℤ p.times) *ℤ sum_in reading (at p.node)
+      counted : weight_product whole < 2 ^ 127 → (reading : FormReading) → product_in reading whole ≡ (b *ℤ p.times) *ℤ sum_in reading (at p.node)
       counted narrow reading =
           product_other reading t ts other
           ∙ rw (rest_is b g narrow, read_is narrow reading) (omega (arith, ints, mul_assoc b p.times (sum_in reading (at p.node)), *ℤ_comm (p.times *ℤ sum_in reading (at p.node)) b))
 
-  narrow_factors : (f : Factors) → (weight_product whole < 2 ^ 127 → ⊥) → AreFactors at k whole f → AreFactors at k whole (narrowed f)
+  narrow_factors : (f : Factors) → (weight_product whole < 2 ^ 127 → ⊥) → AreFactors at k whole f → AreFactors at k whole (without_number f)
   narrow_factors (Constants a) never h = record { others_are = h.others_are; counts = λ narrow. absurd (never narrow); weighs = λ narrow. absurd (never narrow) }
   narrow_factors (Single p) never h = record { others_are = h.others_are; low = h.low; counts = λ narrow. absurd (never narrow); weighs = λ narrow. absurd (never narrow) }
   narrow_factors Many never h = h
@@ -190,6 +190,6 @@ module _ (at : ℕ → Terms) (k : ℕ) (t : Term) (ts : Terms) where
           subst (λ z. nat_lt z limit_weight ≡ false) (rw (x.product_is, y.product_is) products) e in
           grind (arith, nat_tests)
 
-      go : (c : Bool) → nat_lt (min (a.product * b.product) limit_weight) limit_weight ≡ c → AreFactors at k whole (if c then joined_factors a.factors b.factors else narrowed (joined_factors a.factors b.factors))
+      go : (c : Bool) → nat_lt (min (a.product * b.product) limit_weight) limit_weight ≡ c → AreFactors at k whole (if c then joined_factors a.factors b.factors else without_number (joined_factors a.factors b.factors))
       go true e = all
       go false e = narrow_factors (joined_factors a.factors b.factors) (wide e) all

@@ -8,8 +8,8 @@ use Rattle.rule_model.proofs.Ring.{mul-add as int_mul-add, add-mul, mul_assoc}
 use Rattle.linear_forms.specs.declared.nodes.Node.{Node}
 use Rattle.linear_forms.specs.declared.nodes.Node.TheVariants.{Number, Opaque, Multiple, Sum}
 use Rattle.linear_forms.specs.declared.nodes.Coefficient.{Coefficient}
-use Rattle.linear_forms.specs.Factors.{added, total, load, total_of, sizes_of, IsCounted, IsWeighed, IsAbove, HasRoomFor}
-use Rattle.linear_forms.specs.Sweeps.{node_at, factor_at, State, AreOrdered, AreWeighed, load_in, total_in, without, turned, IsSettled, CanSettle, IsOpaqueFrom, HaveOwnNodes, AreApart, IsSweeping, starting, CanSweep, IsSwept}
+use Rattle.linear_forms.specs.Factors.{added, total, load, total_value, sizes_of, CountsUnits, IsWeighed, IsAbove, HasRoomToPass}
+use Rattle.linear_forms.specs.Sweeps.{node_at, factor_at, SweepState, AreOrdered, AreWeighed, load_in, total_in, without, after_turn, IsNodeSwept, CanSettle, IsOpaqueFrom, HaveOwnNodes, AreApart, IsSweeping, starting, CanSweep, IsSwept}
 use Rattle.linear_forms.proofs.Passing.{total_added, load_added, added_length, part_load, times_le}
 
 -- a factor that is taken
@@ -51,7 +51,7 @@ total_none v (f ∷ fs) h =
     omega (arith, ints, ap (λ x. x *ℤ v 0) here, zero-*ℤ (v 0), total_none (λ i. v (suc i)) fs (λ j. h (suc j)))
 
 -- coefficients, and one more
-total_push : (o : ℕ → ℤ) (cs : List Coefficient) (c : Coefficient) → total_of o (cs ++ c ∷ []) ≡ c.number *ℤ o c.term +ℤ total_of o cs
+total_push : (o : ℕ → ℤ) (cs : List Coefficient) (c : Coefficient) → total_value o (cs ++ c ∷ []) ≡ c.number *ℤ o c.term +ℤ total_value o cs
 total_push o [] c = refl
 total_push o (d ∷ cs) c = omega (arith, ints, total_push o cs c)
 
@@ -87,20 +87,20 @@ above_further (Multiple p) k n h a = omega (arith, h, a)
 above_further (Sum p q) k n h a = (omega (arith, h, a.0), omega (arith, h, a.1))
 
 -- a turn
-module _ (node : Node) (f : ℤ) (s : State) where
-  turn_long : length (turned node f s).factors ≡ length s.factors
+module _ (node : Node) (f : ℤ) (s : SweepState) where
+  turn_long : length (after_turn node f s).factors ≡ length s.factors
   turn_long = go node
     where
-      go : (node : Node) → length (turned node f s).factors ≡ length s.factors
+      go : (node : Node) → length (after_turn node f s).factors ≡ length s.factors
       go (Number n) = refl
       go (Opaque r) = refl
       go (Multiple p) = added_length s.factors p.node (f *ℤ p.times)
       go (Sum p q) = added_length (added s.factors p.node (f *ℤ p.times)) q.node (f *ℤ q.times) ∙ added_length s.factors p.node (f *ℤ p.times)
 
-  turn_total : (unit : ℤ) (o v : ℕ → ℤ) (z : ℤ) → IsAbove (length s.factors) node → IsCounted unit o v node z → total_in unit o v (turned node f s) ≡ f *ℤ z +ℤ total_in unit o v s
+  turn_total : (unit : ℤ) (o v : ℕ → ℤ) (z : ℤ) → IsAbove (length s.factors) node → CountsUnits unit o v node z → total_in unit o v (after_turn node f s) ≡ f *ℤ z +ℤ total_in unit o v s
   turn_total unit o v z above counted = go node above counted
     where
-      go : (node : Node) → IsAbove (length s.factors) node → IsCounted unit o v node z → total_in unit o v (turned node f s) ≡ f *ℤ z +ℤ total_in unit o v s
+      go : (node : Node) → IsAbove (length s.factors) node → CountsUnits unit o v node z → total_in unit o v (after_turn node f s) ≡ f *ℤ z +ℤ total_in unit o v s
       go (Number n) above counted =
           omega (arith, ints, add-mul s.constant (f *ℤ n) unit, mul_assoc f n unit, ap (λ x. f *ℤ x) counted)
       go (Opaque r) above counted = omega (arith, ints, total_push o s.found (record { term = r; number = f }), ap (λ x. f *ℤ x) counted)
@@ -120,10 +120,10 @@ module _ (node : Node) (f : ℤ) (s : State) where
             ap (λ x. f *ℤ x) counted,
           )
 
-  turn_load : (w : ℕ → ℕ) (m : ℕ) → 1 ≤ m → IsAbove (length s.factors) node → IsWeighed w node m → load_in w (turned node f s) ≤ unsigned_abs f * m + load_in w s
+  turn_load : (w : ℕ → ℕ) (m : ℕ) → 1 ≤ m → IsAbove (length s.factors) node → IsWeighed w node m → load_in w (after_turn node f s) ≤ unsigned_abs f * m + load_in w s
   turn_load w m positive above weighed = go node above weighed
     where
-      go : (node : Node) → IsAbove (length s.factors) node → IsWeighed w node m → load_in w (turned node f s) ≤ unsigned_abs f * m + load_in w s
+      go : (node : Node) → IsAbove (length s.factors) node → IsWeighed w node m → load_in w (after_turn node f s) ≤ unsigned_abs f * m + load_in w s
       go (Number n) above weighed =
           let sum : unsigned_abs (s.constant +ℤ f *ℤ n) ≤ unsigned_abs s.constant + unsigned_abs (f *ℤ n) = omega (arith, ints) in
           omega (arith, sum, unsigned_abs-mul f n, times_le (unsigned_abs f) (unsigned_abs n) m weighed)
@@ -148,21 +148,21 @@ module _ (node : Node) (f : ℤ) (s : State) where
             times_le (unsigned_abs f) (unsigned_abs p.times * w p.node + unsigned_abs q.times * w q.node) m weighed,
           )
 
-  turn_other : (k j : ℕ) → IsAbove k node → k ≤ j → factor_at (turned node f s).factors j ≡ factor_at s.factors j
+  turn_other : (k j : ℕ) → IsAbove k node → k ≤ j → factor_at (after_turn node f s).factors j ≡ factor_at s.factors j
   turn_other k j above h = go node above
     where
-      go : (node : Node) → IsAbove k node → factor_at (turned node f s).factors j ≡ factor_at s.factors j
+      go : (node : Node) → IsAbove k node → factor_at (after_turn node f s).factors j ≡ factor_at s.factors j
       go (Number n) above = refl
       go (Opaque r) above = refl
       go (Multiple p) above = set_other s.factors p.node j _ (omega (arith, above, h))
       go (Sum p q) above =
           set_other (added s.factors p.node (f *ℤ p.times)) q.node j _ (omega (arith, above.1, h)) ∙ set_other s.factors p.node j _ (omega (arith, above.0, h))
 
-module _ (nodes : List Node) (s now : State) (k : ℕ) (sweeping : IsSweeping nodes s now (suc k)) (ordered : AreOrdered nodes) (there : k < length nodes) where
+module _ (nodes : List Node) (s now : SweepState) (k : ℕ) (sweeping : IsSweeping nodes s now (suc k)) (ordered : AreOrdered nodes) (there : k < length nodes) where
   abbrev f : ℤ
   f = factor_at now.factors k
 
-  abbrev taken : State
+  abbrev taken : SweepState
   taken = without now k
 
   here : k < length now.factors
@@ -213,7 +213,7 @@ module _ (nodes : List Node) (s now : State) (k : ℕ) (sweeping : IsSweeping no
       All-weaker (λ (c : Coefficient). IsOpaqueFrom nodes (suc k) c.term) (λ (d : Coefficient). d.term ≢ r)
       (λ c h e. let same = own h.number k r (h.node ∙ ap Opaque e) is in omega (arith, same, h.from)) now.found sweeping.from
 
-  passes_on : f ≢ pos 0 → IsSweeping nodes s (turned (node_at nodes k) f taken) k
+  passes_on : f ≢ pos 0 → IsSweeping nodes s (after_turn (node_at nodes k) f taken) k
   passes_on other = record {
     long = turn_long (node_at nodes k) f taken ∙ taken_long;
     kept = λ w unit o v weighed room counted.
@@ -237,30 +237,30 @@ module _ (nodes : List Node) (s now : State) (k : ℕ) (sweeping : IsSweeping no
     others = found_others (node_at nodes k);
   }
     where
-      found_from : (node : Node) → node_at nodes k ≡ node → All (λ (c : Coefficient). IsOpaqueFrom nodes k c.term) (turned node f taken).found
+      found_from : (node : Node) → node_at nodes k ≡ node → All (λ (c : Coefficient). IsOpaqueFrom nodes k c.term) (after_turn node f taken).found
       found_from (Number n) is = lower
       found_from (Opaque r) is = All-push (λ (c : Coefficient). IsOpaqueFrom nodes k c.term) now.found _ lower (record { number = k; from = omega arith; node = is })
       found_from (Multiple p) is = lower
       found_from (Sum p q) is = lower
 
-      found_apart : (node : Node) → node_at nodes k ≡ node → HaveOwnNodes nodes → AreApart (turned node f taken).found
+      found_apart : (node : Node) → node_at nodes k ≡ node → HaveOwnNodes nodes → AreApart (after_turn node f taken).found
       found_apart (Number n) is own = sweeping.apart own
       found_apart (Opaque r) is own = apart_push now.found (record { term = r; number = f }) (sweeping.apart own) (apart_from r is own)
       found_apart (Multiple p) is own = sweeping.apart own
       found_apart (Sum p q) is own = sweeping.apart own
 
-      found_others : (node : Node) → All (λ (c : Coefficient). c.number ≢ pos 0) (turned node f taken).found
+      found_others : (node : Node) → All (λ (c : Coefficient). c.number ≢ pos 0) (after_turn node f taken).found
       found_others (Number n) = sweeping.others
       found_others (Opaque r) = All-push (λ (c : Coefficient). c.number ≢ pos 0) now.found _ sweeping.others other
       found_others (Multiple p) = sweeping.others
       found_others (Sum p q) = sweeping.others
 
-  pub settled_sweeps : (new : State) → IsSettled nodes k now new → IsSweeping nodes s new k
+  pub settled_sweeps : (new : SweepState) → IsNodeSwept nodes k now new → IsSweeping nodes s new k
   settled_sweeps new (inl h) = subst (λ x. IsSweeping nodes s x k) (sym h.1) (passes_nothing h.0)
   settled_sweeps new (inr h) = subst (λ x. IsSweeping nodes s x k) (sym h.1) (passes_on h.0)
 
 -- the room of a turn
-pub turn_room : (nodes : List Node) (k : ℕ) (s : State) → CanSettle nodes k s → factor_at s.factors k ≢ pos 0 → HasRoomFor (node_at nodes k) (factor_at s.factors k) s.constant (slice_set s.factors k (pos 0))
+pub turn_room : (nodes : List Node) (k : ℕ) (s : SweepState) → CanSettle nodes k s → factor_at s.factors k ≢ pos 0 → HasRoomToPass (node_at nodes k) (factor_at s.factors k) s.constant (slice_set s.factors k (pos 0))
 turn_room nodes k s can other =
     let w = can.weights in
     let fs = s.factors in
@@ -289,7 +289,7 @@ sweep_starts nodes fs n long e = record {
   others = λ i d below. absurd (omega (arith, below));
 }
 
-pub sweep_settles : (nodes : List Node) (fs : List ℤ) (now : State) (k : ℕ) → CanSweep nodes fs → IsSweeping nodes (starting fs) now (suc k) → k < length nodes → CanSettle nodes k now
+pub sweep_settles : (nodes : List Node) (fs : List ℤ) (now : SweepState) (k : ℕ) → CanSweep nodes fs → IsSweeping nodes (starting fs) now (suc k) → k < length nodes → CanSettle nodes k now
 sweep_settles nodes fs now k can sweeping there = record {
   weights = can.weights;
   weighed = can.weighed;
@@ -299,7 +299,7 @@ sweep_settles nodes fs now k can sweeping there = record {
   there = there;
 }
 
-pub sweep_ends : (nodes : List Node) (fs : List ℤ) (now : State) (k : ℕ) → k ≡ 0 → IsSweeping nodes (starting fs) now k → IsSwept nodes fs now.constant now.found
+pub sweep_ends : (nodes : List Node) (fs : List ℤ) (now : SweepState) (k : ℕ) → k ≡ 0 → IsSweeping nodes (starting fs) now k → IsSwept nodes fs now.constant now.found
 sweep_ends nodes fs now k e h = record {
   kept = λ w unit o v weighed room counted.
       omega (arith, ints, h.kept w unit o v weighed (omega (arith, room)) counted, total_none v now.factors (λ j. h.passed j (omega (arith, e))), zero-*ℤ unit);
@@ -318,6 +318,6 @@ pub fits_of : (z : ℤ) → unsigned_abs z < 2 ^ 127 → FitsSigned mir.Syntax.w
 fits_of (pos n) h = record { sfits = h }
 fits_of (negsuc n) h = record { sfits = omega (arith, h) }
 
-pub sweep_fits : (nodes : List Node) (fs : List ℤ) (now : State) (k : ℕ) → CanSweep nodes fs → IsSweeping nodes (starting fs) now k → FitsSigned mir.Syntax.w128 now.constant
+pub sweep_fits : (nodes : List Node) (fs : List ℤ) (now : SweepState) (k : ℕ) → CanSweep nodes fs → IsSweeping nodes (starting fs) now k → FitsSigned mir.Syntax.w128 now.constant
 sweep_fits nodes fs now k can h =
     fits_of now.constant (omega (arith, h.light can.weights can.weighed (omega (arith, can.within)), can.within))

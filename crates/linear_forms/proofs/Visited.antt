@@ -18,16 +18,16 @@ use Rattle.linear_forms.specs.declared.nodes.Factors.{Factors}
 use Rattle.linear_forms.specs.declared.nodes.Factors.TheVariants.{Constants, Single, Many}
 use Rattle.linear_forms.specs.declared.visiting.Visit.{Visit}
 use Rattle.linear_forms.specs.Entries.{leaf_entry, head_of, opaque_entry, sum_entry, product_entry, constant_entry}
-use Rattle.linear_forms.specs.Graphs.{IsFilled, IsTermList, IsMeant, AreFactors, IsInfo, IsEntry, info_at, IsGraphAt, IsGraph, HasInfos, IsFound, IsItemBelow, IsVisit}
+use Rattle.linear_forms.specs.Graphs.{AreSome, IsTermList, IsItemMeant, AreFactors, IsInfo, IsEntry, info_at, IsGraphAt, IsGraph, HasInfos, IsMetItem, IsItemBelow, IsVisitOfItem}
 use Rattle.linear_forms.specs.Infos.{limit_weight, size_of}
-use Rattle.linear_forms.specs.Visits.{HasParts, IsListPart, IsListVisit, IsWholeVisit, HasNumeralLeaf, IsDifferenceVisit, AreJoinable}
+use Rattle.linear_forms.specs.Visits.{HasCellParts, IsListPart, IsListVisit, IsWholeVisit, HasNumeralLeaf, IsDifferenceVisit, AreJoinable}
 use Rattle.linear_forms.proofs.Entering.{IsMet, constant_right, opaque_right, sum_right, negated_right, difference_right, product_right, single_right, pair_right, negated_constant}
 use Rattle.linear_forms.proofs.Meaning.{meant_one, list_parts, list_is_cell, plus_cell, minus_cell, times_cell, other_cell, leaf_right, leaf_there, is_numeral, no_numeral, head_there}
 use Rattle.linear_forms.proofs.Passing.{times_le}
 use Rattle.linear_forms.proofs.Weighing.{sum_positive, product_positive, below_min}
 
 -- the parts of a cell
-pub parts_of : (p : PassView) (r a b : ℕ) → IsKnownCell p r → ((s t : Tree) → Knows p r (cell s t) → Knows p a s) → ((s t : Tree) → Knows p r (cell s t) → Knows p b t) → HasParts p r a b
+pub parts_of : (p : PassView) (r a b : ℕ) → IsKnownCell p r → ((s t : Tree) → Knows p r (cell s t) → Knows p a s) → ((s t : Tree) → Knows p r (cell s t) → Knows p b t) → HasCellParts p r a b
 parts_of p r a b h first second = record {
   first = h.first;
   second = h.second;
@@ -37,7 +37,7 @@ parts_of p r a b h first second = record {
 }
 
 -- a list's number is at most its weight
-size_bound : (at : ℕ → Terms) (k : ℕ) (ts : Terms) (w : ℕ) (f : Factors) → ((k : ℕ) → IsFilled (at k)) → w ≡ min (weight_product ts) limit_weight → AreFactors at k ts f → w < 2 ^ 127 → size_of f ≤ w
+size_bound : (at : ℕ → Terms) (k : ℕ) (ts : Terms) (w : ℕ) (f : Factors) → ((k : ℕ) → AreSome (at k)) → w ≡ min (weight_product ts) limit_weight → AreFactors at k ts f → w < 2 ^ 127 → size_of f ≤ w
 size_bound at k ts w (Constants n) filled e h narrow = omega (arith, h.weighs (below_min (weight_product ts) (omega (arith, e, narrow))), e, narrow)
 size_bound at k ts w (Single p) filled e h narrow =
     omega (
@@ -68,7 +68,7 @@ graph_joinable s v graph h x y f g a b =
 
 module _ (s : Table) (v : TermsView) (graph : Graph) (table : IsTable s) (one : IsOneToOne v.pass) (parts : HasPartsOfTrees v.pass) where
   -- what has been met
-  found_met : (at : ℕ → Terms) (x : Item) (ts : Terms) (f : Found) → IsGraphAt s v graph at → IsFound graph x (Some f) → IsMeant s v x ts → IsMet at (length graph.nodes.items) ts f
+  found_met : (at : ℕ → Terms) (x : Item) (ts : Terms) (f : Found) → IsGraphAt s v graph at → IsMetItem graph x (Some f) → IsItemMeant s v x ts → IsMet at (length graph.nodes.items) ts f
   found_met at x ts f right found meant =
       let here = right.there x f.number found.0 in
       let same : at f.number ≡ ts = meant_one s v table one parts x (at f.number) ts (right.meant x f.number found.0) meant in
@@ -78,17 +78,17 @@ module _ (s : Table) (v : TermsView) (graph : Graph) (table : IsTable s) (one : 
         known = subst (λ i. IsInfo at f.number ts i) (sym found.1) (subst (λ z. IsInfo at f.number z (info_at graph f.number)) same (right.known f.number here));
       }
 
-  one_meant : (a : ℕ) (t : Term) → RefersTo s v a t → IsMeant s v (TermItem a) (term t no_terms)
+  one_meant : (a : ℕ) (t : Term) → RefersTo s v a t → IsItemMeant s v (TermItem a) (term t no_terms)
   one_meant a t h = record { means = t; refers = h; alone = refl }
 
   -- parts are less deep
-  first_less : (r a b : ℕ) → HasParts v.pass r a b → (x y : Tree) → Knows v.pass r x → Knows v.pass a y → depth y < depth x
+  first_less : (r a b : ℕ) → HasCellParts v.pass r a b → (x y : Tree) → Knows v.pass r x → Knows v.pass a y → depth y < depth x
   first_less r a b p x y known part =
       let e = one.one_tree r x (cell p.first p.second) known p.whole in
       let f = one.one_tree a y p.first part p.first_known in
       rw (e, f) (omega arith)
 
-  second_less : (r a b : ℕ) → HasParts v.pass r a b → (x y : Tree) → Knows v.pass r x → Knows v.pass b y → depth y < depth x
+  second_less : (r a b : ℕ) → HasCellParts v.pass r a b → (x y : Tree) → Knows v.pass r x → Knows v.pass b y → depth y < depth x
   second_less r a b p x y known part =
       let e = one.one_tree r x (cell p.first p.second) known p.whole in
       let f = one.one_tree b y p.second part p.second_known in
@@ -103,7 +103,7 @@ module _ (s : Table) (v : TermsView) (graph : Graph) (table : IsTable s) (one : 
         | inr e ↦ subst (IsItemBelow s v (ListItem list)) (sym e.0) (record { item = record { terms = p.rest; meant = p.more e.1 }; less = second_less list part.first part.rest part.parts })
       ]
 
-  deeper : (r list head : ℕ) (y : Item) → HasParts v.pass r head list → IsItemBelow s v (ListItem list) y → IsItemBelow s v (TermItem r) y
+  deeper : (r list head : ℕ) (y : Item) → HasCellParts v.pass r head list → IsItemBelow s v (ListItem list) y → IsItemBelow s v (TermItem r) y
   deeper r list head y p h = record {
     item = h.item;
     less = λ x z known part.
@@ -112,11 +112,11 @@ module _ (s : Table) (v : TermsView) (graph : Graph) (table : IsTable s) (one : 
         omega (arith, a, b);
   }
 
-  list_below : (r list head : ℕ) (ts : Terms) → HasParts v.pass r head list → IsTermList s v list ts → IsItemBelow s v (TermItem r) (ListItem list)
+  list_below : (r list head : ℕ) (ts : Terms) → HasCellParts v.pass r head list → IsTermList s v list ts → IsItemBelow s v (TermItem r) (ListItem list)
   list_below r list head ts p h = record { item = record { terms = ts; meant = h }; less = second_less r head list p }
 
   -- lists
-  pub list_visited : (list : ℕ) (ts : Terms) (visit : Visit) → IsTermList s v list ts → IsListVisit v.pass graph list visit → IsVisit s v graph (ListItem list) visit
+  pub list_visited : (list : ℕ) (ts : Terms) (visit : Visit) → IsTermList s v list ts → IsListVisit v.pass graph list visit → IsVisitOfItem s v graph (ListItem list) visit
   list_visited list ts (Visit.Part y) h part = (part_below list ts y h part, part.unmet)
   list_visited list ts (Visit.Done entry) h (inl (first, f, single, is)) =
       λ at right meant.
@@ -135,12 +135,12 @@ module _ (s : Table) (v : TermsView) (graph : Graph) (table : IsTable s) (one : 
       (found_met at (ListItem more.rest) p.rest g right more.others (p.more more.more)))
 
   -- terms
-  pub leaf_visited : (r : ℕ) (entry : Entry) → r < 2 ^ 30 → LeafMeets s r (λ (l : Leaf). entry ≡ leaf_entry l r (length graph.nodes.items)) → IsVisit s v graph (TermItem r) (Visit.Done entry)
+  pub leaf_visited : (r : ℕ) (entry : Entry) → r < 2 ^ 30 → LeafMeets s r (λ (l : Leaf). entry ≡ leaf_entry l r (length graph.nodes.items)) → IsVisitOfItem s v graph (TermItem r) (Visit.Done entry)
   leaf_visited r entry low meets at right meant =
       leaf_right s v table one parts at (length graph.nodes.items) r entry meets meant.means meant.alone meant.refers low
 
-  module _ (r head list : ℕ) (t : Term) (refers : RefersTo s v r t) (cells : HasParts v.pass r head list) where
-    pub plus_visited : (visit : Visit) → LeafMeets s head (λ (l : Leaf). Head.Plus ≡ head_of l) → IsWholeVisit graph list (λ f own. sum_entry f own) visit → IsVisit s v graph (TermItem r) visit
+  module _ (r head list : ℕ) (t : Term) (refers : RefersTo s v r t) (cells : HasCellParts v.pass r head list) where
+    pub plus_visited : (visit : Visit) → LeafMeets s head (λ (l : Leaf). Head.Plus ≡ head_of l) → IsWholeVisit graph list (λ f own. sum_entry f own) visit → IsVisitOfItem s v graph (TermItem r) visit
     plus_visited (Visit.Part y) meets h =
         let o = plus_cell s v table one parts r head list t refers cells meets in
         (subst (IsItemBelow s v (TermItem r)) (sym h.0) (list_below r list head o.arguments cells o.list), h.1)
@@ -151,7 +151,7 @@ module _ (s : Table) (v : TermsView) (graph : Graph) (table : IsTable s) (one : 
         subst (IsEntry s v at own (TermItem r)) (sym is)
         (sum_right s v at own meant.means meant.alone (TermItem r) o.arguments f o.is o.list.filled (found_met at (ListItem list) o.arguments f right found o.list))
 
-    pub times_visited : (visit : Visit) → LeafMeets s head (λ (l : Leaf). Head.Times ≡ head_of l) → IsWholeVisit graph list (λ f own. product_entry r f.info.factors f.info.product own) visit → IsVisit s v graph (TermItem r) visit
+    pub times_visited : (visit : Visit) → LeafMeets s head (λ (l : Leaf). Head.Times ≡ head_of l) → IsWholeVisit graph list (λ f own. product_entry r f.info.factors f.info.product own) visit → IsVisitOfItem s v graph (TermItem r) visit
     times_visited (Visit.Part y) meets h =
         let o = times_cell s v table one parts r head list t refers cells meets in
         (subst (IsItemBelow s v (TermItem r)) (sym h.0) (list_below r list head o.arguments cells o.list), h.1)
@@ -162,13 +162,13 @@ module _ (s : Table) (v : TermsView) (graph : Graph) (table : IsTable s) (one : 
         subst (IsEntry s v at own (TermItem r)) (sym is)
         (product_right s v at own meant.means meant.alone r o.arguments f o.is meant.refers (found_met at (ListItem list) o.arguments f right found o.list))
 
-    pub other_visited : (entry : Entry) → LeafMeets s head (λ (l : Leaf). Head.Other ≡ head_of l) → entry ≡ opaque_entry r (length graph.nodes.items) → IsVisit s v graph (TermItem r) (Visit.Done entry)
+    pub other_visited : (entry : Entry) → LeafMeets s head (λ (l : Leaf). Head.Other ≡ head_of l) → entry ≡ opaque_entry r (length graph.nodes.items) → IsVisitOfItem s v graph (TermItem r) (Visit.Done entry)
     other_visited entry meets is = λ at right meant.
         let own = length graph.nodes.items in
         subst (IsEntry s v at own (TermItem r)) (sym is)
         (opaque_right s v at own meant.means meant.alone r (other_cell s v table one parts r head list meant.means meant.refers cells meets) meant.refers)
 
-    pub minus_visited : (visit : Visit) → LeafMeets s head (λ (l : Leaf). Head.Minus ≡ head_of l) → IsDifferenceVisit s v.pass graph list visit → IsVisit s v graph (TermItem r) visit
+    pub minus_visited : (visit : Visit) → LeafMeets s head (λ (l : Leaf). Head.Minus ≡ head_of l) → IsDifferenceVisit s v.pass graph list visit → IsVisitOfItem s v graph (TermItem r) visit
     minus_visited (Visit.Part y) meets part =
         let o = minus_cell s v table one parts r head list t refers cells meets in
         (deeper r list head y cells (part_below list o.arguments y o.list part), part.unmet)

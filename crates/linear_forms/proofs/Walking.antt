@@ -10,7 +10,7 @@ use Rattle.term_pool.proofs.Ways.{IsWay, way_start, way_unmet, way_here, way_end
 use Rattle.linear_forms.specs.contracts.memory.ItemPartialEq.TheImpl as items
 use Rattle.linear_forms.specs.declared.memory.Item.{Item}
 use Rattle.linear_forms.specs.declared.memory.Item.TheVariants.{Term as TermItem, List as ListItem}
-use Rattle.linear_forms.specs.Graphs.{item_reference, IsMeant, IsItem, IsItemBelow}
+use Rattle.linear_forms.specs.Graphs.{item_reference, IsItemMeant, IsItem, IsItemBelow}
 use Rattle.linear_forms.specs.Memos.{Memo, number_remembered, RemembersItem}
 
 decides_item : (x y : Item) → Decides ((items.ghosts).eq x y) (x ≡ y)
@@ -56,7 +56,7 @@ module _ (s : Table) (v : TermsView) where
     tree : Tree
     known : Knows v.pass (item_reference x) tree
 
-  item_tree : (x : Item) (ts : Terms) → IsMeant s v x ts → HasTree x
+  item_tree : (x : Item) (ts : Terms) → IsItemMeant s v x ts → HasTree x
   item_tree (TermItem r) ts h = record { tree = h.refers.tree; known = h.refers.known }
   item_tree (ListItem r) ts h = record { tree = h.tree; known = h.known }
 

@@ -5,7 +5,7 @@ use Rattle.term_model.specs.declared.symbols.Op.{Op}
 use Rattle.term_model.specs.Terms.{Term, numeral, operation, Terms, no_terms, term}
 use Rattle.rule_model.specs.LinearForms.{is_linear}
 use Rattle.rule_model.specs.Weights.{weight, weight_sum, weight_product}
-use Rattle.linear_forms.specs.Graphs.{IsFilled}
+use Rattle.linear_forms.specs.Graphs.{AreSome}
 use Rattle.linear_forms.specs.Infos.{limit_weight}
 
 pub max_one : (n : ℕ) → 1 ≤ max n 1
@@ -36,7 +36,7 @@ mutual
   product_positive no_terms = omega arith
   product_positive (term t ts) = mul_positive (weight t) (weight_product ts) (weight_positive t) (product_positive ts)
 
-pub sum_positive : (ts : Terms) → IsFilled ts → 1 ≤ weight_sum ts
+pub sum_positive : (ts : Terms) → AreSome ts → 1 ≤ weight_sum ts
 sum_positive no_terms h = absurd h
 sum_positive (term t ts) h = omega (arith, weight_positive t)
 

@@ -3,9 +3,9 @@ use Rattle.std.specs.Prelude.{◌≢◌, ◌==◌, ℕ, ℤ, pos, ◌+◌, ◌+�
 use Rattle.linear_forms.specs.declared.nodes.Coefficient.{Coefficient}
 
 -- the sum of the numbers that stand with a reference
-abbrev pub number_at : List Coefficient → ℕ → ℤ
-number_at [] r = pos 0
-number_at (c ∷ cs) r = (if c.term == r then c.number else pos 0) +ℤ number_at cs r
+abbrev pub sum_at : List Coefficient → ℕ → ℤ
+sum_at [] r = pos 0
+sum_at (c ∷ cs) r = (if c.term == r then c.number else pos 0) +ℤ sum_at cs r
 
 -- the sum of the absolute values
 abbrev pub sizes_of : List Coefficient → ℕ

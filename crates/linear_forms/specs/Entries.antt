@@ -15,8 +15,8 @@ use Rattle.linear_forms.specs.Infos.{limit_weight, joined_info}
 abbrev pub once : ℕ → Part
 once k = record { times = pos 1; node = k }
 
-abbrev pub less : ℕ → Part
-less k = record { times = neg_ℤ (pos 1); node = k }
+abbrev pub taken_away : ℕ → Part
+taken_away k = record { times = neg_ℤ (pos 1); node = k }
 
 -- what is known of a term that is no constant
 abbrev pub term_info : ℕ → ℕ → Info
@@ -42,11 +42,11 @@ abbrev pub sum_entry : Found → ℕ → Entry
 sum_entry f own = record { node = Multiple (once f.number); info = term_info f.info.sum own }
 
 abbrev pub negated_entry : Found → ℕ → Entry
-negated_entry f own = record { node = Multiple (less f.number); info = term_info f.info.sum own }
+negated_entry f own = record { node = Multiple (taken_away f.number); info = term_info f.info.sum own }
 
 abbrev pub difference_entry : Found → Found → ℕ → Entry
 difference_entry f g own = record {
-  node = Sum (once f.number) (less g.number);
+  node = Sum (once f.number) (taken_away g.number);
   info = term_info (min (f.info.sum + g.info.sum) limit_weight) own;
 }
 

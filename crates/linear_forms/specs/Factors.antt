@@ -31,16 +31,16 @@ load w [] = 0
 load w (f ∷ fs) = unsigned_abs f * w 0 + load (λ k. w (suc k)) fs
 
 -- the same of coefficients, where opaque terms have these values by their references
-abbrev pub total_of : (ℕ → ℤ) → List Coefficient → ℤ
-total_of o [] = pos 0
-total_of o (c ∷ cs) = c.number *ℤ o c.term +ℤ total_of o cs
+abbrev pub total_value : (ℕ → ℤ) → List Coefficient → ℤ
+total_value o [] = pos 0
+total_value o (c ∷ cs) = c.number *ℤ o c.term +ℤ total_value o cs
 
 -- a node has this value where its parts have theirs; a number counts so many units
-abbrev pub IsCounted : ℤ → (ℕ → ℤ) → (ℕ → ℤ) → Node → ℤ → Type 0
-IsCounted unit o v (Number n) z = z ≡ n *ℤ unit
-IsCounted unit o v (Opaque r) z = z ≡ o r
-IsCounted unit o v (Multiple p) z = z ≡ p.times *ℤ v p.node
-IsCounted unit o v (Sum p q) z = z ≡ p.times *ℤ v p.node +ℤ q.times *ℤ v q.node
+abbrev pub CountsUnits : ℤ → (ℕ → ℤ) → (ℕ → ℤ) → Node → ℤ → Type 0
+CountsUnits unit o v (Number n) z = z ≡ n *ℤ unit
+CountsUnits unit o v (Opaque r) z = z ≡ o r
+CountsUnits unit o v (Multiple p) z = z ≡ p.times *ℤ v p.node
+CountsUnits unit o v (Sum p q) z = z ≡ p.times *ℤ v p.node +ℤ q.times *ℤ v q.node
 
 -- a node weighs at least as much as its parts together
 abbrev pub IsWeighed : (ℕ → ℕ) → Node → ℕ → Type 0
@@ -57,7 +57,7 @@ IsAbove k (Multiple p) = p.node < k
 IsAbove k (Sum p q) = (p.node < k) × (q.node < k)
 
 -- there is room for what a node passes on, since its weight bounds it
-pub record HasRoomFor (node : Node) (factor constant : ℤ) (factors : List ℤ) : Type 0 where
+pub record HasRoomToPass (node : Node) (factor constant : ℤ) (factors : List ℤ) : Type 0 where
   pub weights : ℕ → ℕ
   pub own : ℕ
   pub positive : (k : ℕ) → 1 ≤ weights k

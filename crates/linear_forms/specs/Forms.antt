@@ -10,12 +10,12 @@ use Rattle.linear_forms.specs.declared.nodes.Coefficient.{Coefficient}
 use Rattle.linear_forms.specs.declared.forms.Numbers.{Numbers}
 use Rattle.linear_forms.specs.declared.forms.Linear.{Linear}
 use Rattle.linear_forms.specs.declared.forms.OneForm.{OneForm}
-use Rattle.linear_forms.specs.Coefficients.{number_at, sizes_of, AreApart}
+use Rattle.linear_forms.specs.Coefficients.{sum_at, sizes_of, AreApart}
 
 -- a weight is told where it is below the limit
-abbrev pub IsWithin : Option ℕ → ℕ → Type 0
-IsWithin None n = limit ≤ n
-IsWithin (Some w) n = (w ≡ n) × (n < limit)
+abbrev pub IsToldWeight : Option ℕ → ℕ → Type 0
+IsToldWeight None n = limit ≤ n
+IsToldWeight (Some w) n = (w ≡ n) × (n < limit)
 
 -- a reference stands for the term
 pub record IsReferred (s : Table) (v : TermsView) (t : Term) : Type 0 where
@@ -23,8 +23,8 @@ pub record IsReferred (s : Table) (v : TermsView) (t : Term) : Type 0 where
   pub refers : RefersTo s v reference t
 
 -- The list has for each term this coefficient, each term once and none with 0. What no reference stands for has none.
-pub record AreCoefficients (s : Table) (v : TermsView) (cs : List Coefficient) (f : Term → ℤ) : Type 0 where
-  pub right : (r : ℕ) (t : Term) → RefersTo s v r t → f t ≡ number_at cs r
+pub record ListsCoefficients (s : Table) (v : TermsView) (cs : List Coefficient) (f : Term → ℤ) : Type 0 where
+  pub right : (r : ℕ) (t : Term) → RefersTo s v r t → f t ≡ sum_at cs r
   pub covered : (t : Term) → (f t ≡ pos 0) ⊎ IsReferred s v t
   pub terms : All (λ (c : Coefficient). IsTerm s v c.term) cs
   pub apart : AreApart cs
@@ -35,7 +35,7 @@ pub record IsLinearForm (s : Table) (v : TermsView) (t : Term) (l : Linear) : Ty
   pub weight_is : l.weight ≡ weight t
   pub narrow : weight t < limit
   pub constant_is : l.constant ≡ constant t
-  pub coefficients : AreCoefficients s v l.coefs.items (coefficient t)
+  pub coefficients : ListsCoefficients s v l.coefs.items (coefficient t)
   pub light : unsigned_abs l.constant + sizes_of l.coefs.items ≤ l.weight
 
 abbrev pub IsLinear : Table → TermsView → Term → Option Linear → Type 0
@@ -47,7 +47,7 @@ pub record IsDifferenceForm (s : Table) (v : TermsView) (t u : Term) (n : Number
   pub weight_is : n.weight ≡ weight t + weight u
   pub narrow : weight t + weight u < limit
   pub constant_is : n.constant ≡ constant t -ℤ constant u
-  pub coefficients : AreCoefficients s v cs (λ x. coefficient t x -ℤ coefficient u x)
+  pub coefficients : ListsCoefficients s v cs (λ x. coefficient t x -ℤ coefficient u x)
   pub light : unsigned_abs n.constant + sizes_of cs ≤ n.weight
 
 abbrev pub IsDifference : Table → TermsView → Term → Term → Option Numbers → List Coefficient → Type 0

@@ -25,16 +25,16 @@ use Rattle.linear_forms.specs.declared.visiting.Visit.{Visit}
 use Rattle.linear_forms.specs.Factors.{IsAbove}
 use Rattle.linear_forms.specs.Infos.{limit_weight}
 use Rattle.linear_forms.specs.Memos.{number_remembered, RemembersItem}
-use Rattle.linear_forms.specs.Readings.{Reading, unit_of, opaque_in, sum_in, product_in}
+use Rattle.linear_forms.specs.Readings.{FormReading, unit_of, opaque_in, sum_in, product_in}
 use Rattle.linear_forms.specs.Sweeps.{node_at}
 
 abbrev pub item_reference : Item → ℕ
 item_reference (TermItem r) = r
 item_reference (ListItem r) = r
 
-abbrev pub IsFilled : Terms → Type 0
-IsFilled no_terms = ⊥
-IsFilled (term t ts) = Unit {0}
+abbrev pub AreSome : Terms → Type 0
+AreSome no_terms = ⊥
+AreSome (term t ts) = Unit {0}
 
 -- the reference stands for a term, which is this list's one term
 pub record IsOneTerm (s : Table) (v : TermsView) (r : ℕ) (ts : Terms) : Type 0 where
@@ -47,32 +47,32 @@ pub record IsTermList (s : Table) (v : TermsView) (r : ℕ) (ts : Terms) : Type 
   pub tree : Tree
   pub known : Knows v.pass r tree
   pub stands : StandsForList s tree ts
-  pub filled : IsFilled ts
+  pub filled : AreSome ts
 
-abbrev pub IsMeant : Table → TermsView → Item → Terms → Type 0
-IsMeant s v (TermItem r) ts = IsOneTerm s v r ts
-IsMeant s v (ListItem r) ts = IsTermList s v r ts
+abbrev pub IsItemMeant : Table → TermsView → Item → Terms → Type 0
+IsItemMeant s v (TermItem r) ts = IsOneTerm s v r ts
+IsItemMeant s v (ListItem r) ts = IsTermList s v r ts
 
 pub record IsItem (s : Table) (v : TermsView) (x : Item) : Type 0 where
   pub terms : Terms
-  pub meant : IsMeant s v x terms
+  pub meant : IsItemMeant s v x terms
 
 -- a node is what the terms of its number are, in both readings of a form, and weighs no less than its parts
 pub record IsNumberNode (at : ℕ → Terms) (ts : Terms) (n : ℤ) : Type 0 where
-  pub counts : (reading : Reading) → sum_in reading ts ≡ n *ℤ unit_of reading
+  pub counts : (reading : FormReading) → sum_in reading ts ≡ n *ℤ unit_of reading
   pub weighs : unsigned_abs n ≤ weight_sum ts
 
 pub record IsOpaqueNode (s : Table) (v : TermsView) (ts : Terms) (r : ℕ) : Type 0 where
   pub one : IsOneTerm s v r ts
-  pub counts : (reading : Reading) → sum_in reading ts ≡ opaque_in reading one.means
+  pub counts : (reading : FormReading) → sum_in reading ts ≡ opaque_in reading one.means
 
 pub record IsMultipleNode (at : ℕ → Terms) (ts : Terms) (p : Part) : Type 0 where
-  pub counts : (reading : Reading) → sum_in reading ts ≡ p.times *ℤ sum_in reading (at p.node)
+  pub counts : (reading : FormReading) → sum_in reading ts ≡ p.times *ℤ sum_in reading (at p.node)
   pub weighs : unsigned_abs p.times * weight_sum (at p.node) ≤ weight_sum ts
 
 pub record IsSumNode (at : ℕ → Terms) (ts : Terms) (p q : Part) : Type 0 where
   pub counts :
-      (reading : Reading) → sum_in reading ts ≡ p.times *ℤ sum_in reading (at p.node) +ℤ q.times *ℤ sum_in reading (at q.node)
+      (reading : FormReading) → sum_in reading ts ≡ p.times *ℤ sum_in reading (at p.node) +ℤ q.times *ℤ sum_in reading (at q.node)
   pub weighs : unsigned_abs p.times * weight_sum (at p.node) + unsigned_abs q.times * weight_sum (at q.node) ≤ weight_sum ts
 
 abbrev pub IsNode : Table → TermsView → (ℕ → Terms) → Terms → Node → Type 0
@@ -84,13 +84,13 @@ IsNode s v at ts (Sum p q) = IsSumNode at ts p q
 -- terms as factors: constants alone, one that is none, or more
 pub record AreConstants (ts : Terms) (n : ℤ) : Type 0 where
   pub others_are : others ts ≡ 0
-  pub counts : weight_product ts < 2 ^ 127 → (reading : Reading) → product_in reading ts ≡ n *ℤ unit_of reading
+  pub counts : weight_product ts < 2 ^ 127 → (reading : FormReading) → product_in reading ts ≡ n *ℤ unit_of reading
   pub weighs : weight_product ts < 2 ^ 127 → unsigned_abs n ≤ weight_product ts
 
 pub record HasSingle (at : ℕ → Terms) (k : ℕ) (ts : Terms) (p : Part) : Type 0 where
   pub others_are : others ts ≡ 1
   pub low : p.node ≤ k
-  pub counts : weight_product ts < 2 ^ 127 → (reading : Reading) → product_in reading ts ≡ p.times *ℤ sum_in reading (at p.node)
+  pub counts : weight_product ts < 2 ^ 127 → (reading : FormReading) → product_in reading ts ≡ p.times *ℤ sum_in reading (at p.node)
   pub weighs : weight_product ts < 2 ^ 127 → unsigned_abs p.times * weight_sum (at p.node) ≤ weight_product ts
 
 abbrev pub AreFactors : (ℕ → Terms) → ℕ → Terms → Factors → Type 0
@@ -123,13 +123,13 @@ info_at graph k = slice_index_or graph.infos.items k no_info
 -- the graph is right where its nodes are those of these terms
 pub record IsGraphAt (s : Table) (v : TermsView) (graph : Graph) (at : ℕ → Terms) : Type 0 where
   pub long : length graph.infos.items ≡ length graph.nodes.items
-  pub filled : (k : ℕ) → IsFilled (at k)
+  pub filled : (k : ℕ) → AreSome (at k)
   pub above : (k : ℕ) → k < length graph.nodes.items → IsAbove k (node_at graph.nodes.items k)
   pub right :
       (k : ℕ) → k < length graph.nodes.items → weight_sum (at k) < 2 ^ 127 → IsNode s v at (at k) (node_at graph.nodes.items k)
   pub known : (k : ℕ) → k < length graph.nodes.items → IsInfo at k (at k) (info_at graph k)
   pub there : (x : Item) (k : ℕ) → number_remembered graph.memo x ≡ Some k → k < length graph.nodes.items
-  pub meant : (x : Item) (k : ℕ) → number_remembered graph.memo x ≡ Some k → IsMeant s v x (at k)
+  pub meant : (x : Item) (k : ℕ) → number_remembered graph.memo x ≡ Some k → IsItemMeant s v x (at k)
   pub own : (k r : ℕ) → node_at graph.nodes.items k ≡ Opaque r → number_remembered graph.memo (TermItem r) ≡ Some k
 
 pub record IsGraph (s : Table) (v : TermsView) (graph : Graph) : Type 0 where
@@ -141,16 +141,16 @@ abbrev pub HasInfos : Graph → Type 0
 HasInfos graph = (x : Item) (k : ℕ) → number_remembered graph.memo x ≡ Some k → k < length graph.infos.items
 
 -- what has been met of an item, and of two
-abbrev pub IsFound : Graph → Item → Option Found → Type 0
-IsFound graph x None = number_remembered graph.memo x ≡ None
-IsFound graph x (Some f) = (number_remembered graph.memo x ≡ Some f.number) × (f.info ≡ info_at graph f.number)
+abbrev pub IsMetItem : Graph → Item → Option Found → Type 0
+IsMetItem graph x None = number_remembered graph.memo x ≡ None
+IsMetItem graph x (Some f) = (number_remembered graph.memo x ≡ Some f.number) × (f.info ≡ info_at graph f.number)
 
-abbrev pub IsBoth : Graph → Item → Item → Both → Type 0
-IsBoth graph x y (Both.Part z) = ((z ≡ x) ⊎ (z ≡ y)) × (number_remembered graph.memo z ≡ None)
-IsBoth graph x y (Both.Found f g) = IsFound graph x (Some f) × IsFound graph y (Some g)
+abbrev pub AreBothFound : Graph → Item → Item → Both → Type 0
+AreBothFound graph x y (Both.Part z) = ((z ≡ x) ⊎ (z ≡ y)) × (number_remembered graph.memo z ≡ None)
+AreBothFound graph x y (Both.Found f g) = IsMetItem graph x (Some f) × IsMetItem graph y (Some g)
 
 -- one entry more
-pub record Settles (old new : Graph) (x : Item) (entry : Entry) : Type 0 where
+pub record AddsEntry (old new : Graph) (x : Item) (entry : Entry) : Type 0 where
   pub noted : RemembersItem old.memo new.memo x (length old.nodes.items)
   pub nodes : new.nodes.items ≡ old.nodes.items ++ entry.node ∷ []
   pub infos : new.infos.items ≡ old.infos.items ++ entry.info ∷ []
@@ -165,10 +165,10 @@ pub record IsItemBelow (s : Table) (v : TermsView) (x y : Item) : Type 0 where
   pub less : (a b : Tree) → Knows v.pass (item_reference x) a → Knows v.pass (item_reference y) b → depth b < depth a
 
 -- a visit has found a part that has not been met, or the entry of the item
-abbrev pub IsVisit : Table → TermsView → Graph → Item → Visit → Type 0
-IsVisit s v graph x (Visit.Part y) = IsItemBelow s v x y × (number_remembered graph.memo y ≡ None)
-IsVisit s v graph x (Visit.Done entry) =
-    (at : ℕ → Terms) → IsGraphAt s v graph at → IsMeant s v x (at (length graph.nodes.items)) →
+abbrev pub IsVisitOfItem : Table → TermsView → Graph → Item → Visit → Type 0
+IsVisitOfItem s v graph x (Visit.Part y) = IsItemBelow s v x y × (number_remembered graph.memo y ≡ None)
+IsVisitOfItem s v graph x (Visit.Done entry) =
+    (at : ℕ → Terms) → IsGraphAt s v graph at → IsItemMeant s v x (at (length graph.nodes.items)) →
     IsEntry s v at (length graph.nodes.items) x entry
 
 abbrev pub IsRemembered : Graph → Item → ℕ → Type 0

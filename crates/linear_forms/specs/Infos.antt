@@ -19,10 +19,10 @@ joined_factors (Single p) (Constants b) = Single (times_part b p)
 joined_factors _ _ = Many
 
 -- the same with no number in it
-abbrev pub narrowed : Factors → Factors
-narrowed (Constants a) = Constants (pos 0)
-narrowed (Single p) = Single (record { times = pos 0; node = p.node })
-narrowed Many = Many
+abbrev pub without_number : Factors → Factors
+without_number (Constants a) = Constants (pos 0)
+without_number (Single p) = Single (record { times = pos 0; node = p.node })
+without_number Many = Many
 
 -- the number in it, in absolute value
 abbrev pub size_of : Factors → ℕ
@@ -39,7 +39,7 @@ joined_info a b = record {
   product = min (a.product * b.product) limit_weight;
   factors =
       if nat_lt (min (a.product * b.product) limit_weight) limit_weight then joined_factors a.factors b.factors
-      else narrowed (joined_factors a.factors b.factors);
+      else without_number (joined_factors a.factors b.factors);
 }
 
 -- a list's number is at most its weight, where that is narrow

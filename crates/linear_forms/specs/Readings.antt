@@ -5,29 +5,29 @@ use Rattle.term_model.specs.Operators.{from_left}
 use Rattle.term_model.specs.Terms.{Term, Terms}
 use Rattle.rule_model.specs.LinearForms.{constant, constants, part, form_parts, product, product_part}
 
-pub data Reading : Type 0 where
-  for_constants : Reading
-  for_parts : (Term → ℤ) → Reading
+pub data FormReading : Type 0 where
+  for_constants : FormReading
+  for_parts : (Term → ℤ) → FormReading
 
 -- what a whole number counts
-abbrev pub unit_of : Reading → ℤ
+abbrev pub unit_of : FormReading → ℤ
 unit_of for_constants = pos 1
 unit_of (for_parts w) = pos 0
 
 -- what an opaque term counts
-abbrev pub opaque_in : Reading → Term → ℤ
+abbrev pub opaque_in : FormReading → Term → ℤ
 opaque_in for_constants t = pos 0
 opaque_in (for_parts w) t = w t
 
-abbrev pub read : Reading → Term → ℤ
+abbrev pub read : FormReading → Term → ℤ
 read for_constants t = constant t
 read (for_parts w) t = part w t
 
 -- a list, as a sum and as a product
-abbrev pub sum_in : Reading → Terms → ℤ
+abbrev pub sum_in : FormReading → Terms → ℤ
 sum_in for_constants ts = from_left ◌+ℤ◌ (pos 0) (constants ts)
 sum_in (for_parts w) ts = from_left ◌+ℤ◌ (pos 0) (form_parts w ts)
 
-abbrev pub product_in : Reading → Terms → ℤ
+abbrev pub product_in : FormReading → Terms → ℤ
 product_in for_constants ts = product (constants ts)
 product_in (for_parts w) ts = product_part w ts

@@ -14,12 +14,12 @@ use Rattle.linear_forms.specs.declared.memory.Item.TheVariants as Item
 use Rattle.linear_forms.specs.declared.nodes.Coefficient.{Coefficient}
 use Rattle.linear_forms.specs.Coefficients.{sizes_of}
 use Rattle.linear_forms.specs.Factors.{added}
-use Rattle.linear_forms.specs.Forms.{AreCoefficients}
+use Rattle.linear_forms.specs.Forms.{ListsCoefficients}
 use Rattle.linear_forms.specs.Graphs.{IsGraph, IsRemembered}
 use Rattle.linear_forms.specs.Infos.{limit_weight}
 
-abbrev pub limited : ℕ → Option ℕ
-limited w = if nat_lt w limit_weight then Some w else None
+abbrev pub told_weight : ℕ → Option ℕ
+told_weight w = if nat_lt w limit_weight then Some w else None
 
 -- a graph in which a term has this number
 pub record IsRootNumber (s : Table) (v : TermsView) (graph : Graph) (r k : ℕ) : Type 0 where
@@ -42,7 +42,7 @@ pub record IsExpandedForm (s : Table) (v : TermsView) (t : Term) (n : Numbers) (
   pub weight_is : n.weight ≡ weight t
   pub narrow : weight t < limit
   pub constant_is : n.constant ≡ constant t
-  pub coefficients : AreCoefficients s v cs (coefficient t)
+  pub coefficients : ListsCoefficients s v cs (coefficient t)
   pub light : unsigned_abs n.constant + sizes_of cs ≤ n.weight
 
 abbrev pub IsExpanded : Table → TermsView → Term → Option Numbers → List Coefficient → Type 0

@@ -4,7 +4,7 @@ use Rattle.linear_forms.specs.declared.nodes.Node.{Node}
 use Rattle.linear_forms.specs.declared.nodes.Node.TheVariants.{Number, Opaque, Multiple, Sum}
 use Rattle.linear_forms.specs.declared.nodes.Coefficient.{Coefficient}
 pub use Rattle.linear_forms.specs.Coefficients.{AreApart}
-use Rattle.linear_forms.specs.Factors.{passed, total, load, total_of, sizes_of, IsCounted, IsWeighed, IsAbove}
+use Rattle.linear_forms.specs.Factors.{passed, total, load, total_value, sizes_of, CountsUnits, IsWeighed, IsAbove}
 
 -- the node of a number, where there is one
 abbrev pub node_at : List Node → ℕ → Node
@@ -14,12 +14,12 @@ abbrev pub factor_at : List ℤ → ℕ → ℤ
 factor_at factors k = slice_index_or factors k (pos 0)
 
 -- where a sweep stands: the factors that are left, the constant, and the coefficients of the opaque terms that were passed
-pub record State : Type 0 where
+pub record SweepState : Type 0 where
   pub factors : List ℤ
   pub constant : ℤ
   pub found : List Coefficient
 
-abbrev pub state : List ℤ → ℤ → List Coefficient → State
+abbrev pub state : List ℤ → ℤ → List Coefficient → SweepState
 state factors constant found = record { factors = factors; constant = constant; found = found }
 
 -- the parts of each node are lower
@@ -33,32 +33,32 @@ pub record AreWeighed (nodes : List Node) (w : ℕ → ℕ) : Type 0 where
 
 -- values of nodes, where opaque terms have values by their references
 abbrev pub AreCounted : List Node → (ℕ → ℕ) → ℤ → (ℕ → ℤ) → (ℕ → ℤ) → Type 0
-AreCounted nodes w unit o v = (k : ℕ) → k < length nodes → w k < 2 ^ 127 → IsCounted unit o v (node_at nodes k) (v k)
+AreCounted nodes w unit o v = (k : ℕ) → k < length nodes → w k < 2 ^ 127 → CountsUnits unit o v (node_at nodes k) (v k)
 
-abbrev pub load_in : (ℕ → ℕ) → State → ℕ
+abbrev pub load_in : (ℕ → ℕ) → SweepState → ℕ
 load_in w s = unsigned_abs s.constant + (load w s.factors + sizes_of s.found)
 
-abbrev pub total_in : ℤ → (ℕ → ℤ) → (ℕ → ℤ) → State → ℤ
-total_in unit o v s = s.constant *ℤ unit +ℤ (total v s.factors +ℤ total_of o s.found)
+abbrev pub total_in : ℤ → (ℕ → ℤ) → (ℕ → ℤ) → SweepState → ℤ
+total_in unit o v s = s.constant *ℤ unit +ℤ (total v s.factors +ℤ total_value o s.found)
 
 -- what a node's turn comes to, where its factor is taken and not 0
-abbrev pub without : State → ℕ → State
+abbrev pub without : SweepState → ℕ → SweepState
 without s k = record s { factors = slice_set s.factors k (pos 0) }
 
-abbrev pub turned : Node → ℤ → State → State
-turned (Number n) factor s = record s { constant = s.constant +ℤ factor *ℤ n }
-turned (Opaque r) factor s = record s { found = s.found ++ record { term = r; number = factor } ∷ [] }
-turned (Multiple p) factor s = record s { factors = passed (Multiple p) factor s.factors }
-turned (Sum p q) factor s = record s { factors = passed (Sum p q) factor s.factors }
+abbrev pub after_turn : Node → ℤ → SweepState → SweepState
+after_turn (Number n) factor s = record s { constant = s.constant +ℤ factor *ℤ n }
+after_turn (Opaque r) factor s = record s { found = s.found ++ record { term = r; number = factor } ∷ [] }
+after_turn (Multiple p) factor s = record s { factors = passed (Multiple p) factor s.factors }
+after_turn (Sum p q) factor s = record s { factors = passed (Sum p q) factor s.factors }
 
 -- a node has had its turn
-abbrev pub IsSettled : List Node → ℕ → State → State → Type 0
-IsSettled nodes k s new =
+abbrev pub IsNodeSwept : List Node → ℕ → SweepState → SweepState → Type 0
+IsNodeSwept nodes k s new =
     ((factor_at s.factors k ≡ pos 0) × (new ≡ without s k))
-    ⊎ ((factor_at s.factors k ≢ pos 0) × (new ≡ turned (node_at nodes k) (factor_at s.factors k) (without s k)))
+    ⊎ ((factor_at s.factors k ≢ pos 0) × (new ≡ after_turn (node_at nodes k) (factor_at s.factors k) (without s k)))
 
 -- there is room for a turn of the node k
-pub record CanSettle (nodes : List Node) (k : ℕ) (s : State) : Type 0 where
+pub record CanSettle (nodes : List Node) (k : ℕ) (s : SweepState) : Type 0 where
   pub weights : ℕ → ℕ
   pub weighed : AreWeighed nodes weights
   pub within : load_in weights s < 2 ^ 127
@@ -77,7 +77,7 @@ abbrev pub HaveOwnNodes : List Node → Type 0
 HaveOwnNodes nodes = (i j r : ℕ) → node_at nodes i ≡ Opaque r → node_at nodes j ≡ Opaque r → i ≡ j
 
 -- a sweep has come from the state s down to the node k
-pub record IsSweeping (nodes : List Node) (s now : State) (k : ℕ) : Type 0 where
+pub record IsSweeping (nodes : List Node) (s now : SweepState) (k : ℕ) : Type 0 where
   pub long : length now.factors ≡ length nodes
   pub kept :
       (w : ℕ → ℕ) (unit : ℤ) (o v : ℕ → ℤ) → AreWeighed nodes w → load_in w s < 2 ^ 127 → AreCounted nodes w unit o v →
@@ -88,7 +88,7 @@ pub record IsSweeping (nodes : List Node) (s now : State) (k : ℕ) : Type 0 whe
   pub apart : HaveOwnNodes nodes → AreApart now.found
   pub others : All (λ (c : Coefficient). c.number ≢ pos 0) now.found
 
-abbrev pub starting : List ℤ → State
+abbrev pub starting : List ℤ → SweepState
 starting factors = state factors (pos 0) []
 
 -- there is room for a sweep
@@ -103,7 +103,7 @@ pub record CanSweep (nodes : List Node) (factors : List ℤ) : Type 0 where
 pub record IsSwept (nodes : List Node) (factors : List ℤ) (constant : ℤ) (found : List Coefficient) : Type 0 where
   pub kept :
       (w : ℕ → ℕ) (unit : ℤ) (o v : ℕ → ℤ) → AreWeighed nodes w → load w factors < 2 ^ 127 → AreCounted nodes w unit o v →
-      constant *ℤ unit +ℤ total_of o found ≡ total v factors
+      constant *ℤ unit +ℤ total_value o found ≡ total v factors
   pub light : (w : ℕ → ℕ) → AreWeighed nodes w → load w factors < 2 ^ 127 → unsigned_abs constant + sizes_of found ≤ load w factors
   pub from : All (λ (c : Coefficient). IsOpaqueFrom nodes 0 c.term) found
   pub apart : HaveOwnNodes nodes → AreApart found

@@ -42,7 +42,7 @@ fn once(node: usize) -> Part
 }
 
 fn less(node: usize) -> Part
-    ensures { result ≡ spec.less node }
+    ensures { result ≡ spec.taken_away node }
 {
     Part { times: -1, node }
 }

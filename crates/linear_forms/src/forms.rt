@@ -5,8 +5,8 @@ ghost use Rattle.term_model.specs.Terms.{Term};
 ghost use Rattle.term_pool.specs.Views.{RefersTo, IsTerm};
 ghost use Rattle.rule_model.specs.Weights.{weight};
 ghost use Rattle.linear_forms.specs.Factors.{added};
-ghost use Rattle.linear_forms.specs.Forms.{IsWithin, IsLinear, IsDifference, TellsOneForm};
-ghost use Rattle.linear_forms.specs.Roots.{IsRootNumber, IsRootPair, IsExpanded, IsTold, single_factors, pair_factors, limited};
+ghost use Rattle.linear_forms.specs.Forms.{IsToldWeight, IsLinear, IsDifference, TellsOneForm};
+ghost use Rattle.linear_forms.specs.Roots.{IsRootNumber, IsRootPair, IsExpanded, IsTold, single_factors, pair_factors, told_weight};
 
 use crate::graph::Graph;
 use crate::infos::{LIMIT, capped_sum};
@@ -66,7 +66,7 @@ struct Pair {
 
 /// A weight, where it is not too wide.
 fn within(weight: u128) -> Option<u128>
-    ensures { result ≡ limited weight }
+    ensures { result ≡ told_weight weight }
 {
     if weight < LIMIT { Some(weight) } else { None }
 }
@@ -173,7 +173,7 @@ impl LinearForms {
         r: Ref,
     ) -> Result<Option<u128>, Memory>
         requires { IsTerm symbols.now terms.old r }
-        ensures weight { IfOk result (λ w. (t : Term) → RefersTo symbols.now terms.old r t → IsWithin w (weight t)) }
+        ensures weight { IfOk result (λ w. (t : Term) → RefersTo symbols.now terms.old r t → IsToldWeight w (weight t)) }
         ensures same { terms.new ≡ terms.old }
     {
         let _leaves = symbols.count();

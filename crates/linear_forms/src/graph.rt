@@ -4,7 +4,7 @@ ghost use Rattle.std.specs.Prelude.{◌≡◌, None, OnOk, IfOk, length};
 ghost use Rattle.std.specs.HashMap.{IsEmpty};
 ghost use Rattle.sym_table.specs.Table.{Table};
 ghost use Rattle.term_pool.specs.Views.{TermsView, IsTerm};
-ghost use Rattle.linear_forms.specs.Graphs.{IsGraph, HasInfos, IsFound, IsBoth, Settles, KeepsNumbers, IsRemembered};
+ghost use Rattle.linear_forms.specs.Graphs.{IsGraph, HasInfos, IsMetItem, AreBothFound, AddsEntry, KeepsNumbers, IsRemembered};
 ghost use Rattle.linear_forms.specs.Memos.{number_remembered};
 ghost use Rattle.linear_forms.specs.declared.memory.Item.TheVariants as Item;
 
@@ -73,7 +73,7 @@ impl Graph {
     /// What has been met of an item.
     pub(crate) fn find(&self, item: &Item) -> Option<Found>
         requires { HasInfos self.now }
-        ensures { IsFound self.now item.now result }
+        ensures { IsMetItem self.now item.now result }
     {
         let number = look(&self.memo, item)?;
         Some(Found {
@@ -85,7 +85,7 @@ impl Graph {
     /// What has been met of two items, or the first of them that has not been.
     pub(crate) fn find_both(&self, one: Item, other: Item) -> Both
         requires { HasInfos self.now }
-        ensures { IsBoth self.now one other result }
+        ensures { AreBothFound self.now one other result }
     {
         let Some(first) = self.find(&one) else {
             return Both::Part(one);
@@ -106,7 +106,7 @@ impl Graph {
     /// Gives an item the next number.
     fn settle(&mut self, item: &Item, entry: Entry) -> Result<(), Memory>
         requires { number_remembered self.old.memo item.now ≡ None }
-        ensures { OnOk result (Settles self.old self.new item.now entry) }
+        ensures { OnOk result (AddsEntry self.old self.new item.now entry) }
     {
         note(&mut self.memo, item, self.nodes.len())?;
         self.nodes.push(entry.node)?;

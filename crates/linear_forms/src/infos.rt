@@ -1,7 +1,7 @@
 //! Weights up to the limit, and lists of terms as factors.
 
 ghost use Rattle.std.specs.Prelude.{◌≡◌, ◌+◌, ◌*◌, ◌<◌, ◌≤◌, ◌^◌, ◌*ℤ◌, min, unsigned_abs};
-ghost use Rattle.linear_forms.specs.Infos.{limit_weight, joined_info, CanJoin, joined_factors, narrowed, CanJoinFactors};
+ghost use Rattle.linear_forms.specs.Infos.{limit_weight, joined_info, CanJoin, joined_factors, without_number, CanJoinFactors};
 
 use crate::nodes::{Factors, Info, Part};
 
@@ -57,7 +57,7 @@ fn join(one: Factors, other: Factors) -> Factors
 
 /// The factors of two lists, whatever their numbers.
 fn join_wide(one: Factors, other: Factors) -> Factors
-    ensures { result ≡ narrowed (joined_factors one other) }
+    ensures { result ≡ without_number (joined_factors one other) }
 {
     match (one, other) {
         (Factors::Constants(_), Factors::Constants(_)) => Factors::Constants(0),

@@ -2,8 +2,8 @@
 //! alone have factors.
 
 ghost use Rattle.std.specs.Prelude.{◌≡◌, ◌+◌, ◌<◌, ◌≤◌, ◌^◌, ◌*ℤ◌, ◌+ℤ◌, pos, [], length, slice_index_or, slice_set, unsigned_abs, OnOk, IfOk};
-ghost use Rattle.linear_forms.specs.Factors.{added, passed, passed_number, HasRoomFor};
-ghost use Rattle.linear_forms.specs.Sweeps.{state, CanSettle, IsSettled, CanSweep, IsSwept};
+ghost use Rattle.linear_forms.specs.Factors.{added, passed, passed_number, HasRoomToPass};
+ghost use Rattle.linear_forms.specs.Sweeps.{state, CanSettle, IsNodeSwept, CanSweep, IsSwept};
 
 use crate::nodes::{Coefficient, Node, Part};
 use pair_pool::{Memory, Ref};
@@ -36,7 +36,7 @@ fn add_times(constant: &mut i128, factor: i128, n: i128)
 
 /// Passes a factor on to the parts of its node, or to the constant. An opaque term keeps none of it here.
 fn pass_on(node: Node, factor: i128, constant: &mut i128, factors: &mut [i128])
-    requires { HasRoomFor node factor constant.old factors.old }
+    requires { HasRoomToPass node factor constant.old factors.old }
     ensures factors { factors.new ≡ passed node factor factors.old }
     ensures number { constant.new ≡ passed_number node factor constant.old }
 {
@@ -71,7 +71,7 @@ fn settle(
     found: &mut Vec<Coefficient>,
 ) -> Result<(), Memory>
     requires { CanSettle nodes.now k (state factors.old constant.old found.old.items) }
-    ensures { OnOk result (IsSettled nodes.now k (state factors.old constant.old found.old.items) (state factors.new constant.new found.new.items)) }
+    ensures { OnOk result (IsNodeSwept nodes.now k (state factors.old constant.old found.old.items) (state factors.new constant.new found.new.items)) }
 {
     let factor = take(factors, k);
     if factor == 0 {

@@ -3,8 +3,8 @@
 ghost use Rattle.std.specs.Prelude.{◌≡◌, ℕ, ◌≤◌, ◌<◌, ◌^◌, length};
 ghost use Rattle.pair_pool.specs.Views.{IsKnown};
 ghost use Rattle.term_pool.specs.Views.{IsTerm, IsKnownCell};
-ghost use Rattle.linear_forms.specs.Graphs.{IsGraph, HasInfos, IsItem, IsVisit};
-ghost use Rattle.linear_forms.specs.Visits.{IsListed, IsListVisit, IsWholeVisit, IsDifferenceVisit, HasNumeralLeaf, IsNumeralLeaf, AreJoinable};
+ghost use Rattle.linear_forms.specs.Graphs.{IsGraph, HasInfos, IsItem, IsVisitOfItem};
+ghost use Rattle.linear_forms.specs.Visits.{IsListVisited, IsListVisit, IsWholeVisit, IsDifferenceVisit, HasNumeralLeaf, IsNumeralLeaf, AreJoinable};
 ghost use Rattle.linear_forms.specs.Entries as spec;
 ghost use Rattle.linear_forms.specs.declared.entries.Found.{Found};
 ghost use Rattle.linear_forms.specs.declared.memory.Item.TheVariants as Item;
@@ -43,7 +43,7 @@ pub(crate) enum Listed {
 fn look_list(terms: &mut Terms<'_>, graph: &Graph, list: Ref) -> Listed
     requires cell { IsKnownCell terms.old.pass list }
     requires infos { HasInfos graph.now }
-    ensures listed { IsListed terms.old.pass graph.now list result }
+    ensures listed { IsListVisited terms.old.pass graph.now list result }
     ensures same { terms.new ≡ terms.old }
 {
     let (first, rest) = terms.cell_parts(list);
@@ -130,7 +130,7 @@ fn visit_difference(symbols: &Symbols, terms: &mut Terms<'_>, graph: &Graph, lis
 fn visit_term(symbols: &Symbols, terms: &mut Terms<'_>, graph: &Graph, r: Ref) -> Visit
     requires term { IsTerm symbols.now terms.old r }
     requires graph { IsGraph symbols.now terms.old graph.now }
-    ensures visit { IsVisit symbols.now terms.old graph.now (Item.Term r) result }
+    ensures visit { IsVisitOfItem symbols.now terms.old graph.now (Item.Term r) result }
     ensures same { terms.new ≡ terms.old }
 {
     let _leaves = symbols.count();
@@ -157,7 +157,7 @@ pub(crate) fn visit_item(
 ) -> Visit
     requires item { IsItem symbols.now terms.old item.now }
     requires graph { IsGraph symbols.now terms.old graph.now }
-    ensures visit { IsVisit symbols.now terms.old graph.now item.now result }
+    ensures visit { IsVisitOfItem symbols.now terms.old graph.now item.now result }
     ensures same { terms.new ≡ terms.old }
 {
     let _leaves = symbols.count();

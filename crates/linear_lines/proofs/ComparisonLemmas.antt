@@ -22,7 +22,7 @@ use Rattle.term_parts.specs.Parts.{IsOver}
 use Rattle.term_parts.proofs.PartLemmas.{over_two}
 use Rattle.rule_model.specs.Arithmetic.{Relation, exceeds, reaches, equals, Comparison, if_true, if_false, denial}
 use Rattle.linear_lines.specs.declared.comparisons as code
-use Rattle.linear_lines.specs.Comparisons.{IsOfNumbers, said_by, IsReadBy, IsFound}
+use Rattle.linear_lines.specs.Comparisons.{IsOfNumbers, said_by, IsComparisonRead, IsFound}
 use Rattle.linear_lines.specs.Operands.{AreOperands}
 
 -- what a literal's negation says is what the term behind its `not`s says
@@ -97,7 +97,7 @@ no_two _ true c e = absurd cc
 no_two _ false c e = absurd cc
 
 -- a term that is no such application says nothing
-pub says_nothing : (s : Table) (v : TermsView) (t : Term) (truth : Bool) → ((op : Op) → ¬ IsOver op 2 t) → IsReadBy s v truth t None
+pub says_nothing : (s : Table) (v : TermsView) (t : Term) (truth : Bool) → ((op : Op) → ¬ IsOver op 2 t) → IsComparisonRead s v truth t None
 says_nothing s v t truth none c e numbers = let two = no_two t truth c e in none two.0 two.1
 
 -- the terms of a comparison are the operands, in this or the other order
@@ -134,21 +134,21 @@ module _ (s : Table) (v : TermsView) (op : Op) (p : ℕ × ℕ) (t : Term) (are 
   second_sorted h = record { means = are.second; refers = are.second_refers; sorted = (sorted_operands h).1 }
 
   module _ (truth : Bool) where
-    pub not_found : IsFound s v None (said_by truth (operation op (term.term are.first (term.term are.second no_terms)))) → IsReadBy s v truth t None
+    pub not_found : IsFound s v None (said_by truth (operation op (term.term are.first (term.term are.second no_terms)))) → IsComparisonRead s v truth t None
     not_found found c e numbers = go (said_by truth (operation op (term.term are.first (term.term are.second no_terms)))) found (ap (said_by truth) (sym are.is) ∙ e)
       where
         go : (o : Option Comparison) → IsFound s v None o → o ≡ Some c → ⊥
         go None found f = absurd cc
         go (Some d) found f = found
 
-    pub found_numbers : (found : code.Comparison.Comparison) → IsFound s v (Some found) (said_by truth (operation op (term.term are.first (term.term are.second no_terms)))) → IsOf are.first Sort.Int → IsOf are.second Sort.Int → IsReadBy s v truth t (Some found)
+    pub found_numbers : (found : code.Comparison.Comparison) → IsFound s v (Some found) (said_by truth (operation op (term.term are.first (term.term are.second no_terms)))) → IsOf are.first Sort.Int → IsOf are.second Sort.Int → IsComparisonRead s v truth t (Some found)
     found_numbers found is first second = go (said_by truth (operation op (term.term are.first (term.term are.second no_terms)))) refl is
       where
-        go : (o : Option Comparison) → said_by truth (operation op (term.term are.first (term.term are.second no_terms))) ≡ o → IsFound s v (Some found) o → IsReadBy s v truth t (Some found)
+        go : (o : Option Comparison) → said_by truth (operation op (term.term are.first (term.term are.second no_terms))) ≡ o → IsFound s v (Some found) o → IsComparisonRead s v truth t (Some found)
         go None e is = absurd is
         go (Some c) e is = (c, ap (said_by truth) are.is ∙ e, is, (numbers_are truth op are.first are.second c e).1 (first, second))
 
-    pub found_others : (IsOf are.first Sort.Int → IsOf are.second Sort.Int → ⊥) → IsReadBy s v truth t None
+    pub found_others : (IsOf are.first Sort.Int → IsOf are.second Sort.Int → ⊥) → IsComparisonRead s v truth t None
     found_others other c e numbers =
         let both = (numbers_are truth op are.first are.second c (ap (said_by truth) (sym are.is) ∙ e)).0 numbers in other both.0 both.1
 

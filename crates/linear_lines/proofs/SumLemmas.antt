@@ -13,8 +13,8 @@ use Rattle.rule_model.specs.Arithmetic.{Relation, exceeds, reaches, equals, coef
 use Rattle.rule_model.specs.LinearForms.{constant}
 use Rattle.scaled_sums.specs.declared.coefficients.Coefficient.{Coefficient}
 use Rattle.scaled_sums.specs.declared.bounds.Relation as code
-use Rattle.scaled_sums.specs.Coefficients.{number_at, sizes_of, scale}
-use Rattle.scaled_sums.specs.Relations.{relation_of, IsBoundOf}
+use Rattle.scaled_sums.specs.Coefficients.{sum_at, sizes_of, scale}
+use Rattle.scaled_sums.specs.Relations.{relation_meant, IsBoundOf}
 use Rattle.scaled_sums.proofs.Wholes.{whole_nothing}
 use Rattle.linear_lines.specs.declared.lines.Line.{Line}
 use Rattle.linear_lines.specs.declared.lines.LineForm.{LineForm}
@@ -45,11 +45,11 @@ module _ (s : Table) (v : TermsView) where
   terms_scaled f (c ∷ cs) h = All-cons TermIn (scale f c) (map (scale f) cs) (All-head TermIn c cs h) (terms_scaled f cs (All-tail TermIn c cs h))
 
   -- a reference that is no term has the coefficient 0
-  known_or_nothing : (cs : List Coefficient) (r : ℕ) → All TermIn cs → (number_at cs r ≡ pos 0) ⊎ IsTerm s v r
+  known_or_nothing : (cs : List Coefficient) (r : ℕ) → All TermIn cs → (sum_at cs r ≡ pos 0) ⊎ IsTerm s v r
   known_or_nothing [] r h = inl refl
   known_or_nothing (c ∷ cs) r h = go (c.term == r) refl (known_or_nothing cs r (All-tail TermIn c cs h))
     where
-      go : (b : Bool) → (c.term == r) ≡ b → (number_at cs r ≡ pos 0) ⊎ IsTerm s v r → ((if b then c.number else pos 0) +ℤ number_at cs r ≡ pos 0) ⊎ IsTerm s v r
+      go : (b : Bool) → (c.term == r) ≡ b → (sum_at cs r ≡ pos 0) ⊎ IsTerm s v r → ((if b then c.number else pos 0) +ℤ sum_at cs r ≡ pos 0) ⊎ IsTerm s v r
       go true e rest = inr (subst (IsTerm s v) (eqb-true c.term r e) (All-head TermIn c cs h))
       go false e (inl none) = inl (omega (arith, ints, none))
       go false e (inr is) = inr is
@@ -60,7 +60,7 @@ module _ (s : Table) (v : TermsView) where
   covered_sum f g t (inl e) k (inr is) = inr is
   covered_sum f g t (inl e) k (inl h) = inl (omega (arith, ints, e, ap (λ x. k *ℤ x) h, times_nothing k))
 
-  coefficients_more : (m : ℕ) (ls : List CoefficientLine) (l : CoefficientLine) (old form new : List Coefficient) → HasCoefficients s v old (added_coefficient m ls) → HasCoefficients s v form (coefficient_in l.comparison) → new ≡ old ++ map (scale (factor m l)) form → ((r : ℕ) → number_at new r ≡ number_at old r +ℤ factor m l *ℤ number_at form r) → HasCoefficients s v new (added_coefficient m (ls ++ l ∷ []))
+  coefficients_more : (m : ℕ) (ls : List CoefficientLine) (l : CoefficientLine) (old form new : List Coefficient) → HasCoefficients s v old (added_coefficient m ls) → HasCoefficients s v form (coefficient_in l.comparison) → new ≡ old ++ map (scale (factor m l)) form → ((r : ℕ) → sum_at new r ≡ sum_at old r +ℤ factor m l *ℤ sum_at form r) → HasCoefficients s v new (added_coefficient m (ls ++ l ∷ []))
   coefficients_more m ls l old form new sum line put numbers = record {
     right = λ r t refers.
         added_push m ls l t
@@ -72,21 +72,21 @@ module _ (s : Table) (v : TermsView) where
   }
 
   -- whether the bound is to be rounded
-  whole_terms : (m : ℕ) (l : CoefficientLine) (form : List Coefficient) → HasCoefficients s v form (coefficient_in l.comparison) → ((r : ℕ) → IsWhole m (factor m l *ℤ number_at form r)) → (u : Term) → IsWhole m (scaled m l u)
+  whole_terms : (m : ℕ) (l : CoefficientLine) (form : List Coefficient) → HasCoefficients s v form (coefficient_in l.comparison) → ((r : ℕ) → IsWhole m (factor m l *ℤ sum_at form r)) → (u : Term) → IsWhole m (scaled m l u)
   whole_terms m l form line each u = go (line.covered u)
     where
       go : (coefficient_in l.comparison u ≡ pos 0) ⊎ IsReferred s v u → IsWhole m (scaled m l u)
       go (inl e) = subst (IsWhole m) (sym (ap (λ x. factor m l *ℤ x) e ∙ times_nothing (factor m l))) (whole_nothing m)
       go (inr is) = subst (λ x. IsWhole m (factor m l *ℤ x)) (sym (line.right is.reference u is.refers)) (each is.reference)
 
-  whole_references : (m : ℕ) (l : CoefficientLine) (form : List Coefficient) → HasCoefficients s v form (coefficient_in l.comparison) → ((u : Term) → IsWhole m (scaled m l u)) → (r : ℕ) → IsWhole m (factor m l *ℤ number_at form r)
+  whole_references : (m : ℕ) (l : CoefficientLine) (form : List Coefficient) → HasCoefficients s v form (coefficient_in l.comparison) → ((u : Term) → IsWhole m (scaled m l u)) → (r : ℕ) → IsWhole m (factor m l *ℤ sum_at form r)
   whole_references m l form line each r = go (known_or_nothing form r line.terms)
     where
-      go : (number_at form r ≡ pos 0) ⊎ IsTerm s v r → IsWhole m (factor m l *ℤ number_at form r)
+      go : (sum_at form r ≡ pos 0) ⊎ IsTerm s v r → IsWhole m (factor m l *ℤ sum_at form r)
       go (inl e) = subst (IsWhole m) (sym (ap (λ x. factor m l *ℤ x) e ∙ times_nothing (factor m l))) (whole_nothing m)
       go (inr is) = subst (λ x. IsWhole m (factor m l *ℤ x)) (line.right r is.means is.refers) (each is.means)
 
-  bound_is_scaled : (m : ℕ) (l : CoefficientLine) (form : List Coefficient) (rounds : Bool) (own : ℤ) → HasCoefficients s v form (coefficient_in l.comparison) → IsTrue rounds ↔ ((l.comparison.relation ≢ equals) × ((r : ℕ) → IsWhole m (factor m l *ℤ number_at form r))) → IsBoundOf rounds m (factor m l *ℤ bound_in l.comparison) own → IsScaledBound m l own
+  bound_is_scaled : (m : ℕ) (l : CoefficientLine) (form : List Coefficient) (rounds : Bool) (own : ℤ) → HasCoefficients s v form (coefficient_in l.comparison) → IsTrue rounds ↔ ((l.comparison.relation ≢ equals) × ((r : ℕ) → IsWhole m (factor m l *ℤ sum_at form r))) → IsBoundOf rounds m (factor m l *ℤ bound_in l.comparison) own → IsScaledBound m l own
   bound_is_scaled m l form true own line told is =
       let both = told.0 refl in
       inl (record { inequality = both.0; whole = whole_terms m l form line both.1 }, is)
@@ -124,20 +124,20 @@ bound_fits f k b relation m r e h =
     let small : unsigned_abs b ≤ unsigned_abs k + 1 = subst (λ x. unsigned_abs x ≤ unsigned_abs k + 1) (sym e) (bound_size relation k) in
     omega (arith, h, mul-le-mul_left (unsigned_abs f) small)
 
-pub no_equation : (r : code.Relation) → r ≢ code.Relation.Equals → relation_of r ≢ equals
+pub no_equation : (r : code.Relation) → r ≢ code.Relation.Equals → relation_meant r ≢ equals
 no_equation code.Relation.Exceeds other = λ e. absurd cc
 no_equation code.Relation.Reaches other = λ e. absurd cc
 no_equation code.Relation.Equals other = λ e. absurd (other refl)
 
 module _ (s : Table) (v : TermsView) where
   -- the factor, by the line
-  same_factor : (m : ℕ) (line : Line) (l : CoefficientLine) → StandsForLine s v line l → signed_by (relation_of line.comparison.relation) line.numerator *ℤ pos (m / line.denominator) ≡ factor m l
+  same_factor : (m : ℕ) (line : Line) (l : CoefficientLine) → StandsForLine s v line l → signed_by (relation_meant line.comparison.relation) line.numerator *ℤ pos (m / line.denominator) ≡ factor m l
   same_factor m line l is =
       ap (λ r. signed_by r line.numerator *ℤ pos (m / line.denominator)) is.comparison.relation
       ∙ (ap (λ n. signed_by l.comparison.relation n *ℤ pos (m / line.denominator)) is.numerator
       ∙ ap (λ d. signed_by l.comparison.relation l.ratio.num *ℤ pos (m / d)) is.denominator)
 
-  same_bound : (line : Line) (l : CoefficientLine) (numbers : LineForm) (form : List Coefficient) → StandsForLine s v line l → IsFormOf s v l.comparison numbers form → bound_by (relation_of line.comparison.relation) (neg_ℤ numbers.constant) ≡ bound_in l.comparison
+  same_bound : (line : Line) (l : CoefficientLine) (numbers : LineForm) (form : List Coefficient) → StandsForLine s v line l → IsFormOf s v l.comparison numbers form → bound_by (relation_meant line.comparison.relation) (neg_ℤ numbers.constant) ≡ bound_in l.comparison
   same_bound line l numbers form is of =
       ap (λ r. bound_by r (neg_ℤ numbers.constant)) is.comparison.relation
       ∙ ap (bound_by l.comparison.relation) (turned (constant l.comparison.first) (constant l.comparison.second) numbers.constant of.constant_is)
@@ -152,54 +152,54 @@ module _ (s : Table) (v : TermsView) where
       ∙ ap (λ w. max (unsigned_abs l.ratio.num) 1 * (m / unsigned_abs l.ratio.den) * (w + 1) + m) of.weight_is)
 
   -- what a line adds is at most its weight
-  line_is_light : (m : ℕ) (line : Line) (numbers : LineForm) (f own : ℤ) (form : List Coefficient) → f ≡ signed_by (relation_of line.comparison.relation) line.numerator *ℤ pos (m / line.denominator) → unsigned_abs numbers.constant + sizes_of form ≤ numbers.weight → unsigned_abs own ≤ unsigned_abs f * (unsigned_abs numbers.constant + 1) + m → unsigned_abs own + unsigned_abs f * sizes_of form ≤ own_weight m line numbers.weight
+  line_is_light : (m : ℕ) (line : Line) (numbers : LineForm) (f own : ℤ) (form : List Coefficient) → f ≡ signed_by (relation_meant line.comparison.relation) line.numerator *ℤ pos (m / line.denominator) → unsigned_abs numbers.constant + sizes_of form ≤ numbers.weight → unsigned_abs own ≤ unsigned_abs f * (unsigned_abs numbers.constant + 1) + m → unsigned_abs own + unsigned_abs f * sizes_of form ≤ own_weight m line numbers.weight
   line_is_light m line numbers f own form e light h =
-      let size = subst (λ x. unsigned_abs x ≤ max (unsigned_abs line.numerator) 1 * (m / line.denominator)) (sym e) (factor_size (relation_of line.comparison.relation) line.numerator (m / line.denominator)) in
+      let size = subst (λ x. unsigned_abs x ≤ max (unsigned_abs line.numerator) 1 * (m / line.denominator)) (sym e) (factor_size (relation_meant line.comparison.relation) line.numerator (m / line.denominator)) in
       omega (arith, h, product_fits (unsigned_abs f) (max (unsigned_abs line.numerator) 1 * (m / line.denominator)) (unsigned_abs numbers.constant) (sizes_of form) numbers.weight size light)
 
   module _ (m : ℕ) (line : Line) (l : CoefficientLine) (numbers : LineForm) (form : List Coefficient) (is : StandsForLine s v line l) (of : IsFormOf s v l.comparison numbers form) where
     abbrev code_factor : ℤ
-    code_factor = signed_by (relation_of line.comparison.relation) line.numerator *ℤ pos (m / line.denominator)
+    code_factor = signed_by (relation_meant line.comparison.relation) line.numerator *ℤ pos (m / line.denominator)
 
     abbrev Rounds : Bool → Relation → ℤ → Type 0
-    Rounds rounded relation f = IsTrue rounded ↔ ((relation ≢ equals) × ((r : ℕ) → IsWhole m (f *ℤ number_at form r)))
+    Rounds rounded relation f = IsTrue rounded ↔ ((relation ≢ equals) × ((r : ℕ) → IsWhole m (f *ℤ sum_at form r)))
 
-    own_is_scaled : (f own : ℤ) (rounded : Bool) → f ≡ code_factor → Rounds rounded (relation_of line.comparison.relation) f → IsBoundOf rounded m (f *ℤ bound_by (relation_of line.comparison.relation) (neg_ℤ numbers.constant)) own → IsScaledBound m l own
+    own_is_scaled : (f own : ℤ) (rounded : Bool) → f ≡ code_factor → Rounds rounded (relation_meant line.comparison.relation) f → IsBoundOf rounded m (f *ℤ bound_by (relation_meant line.comparison.relation) (neg_ℤ numbers.constant)) own → IsScaledBound m l own
     own_is_scaled f own rounded e told bound =
         let same = e ∙ same_factor m line l is in
         bound_is_scaled s v m l form rounded own of.coefficients
         (subst (Rounds rounded l.comparison.relation) same (subst (λ relation. Rounds rounded relation f) is.comparison.relation told))
         (subst (λ x. IsBoundOf rounded m (x *ℤ bound_in l.comparison) own) same (subst (λ b. IsBoundOf rounded m (f *ℤ b) own) (same_bound line l numbers form is of) bound))
 
-    pub line_added : (ls : List CoefficientLine) (old new : List Coefficient) (bound own f : ℤ) (rounded : Bool) → IsSumOf s v m ls old bound → f ≡ code_factor → Rounds rounded (relation_of line.comparison.relation) f → IsBoundOf rounded m (f *ℤ bound_by (relation_of line.comparison.relation) (neg_ℤ numbers.constant)) own → unsigned_abs own ≤ unsigned_abs f * (unsigned_abs numbers.constant + 1) + m → unsigned_abs numbers.constant + sizes_of form ≤ numbers.weight → new ≡ old ++ map (scale f) form → ((r : ℕ) → number_at new r ≡ number_at old r +ℤ f *ℤ number_at form r) → sizes_of new ≡ sizes_of old + unsigned_abs f * sizes_of form → IsSumOf s v m (ls ++ l ∷ []) new (bound +ℤ own)
+    pub line_added : (ls : List CoefficientLine) (old new : List Coefficient) (bound own f : ℤ) (rounded : Bool) → IsSumOf s v m ls old bound → f ≡ code_factor → Rounds rounded (relation_meant line.comparison.relation) f → IsBoundOf rounded m (f *ℤ bound_by (relation_meant line.comparison.relation) (neg_ℤ numbers.constant)) own → unsigned_abs own ≤ unsigned_abs f * (unsigned_abs numbers.constant + 1) + m → unsigned_abs numbers.constant + sizes_of form ≤ numbers.weight → new ≡ old ++ map (scale f) form → ((r : ℕ) → sum_at new r ≡ sum_at old r +ℤ f *ℤ sum_at form r) → sizes_of new ≡ sizes_of old + unsigned_abs f * sizes_of form → IsSumOf s v m (ls ++ l ∷ []) new (bound +ℤ own)
     line_added ls old new bound own f rounded sum e told is_bound narrow light put numbers_are sizes =
         let same = e ∙ same_factor m line l is in
         let added = line_is_light m line numbers f own form e light narrow in
         let weight_is = same_weight m line l numbers form is of in
         let before = sum.light in
         record {
-          coefficients = coefficients_more s v m ls l old form new sum.coefficients of.coefficients (put ∙ ap (λ x. old ++ map (scale x) form) same) (λ r. numbers_are r ∙ ap (λ x. number_at old r +ℤ x *ℤ number_at form r) same);
+          coefficients = coefficients_more s v m ls l old form new sum.coefficients of.coefficients (put ∙ ap (λ x. old ++ map (scale x) form) same) (λ r. numbers_are r ∙ ap (λ x. sum_at old r +ℤ x *ℤ sum_at form r) same);
           bound_is = bound_push m ls l bound own sum.bound_is (own_is_scaled f own rounded e told is_bound);
           light = omega (arith, ints, before, added, weight_is, weight_push m ls l, sizes);
         }
 
   -- a sum that has no reference has no term
-  pub references_cancel : (cs : List Coefficient) (f : Term → ℤ) → HasCoefficients s v cs f → ((r : ℕ) → number_at cs r ≡ pos 0) → (u : Term) → f u ≡ pos 0
+  pub references_cancel : (cs : List Coefficient) (f : Term → ℤ) → HasCoefficients s v cs f → ((r : ℕ) → sum_at cs r ≡ pos 0) → (u : Term) → f u ≡ pos 0
   references_cancel cs f has all u = go (has.covered u)
     where
       go : (f u ≡ pos 0) ⊎ IsReferred s v u → f u ≡ pos 0
       go (inl e) = e
       go (inr is) = has.right is.reference u is.refers ∙ all is.reference
 
-  pub terms_cancel : (cs : List Coefficient) (f : Term → ℤ) → HasCoefficients s v cs f → ((u : Term) → f u ≡ pos 0) → (r : ℕ) → number_at cs r ≡ pos 0
+  pub terms_cancel : (cs : List Coefficient) (f : Term → ℤ) → HasCoefficients s v cs f → ((u : Term) → f u ≡ pos 0) → (r : ℕ) → sum_at cs r ≡ pos 0
   terms_cancel cs f has all r = go (known_or_nothing s v cs r has.terms)
     where
-      go : (number_at cs r ≡ pos 0) ⊎ IsTerm s v r → number_at cs r ≡ pos 0
+      go : (sum_at cs r ≡ pos 0) ⊎ IsTerm s v r → sum_at cs r ≡ pos 0
       go (inl e) = e
       go (inr is) = sym (has.right r is.means is.refers) ∙ all is.means
 
   abbrev LineEquates : Line → Type 0
-  LineEquates l = relation_of l.comparison.relation ≡ equals
+  LineEquates l = relation_meant l.comparison.relation ≡ equals
 
   pub equations_are : (lines : List Line) (ls : List CoefficientLine) → AllZip (StandsForLine s v) lines ls → All LineEquates lines ↔ All IsEquation ls
   equations_are [] [] zip = (λ h k d below. absurd (omega (arith, below)), λ h k d below. absurd (omega (arith, below)))

@@ -6,12 +6,12 @@ use Rattle.term_model.specs.Sorts.{IsOf}
 use Rattle.term_model.specs.Terms.{Term}
 use Rattle.term_pool.specs.Views.{TermsView, RefersTo}
 use Rattle.rule_model.specs.Arithmetic.{Comparison, if_true, if_false, denial}
-use Rattle.scaled_sums.specs.Relations.{relation_of}
+use Rattle.scaled_sums.specs.Relations.{relation_meant}
 use Rattle.linear_lines.specs.declared.comparisons as code
 
 -- the references stand for the terms of the comparison
 pub record StandsForComparison (s : Table) (v : TermsView) (l : code.Comparison.Comparison) (c : Comparison) : Type 0 where
-  pub relation : relation_of l.relation ≡ c.relation
+  pub relation : relation_meant l.relation ≡ c.relation
   pub first : RefersTo s v l.first c.first
   pub second : RefersTo s v l.second c.second
 
@@ -35,9 +35,9 @@ abbrev pub said_by : Bool → Term → Option Comparison
 said_by true t = if_true t
 said_by false t = if_false t
 
-abbrev pub IsReadBy : Table → TermsView → Bool → Term → Option code.Comparison.Comparison → Type 0
-IsReadBy s v truth t found = IsNumberComparison s v (said_by truth t) found
+abbrev pub IsComparisonRead : Table → TermsView → Bool → Term → Option code.Comparison.Comparison → Type 0
+IsComparisonRead s v truth t found = IsNumberComparison s v (said_by truth t) found
 
 -- of a literal, what its negation says
-abbrev pub IsRead : Table → TermsView → Term → Option code.Comparison.Comparison → Type 0
-IsRead s v t found = IsNumberComparison s v (denial t) found
+abbrev pub IsDenialRead : Table → TermsView → Term → Option code.Comparison.Comparison → Type 0
+IsDenialRead s v t found = IsNumberComparison s v (denial t) found

@@ -7,7 +7,7 @@ use Rattle.rule_model.specs.Arithmetic.{Comparison, coefficient_in, CoefficientL
 use Rattle.rule_model.specs.LinearForms.{constant}
 use Rattle.rule_model.specs.Weights.{weight}
 use Rattle.scaled_sums.specs.declared.coefficients.Coefficient.{Coefficient}
-use Rattle.scaled_sums.specs.Coefficients.{number_at, sizes_of}
+use Rattle.scaled_sums.specs.Coefficients.{sum_at, sizes_of}
 use Rattle.linear_lines.specs.declared.lines.Line.{Line}
 use Rattle.linear_lines.specs.declared.lines.LineForm.{LineForm}
 use Rattle.linear_lines.specs.Comparisons.{StandsForComparison}
@@ -39,7 +39,7 @@ pub record IsReferred (s : Table) (v : TermsView) (t : Term) : Type 0 where
 
 -- The list has for each term this coefficient. What no reference stands for has none.
 pub record HasCoefficients (s : Table) (v : TermsView) (cs : List Coefficient) (f : Term → ℤ) : Type 0 where
-  pub right : (r : ℕ) (t : Term) → RefersTo s v r t → f t ≡ number_at cs r
+  pub right : (r : ℕ) (t : Term) → RefersTo s v r t → f t ≡ sum_at cs r
   pub covered : (t : Term) → (f t ≡ pos 0) ⊎ IsReferred s v t
   pub terms : All (λ (c : Coefficient). IsTerm s v c.term) cs
 

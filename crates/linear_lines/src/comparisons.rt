@@ -10,7 +10,7 @@ ghost use Rattle.term_model.specs.declared.symbols.Op.{Op};
 ghost use Rattle.term_parts.specs.Parts.{IsOver};
 ghost use Rattle.term_pool.specs.Views.{TermsView, IsTerm, RefersTo};
 ghost use Rattle.rule_model.specs.Arithmetic.{if_true, if_false};
-ghost use Rattle.linear_lines.specs.Comparisons.{IsFound, IsRead, IsReadBy, said_by};
+ghost use Rattle.linear_lines.specs.Comparisons.{IsFound, IsDenialRead, IsComparisonRead, said_by};
 ghost use Rattle.linear_lines.specs.Operands.{AreOperands};
 
 use pair_pool::Ref;
@@ -151,7 +151,7 @@ pub fn is_number(symbols: &Symbols, terms: &mut Terms<'_>, r: Ref) -> bool
 /// What a term says where it is true, or where it is false, if that is a comparison of terms of Int.
 fn compared(symbols: &Symbols, terms: &mut Terms<'_>, truth: bool, r: Ref) -> Option<Comparison>
     requires { IsWellSortedTerm symbols.now terms.old r }
-    ensures read { (t : Term) → RefersTo symbols.now terms.old r t → IsReadBy symbols.now terms.old truth t result }
+    ensures read { (t : Term) → RefersTo symbols.now terms.old r t → IsComparisonRead symbols.now terms.old truth t result }
     ensures same { terms.new ≡ terms.old }
 {
     let Some(op) = binary_operator(symbols, terms, r) else {
@@ -173,7 +173,7 @@ fn compared(symbols: &Symbols, terms: &mut Terms<'_>, truth: bool, r: Ref) -> Op
 /// The negation of a literal as a comparison of terms of Int, behind pairs of `not`s.
 pub fn denied(symbols: &Symbols, terms: &mut Terms<'_>, literal: Ref) -> Option<Comparison>
     requires { IsWellSortedTerm symbols.now terms.old literal }
-    ensures read { (t : Term) → RefersTo symbols.now terms.old literal t → IsRead symbols.now terms.old t result }
+    ensures read { (t : Term) → RefersTo symbols.now terms.old literal t → IsDenialRead symbols.now terms.old t result }
     ensures same { terms.new ≡ terms.old }
 {
     let (bare, odd) = terms.strip_not(symbols, literal);

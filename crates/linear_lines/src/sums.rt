@@ -5,8 +5,8 @@ ghost use Rattle.std.specs.List.{AllZip};
 ghost use Rattle.sym_table.specs.Table.{Table};
 ghost use Rattle.term_pool.specs.Views.{TermsView};
 ghost use Rattle.rule_model.specs.Arithmetic.{CoefficientLine, equals, bound_by, IsWhole, limit};
-ghost use Rattle.scaled_sums.specs.Coefficients.{AreApart, number_at, sizes_of};
-ghost use Rattle.scaled_sums.specs.Relations.{relation_of, IsBoundOf};
+ghost use Rattle.scaled_sums.specs.Coefficients.{AreApart, sum_at, sizes_of};
+ghost use Rattle.scaled_sums.specs.Relations.{relation_meant, IsBoundOf};
 ghost use Rattle.linear_lines.specs.Lines.{own_weight, StandsForLine, IsFormOf, IsSumOf, IsAbsurd};
 
 use crate::lines::{Line, LineForm};
@@ -20,7 +20,7 @@ fn rounds(relation: Relation, form: &[Coefficient], factor: i128, multiple: u128
     requires narrow { unsigned_abs factor * sizes_of form.now < limit }
     requires apart { AreApart form.now }
     requires multiple { 0 < multiple }
-    ensures { IsTrue result ↔ ((relation_of relation ≢ equals) × ((r : ℕ) → IsWhole multiple (factor *ℤ number_at form.now r))) }
+    ensures { IsTrue result ↔ ((relation_meant relation ≢ equals) × ((r : ℕ) → IsWhole multiple (factor *ℤ sum_at form.now r))) }
 {
     match relation {
         Relation::Equals => false,
@@ -33,7 +33,7 @@ fn own_bound(relation: Relation, constant: i128, factor: i128, multiple: u128, r
     requires over { 0 < multiple }
     requires constant { unsigned_abs constant + 1 < limit }
     requires narrow { unsigned_abs factor * (unsigned_abs constant + 1) + multiple < limit }
-    ensures bound { IsBoundOf rounds multiple (factor *ℤ bound_by (relation_of relation) (neg_ℤ constant)) result }
+    ensures bound { IsBoundOf rounds multiple (factor *ℤ bound_by (relation_meant relation) (neg_ℤ constant)) result }
     ensures narrow { unsigned_abs result ≤ unsigned_abs factor * (unsigned_abs constant + 1) + multiple }
 {
     let bound = line_bound(relation, constant);
@@ -74,7 +74,7 @@ pub fn add_line(
 
 /// Whether all lines are equations.
 fn are_equations(lines: &[Line]) -> bool
-    ensures { IsTrue result ↔ All (λ l. relation_of l.comparison.relation ≡ equals) lines.now }
+    ensures { IsTrue result ↔ All (λ l. relation_meant l.comparison.relation ≡ equals) lines.now }
 {
     lines
         .iter()

@@ -2,7 +2,7 @@
 use Rattle.std.proofs.Common.{◌≡◌, ◌++◌, ℕ, List, [], ◌∷◌, reverse, None, refl, sym, ◌∙◌, ap, subst}
 use Rattle.std.proofs.lemmas.List.{reverse-append}
 use Rattle.contexts.specs.declared.kept.Substitution.{Substitution}
-use Rattle.contexts.specs.Kept.{IsRight, IsRightForSome, bindings_of, frames_of}
+use Rattle.contexts.specs.Kept.{IsRight, IsRightForSome, all_bindings, frames_of}
 use Rattle.contexts.specs.PutIn.{StandForReplacement, AreReplacementBy, joined}
 use Rattle.pair_pool.specs.Views.{IsOneToOne}
 use Rattle.proof_store.specs.Meaning.{StandForItems}
@@ -14,7 +14,7 @@ use Rattle.sym_table.specs.Table.{Table, IsTable}
 use Rattle.term_model.specs.Terms.{Var, Term}
 use Rattle.term_pool.specs.Views.{TermsView, KeepsTerms}
 use Rattle.proof_contexts.specs.declared.scopes.OpenScopes.{OpenScopes}
-use Rattle.proof_contexts.specs.OpenAnchors.{AreOpenIn, IsLevel, EndsOutermost, AreLevels, scopes_of, AreKept}
+use Rattle.proof_contexts.specs.OpenAnchors.{AreOpenIn, IsLevel, EndsOutermost, AreLevels, scopes_entered, AreKept}
 use Rattle.proof_contexts.specs.Ways.{AreKeptOfSome}
 use Rattle.proof_contexts.proofs.Anchors.{open_same}
 
@@ -31,10 +31,10 @@ module _ (stay : BindingsStay) (s : Table) (v w : TermsView) (grows : KeepsTerms
   levels_later (k ∷ ks) [] h = absurd h
   levels_later (k ∷ ks) (bs ∷ frames) h = (level_later k (joined (bs ∷ frames)) h.0, h.1, levels_later ks frames h.2)
 
-pub stand_later : (stay : BindingsStay) (s : Table) (v w : TermsView) (x y : Substitution) → KeepsTerms v w → frames_of y ≡ frames_of x → (q : Replacement) → StandForReplacement s v (bindings_of x) q → StandForReplacement s w (bindings_of y) q
-stand_later stay s v w x y grows e q h = subst (λ frames. StandForReplacement s w (joined frames) q) (sym e) (stay s v w (bindings_of x) q grows h)
+pub stand_later : (stay : BindingsStay) (s : Table) (v w : TermsView) (x y : Substitution) → KeepsTerms v w → frames_of y ≡ frames_of x → (q : Replacement) → StandForReplacement s v (all_bindings x) q → StandForReplacement s w (all_bindings y) q
+stand_later stay s v w x y grows e q h = subst (λ frames. StandForReplacement s w (joined frames) q) (sym e) (stay s v w (all_bindings x) q grows h)
 
-pub replaced_later : (stay : BindingsStay) (s : Table) (v w : TermsView) (x y : Substitution) → KeepsTerms v w → frames_of y ≡ frames_of x → AreReplacementBy s v (bindings_of x) → AreReplacementBy s w (bindings_of y)
+pub replaced_later : (stay : BindingsStay) (s : Table) (v w : TermsView) (x y : Substitution) → KeepsTerms v w → frames_of y ≡ frames_of x → AreReplacementBy s v (all_bindings x) → AreReplacementBy s w (all_bindings y)
 replaced_later stay s v w x y grows e h = record { means = h.means; are = stand_later stay s v w x y grows e h.means h.are }
 
 -- the scopes in order
@@ -62,30 +62,30 @@ last_outermost s v proof k [] h = absurd h
 last_outermost s v proof k (bs ∷ frames) h = h.1
 
 module _ (s : Table) (v : TermsView) (refs : ProofItems ℕ ℕ) (x : OpenScopes) (kept : AreKept s v refs x) where
-  pub level_here : IsLevel s v kept.proof x.here (bindings_of x.substitution)
+  pub level_here : IsLevel s v kept.proof x.here (all_bindings x.substitution)
   level_here = last_level s v kept.proof x.here (reverse x.around.items) (frames_of x.substitution) kept.levels
 
-  pub are_replacement : AreReplacementBy s v (bindings_of x.substitution)
+  pub are_replacement : AreReplacementBy s v (all_bindings x.substitution)
   are_replacement = record { means = images level_here.anchors; are = level_here.stand }
 
   pub kept_of_some : AreKeptOfSome x
   kept_of_some = record { table = s; view = v; refs = refs; kept = kept }
 
   -- by any proof for which the items stand, and the anchors that are open in its scope
-  pub stand_for_images : IsTable s → IsOneToOne v.pass → ((p q : ProofItems Var Term) → IsTable s → IsOneToOne v.pass → StandForItems s v refs p → StandForItems s v refs q → p ≡ q) → (of : ProofItems Var Term) (anchors : List (List (Var × Term))) → StandForItems s v refs of → AreOpenIn of x.here anchors → StandForReplacement s v (bindings_of x.substitution) (images anchors)
+  pub stand_for_images : IsTable s → IsOneToOne v.pass → ((p q : ProofItems Var Term) → IsTable s → IsOneToOne v.pass → StandForItems s v refs p → StandForItems s v refs q → p ≡ q) → (of : ProofItems Var Term) (anchors : List (List (Var × Term))) → StandForItems s v refs of → AreOpenIn of x.here anchors → StandForReplacement s v (all_bindings x.substitution) (images anchors)
   stand_for_images table known one of anchors stands here =
       let same = one kept.proof of table known kept.stand stands in
       let both = open_same of x.here level_here.anchors anchors (subst (λ p. AreOpenIn p x.here level_here.anchors) same level_here.are_open) here in
-      subst (λ xs. StandForReplacement s v (bindings_of x.substitution) (images xs)) both level_here.stand
+      subst (λ xs. StandForReplacement s v (all_bindings x.substitution) (images xs)) both level_here.stand
 
   -- the substitution of the scope went on, and the rest is as before
-  pub kept_later : BindingsStay → (w : TermsView) → KeepsTerms v w → (new : OpenScopes) → StandForItems s w refs kept.proof → scopes_of new ≡ scopes_of x → frames_of new.substitution ≡ frames_of x.substitution → IsRight w new.substitution → AreKept s w refs new
+  pub kept_later : BindingsStay → (w : TermsView) → KeepsTerms v w → (new : OpenScopes) → StandForItems s w refs kept.proof → scopes_entered new ≡ scopes_entered x → frames_of new.substitution ≡ frames_of x.substitution → IsRight w new.substitution → AreKept s w refs new
   kept_later stay w grows new stand scopes frames right = record {
     proof = kept.proof;
     stand = stand;
     levels = subst (λ ks. AreLevels s w kept.proof ks (frames_of new.substitution)) (sym scopes)
-        (subst (AreLevels s w kept.proof (scopes_of x)) (sym frames)
-        (levels_later stay s v w grows kept.proof (scopes_of x) (frames_of x.substitution) kept.levels));
+        (subst (AreLevels s w kept.proof (scopes_entered x)) (sym frames)
+        (levels_later stay s v w grows kept.proof (scopes_entered x) (frames_of x.substitution) kept.levels));
     right = right;
   }
 

@@ -2,7 +2,7 @@
 use Rattle.std.proofs.Common.{◌≡◌, ◌++◌, ℕ, List, [], ◌∷◌, reverse, Some, refl, sym, ◌∙◌, ap, subst}
 use Rattle.std.specs.List.{AllZip}
 use Rattle.contexts.specs.declared.kept.Substitution.{Substitution}
-use Rattle.contexts.specs.Kept.{IsRight, bindings_of, frames_of}
+use Rattle.contexts.specs.Kept.{IsRight, all_bindings, frames_of}
 use Rattle.contexts.specs.PutIn.{StandForReplacement, AreReplacementBy, joined}
 use Rattle.pair_pool.specs.Views.{PassView, IsOneToOne}
 use Rattle.proof_store.specs.Meaning.{StandForItems, IsBindingOf}
@@ -15,7 +15,7 @@ use Rattle.term_model.specs.Terms.{Var, Term}
 use Rattle.term_pool.specs.Views.{TermsView, IsTerm, KeepsTerms}
 use Rattle.proof_contexts.specs.declared.scopes.OpenScopes.{OpenScopes}
 use Rattle.proof_contexts.specs.Images.{BindTerms, IsImageIn}
-use Rattle.proof_contexts.specs.OpenAnchors.{IsLevel, AreLevels, IsImageOf, scopes_of, AreKept}
+use Rattle.proof_contexts.specs.OpenAnchors.{IsLevel, AreLevels, IsAnchorImage, scopes_entered, AreKept}
 use Rattle.proof_contexts.specs.Placing.{PlacesOf, LacksRoomForSome}
 use Rattle.proof_contexts.proofs.ImageLists.{stand_joined}
 use Rattle.proof_contexts.proofs.Levels.{BindingsStay, levels_later, stand_later, scopes_more, level_here}
@@ -37,12 +37,12 @@ StandForOne = (s : Table) (v : TermsView) (refs : ProofItems ℕ ℕ) (p q : Pro
 
 module _ (s : Table) (v : TermsView) (refs : ProofItems ℕ ℕ) (x : OpenScopes) (kept : AreKept s v refs x) (k : ℕ) (parent : parent_at refs k ≡ Some x.here) (same_parent : parent_at refs k ≡ parent_at kept.proof k) where
   -- the bindings of the new frame stand for the images of the anchor's variables
-  pub inner_stand : (stay : BindingsStay) (w : TermsView) (sub : Substitution) → KeepsTerms v w → frames_of sub ≡ frames_of x.substitution → (list : List (ℕ × ℕ)) → AllZip (IsBindingOf s w) list (put_in_each (images (level_here s v refs x kept).anchors) (bindings_at kept.proof k)) → StandForReplacement s w (list ++ bindings_of sub) (images (bindings_at kept.proof k ∷ (level_here s v refs x kept).anchors))
+  pub inner_stand : (stay : BindingsStay) (w : TermsView) (sub : Substitution) → KeepsTerms v w → frames_of sub ≡ frames_of x.substitution → (list : List (ℕ × ℕ)) → AllZip (IsBindingOf s w) list (put_in_each (images (level_here s v refs x kept).anchors) (bindings_at kept.proof k)) → StandForReplacement s w (list ++ all_bindings sub) (images (bindings_at kept.proof k ∷ (level_here s v refs x kept).anchors))
   inner_stand stay w sub grows same list zip =
-      stand_joined s w list (bindings_of sub) (put_in_each (images (level_here s v refs x kept).anchors) (bindings_at kept.proof k)) (images (level_here s v refs x kept).anchors) zip
+      stand_joined s w list (all_bindings sub) (put_in_each (images (level_here s v refs x kept).anchors) (bindings_at kept.proof k)) (images (level_here s v refs x kept).anchors) zip
       (stand_later stay s v w x.substitution sub grows same (images (level_here s v refs x kept).anchors) (level_here s v refs x kept).stand)
 
-  pub inner_replacement : (stay : BindingsStay) (w : TermsView) (sub : Substitution) → KeepsTerms v w → frames_of sub ≡ frames_of x.substitution → (list : List (ℕ × ℕ)) → AllZip (IsBindingOf s w) list (put_in_each (images (level_here s v refs x kept).anchors) (bindings_at kept.proof k)) → AreReplacementBy s w (list ++ bindings_of sub)
+  pub inner_replacement : (stay : BindingsStay) (w : TermsView) (sub : Substitution) → KeepsTerms v w → frames_of sub ≡ frames_of x.substitution → (list : List (ℕ × ℕ)) → AllZip (IsBindingOf s w) list (put_in_each (images (level_here s v refs x kept).anchors) (bindings_at kept.proof k)) → AreReplacementBy s w (list ++ all_bindings sub)
   inner_replacement stay w sub grows same list zip = record {
     means = images (bindings_at kept.proof k ∷ (level_here s v refs x kept).anchors);
     are = inner_stand stay w sub grows same list zip;
@@ -68,9 +68,9 @@ module _ (s : Table) (v : TermsView) (refs : ProofItems ℕ ℕ) (x : OpenScopes
       }
 
       outer : AreLevels s w kept.proof (x.here ∷ reverse x.around.items) (frames_of sub)
-      outer = subst (AreLevels s w kept.proof (scopes_of x)) (sym same) (levels_later stay s v w grows kept.proof (scopes_of x) (frames_of x.substitution) kept.levels)
+      outer = subst (AreLevels s w kept.proof (scopes_entered x)) (sym same) (levels_later stay s v w grows kept.proof (scopes_entered x) (frames_of x.substitution) kept.levels)
 
-  is_image : (t : Term) → IsImageIn (images (level_here s v refs x kept).anchors) (bindings_at kept.proof k) t → IsImageOf kept.proof t
+  is_image : (t : Term) → IsImageIn (images (level_here s v refs x kept).anchors) (bindings_at kept.proof k) t → IsAnchorImage kept.proof t
   is_image t h = record {
     scope = k;
     anchor = bindings_at kept.proof k;
@@ -80,12 +80,12 @@ module _ (s : Table) (v : TermsView) (refs : ProofItems ℕ ℕ) (x : OpenScopes
   }
 
   -- what is placed for the images of the anchor's variables
-  pub places_images : StandForOne → IsTable s → IsOneToOne v.pass → (new : PassView) → PlacesOf s v.pass new (IsImageIn (images (level_here s v refs x kept).anchors) (bindings_at kept.proof k)) → (of : ProofItems Var Term) → StandForItems s v refs of → PlacesOf s v.pass new (IsImageOf of)
+  pub places_images : StandForOne → IsTable s → IsOneToOne v.pass → (new : PassView) → PlacesOf s v.pass new (IsImageIn (images (level_here s v refs x kept).anchors) (bindings_at kept.proof k)) → (of : ProofItems Var Term) → StandForItems s v refs of → PlacesOf s v.pass new (IsAnchorImage of)
   places_images one table known new h of stands =
-      subst (λ p. PlacesOf s v.pass new (IsImageOf p)) (one s v refs kept.proof of table known kept.stand stands)
-      (places_kind s v.pass new (IsImageIn (images (level_here s v refs x kept).anchors) (bindings_at kept.proof k)) (IsImageOf kept.proof) is_image h)
+      subst (λ p. PlacesOf s v.pass new (IsAnchorImage p)) (one s v refs kept.proof of table known kept.stand stands)
+      (places_kind s v.pass new (IsImageIn (images (level_here s v refs x kept).anchors) (bindings_at kept.proof k)) (IsAnchorImage kept.proof) is_image h)
 
-  pub lacks_images : StandForOne → IsTable s → IsOneToOne v.pass → (new : PassView) → LacksRoomForSome s new (IsImageIn (images (level_here s v refs x kept).anchors) (bindings_at kept.proof k)) → (of : ProofItems Var Term) → StandForItems s v refs of → LacksRoomForSome s new (IsImageOf of)
+  pub lacks_images : StandForOne → IsTable s → IsOneToOne v.pass → (new : PassView) → LacksRoomForSome s new (IsImageIn (images (level_here s v refs x kept).anchors) (bindings_at kept.proof k)) → (of : ProofItems Var Term) → StandForItems s v refs of → LacksRoomForSome s new (IsAnchorImage of)
   lacks_images one table known new h of stands =
-      subst (λ p. LacksRoomForSome s new (IsImageOf p)) (one s v refs kept.proof of table known kept.stand stands)
-      (lacks_kind s new (IsImageIn (images (level_here s v refs x kept).anchors) (bindings_at kept.proof k)) (IsImageOf kept.proof) is_image h)
+      subst (λ p. LacksRoomForSome s new (IsAnchorImage p)) (one s v refs kept.proof of table known kept.stand stands)
+      (lacks_kind s new (IsImageIn (images (level_here s v refs x kept).anchors) (bindings_at kept.proof k)) (IsAnchorImage kept.proof) is_image h)

@@ -19,7 +19,7 @@ AreOpenIn proof k (anchor ∷ outer) =
     (p : ℕ) × (parent_at proof k ≡ Some p) × (bindings_at proof k ≡ anchor) × AreOpenIn proof p outer
 
 -- the term is the image of a variable that an anchor of the proof binds
-pub record IsImageOf (proof : ProofItems Var Term) (t : Term) : Type 0 where
+pub record IsAnchorImage (proof : ProofItems Var Term) (t : Term) : Type 0 where
   pub scope : ℕ
   pub anchor : List (Var × Term)
   pub outer : List (List (Var × Term))
@@ -45,14 +45,14 @@ AreLevels s v proof (k ∷ ks) (bs ∷ frames) =
     IsLevel s v proof k (joined (bs ∷ frames)) × EndsOutermost k ks × AreLevels s v proof ks frames
 
 -- the scopes that were entered, the last one first
-abbrev pub scopes_of : OpenScopes → List ℕ
-scopes_of x = x.here ∷ reverse x.around.items
+abbrev pub scopes_entered : OpenScopes → List ℕ
+scopes_entered x = x.here ∷ reverse x.around.items
 
 -- what is kept is right, of the proof for which these items stand
 pub record AreKept (s : Table) (v : TermsView) (refs : ProofItems ℕ ℕ) (x : OpenScopes) : Type 0 where
   pub proof : ProofItems Var Term
   pub stand : StandForItems s v refs proof
-  pub levels : AreLevels s v proof (scopes_of x) (frames_of x.substitution)
+  pub levels : AreLevels s v proof (scopes_entered x) (frames_of x.substitution)
   pub right : IsRight v x.substitution
 
 -- the scope that was entered last

@@ -9,10 +9,10 @@ use Rattle.proof_contexts.specs.OpenAnchors.{AreKept}
 use Rattle.proof_contexts.specs.declared.scopes.OpenScopes.{OpenScopes}
 
 -- from the scope `start` the scopes of the list have to be entered, the last of them first, to be in `goal`
-abbrev pub IsWay : ProofItems ℕ ℕ → ℕ → ℕ → List ℕ → Type 0
-IsWay proof start goal [] = goal ≡ start
-IsWay proof start goal (k ∷ ks) =
-    (goal ≡ k) × (k ≤ subproofs_in proof) × ((p : ℕ) × (parent_at proof k ≡ Some p) × IsWay proof start p ks)
+abbrev pub IsWayDown : ProofItems ℕ ℕ → ℕ → ℕ → List ℕ → Type 0
+IsWayDown proof start goal [] = goal ≡ start
+IsWayDown proof start goal (k ∷ ks) =
+    (goal ≡ k) × (k ≤ subproofs_in proof) × ((p : ℕ) × (parent_at proof k ≡ Some p) × IsWayDown proof start p ks)
 
 -- what is kept is right of some proof
 pub record AreKeptOfSome (x : OpenScopes) : Type 0 where

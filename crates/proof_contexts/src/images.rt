@@ -2,7 +2,7 @@
 
 ghost use Rattle.std.specs.Prelude.{◌≡◌, ◌∷◌, [], List, IfErr, IfOk};
 ghost use Rattle.std.specs.List.{AllZip};
-ghost use Rattle.contexts.specs.Kept.{IsRight, bindings_of, frames_of};
+ghost use Rattle.contexts.specs.Kept.{IsRight, all_bindings, frames_of};
 ghost use Rattle.contexts.specs.PutIn.{AreReplacementBy, LacksRoomFor, PlacesTerm, StandForReplacement};
 ghost use Rattle.proof_store.specs.Meaning.{IsBindingOf};
 ghost use Rattle.rule_model.specs.Contexts.{put_in_each};
@@ -28,13 +28,13 @@ fn image_of(
     terms: &mut Terms<'_>,
 ) -> Result<(u32, Ref), TermStop>
     requires binding { BindTerms symbols.now terms.old (binding ∷ []) }
-    requires outer { AreReplacementBy symbols.now terms.old (bindings_of outer.old) }
+    requires outer { AreReplacementBy symbols.now terms.old (all_bindings outer.old) }
     requires right { IsRight terms.old outer.old }
-    ensures image { IfOk result (λ i. (q : Replacement) (b : Var × Term) → StandForReplacement symbols.now terms.old (bindings_of outer.old) q → IsBindingOf symbols.now terms.old binding b →
+    ensures image { IfOk result (λ i. (q : Replacement) (b : Var × Term) → StandForReplacement symbols.now terms.old (all_bindings outer.old) q → IsBindingOf symbols.now terms.old binding b →
         IsBindingOf symbols.now terms.new i (b.0, put_in q b.1)) }
-    ensures placed { (q : Replacement) (b : Var × Term) → StandForReplacement symbols.now terms.old (bindings_of outer.old) q → IsBindingOf symbols.now terms.old binding b →
+    ensures placed { (q : Replacement) (b : Var × Term) → StandForReplacement symbols.now terms.old (all_bindings outer.old) q → IsBindingOf symbols.now terms.old binding b →
         PlacesTerm symbols.now terms.old.pass terms.new.pass (put_in q b.1) }
-    ensures full { IfErr result (λ e. e ≡ TermStop.PoolFull → (q : Replacement) (b : Var × Term) → StandForReplacement symbols.now terms.old (bindings_of outer.old) q → IsBindingOf symbols.now terms.old binding b →
+    ensures full { IfErr result (λ e. e ≡ TermStop.PoolFull → (q : Replacement) (b : Var × Term) → StandForReplacement symbols.now terms.old (all_bindings outer.old) q → IsBindingOf symbols.now terms.old binding b →
         LacksRoomFor symbols.now terms.new.pass (put_in q b.1)) }
     ensures right { IsRight terms.new outer.new }
     ensures same { frames_of outer.new ≡ frames_of outer.old }
@@ -53,13 +53,13 @@ pub(crate) fn images_of(
     terms: &mut Terms<'_>,
 ) -> Result<Vec<(u32, Ref)>, TermStop>
     requires anchor { BindTerms symbols.now terms.old anchor.now }
-    requires outer { AreReplacementBy symbols.now terms.old (bindings_of outer.old) }
+    requires outer { AreReplacementBy symbols.now terms.old (all_bindings outer.old) }
     requires right { IsRight terms.old outer.old }
-    ensures images { IfOk result (λ list. (q : Replacement) (bound : List (Var × Term)) → StandForReplacement symbols.now terms.old (bindings_of outer.old) q → AllZip (IsBindingOf symbols.now terms.old) anchor.now bound →
+    ensures images { IfOk result (λ list. (q : Replacement) (bound : List (Var × Term)) → StandForReplacement symbols.now terms.old (all_bindings outer.old) q → AllZip (IsBindingOf symbols.now terms.old) anchor.now bound →
         AllZip (IsBindingOf symbols.now terms.new) list.items (put_in_each q bound)) }
-    ensures placed { (q : Replacement) (bound : List (Var × Term)) → StandForReplacement symbols.now terms.old (bindings_of outer.old) q → AllZip (IsBindingOf symbols.now terms.old) anchor.now bound →
+    ensures placed { (q : Replacement) (bound : List (Var × Term)) → StandForReplacement symbols.now terms.old (all_bindings outer.old) q → AllZip (IsBindingOf symbols.now terms.old) anchor.now bound →
         PlacesOf symbols.now terms.old.pass terms.new.pass (IsImageIn q bound) }
-    ensures full { IfErr result (λ e. e ≡ TermStop.PoolFull → (q : Replacement) (bound : List (Var × Term)) → StandForReplacement symbols.now terms.old (bindings_of outer.old) q → AllZip (IsBindingOf symbols.now terms.old) anchor.now bound →
+    ensures full { IfErr result (λ e. e ≡ TermStop.PoolFull → (q : Replacement) (bound : List (Var × Term)) → StandForReplacement symbols.now terms.old (all_bindings outer.old) q → AllZip (IsBindingOf symbols.now terms.old) anchor.now bound →
         LacksRoomForSome symbols.now terms.new.pass (IsImageIn q bound)) }
     ensures right { IsRight terms.new outer.new }
     ensures same { frames_of outer.new ≡ frames_of outer.old }

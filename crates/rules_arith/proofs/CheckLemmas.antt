@@ -15,7 +15,7 @@ use Rattle.schema_match.specs.declared.instances.SchemaParts.{SchemaParts}
 use Rattle.schema_match.specs.Schemas.{AreSchemaParts, HasParts}
 use Rattle.rules_arith.specs.Answers.{Tells}
 use Rattle.rules_arith.specs.Families.{IsOfArithmetic}
-use Rattle.rules_arith.specs.Steps.{schema_of, MeetsArithmetic, IsWideArithmetic, met_if}
+use Rattle.rules_arith.specs.Steps.{arithmetic_schema_of, MeetsArithmetic, IsWideArithmetic, met_if}
 
 -- an answer says the same of what is the same
 pub tells_same : {W V M N : Type 0} (a : Answer) → (W ↔ V) → (M ↔ N) → Tells a W M → Tells a V N
@@ -28,13 +28,13 @@ met_tells true none test = (none, test.0 refl)
 met_tells false none test = (none, λ m. let e = test.1 m in absurd cc)
 
 -- a rule that has a schema, and one that has none
-pub schema_tells : (rule : Rule) (ratios : Option (List Fraction)) (parts : SchemaParts) (ts : List Term) (b : Bool) → AreSchemaParts (schema_of rule) (Some parts) → ((of : Schema) → HasParts of.premises of.clause parts → IsTrue b ↔ IsInstance of [] ts) → Tells (met_if b) (IsWideArithmetic rule ratios ts) (MeetsArithmetic rule ratios ts)
+pub schema_tells : (rule : Rule) (ratios : Option (List Fraction)) (parts : SchemaParts) (ts : List Term) (b : Bool) → AreSchemaParts (arithmetic_schema_of rule) (Some parts) → ((of : Schema) → HasParts of.premises of.clause parts → IsTrue b ↔ IsInstance of [] ts) → Tells (met_if b) (IsWideArithmetic rule ratios ts) (MeetsArithmetic rule ratios ts)
 schema_tells Rule.LaDisequality ratios parts ts b are test = met_tells b (λ h. h) (test _ are)
 schema_tells Rule.LaTotality ratios parts ts b are test = met_tells b (λ h. h) (test _ are)
 schema_tells Rule.LaRwEq ratios parts ts b are test = met_tells b (λ h. h) (test _ are)
 schema_tells _ ratios parts ts b are test = absurd are
 
-pub form_rule_tells : (rule : Rule) (ratios : Option (List Fraction)) (ts : List Term) (a : Answer) → IsOfArithmetic rule → rule ≢ Rule.LaGeneric → AreSchemaParts (schema_of rule) None → Tells a (IsWideFormSimplification [] ts) (MeetsFormSimplification [] ts) → Tells a (IsWideArithmetic rule ratios ts) (MeetsArithmetic rule ratios ts)
+pub form_rule_tells : (rule : Rule) (ratios : Option (List Fraction)) (ts : List Term) (a : Answer) → IsOfArithmetic rule → rule ≢ Rule.LaGeneric → AreSchemaParts (arithmetic_schema_of rule) None → Tells a (IsWideFormSimplification [] ts) (MeetsFormSimplification [] ts) → Tells a (IsWideArithmetic rule ratios ts) (MeetsArithmetic rule ratios ts)
 form_rule_tells Rule.SumSimplify ratios ts a is other are tells = tells
 form_rule_tells Rule.ProdSimplify ratios ts a is other are tells = tells
 form_rule_tells Rule.MinusSimplify ratios ts a is other are tells = tells

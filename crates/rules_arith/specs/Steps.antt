@@ -11,11 +11,11 @@ use Rattle.rule_model.specs.Patterns.{a, b, no, conj, disj, equal, less_eq}
 use Rattle.rule_model.specs.Proofs.{Fraction}
 use Rattle.rule_model.specs.Schemas.{Schema, ternary, tautology, IsInstanceOf}
 
-abbrev pub schema_of : Rule → Option Schema
-schema_of Rule.LaDisequality = tautology (ternary Op.Or (equal a b) (no (less_eq a b)) (no (less_eq b a)) ∷ [])
-schema_of Rule.LaTotality = tautology (disj (less_eq a b) (less_eq b a) ∷ [])
-schema_of Rule.LaRwEq = tautology (equal (equal a b) (conj (less_eq a b) (less_eq b a)) ∷ [])
-schema_of rule = None
+abbrev pub arithmetic_schema_of : Rule → Option Schema
+arithmetic_schema_of Rule.LaDisequality = tautology (ternary Op.Or (equal a b) (no (less_eq a b)) (no (less_eq b a)) ∷ [])
+arithmetic_schema_of Rule.LaTotality = tautology (disj (less_eq a b) (less_eq b a) ∷ [])
+arithmetic_schema_of Rule.LaRwEq = tautology (equal (equal a b) (conj (less_eq a b) (less_eq b a)) ∷ [])
+arithmetic_schema_of rule = None
 
 abbrev pub MeetsArithmetic : Rule → Option (List Fraction) → List Term → Type 0
 MeetsArithmetic Rule.LaGeneric ratios clause = MeetsLaGeneric ratios [] clause
@@ -23,7 +23,7 @@ MeetsArithmetic Rule.SumSimplify ratios clause = MeetsFormSimplification [] clau
 MeetsArithmetic Rule.ProdSimplify ratios clause = MeetsFormSimplification [] clause
 MeetsArithmetic Rule.MinusSimplify ratios clause = MeetsFormSimplification [] clause
 MeetsArithmetic Rule.UnaryMinusSimplify ratios clause = MeetsFormSimplification [] clause
-MeetsArithmetic rule ratios clause = IsInstanceOf (schema_of rule) [] clause
+MeetsArithmetic rule ratios clause = IsInstanceOf (arithmetic_schema_of rule) [] clause
 
 abbrev pub IsWideArithmetic : Rule → Option (List Fraction) → List Term → Type 0
 IsWideArithmetic Rule.LaGeneric ratios clause = IsWideLaGeneric ratios [] clause

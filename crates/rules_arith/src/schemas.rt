@@ -1,7 +1,7 @@
 //! The schemas of rules of linear arithmetic, in prefix order.
 
 ghost use Rattle.schema_match.specs.Schemas.{AreSchemaParts};
-ghost use Rattle.rules_arith.specs.Steps.{schema_of};
+ghost use Rattle.rules_arith.specs.Steps.{arithmetic_schema_of};
 
 use rule_model::{Letter, Rule};
 use schema_match::{Part, SchemaParts};
@@ -25,7 +25,7 @@ const LESS_EQ: Part = Part::Apply(Op::LessEq, 2);
 
 /// The schema of a rule that has one.
 pub(crate) fn arithmetic_schema(rule: Rule) -> Option<SchemaParts>
-    ensures { AreSchemaParts (schema_of rule) result }
+    ensures { AreSchemaParts (arithmetic_schema_of rule) result }
 {
     match rule {
         Rule::LaDisequality => Some(SchemaParts::Tautology(&[

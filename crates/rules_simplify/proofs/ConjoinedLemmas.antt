@@ -7,23 +7,23 @@ use Rattle.rule_model.specs.declared.letter.Letter.{Letter}
 use Rattle.rule_model.specs.Rewriting.{IsFirstFit, IsReached, once, again}
 use Rattle.rule_model.specs.Simplification.{bool_simplify}
 use Rattle.rules_simplify.specs.Chains.{heaviness}
-use Rattle.rules_simplify.specs.Conjoined.{conjunction, implication, conjoined}
+use Rattle.rules_simplify.specs.Conjoined.{conjunction, implication_of, conjoined}
 use Rattle.rules_simplify.proofs.ChainLemmas.{reached_none, reached_next}
 
--- what the first row that fits makes of an implication from an `and`
+-- what the first row that fits makes of an implication_of from an `and`
 pub record IsConjoinedOnce (x y z u : Term) : Type 0 where
   pub premise : Term
   pub rest : Term
-  pub splits : z ≡ implication premise rest
-  pub makes : u ≡ implication (conjunction (conjunction x y) premise) rest
+  pub splits : z ≡ implication_of premise rest
+  pub makes : u ≡ implication_of (conjunction (conjunction x y) premise) rest
 
-pub first_conjoins : (x y z u : Term) → IsFirstFit bool_simplify (implication (conjunction x y) z) u → IsConjoinedOnce x y z u
+pub first_conjoins : (x y z u : Term) → IsFirstFit bool_simplify (implication_of (conjunction x y) z) u → IsConjoinedOnce x y z u
 first_conjoins x y z u (inl r) = absurd (let e = r.from in cc)
 first_conjoins x y z u (inr (_, inl r)) = absurd (let e = r.from in cc)
 first_conjoins x y z u (inr (_, inr (_, inl r))) = absurd (let e = r.from in cc)
 first_conjoins x y z u (inr (_, inr (_, inr (_, inl r)))) =
-    let e : implication (conjunction x y) z ≡ implication (r.terms Letter.A) (implication (r.terms Letter.B) (r.terms Letter.C)) = r.from in
-    let to : u ≡ implication (conjunction (r.terms Letter.A) (r.terms Letter.B)) (r.terms Letter.C) = r.to in
+    let e : implication_of (conjunction x y) z ≡ implication_of (r.terms Letter.A) (implication_of (r.terms Letter.B) (r.terms Letter.C)) = r.from in
+    let to : u ≡ implication_of (conjunction (r.terms Letter.A) (r.terms Letter.B)) (r.terms Letter.C) = r.to in
     record { premise = r.terms Letter.B; rest = r.terms Letter.C; splits = cc; makes = cc }
 first_conjoins x y z u (inr (_, inr (_, inr (_, inr (_, inl r))))) = absurd (let e = r.from in cc)
 first_conjoins x y z u (inr (_, inr (_, inr (_, inr (_, inr (_, inl r)))))) = absurd (let e = r.from in cc)
@@ -36,7 +36,7 @@ letters_of x y z Letter.B = y
 letters_of x y z Letter.C = z
 letters_of x y z Letter.D = z
 
-pub conjoins_first : (x y b c : Term) → IsFirstFit bool_simplify (implication (conjunction x y) (implication b c)) (implication (conjunction (conjunction x y) b) c)
+pub conjoins_first : (x y b c : Term) → IsFirstFit bool_simplify (implication_of (conjunction x y) (implication_of b c)) (implication_of (conjunction (conjunction x y) b) c)
 conjoins_first x y b c =
     inr (
       (λ h. let e = h.1.from in absurd cc),
@@ -49,8 +49,8 @@ conjoins_first x y b c =
       ),
     )
 
--- `(and x (not y))` fits no row but where x is an implication from that negation
-pub negation_fits_none : (x y u : Term) → ((z : Term) → x ≢ implication (not_of y) z) → ¬ IsFirstFit bool_simplify (conjunction x (not_of y)) u
+-- `(and x (not y))` fits no row but where x is an implication_of from that negation
+pub negation_fits_none : (x y u : Term) → ((z : Term) → x ≢ implication_of (not_of y) z) → ¬ IsFirstFit bool_simplify (conjunction x (not_of y)) u
 negation_fits_none x y u other (inl r) = absurd (let e = r.from in cc)
 negation_fits_none x y u other (inr (_, inl r)) = absurd (let e = r.from in cc)
 negation_fits_none x y u other (inr (_, inr (_, inl r))) = absurd (let e = r.from in cc)
@@ -58,21 +58,21 @@ negation_fits_none x y u other (inr (_, inr (_, inr (_, inl r)))) = absurd (let 
 negation_fits_none x y u other (inr (_, inr (_, inr (_, inr (_, inl r))))) = absurd (let e = r.from in cc)
 negation_fits_none x y u other (inr (_, inr (_, inr (_, inr (_, inr (_, inl r)))))) = absurd (let e = r.from in cc)
 negation_fits_none x y u other (inr (_, inr (_, inr (_, inr (_, inr (_, inr (_, inl r))))))) =
-    let e : conjunction x (not_of y) ≡ conjunction (implication (r.terms Letter.A) (r.terms Letter.B)) (r.terms Letter.A) = r.from in
+    let e : conjunction x (not_of y) ≡ conjunction (implication_of (r.terms Letter.A) (r.terms Letter.B)) (r.terms Letter.A) = r.from in
     other (r.terms Letter.B) cc
 negation_fits_none x y u other (inr (_, inr (_, inr (_, inr (_, inr (_, inr (_, inr (_, h)))))))) = absurd h
 
--- each term that is reached from such an implication is one whose conclusion is lighter
+-- each term that is reached from such an implication_of is one whose conclusion is lighter
 pub record IsFarther (z u : Term) : Type 0 where
   pub premise : Term
   pub rest : Term
-  pub is : u ≡ implication premise rest
+  pub is : u ≡ implication_of premise rest
   pub lighter : heaviness rest < heaviness z
 
-pub lighter_conclusion : (b c z : Term) → z ≡ implication b c → heaviness c < heaviness z
+pub lighter_conclusion : (b c z : Term) → z ≡ implication_of b c → heaviness c < heaviness z
 lighter_conclusion b c z e = rw e (omega arith)
 
-pub reached_farther : (x y z t u : Term) → IsReached bool_simplify t u → t ≡ implication (conjunction x y) z → IsFarther z u
+pub reached_farther : (x y z t u : Term) → IsReached bool_simplify t u → t ≡ implication_of (conjunction x y) z → IsFarther z u
 reached_farther x y z t u (once t' u' h) is =
     let step = first_conjoins x y z u (subst (λ w. IsFirstFit bool_simplify w u) is h) in
     record {
@@ -88,24 +88,24 @@ reached_farther x y z t u (again t' w u' h more) is =
     let after = later.lighter in
     record { premise = later.premise; rest = later.rest; is = later.is; lighter = omega (arith, falls, after) }
 
--- one step from an implication whose conclusion is one
+-- one step from an implication_of whose conclusion is one
 module _ (x y b c u : Term) where
-  step_first : IsFirstFit bool_simplify (implication (conjunction x y) (implication b c)) (implication (conjunction (conjunction x y) b) c)
+  step_first : IsFirstFit bool_simplify (implication_of (conjunction x y) (implication_of b c)) (implication_of (conjunction (conjunction x y) b) c)
   step_first = conjoins_first x y b c
 
-  step_only : (w : Term) → IsFirstFit bool_simplify (implication (conjunction x y) (implication b c)) w → w ≡ implication (conjunction (conjunction x y) b) c
+  step_only : (w : Term) → IsFirstFit bool_simplify (implication_of (conjunction x y) (implication_of b c)) w → w ≡ implication_of (conjunction (conjunction x y) b) c
   step_only w h =
-      let step = first_conjoins x y (implication b c) w h in
+      let step = first_conjoins x y (implication_of b c) w h in
       let splits = step.splits in
       let makes = step.makes in
       cc
 
-  pub conjoined_next : IsReached bool_simplify (implication (conjunction x y) (implication b c)) u ↔ ((u ≡ implication (conjunction (conjunction x y) b) c) ⊎ IsReached bool_simplify (implication (conjunction (conjunction x y) b) c) u)
-  conjoined_next = reached_next bool_simplify (implication (conjunction x y) (implication b c)) (implication (conjunction (conjunction x y) b) c) u step_first step_only
+  pub conjoined_next : IsReached bool_simplify (implication_of (conjunction x y) (implication_of b c)) u ↔ ((u ≡ implication_of (conjunction (conjunction x y) b) c) ⊎ IsReached bool_simplify (implication_of (conjunction (conjunction x y) b) c) u)
+  conjoined_next = reached_next bool_simplify (implication_of (conjunction x y) (implication_of b c)) (implication_of (conjunction (conjunction x y) b) c) u step_first step_only
 
-pub none_from : (x y z u : Term) → ((b c : Term) → z ≢ implication b c) → ¬ IsReached bool_simplify (implication (conjunction x y) z) u
+pub none_from : (x y z u : Term) → ((b c : Term) → z ≢ implication_of b c) → ¬ IsReached bool_simplify (implication_of (conjunction x y) z) u
 none_from x y z u other =
-    reached_none bool_simplify (implication (conjunction x y) z) u (λ w h. let step = first_conjoins x y z w h in other step.premise step.rest step.splits)
+    reached_none bool_simplify (implication_of (conjunction x y) z) u (λ w h. let step = first_conjoins x y z w h in other step.premise step.rest step.splits)
 
 -- terms that are joined one after the other
 pub conjoined_last : (t : Term) (us : List Term) (u : Term) → conjoined t (us ++ u ∷ []) ≡ conjunction (conjoined t us) u

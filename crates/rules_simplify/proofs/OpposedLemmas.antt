@@ -8,7 +8,7 @@ use Rattle.term_pool.specs.Views.{TermsView, RefersTo}
 use Rattle.rule_model.proofs.Lists.{contains_none}
 use Rattle.rule_model.specs.Simplification.{negated, AreOpposed}
 use Rattle.schema_match.proofs.ReferLemmas.{AreOne}
-use Rattle.rules_simplify.specs.Joins.{IsAdded, IsMetOtherwise}
+use Rattle.rules_simplify.specs.Joins.{AddsNumber, IsMetOtherwise}
 use Rattle.rules_simplify.proofs.NegationLemmas.{negated_is, nots_more, bare_of, one_strips, half, parity_even, parity_odd, even_count, odd_count}
 
 -- an item of the list is u behind so many negations
@@ -93,7 +93,7 @@ module _ (s : Table) (v : TermsView) where
   noted_start even odd e f = record { evens = none_noted false even e; odds = none_noted true odd f; apart = λ u h k. absurd (contains_none h.whole h.there) }
 
   module _ (one : AreOne s v) (ts : List Term) (t u : Term) (bare : ℕ) (refers : RefersTo s v bare u) where
-    same_kind : (b : Bool) (old new : List ℕ) → Strips t u b → IsAdded old new bare → AreNoted ts b old → AreNoted (ts ++ t ∷ []) b new
+    same_kind : (b : Bool) (old new : List ℕ) → Strips t u b → AddsNumber old new bare → AreNoted ts b old → AreNoted (ts ++ t ∷ []) b new
     same_kind b old new strips added noted r w r_refers = (
       λ c. elim ((added r).0 c) [
         | inl there ↦ stands_before ts t w b ((noted r w r_refers).0 there)

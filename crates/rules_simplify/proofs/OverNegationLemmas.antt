@@ -9,15 +9,15 @@ use Rattle.rule_model.specs.Patterns.{a, b, no, conj}
 use Rattle.rule_model.specs.Rewriting.{IsFirstFit}
 use Rattle.rule_model.specs.Schemas.{fill}
 use Rattle.rule_model.specs.Simplification.{bool_simplify}
-use Rattle.rules_simplify.specs.Conjoined.{AreOperands, implication}
+use Rattle.rules_simplify.specs.Conjoined.{AreOperands, implication_of}
 use Rattle.rules_simplify.proofs.ConjoinedLemmas.{negation_fits_none}
 use Rattle.rules_simplify.proofs.JoinLemmas.{told_apart}
 
-first_inside : (x y z w : Term) → implication x y ≡ implication z w → x ≡ z
+first_inside : (x y z w : Term) → implication_of x y ≡ implication_of z w → x ≡ z
 first_inside x y z w e = cc
 
 module _ (s : Table) (v : TermsView) (f : Letter → Term) (u : Term) (first : ℕ) (refers : RefersTo s v first (f Letter.A)) where
-  pub no_implication : ((t x y : Term) → RefersTo s v first t → t ≢ implication x y) → ¬ IsFirstFit bool_simplify (fill f (conj a (no b))) u
+  pub no_implication : ((t x y : Term) → RefersTo s v first t → t ≢ implication_of x y) → ¬ IsFirstFit bool_simplify (fill f (conj a (no b))) u
   no_implication other = negation_fits_none (f Letter.A) (f Letter.B) u (λ z e. other (f Letter.A) (not_of (f Letter.B)) z refers e)
 
   pub other_premise : (p : ℕ × ℕ) (second : ℕ) (told : Bool) → ((t : Term) → RefersTo s v first t → AreOperands s v Op.Implies p t) → RefersTo s v second (f Letter.B) → ((t w : Term) → RefersTo s v p.0 t → RefersTo s v second w → IsTrue told ↔ (t ≡ not_of w)) → told ≡ false → ¬ IsFirstFit bool_simplify (fill f (conj a (no b))) u

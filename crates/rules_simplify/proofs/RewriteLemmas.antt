@@ -18,8 +18,8 @@ use Rattle.rules_simplify.specs.declared.rewrites.Application.{Application}
 use Rattle.rules_simplify.specs.declared.rewrites.Fit.{Fit}
 use Rattle.rules_simplify.specs.declared.tables.RowParts.{RowParts}
 use Rattle.rules_simplify.specs.Asking.{letters_asked, IsAsAsked, AreSortedLetters}
-use Rattle.rules_simplify.specs.Chains.{IsAt, IsSomeAt, IsMissing, FitsBy, IsFirst}
-use Rattle.rules_simplify.specs.Tables.{root_of, arguments_in, IsRow, IsSomeRow, AreRows}
+use Rattle.rules_simplify.specs.Chains.{StandsForApplication, IsSomeAt, IsMissing, FitsBy, IsFirstRow}
+use Rattle.rules_simplify.specs.Tables.{root_of, patterns_in, IsRow, IsSomeRow, AreRows}
 use Rattle.rules_simplify.proofs.ChainLemmas.{row_at, rows_end, first_here, first_later, any_at, any_not_here, any_none}
 use Rattle.rules_simplify.proofs.AskingLemmas.{asked_is, sorted_letters}
 use Rattle.rules_simplify.proofs.RowLemmas.{arguments_are, from_arguments, filled_is, other_op, no_arguments, fit_is, made_is, does_fit, rewrite_is}
@@ -40,7 +40,7 @@ pub some_stack_under : (s : Table) (v : TermsView) (at : Application) (items new
 some_stack_under s v at items new r e pushed term some =
     record { terms = term.means ∷ some.is.arguments; refer = stack_under s v items new at.arguments.items r term.means some.is.arguments e pushed term.refers some.is.refer }
 
-module _ (s : Table) (v : TermsView) (table : List RewriteRow) (of : RewriteRow) (row : RowParts) (at : Application) (t : Term) (is : IsRow table of row) (here : IsAt s v at t) where
+module _ (s : Table) (v : TermsView) (table : List RewriteRow) (of : RewriteRow) (row : RowParts) (at : Application) (t : Term) (is : IsRow table of row) (here : StandsForApplication s v at t) where
   pub op_differs : (row.op ≡ at.op → ⊥) → ¬ FitsRow of t
   op_differs other = other_op of row.op at.op here.arguments t is.0 here.is other
 
@@ -48,8 +48,8 @@ module _ (s : Table) (v : TermsView) (table : List RewriteRow) (of : RewriteRow)
   row_passes f e = asked_is of.left of.guard row.asked f is.3.0 (subst IsWellSorted e here.sorted)
 
   module _ (letters : Letters) (items : List ℕ) (e : items ≡ reverse at.arguments.items) (test : (ps : List Pattern) (ts : List Term) → row.left.now ≡ parts_of ps → StackOf s v items ts → Matches s v letters ps ts) where
-    matched : Matches s v letters (arguments_in of.left) here.arguments
-    matched = test (arguments_in of.left) here.arguments is.1 (stack_of s v items at.arguments.items here.arguments e here.refer)
+    matched : Matches s v letters (patterns_in of.left) here.arguments
+    matched = test (patterns_in of.left) here.arguments is.1 (stack_of s v items at.arguments.items here.arguments e here.refer)
 
     agreed : (f : Letter → Term) → t ≡ fill f of.left → Agrees s v letters f
     agreed f fits = (matched.give f).0 (arguments_are of row.op at.op here.arguments t is.0 here.is f fits)
@@ -72,7 +72,7 @@ module _ (s : Table) (v : TermsView) (table : List RewriteRow) (of : RewriteRow)
 
   pub row_makes : (b : Bool) (items new : List ℕ) (r : ℕ) (u : Term) (f : Letter → Term) → items ≡ reverse at.arguments.items → new ≡ items ++ r ∷ [] → RefersTo s v r u → ((ps : List Pattern) (ts : List Term) → row.both.now ≡ parts_of ps → StackOf s v new ts → IsTrue b ↔ Fits ps ts) → t ≡ fill f of.left → IsTrue b ↔ (u ≡ fill f of.right)
   row_makes b items new r u f e pushed refers test fits =
-      made_is of row.op at.op here.arguments t is.0 here.is b u is.4 (test (of.right ∷ arguments_in of.left) (u ∷ here.arguments) is.2 (stack_under s v items new at.arguments.items r u here.arguments e pushed refers here.refer)) f fits
+      made_is of row.op at.op here.arguments t is.0 here.is b u is.4 (test (of.right ∷ patterns_in of.left) (u ∷ here.arguments) is.2 (stack_under s v items new at.arguments.items r u here.arguments e pushed refers here.refer)) f fits
 
   pub row_rewrites : (b : Bool) (u : Term) (letters : Letters) → FitsBy s v letters of t → ((f : Letter → Term) → t ≡ fill f of.left → IsTrue b ↔ (u ≡ fill f of.right)) → IsTrue b ↔ Rewrites of t u
   row_rewrites b u letters fits test =
@@ -109,7 +109,7 @@ module _ (rows : List RewriteRow) (parts : List RowParts) (are : AreRows rows pa
 
 -- and for the first that fits
 module _ (rows : List RewriteRow) (parts : List RowParts) (are : AreRows rows parts) (i : ℕ) (t : Term) where
-  pub first_found : (d : RowParts) (s : Table) (v : TermsView) (fit : Fit) → i < length parts → fit.row ≡ get_or parts i d → ((u : Term) → IsFirstFit (drop i rows) t u ↔ IsFirstFit rows t u) → ((of : RewriteRow) → IsRow rows of (get_or parts i d) → FitsBy s v fit.letters of t) → IsFirst s v rows fit t
+  pub first_found : (d : RowParts) (s : Table) (v : TermsView) (fit : Fit) → i < length parts → fit.row ≡ get_or parts i d → ((u : Term) → IsFirstFit (drop i rows) t u ↔ IsFirstFit rows t u) → ((of : RewriteRow) → IsRow rows of (get_or parts i d) → FitsBy s v fit.letters of t) → IsFirstRow s v rows fit t
   first_found d s v fit below is so_far test =
       let here = row_at rows i rows parts d are below in
       let fits = test here.row here.parts_are in

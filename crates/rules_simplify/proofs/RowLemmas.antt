@@ -19,7 +19,7 @@ use Rattle.schema_match.specs.Letters.{slot, Agrees, IsSettledAt}
 use Rattle.schema_match.specs.Matching.{Fits, Matches}
 use Rattle.schema_match.specs.declared.letters.Letters.{Letters}
 use Rattle.rules_simplify.specs.Chains.{FitsBy}
-use Rattle.rules_simplify.specs.Tables.{root_of, arguments_in, same_letter, has_letter, has_letters_of, may_be, is_last}
+use Rattle.rules_simplify.specs.Tables.{root_of, patterns_in, same_letter, has_letter, has_letters_of, may_be, is_last}
 use Rattle.rules_simplify.proofs.JoinLemmas.{same_lists}
 
 same_letters : (l m : Letter) → same_letter l m ≡ true → l ≡ m
@@ -72,7 +72,7 @@ module _ (f g : Letter → Term) where
       cc
 
 -- a pattern that is an application to some arguments
-pub filled_is : (f : Letter → Term) (p : Pattern) (op : Op) → root_of p ≡ Some op → fill f p ≡ operation op (terms_of (map (fill f) (arguments_in p)))
+pub filled_is : (f : Letter → Term) (p : Pattern) (op : Op) → root_of p ≡ Some op → fill f p ≡ operation op (terms_of (map (fill f) (patterns_in p)))
 filled_is f (letter l) op e = absurd cc
 filled_is f (constant o) op e = absurd cc
 filled_is f (unary o p) op e = let same : o ≡ op = cc in ap (λ x. operation x (term (fill f p) no_terms)) same
@@ -113,25 +113,25 @@ module _ (f : Letter → Term) where
 -- an application by an operator and arguments, and the left side of a row by its own
 module _ (row : RewriteRow) (op at_op : Op) (ts : List Term) (t : Term) (root : root_of row.left ≡ Some op) (is : t ≡ operation at_op (terms_of ts)) where
   pub op_is : (f : Letter → Term) → t ≡ fill f row.left → op ≡ at_op
-  op_is f e = same_op op at_op (map (fill f) (arguments_in row.left)) ts (sym (filled_is f row.left op root) ∙ (sym e ∙ is))
+  op_is f e = same_op op at_op (map (fill f) (patterns_in row.left)) ts (sym (filled_is f row.left op root) ∙ (sym e ∙ is))
 
-  pub arguments_are : (f : Letter → Term) → t ≡ fill f row.left → ts ≡ map (fill f) (arguments_in row.left)
+  pub arguments_are : (f : Letter → Term) → t ≡ fill f row.left → ts ≡ map (fill f) (patterns_in row.left)
   arguments_are f e =
-      same_lists at_op ts (map (fill f) (arguments_in row.left))
-      (sym is ∙ (e ∙ (filled_is f row.left op root ∙ ap (λ o. operation o (terms_of (map (fill f) (arguments_in row.left)))) (op_is f e))))
+      same_lists at_op ts (map (fill f) (patterns_in row.left))
+      (sym is ∙ (e ∙ (filled_is f row.left op root ∙ ap (λ o. operation o (terms_of (map (fill f) (patterns_in row.left)))) (op_is f e))))
 
-  pub from_arguments : op ≡ at_op → (f : Letter → Term) → ts ≡ map (fill f) (arguments_in row.left) → t ≡ fill f row.left
+  pub from_arguments : op ≡ at_op → (f : Letter → Term) → ts ≡ map (fill f) (patterns_in row.left) → t ≡ fill f row.left
   from_arguments same f e =
       is ∙ (ap (λ (us : List Term). operation at_op (terms_of us)) e
-      ∙ (ap (λ o. operation o (terms_of (map (fill f) (arguments_in row.left)))) (sym same) ∙ sym (filled_is f row.left op root)))
+      ∙ (ap (λ o. operation o (terms_of (map (fill f) (patterns_in row.left)))) (sym same) ∙ sym (filled_is f row.left op root)))
 
   pub other_op : (op ≡ at_op → ⊥) → ¬ FitsRow row t
   other_op other (u, r) = other (op_is r.terms r.from)
 
-  pub no_arguments : ¬ Fits (arguments_in row.left) ts → ¬ FitsRow row t
+  pub no_arguments : ¬ Fits (patterns_in row.left) ts → ¬ FitsRow row t
   no_arguments none (u, r) = none (r.terms, arguments_are r.terms r.from)
 
-  pub fit_is : (s : Table) (v : TermsView) (letters : Letters) → op ≡ at_op → IsWellSorted t → ((f : Letter → Term) → t ≡ fill f row.left → PassesGuard f row.guard) → Matches s v letters (arguments_in row.left) ts → FitsBy s v letters row t
+  pub fit_is : (s : Table) (v : TermsView) (letters : Letters) → op ≡ at_op → IsWellSorted t → ((f : Letter → Term) → t ≡ fill f row.left → PassesGuard f row.guard) → Matches s v letters (patterns_in row.left) ts → FitsBy s v letters row t
   fit_is s v letters same sorted passes m = record {
     terms = m.terms;
     agrees = m.agrees;
@@ -141,13 +141,13 @@ module _ (row : RewriteRow) (op at_op : Op) (ts : List Term) (t : Term) (root : 
   }
 
   -- both sides are matched at once
-  pub made_is : (b : Bool) (u : Term) → IsTrue (has_letters_of row.left row.right) → IsTrue b ↔ Fits (row.right ∷ arguments_in row.left) (u ∷ ts) → (f : Letter → Term) → t ≡ fill f row.left → IsTrue b ↔ (u ≡ fill f row.right)
+  pub made_is : (b : Bool) (u : Term) → IsTrue (has_letters_of row.left row.right) → IsTrue b ↔ Fits (row.right ∷ patterns_in row.left) (u ∷ ts) → (f : Letter → Term) → t ≡ fill f row.left → IsTrue b ↔ (u ≡ fill f row.right)
   made_is b u letters test f e = (
     λ h.
         (let both = test.0 h in
         let g = both.0 in
         let first : u ≡ fill g row.right = let pair = both.1 in cc in
-        let rest : ts ≡ map (fill g) (arguments_in row.left) = let pair = both.1 in cc in
+        let rest : ts ≡ map (fill g) (patterns_in row.left) = let pair = both.1 in cc in
         first ∙ right_told g f row.left row.right letters (sym (from_arguments (op_is f e) g rest) ∙ e)),
     λ h. test.1 (f, let rest = arguments_are f e in cc),
   )
@@ -223,7 +223,7 @@ letters_filled : (f : Letter → Term) (ls : List Letter) → map (fill f) (map 
 letters_filled f [] = refl
 letters_filled f (l ∷ ls) = ap (λ us. f l ∷ us) (letters_filled f ls)
 
-pub over_is : (f : Letter → Term) (p : Pattern) (op : Op) (ls : List Letter) → root_of p ≡ Some op → arguments_in p ≡ map letter ls → fill f p ≡ operation op (terms_of (map f ls))
+pub over_is : (f : Letter → Term) (p : Pattern) (op : Op) (ls : List Letter) → root_of p ≡ Some op → patterns_in p ≡ map letter ls → fill f p ≡ operation op (terms_of (map f ls))
 over_is f p op ls root are =
     filled_is f p op root ∙ ap (λ (us : List Term). operation op (terms_of us)) (ap (map (fill f)) are ∙ letters_filled f ls)
 
@@ -232,7 +232,7 @@ abbrev AreTold : Pattern → List Pattern → Type 0
 AreTold w [] = ⊤
 AreTold w (p ∷ ps) = IsTrue (has_letters_of w p) × AreTold w ps
 
-all_told : (w q : Pattern) → has_letters_of w q ≡ true → AreTold w (arguments_in q)
+all_told : (w q : Pattern) → has_letters_of w q ≡ true → AreTold w (patterns_in q)
 all_told w (letter l) e = tt
 all_told w (constant op) e = tt
 all_told w (unary op p) e = (e, tt)
@@ -251,7 +251,7 @@ told_at w (m ∷ ls) h l there =
       | inr later ↦ told_at w ls h.1 l later
     ]
 
-pub letter_there : (w q : Pattern) (ls : List Letter) → has_letters_of w q ≡ true → arguments_in q ≡ map letter ls → (l : Letter) → Contains ls l → has_letter l w ≡ true
+pub letter_there : (w q : Pattern) (ls : List Letter) → has_letters_of w q ≡ true → patterns_in q ≡ map letter ls → (l : Letter) → Contains ls l → has_letter l w ≡ true
 letter_there w q ls e are l there = told_at w ls (subst (AreTold w) are (all_told w q e)) l there
 
 -- operators tell that two patterns are of no one term

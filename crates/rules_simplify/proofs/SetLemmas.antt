@@ -6,7 +6,7 @@ use Rattle.std.proofs.lemmas.Bool.{eqb-true}
 use Rattle.std.proofs.lemmas.List.Elements.{Contains-push, Contains-push_cases, Contains-append_left}
 use Rattle.std.proofs.lemmas.Map.Views.{list_any-from_Contains, Contains-from_any}
 use Rattle.indexmap.specs.IndexSet.{insert_key}
-use Rattle.rules_simplify.specs.Joins.{IsMet, IsAdded}
+use Rattle.rules_simplify.specs.Joins.{IsMet, AddsNumber}
 
 pub has_number : (ks : List ℕ) (k : ℕ) → (list_any (nat_eq k) ks ≡ true) ↔ Contains ks k
 has_number ks k = (λ e. Contains-from_any (λ x y f. eqb-true x y f) k ks e, λ h. list_any-from_Contains nat_eq_equiv k ks h)
@@ -24,10 +24,10 @@ met_first old new r b h e = subst (IsMet old new r) e h
 pub met_again : (old new : List ℕ) (r : ℕ) (b : Bool) → IsMet old new r b → b ≡ false → IsMet old new r false
 met_again old new r b h e = subst (IsMet old new r) e h
 
-pub added_is : (old new : List ℕ) (k r : ℕ) → k ≡ r → new ≡ insert_key nat_eq old k → IsAdded old new r
-added_is old new k r e g = subst (IsAdded old new) e (go (list_any (nat_eq k) old) refl g)
+pub added_is : (old new : List ℕ) (k r : ℕ) → k ≡ r → new ≡ insert_key nat_eq old k → AddsNumber old new r
+added_is old new k r e g = subst (AddsNumber old new) e (go (list_any (nat_eq k) old) refl g)
   where
-    go : (t : Bool) → list_any (nat_eq k) old ≡ t → new ≡ cond t old (old ++ k ∷ []) → IsAdded old new k
+    go : (t : Bool) → list_any (nat_eq k) old ≡ t → new ≡ cond t old (old ++ k ∷ []) → AddsNumber old new k
     go true h g j = (
       λ c. inl (subst (λ (ks : List ℕ). Contains ks j) g c),
       λ c.

@@ -18,8 +18,8 @@ use Rattle.rules_simplify.specs.declared.tables.Next.TheVariants.{Ends, Part, Ov
 use Rattle.rules_simplify.specs.declared.tables.Simplification.{Simplification}
 use Rattle.rules_simplify.specs.declared.rewrites.Step.{Step}
 use Rattle.rules_simplify.specs.ChainSteps.{step_where, IsStepTo, IsNegationSettled, IsConjoiningStep}
-use Rattle.rules_simplify.specs.Chains.{heaviness, IsAt, IsFirst, IsMissing}
-use Rattle.rules_simplify.specs.Tables.{IsNext, has_letter, has_letters_of, rows_of}
+use Rattle.rules_simplify.specs.Chains.{heaviness, StandsForApplication, IsFirstRow, IsMissing}
+use Rattle.rules_simplify.specs.Tables.{SaysNext, has_letter, has_letters_of, rows_of}
 use Rattle.rules_simplify.proofs.ChainLemmas.{reached_none, reached_next}
 use Rattle.rules_simplify.proofs.RowLemmas.{last_fits_none, letter_settled, letter_refers, letters_refer, over_is, letter_there, rewrite_is}
 use Rattle.rules_simplify.proofs.SortLemmas.{right_sorted}
@@ -32,20 +32,20 @@ some_of None other = absurd (other refl)
 some_of (Some r) other = (r, refl)
 
 -- a step by whether it goes on
-pub step_is : (s : Table) (v : TermsView) (rows : List RewriteRow) (at : Application) (t : Term) (goes : Bool) (step : Step) → step ≡ step_where goes → (goes ≡ true → IsAt s v at t) → (goes ≡ false → (u : Term) → ¬ IsFirstFit rows t u) → IsStepTo s v rows at t step
+pub step_is : (s : Table) (v : TermsView) (rows : List RewriteRow) (at : Application) (t : Term) (goes : Bool) (step : Step) → step ≡ step_where goes → (goes ≡ true → StandsForApplication s v at t) → (goes ≡ false → (u : Term) → ¬ IsFirstFit rows t u) → IsStepTo s v rows at t step
 step_is s v rows at t true step e next ends = subst (IsStepTo s v rows at t) (sym e) (next refl)
 step_is s v rows at t false step e next ends = subst (IsStepTo s v rows at t) (sym e) (ends refl)
 
-module _ (s : Table) (v : TermsView) (rows : List RewriteRow) (fit : Fit) (t : Term) (is : IsFirst s v rows fit t) where
+module _ (s : Table) (v : TermsView) (rows : List RewriteRow) (fit : Fit) (t : Term) (is : IsFirstRow s v rows fit t) where
   -- what the row makes
   abbrev pub next_term : Term
   next_term = fill is.fits.terms is.row.right
 
   pub ends_here : fit.row.next ≡ Ends → (u : Term) → ¬ IsFirstFit rows next_term u
-  ends_here e u = last_fits_none rows is.row.right is.fits.terms (subst (IsNext rows is.row.right) e is.parts.5) u
+  ends_here e u = last_fits_none rows is.row.right is.fits.terms (subst (SaysNext rows is.row.right) e is.parts.5) u
 
   part_is : (l : Letter) → fit.row.next ≡ Part l → is.row.right ≡ letter l
-  part_is l e = subst (IsNext rows is.row.right) e is.parts.5
+  part_is l e = subst (SaysNext rows is.row.right) e is.parts.5
 
   pub part_settled : (l : Letter) → fit.row.next ≡ Part l → slot fit.letters l ≡ None → ⊥
   part_settled l e none =
@@ -55,9 +55,9 @@ module _ (s : Table) (v : TermsView) (rows : List RewriteRow) (fit : Fit) (t : T
   part_refers l r e there =
       subst (λ p. RefersTo s v r (fill is.fits.terms p)) (sym (part_is l e)) (letter_refers s v fit.letters is.fits.terms is.fits.agrees l r there)
 
-  pub over_at : (op : Op) (ls : Bor (List Letter)) (at : Application) → fit.row.next ≡ Over op ls → at.op ≡ op → IsWellSorted next_term → map (slot fit.letters) ls.now ≡ map Some at.arguments.items → IsAt s v at next_term
+  pub over_at : (op : Op) (ls : Bor (List Letter)) (at : Application) → fit.row.next ≡ Over op ls → at.op ≡ op → IsWellSorted next_term → map (slot fit.letters) ls.now ≡ map Some at.arguments.items → StandsForApplication s v at next_term
   over_at op ls at e same sorted loaded =
-      let next = subst (IsNext rows is.row.right) e is.parts.5 in
+      let next = subst (SaysNext rows is.row.right) e is.parts.5 in
       record {
         arguments = map is.fits.terms ls.now;
         is = over_is is.fits.terms is.row.right op ls.now next.0 next.1 ∙ ap (λ o. operation o (terms_of (map is.fits.terms ls.now))) (sym same);
@@ -67,7 +67,7 @@ module _ (s : Table) (v : TermsView) (rows : List RewriteRow) (fit : Fit) (t : T
 
   pub over_missing : (op : Op) (ls : Bor (List Letter)) → fit.row.next ≡ Over op ls → IsMissing fit.letters ls.now → ⊥
   over_missing op ls e missing =
-      let next = subst (IsNext rows is.row.right) e is.parts.5 in
+      let next = subst (SaysNext rows is.row.right) e is.parts.5 in
       letter_settled s v fit.letters is.row t is.fits missing.letter (letter_there is.row.left is.row.right ls.now is.parts.4 next.1 missing.letter missing.there) missing.none
 
   -- letters of the right side are settled
@@ -75,7 +75,7 @@ module _ (s : Table) (v : TermsView) (rows : List RewriteRow) (fit : Fit) (t : T
   settled_at l has = some_of (slot fit.letters l) (letter_settled s v fit.letters is.row t is.fits l has)
 
   negation_is : fit.row.next ≡ OverNegation → (rows ≡ bool_simplify) × (is.row.right ≡ conj a (no b))
-  negation_is e = subst (IsNext rows is.row.right) e is.parts.5
+  negation_is e = subst (SaysNext rows is.row.right) e is.parts.5
 
   pub negation_settled : fit.row.next ≡ OverNegation → IsNegationSettled s v fit.letters
   negation_settled e =
@@ -91,9 +91,9 @@ module _ (s : Table) (v : TermsView) (rows : List RewriteRow) (fit : Fit) (t : T
         has_second = second.1;
       }
 
-  pub negation_at : (at : Application) → fit.row.next ≡ OverNegation → IsWellSorted next_term → ((f : Letter → Term) → Agrees s v fit.letters f → IsWellSorted (fill f (conj a (no b))) → IsAt s v at (fill f (conj a (no b)))) → IsAt s v at next_term
+  pub negation_at : (at : Application) → fit.row.next ≡ OverNegation → IsWellSorted next_term → ((f : Letter → Term) → Agrees s v fit.letters f → IsWellSorted (fill f (conj a (no b))) → StandsForApplication s v at (fill f (conj a (no b)))) → StandsForApplication s v at next_term
   negation_at at e sorted next =
-      subst (λ p. IsAt s v at (fill is.fits.terms p)) (sym (negation_is e).1)
+      subst (λ p. StandsForApplication s v at (fill is.fits.terms p)) (sym (negation_is e).1)
       (next is.fits.terms is.fits.agrees (subst (λ p. IsWellSorted (fill is.fits.terms p)) (negation_is e).1 sorted))
 
   pub negation_ends : fit.row.next ≡ OverNegation → ((f : Letter → Term) (u : Term) → Agrees s v fit.letters f → ¬ IsFirstFit bool_simplify (fill f (conj a (no b))) u) → (u : Term) → ¬ IsFirstFit rows next_term u
@@ -102,7 +102,7 @@ module _ (s : Table) (v : TermsView) (rows : List RewriteRow) (fit : Fit) (t : T
       (subst (λ p. IsFirstFit bool_simplify (fill is.fits.terms p) u) (negation_is e).1 (subst (λ rs. IsFirstFit rs next_term u) (negation_is e).0 h))
 
   conjoins_is : fit.row.next ≡ Conjoins → (rows ≡ bool_simplify) × (is.row.right ≡ implies (conj a b) c)
-  conjoins_is e = subst (IsNext rows is.row.right) e is.parts.5
+  conjoins_is e = subst (SaysNext rows is.row.right) e is.parts.5
 
   pub conjoins_to : (at : Application) (step : Step) → fit.row.next ≡ Conjoins → IsConjoiningStep fit.letters step → IsStepTo s v rows at next_term step
   conjoins_to at step e steps =
@@ -152,24 +152,24 @@ module _ (s : Table) (v : TermsView) (rows : List RewriteRow) (fit : Fit) (t : T
         )
 
 -- what a row makes is well sorted
-pub next_sorted : (s : Table) (v : TermsView) (table : Simplification) (fit : Fit) (t : Term) (is : IsFirst s v (rows_of table) fit t) → IsWellSorted (next_term s v (rows_of table) fit t is)
+pub next_sorted : (s : Table) (v : TermsView) (table : Simplification) (fit : Fit) (t : Term) (is : IsFirstRow s v (rows_of table) fit t) → IsWellSorted (next_term s v (rows_of table) fit t is)
 next_sorted s v table fit t is =
     right_sorted table is.row is.there is.fits.terms is.fits.passes (subst IsWellSorted (from_left s v (rows_of table) fit t is) is.fits.sorted)
 
 -- a term reached by the chain so far: what can be reached from the first one can be reached from it
 pub record IsOnWay (s : Table) (v : TermsView) (rows : List RewriteRow) (at : Application) (t u : Term) : Type 0 where
   pub here : Term
-  pub is : IsAt s v at here
+  pub is : StandsForApplication s v at here
   pub same : IsReached rows t u ↔ IsReached rows here u
 
-pub way_starts : (s : Table) (v : TermsView) (rows : List RewriteRow) (at : Application) (t u : Term) → IsAt s v at t → IsOnWay s v rows at t u
+pub way_starts : (s : Table) (v : TermsView) (rows : List RewriteRow) (at : Application) (t u : Term) → StandsForApplication s v at t → IsOnWay s v rows at t u
 way_starts s v rows at t u is = record { here = t; is = is; same = (λ h. h, λ h. h) }
 
 module _ (s : Table) (v : TermsView) (rows : List RewriteRow) (at : Application) (t u : Term) (way : IsOnWay s v rows at t u) where
   pub way_ends : ((w : Term) → ¬ IsFirstFit rows way.here w) → IsTrue false ↔ IsReached rows t u
   way_ends none = (λ e. absurd cc, λ h. absurd (reached_none rows way.here u none (way.same.0 h)))
 
-  module _ (fit : Fit) (is : IsFirst s v rows fit way.here) (b : Bool) (test : (f : Letter → Term) → way.here ≡ fill f is.row.left → IsTrue b ↔ (u ≡ fill f is.row.right)) where
+  module _ (fit : Fit) (is : IsFirstRow s v rows fit way.here) (b : Bool) (test : (f : Letter → Term) → way.here ≡ fill f is.row.left → IsTrue b ↔ (u ≡ fill f is.row.right)) where
     pub way_finds : b ≡ true → IsTrue true ↔ IsReached rows t u
     way_finds holds = (λ e. way.same.1 (reached_here s v rows fit way.here is b u test holds), λ h. refl)
 
@@ -185,13 +185,13 @@ module _ (s : Table) (v : TermsView) (rows : List RewriteRow) (at : Application)
         let here = subst (λ rs. IsTrue told ↔ IsReached rs (next_term s v rows fit way.here is) u) (sym bool) reaches in
         (λ e. way.same.1 (later.1 (here.0 e)), λ h. here.1 (later.0 (way.same.0 h)))
 
-    pub way_goes : (new : Application) → b ≡ false → IsAt s v new (next_term s v rows fit way.here is) → IsOnWay s v rows new t u
+    pub way_goes : (new : Application) → b ≡ false → StandsForApplication s v new (next_term s v rows fit way.here is) → IsOnWay s v rows new t u
     way_goes new fails next =
         let later = reached_later s v rows fit way.here is b u test fails in
         record { here = next_term s v rows fit way.here is; is = next; same = (λ h. later.0 (way.same.0 h), λ h. way.same.1 (later.1 h)) }
 
 -- a step lowers the weight
-pub step_falls : (s : Table) (v : TermsView) → IsTable s → HasTermsAt v → (table : Simplification) (fit : Fit) (t : Term) (is : IsFirst s v (rows_of table) fit t) (at new : Application) → IsAt s v at t → IsAt s v new (next_term s v (rows_of table) fit t is) → weight_at s v new < weight_at s v at
+pub step_falls : (s : Table) (v : TermsView) → IsTable s → HasTermsAt v → (table : Simplification) (fit : Fit) (t : Term) (is : IsFirstRow s v (rows_of table) fit t) (at new : Application) → StandsForApplication s v at t → StandsForApplication s v new (next_term s v (rows_of table) fit t is) → weight_at s v new < weight_at s v at
 step_falls s v symbols terms table fit t is at new here next =
     let falls = row_falls table is.row is.there is.fits.terms in
     let before = weight_is s v symbols terms at t here ∙ ap heaviness (from_left s v (rows_of table) fit t is) in

@@ -10,11 +10,11 @@ use Rattle.rule_model.specs.Simplification.{bool_simplify}
 use Rattle.schema_match.proofs.ReferLemmas.{AreOne, refer_append}
 use Rattle.rules_simplify.specs.declared.conjoining.FromConjunction.{FromConjunction}
 use Rattle.rules_simplify.specs.Chains.{heaviness, all_heaviness, terms_at}
-use Rattle.rules_simplify.specs.Conjoined.{AreOperands, conjunction, implication, conjoined, IsFrom}
+use Rattle.rules_simplify.specs.Conjoined.{AreOperands, conjunction, implication_of, conjoined, IsFrom}
 use Rattle.rules_simplify.proofs.ConjoinedLemmas.{reached_farther, conjoined_next, none_from, conjoined_last, lighter_conclusion}
 use Rattle.rules_simplify.proofs.WeightLemmas.{terms_are}
 
--- The walk has come to a conclusion: what is reached from the first term is what is reached from the implication from the
+-- The walk has come to a conclusion: what is reached from the first term is what is reached from the implication_of from the
 -- premises so far to this conclusion.
 pub record IsWalked (s : Table) (v : TermsView) (from : FromConjunction) (items : List ℕ) (conclusion : ℕ) (t u : Term) : Type 0 where
   pub first : Term
@@ -26,7 +26,7 @@ pub record IsWalked (s : Table) (v : TermsView) (from : FromConjunction) (items 
   pub joined : conjoined first others ≡ conjunction front last
   pub here : Term
   pub refers : RefersTo s v conclusion here
-  pub same : IsReached bool_simplify t u ↔ IsReached bool_simplify (implication (conjunction front last) here) u
+  pub same : IsReached bool_simplify t u ↔ IsReached bool_simplify (implication_of (conjunction front last) here) u
 
 pub walk_starts : (s : Table) (v : TermsView) (from : FromConjunction) (t u : Term) → IsFrom s v from t → (items old : List ℕ) → old ≡ [] → items ≡ old ++ from.second ∷ [] → IsWalked s v from items from.conclusion t u
 walk_starts s v from t u is items old none pushed =
@@ -45,21 +45,21 @@ walk_starts s v from t u is items old none pushed =
     }
 
 -- nothing but implications is reached
-pub only_implications : (s : Table) (v : TermsView) (from : FromConjunction) (t u : Term) → IsFrom s v from t → ((x y : Term) → u ≢ implication x y) → IsTrue false ↔ IsReached bool_simplify t u
+pub only_implications : (s : Table) (v : TermsView) (from : FromConjunction) (t u : Term) → IsFrom s v from t → ((x y : Term) → u ≢ implication_of x y) → IsTrue false ↔ IsReached bool_simplify t u
 only_implications s v from t u is other = (
   λ e. absurd cc,
   λ h. (let far = reached_farther is.first is.second is.conclusion t u h is.is in absurd (other far.premise far.rest far.is)),
 )
 
-conclusions : (x y z w : Term) → implication x y ≡ implication z w → y ≡ w
+conclusions : (x y z w : Term) → implication_of x y ≡ implication_of z w → y ≡ w
 conclusions x y z w e = cc
 
-premises_of : (x y z w : Term) → implication x y ≡ implication z w → x ≡ z
+premises_of : (x y z w : Term) → implication_of x y ≡ implication_of z w → x ≡ z
 premises_of x y z w e = cc
 
 module _ (s : Table) (v : TermsView) (from : FromConjunction) (items : List ℕ) (conclusion : ℕ) (t u : Term) (walk : IsWalked s v from items conclusion t u) where
-  -- the conclusion is no implication
-  pub walk_ends : ((w x y : Term) → RefersTo s v conclusion w → w ≢ implication x y) → IsTrue false ↔ IsReached bool_simplify t u
+  -- the conclusion is no implication_of
+  pub walk_ends : ((w x y : Term) → RefersTo s v conclusion w → w ≢ implication_of x y) → IsTrue false ↔ IsReached bool_simplify t u
   walk_ends other = (
     λ e. absurd cc,
     λ h. absurd (none_from walk.front walk.last walk.here u (λ b c. other walk.here b c walk.refers) (walk.same.0 h)),
@@ -68,7 +68,7 @@ module _ (s : Table) (v : TermsView) (from : FromConjunction) (items : List ℕ)
   module _ (one : AreOne s v) (p : ℕ × ℕ) (are : AreOperands s v Op.Implies p walk.here) (new : List ℕ) (pushed : new ≡ items ++ p.0 ∷ []) (q : ℕ × ℕ) (right : AreOperands s v Op.Implies q u) where
     -- what the step makes
     abbrev made : Term
-    made = implication (conjunction (conjunction walk.front walk.last) are.first) are.second
+    made = implication_of (conjunction (conjunction walk.front walk.last) are.first) are.second
 
     abbrev all_others : List Term
     all_others = walk.others ++ are.first ∷ []
@@ -84,10 +84,10 @@ module _ (s : Table) (v : TermsView) (from : FromConjunction) (items : List ℕ)
     next : IsReached bool_simplify t u ↔ ((u ≡ made) ⊎ IsReached bool_simplify made u)
     next =
         let step = conjoined_next walk.front walk.last are.first are.second u in
-        let at = λ (w : Term) (r : IsReached bool_simplify (implication (conjunction walk.front walk.last) w) u) (e : w ≡ implication are.first are.second).
-        subst (λ x. IsReached bool_simplify (implication (conjunction walk.front walk.last) x) u) e r in (
+        let at = λ (w : Term) (r : IsReached bool_simplify (implication_of (conjunction walk.front walk.last) w) u) (e : w ≡ implication_of are.first are.second).
+        subst (λ x. IsReached bool_simplify (implication_of (conjunction walk.front walk.last) x) u) e r in (
           λ h. step.0 (at walk.here (walk.same.0 h) are.is),
-          λ c. walk.same.1 (subst (λ x. IsReached bool_simplify (implication (conjunction walk.front walk.last) x) u) (sym are.is) (step.1 c)),
+          λ c. walk.same.1 (subst (λ x. IsReached bool_simplify (implication_of (conjunction walk.front walk.last) x) u) (sym are.is) (step.1 c)),
         )
 
     -- the conclusion of what is made is that of the other side: it is reached now or never
@@ -97,7 +97,7 @@ module _ (s : Table) (v : TermsView) (from : FromConjunction) (items : List ℕ)
         let end = (one p.1 q.1 are.second right.second are.second_refers right.second_refers).0 same in (
           λ e.
               (let premise = told.0 e ∙ all_joined in
-              next.1 (inl (right.is ∙ (ap (λ x. implication x right.second) premise ∙ ap (λ x. implication (conjunction (conjunction walk.front walk.last) are.first) x) (sym end))))),
+              next.1 (inl (right.is ∙ (ap (λ x. implication_of x right.second) premise ∙ ap (λ x. implication_of (conjunction (conjunction walk.front walk.last) are.first) x) (sym end))))),
           λ h. elim (next.0 h) [
             | inl e ↦ told.1 (premises_of right.first right.second (conjunction (conjunction walk.front walk.last) are.first) are.second (sym right.is ∙ e) ∙ sym all_joined)
             | inr more ↦ absurd (

@@ -11,7 +11,7 @@ use Rattle.rule_model.specs.Rewriting.{RewriteRow}
 use Rattle.rule_model.specs.Simplification.{not_simplify, implies_simplify, equiv_simplify, bool_simplify, ite_simplify, eq_simplify, comp_simplify}
 use Rattle.rules_simplify.specs.declared.rewrites.Application.{Application}
 use Rattle.rules_simplify.specs.declared.tables.Simplification.{Simplification}
-use Rattle.rules_simplify.specs.Chains.{heaviness, Falls, IsAt, terms_at}
+use Rattle.rules_simplify.specs.Chains.{heaviness, Falls, StandsForApplication, terms_at}
 use Rattle.rules_simplify.specs.Tables.{rows_of}
 use Rattle.rules_simplify.proofs.ChainLemmas.{all_at}
 
@@ -199,5 +199,5 @@ module _ (s : Table) (v : TermsView) (table : IsTable s) (terms : HasTermsAt v) 
   terms_are (r ∷ rs) [] h = absurd h
   terms_are (r ∷ rs) (t ∷ ts) h = rw (terms s r t table h.0, terms_are rs ts h.1) refl
 
-  pub weight_is : (at : Application) (t : Term) → IsAt s v at t → weight_at s v at ≡ heaviness t
+  pub weight_is : (at : Application) (t : Term) → StandsForApplication s v at t → weight_at s v at ≡ heaviness t
   weight_is at t is = ap (λ us. heaviness (operation at.op us)) (terms_are at.arguments.items is.arguments is.refer) ∙ sym (ap heaviness is.is)

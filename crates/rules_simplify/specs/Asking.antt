@@ -16,9 +16,9 @@ use Rattle.rules_simplify.specs.declared.asked.Asked.TheVariants.{Nothing, Truth
 use Rattle.rules_simplify.specs.declared.asked.NumberTest.{NumberTest}
 
 -- the number of a numeral
-abbrev pub numeral_of : Term → Option ℤ
-numeral_of (numeral n) = Some (pos n)
-numeral_of _ = None
+abbrev pub numeral_number : Term → Option ℤ
+numeral_number (numeral n) = Some (pos n)
+numeral_number _ = None
 
 -- how the first number stands to the second one
 abbrev pub NumbersStand : NumberTest → ℤ → ℤ → Type 0

@@ -11,7 +11,7 @@ use Rattle.schema_match.specs.declared.letters.Letters.{Letters}
 use Rattle.rules_simplify.specs.declared.rewrites.Application.{Application}
 use Rattle.rules_simplify.specs.declared.rewrites.Step.{Step}
 use Rattle.rules_simplify.specs.declared.rewrites.Step.TheVariants.{Ends, Goes, Conjoins}
-use Rattle.rules_simplify.specs.Chains.{IsAt}
+use Rattle.rules_simplify.specs.Chains.{StandsForApplication}
 use Rattle.rules_simplify.specs.Conjoined.{IsFrom}
 
 abbrev pub step_where : Bool → Step
@@ -21,7 +21,7 @@ step_where false = Ends
 -- The chain is at a term: it fits no row, or is the application that was made, or an implication whose premise is an `and`.
 abbrev pub IsStepTo : Table → TermsView → List RewriteRow → Application → Term → Step → Type 0
 IsStepTo s v rows at t Ends = (u : Term) → ¬ IsFirstFit rows t u
-IsStepTo s v rows at t Goes = IsAt s v at t
+IsStepTo s v rows at t Goes = StandsForApplication s v at t
 IsStepTo s v rows at t (Conjoins from) = (rows ≡ bool_simplify) × IsFrom s v from t
 
 -- A and B stand for terms

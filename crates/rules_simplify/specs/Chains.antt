@@ -17,7 +17,7 @@ use Rattle.rules_simplify.specs.declared.rewrites.Fit.{Fit}
 use Rattle.rules_simplify.specs.Tables.{IsRow}
 
 -- the operator over the terms of the references is this term, which is well sorted
-pub record IsAt (s : Table) (v : TermsView) (at : Application) (t : Term) : Type 0 where
+pub record StandsForApplication (s : Table) (v : TermsView) (at : Application) (t : Term) : Type 0 where
   pub arguments : List Term
   pub is : t ≡ operation at.op (terms_of arguments)
   pub refer : ReferToAll s v at.arguments.items arguments
@@ -25,7 +25,7 @@ pub record IsAt (s : Table) (v : TermsView) (at : Application) (t : Term) : Type
 
 pub record IsSomeAt (s : Table) (v : TermsView) (at : Application) : Type 0 where
   pub means : Term
-  pub is : IsAt s v at means
+  pub is : StandsForApplication s v at means
 
 -- the term, which is well sorted, fits the row's left side and passes, and the letters are what gives it
 pub record FitsBy (s : Table) (v : TermsView) (letters : Letters) (row : RewriteRow) (t : Term) : Type 0 where
@@ -42,7 +42,7 @@ pub record IsMissing (letters : Letters) (of : List Letter) : Type 0 where
   pub none : slot letters letter ≡ None
 
 -- the row that was found is the first one of the table that fits
-pub record IsFirst (s : Table) (v : TermsView) (rows : List RewriteRow) (fit : Fit) (t : Term) : Type 0 where
+pub record IsFirstRow (s : Table) (v : TermsView) (rows : List RewriteRow) (fit : Fit) (t : Term) : Type 0 where
   pub row : RewriteRow
   pub there : Contains rows row
   pub parts : IsRow rows row fit.row
@@ -51,7 +51,7 @@ pub record IsFirst (s : Table) (v : TermsView) (rows : List RewriteRow) (fit : F
 
 pub record IsSomeFit (s : Table) (v : TermsView) (rows : List RewriteRow) (fit : Fit) : Type 0 where
   pub means : Term
-  pub is : IsFirst s v rows fit means
+  pub is : IsFirstRow s v rows fit means
 
 -- The weight of a term, which each row lowers: size alone does not do, since `(ite c (ite c a b) d)` may become no smaller.
 -- The condition of an `ite` counts twice.
@@ -85,10 +85,10 @@ abbrev pub Falls : RewriteRow → Type 0
 Falls row = (f : Letter → Term) → heaviness (fill f row.right) < heaviness (fill f row.left)
 
 -- the terms of references, for measures
-abbrev pub and_then : Option Term → Terms → Terms
-and_then None ts = ts
-and_then (Some t) ts = term t ts
+abbrev pub with_first : Option Term → Terms → Terms
+with_first None ts = ts
+with_first (Some t) ts = term t ts
 
 abbrev pub terms_at : Table → TermsView → List ℕ → Terms
 terms_at s v [] = no_terms
-terms_at s v (r ∷ rs) = and_then (term_at s v r) (terms_at s v rs)
+terms_at s v (r ∷ rs) = with_first (term_at s v r) (terms_at s v rs)

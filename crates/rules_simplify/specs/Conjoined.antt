@@ -17,15 +17,15 @@ pub record AreOperands (s : Table) (v : TermsView) (op : Op) (p : ℕ × ℕ) (t
 abbrev pub conjunction : Term → Term → Term
 conjunction t u = operation Op.And (term t (term u no_terms))
 
-abbrev pub implication : Term → Term → Term
-implication t u = operation Op.Implies (term t (term u no_terms))
+abbrev pub implication_of : Term → Term → Term
+implication_of t u = operation Op.Implies (term t (term u no_terms))
 
 -- a term to which others are joined by `and` one after the other
 abbrev pub conjoined : Term → List Term → Term
 conjoined t [] = t
 conjoined t (u ∷ us) = conjoined (conjunction t u) us
 
--- the term is the implication of the references
+-- the term is the implication_of of the references
 pub record IsFrom (s : Table) (v : TermsView) (from : FromConjunction) (t : Term) : Type 0 where
   pub first : Term
   pub second : Term
@@ -33,7 +33,7 @@ pub record IsFrom (s : Table) (v : TermsView) (from : FromConjunction) (t : Term
   pub first_refers : RefersTo s v from.first first
   pub second_refers : RefersTo s v from.second second
   pub conclusion_refers : RefersTo s v from.conclusion conclusion
-  pub is : t ≡ implication (conjunction first second) conclusion
+  pub is : t ≡ implication_of (conjunction first second) conclusion
 
 pub record IsSomeFrom (s : Table) (v : TermsView) (from : FromConjunction) : Type 0 where
   pub means : Term

@@ -46,10 +46,10 @@ IsMet old new r true = (¬ Contains old r) × (new ≡ old ++ r ∷ [])
 IsMet old new r false = Contains old r × (new ≡ old)
 
 -- the keys have come to have this number besides
-abbrev pub IsAdded : List ℕ → List ℕ → ℕ → Type 0
-IsAdded old new r = (k : ℕ) → Contains new k ↔ (Contains old k ⊎ (k ≡ r))
+abbrev pub AddsNumber : List ℕ → List ℕ → ℕ → Type 0
+AddsNumber old new r = (k : ℕ) → Contains new k ↔ (Contains old k ⊎ (k ≡ r))
 
 -- the term is noted behind its kind of number of negations, and the answer says whether it stood behind the other kind
 abbrev pub IsMetOtherwise : List ℕ → List ℕ → List ℕ → List ℕ → ℕ → Bool → Bool → Type 0
-IsMetOtherwise even odd new_even new_odd r true told = IsAdded odd new_odd r × (new_even ≡ even) × (IsTrue told ↔ Contains even r)
-IsMetOtherwise even odd new_even new_odd r false told = IsAdded even new_even r × (new_odd ≡ odd) × (IsTrue told ↔ Contains odd r)
+IsMetOtherwise even odd new_even new_odd r true told = AddsNumber odd new_odd r × (new_even ≡ even) × (IsTrue told ↔ Contains even r)
+IsMetOtherwise even odd new_even new_odd r false told = AddsNumber even new_even r × (new_odd ≡ odd) × (IsTrue told ↔ Contains odd r)

@@ -36,12 +36,12 @@ root_of (unary op p) = Some op
 root_of (binary op p q) = Some op
 root_of (ternary op p q r) = Some op
 
-abbrev pub arguments_in : Pattern → List Pattern
-arguments_in (letter l) = []
-arguments_in (constant op) = []
-arguments_in (unary op p) = p ∷ []
-arguments_in (binary op p q) = p ∷ q ∷ []
-arguments_in (ternary op p q r) = p ∷ q ∷ r ∷ []
+abbrev pub patterns_in : Pattern → List Pattern
+patterns_in (letter l) = []
+patterns_in (constant op) = []
+patterns_in (unary op p) = p ∷ []
+patterns_in (binary op p q) = p ∷ q ∷ []
+patterns_in (ternary op p q r) = p ∷ q ∷ r ∷ []
 
 -- whether a letter stands in a pattern, and whether each letter of one does
 abbrev pub same_letter : Letter → Letter → Bool
@@ -85,12 +85,12 @@ is_last (row ∷ rows) p = not (may_be row.left p) && is_last rows p
 
 -- what is said of a row's right side: it fits no row, or is a letter, or is an operator over letters; the last two are of
 -- bool_simplify alone
-abbrev pub IsNext : List RewriteRow → Pattern → Next → Type 0
-IsNext rows right Ends = IsTrue (is_last rows right)
-IsNext rows right (Part l) = right ≡ letter l
-IsNext rows right (Over op ls) = (root_of right ≡ Some op) × (arguments_in right ≡ map letter ls.now)
-IsNext rows right OverNegation = (rows ≡ bool_simplify) × (right ≡ conj a (no b))
-IsNext rows right Conjoins = (rows ≡ bool_simplify) × (right ≡ implies (conj a b) c)
+abbrev pub SaysNext : List RewriteRow → Pattern → Next → Type 0
+SaysNext rows right Ends = IsTrue (is_last rows right)
+SaysNext rows right (Part l) = right ≡ letter l
+SaysNext rows right (Over op ls) = (root_of right ≡ Some op) × (patterns_in right ≡ map letter ls.now)
+SaysNext rows right OverNegation = (rows ≡ bool_simplify) × (right ≡ conj a (no b))
+SaysNext rows right Conjoins = (rows ≡ bool_simplify) × (right ≡ implies (conj a b) c)
 
 -- whether what a pattern becomes is of Bool by its form
 abbrev pub is_of_bool : Pattern → Bool
@@ -119,11 +119,11 @@ IsAsked left guard asked = IsAskedBy left guard asked × AllByRecursion (λ l. I
 abbrev pub IsRow : List RewriteRow → RewriteRow → RowParts → Type 0
 IsRow rows row parts =
     (root_of row.left ≡ Some parts.op)
-    × (parts.left.now ≡ parts_of (arguments_in row.left))
-    × (parts.both.now ≡ parts_of (row.right ∷ arguments_in row.left))
+    × (parts.left.now ≡ parts_of (patterns_in row.left))
+    × (parts.both.now ≡ parts_of (row.right ∷ patterns_in row.left))
     × IsAsked row.left row.guard parts.asked
     × IsTrue (has_letters_of row.left row.right)
-    × IsNext rows row.right parts.next
+    × SaysNext rows row.right parts.next
 
 abbrev pub AreRows : List RewriteRow → List RowParts → Type 0
 AreRows rows parts = AllZip (IsRow rows) rows parts

@@ -10,7 +10,7 @@ ghost use Rattle.term_model.specs.Sorts.{IsOf};
 ghost use Rattle.term_model.specs.Terms.{Term};
 ghost use Rattle.term_model.specs.declared.symbols.Sort.TheVariants as Sort;
 ghost use Rattle.term_pool.specs.Views.{IsTerm, RefersTo};
-ghost use Rattle.rules_simplify.specs.Asking.{AreSortedLetters, IsAsAsked, NumbersStand, numeral_of};
+ghost use Rattle.rules_simplify.specs.Asking.{AreSortedLetters, IsAsAsked, NumbersStand, numeral_number};
 
 use pair_pool::Ref;
 use rule_model::Letter;
@@ -55,7 +55,7 @@ fn is_truth(symbols: &Symbols, terms: &mut Terms<'_>, r: Ref) -> bool
 /// The number of a numeral.
 fn numeral(symbols: &Symbols, terms: &mut Terms<'_>, r: Ref) -> Option<i128>
     requires { IsTerm symbols.now terms.old r }
-    ensures numeral { (t : Term) → RefersTo symbols.now terms.old r t → result ≡ numeral_of t }
+    ensures numeral { (t : Term) → RefersTo symbols.now terms.old r t → result ≡ numeral_number t }
     ensures natural { IfSome result (λ n. pos 0 ≤ℤ n) }
     ensures same { terms.new ≡ terms.old }
 {

@@ -5,7 +5,7 @@ ghost use Rattle.term_model.specs.Terms.{Term};
 ghost use Rattle.term_pool.specs.Nots.{IsStripped};
 ghost use Rattle.term_pool.specs.Views.{IsTerm, RefersTo, ReferToAll};
 ghost use Rattle.rule_model.specs.Simplification.{AreOpposed};
-ghost use Rattle.rules_simplify.specs.Joins.{IsAdded, IsMetOtherwise};
+ghost use Rattle.rules_simplify.specs.Joins.{AddsNumber, IsMetOtherwise};
 
 use indexmap::IndexSet;
 use pair_pool::{Memory, Ref};
@@ -16,7 +16,7 @@ use term_pool::Terms;
 
 /// Adds a reference to a set.
 fn add(set: &mut IndexSet<u32>, r: Ref) -> Result<(), Memory>
-    ensures { OnOk result (IsAdded set.old.keys set.new.keys r) }
+    ensures { OnOk result (AddsNumber set.old.keys set.new.keys r) }
 {
     set.insert(r.number())?;
     Ok(())

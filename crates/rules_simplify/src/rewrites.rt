@@ -12,7 +12,7 @@ ghost use Rattle.term_model.specs.Sorts.{IsWellSorted};
 ghost use Rattle.term_model.specs.Terms.{Term};
 ghost use Rattle.term_pool.specs.Views.{IsTerm, RefersTo, ReferToAll};
 ghost use Rattle.schema_match.specs.Letters.{slot, Agrees};
-ghost use Rattle.rules_simplify.specs.Chains.{FitsBy, IsAt, IsFirst, IsMissing, IsSomeAt, IsSomeFit};
+ghost use Rattle.rules_simplify.specs.Chains.{FitsBy, StandsForApplication, IsFirstRow, IsMissing, IsSomeAt, IsSomeFit};
 ghost use Rattle.rules_simplify.specs.ChainSteps.{step_where, IsConjoiningStep, IsNegationSettled, IsStepTo};
 ghost use Rattle.rules_simplify.specs.Tables.{IsRow, IsSomeRow, rows_of};
 
@@ -87,9 +87,9 @@ fn fits_row(
     requires row { IsSomeRow row }
     requires at { IsSomeAt symbols.now terms.old at.now }
     ensures fit { IfOk result (λ yes. OnTrue yes ((table : List RewriteRow) (of : RewriteRow) (t : Term) → IsRow table of row →
-        IsAt symbols.now terms.old at.now t → FitsBy symbols.now terms.old letters.new of t)) }
+        StandsForApplication symbols.now terms.old at.now t → FitsBy symbols.now terms.old letters.new of t)) }
     ensures other { IfOk result (λ yes. OnFalse yes ((table : List RewriteRow) (of : RewriteRow) (t : Term) → IsRow table of row →
-        IsAt symbols.now terms.old at.now t → ¬ FitsRow of t)) }
+        StandsForApplication symbols.now terms.old at.now t → ¬ FitsRow of t)) }
     ensures same { terms.new ≡ terms.old }
 {
     if !is_same_op(row.op, at.op) {
@@ -114,7 +114,7 @@ fn makes(
     requires at { IsSomeAt symbols.now terms.old at.now }
     requires right { IsTerm symbols.now terms.old right }
     ensures makes { IfOk result (λ yes. (table : List RewriteRow) (of : RewriteRow) (t u : Term) (f : Letter → Term) → IsRow table of row →
-        IsAt symbols.now terms.old at.now t → RefersTo symbols.now terms.old right u → t ≡ fill f of.left → IsTrue yes ↔ (u ≡ fill f of.right)) }
+        StandsForApplication symbols.now terms.old at.now t → RefersTo symbols.now terms.old right u → t ≡ fill f of.left → IsTrue yes ↔ (u ≡ fill f of.right)) }
     ensures same { terms.new ≡ terms.old }
 {
     stack_up(&at.arguments, stack)?;
@@ -135,7 +135,7 @@ fn rewrites(
     requires at { IsSomeAt symbols.now terms.old at.now }
     requires right { IsTerm symbols.now terms.old right }
     ensures rewrites { IfOk result (λ yes. (table : List RewriteRow) (of : RewriteRow) (t u : Term) → IsRow table of row →
-        IsAt symbols.now terms.old at.now t → RefersTo symbols.now terms.old right u → IsTrue yes ↔ Rewrites of t u) }
+        StandsForApplication symbols.now terms.old at.now t → RefersTo symbols.now terms.old right u → IsTrue yes ↔ Rewrites of t u) }
     ensures same { terms.new ≡ terms.old }
 {
     let mut letters = Letters::new();
@@ -156,7 +156,7 @@ fn any_rewrites(
 ) -> Result<bool, Memory>
     requires at { IsSomeAt symbols.now terms.old at.now }
     requires right { IsTerm symbols.now terms.old right }
-    ensures any { IfOk result (λ yes. (t u : Term) → IsAt symbols.now terms.old at.now t → RefersTo symbols.now terms.old right u →
+    ensures any { IfOk result (λ yes. (t u : Term) → StandsForApplication symbols.now terms.old at.now t → RefersTo symbols.now terms.old right u →
         IsTrue yes ↔ Any (λ row. Rewrites row t u) (rows_of table)) }
     ensures same { terms.new ≡ terms.old }
 {
@@ -178,8 +178,8 @@ fn first_fit(
     stack: &mut Scratch,
 ) -> Result<bool, Memory>
     requires { IsSomeAt symbols.now terms.old at.now }
-    ensures first { IfOk result (λ yes. OnTrue yes ((t : Term) → IsAt symbols.now terms.old at.now t → IsFirst symbols.now terms.old (rows_of table) fit.new t)) }
-    ensures none { IfOk result (λ yes. OnFalse yes ((t u : Term) → IsAt symbols.now terms.old at.now t → ¬ IsFirstFit (rows_of table) t u)) }
+    ensures first { IfOk result (λ yes. OnTrue yes ((t : Term) → StandsForApplication symbols.now terms.old at.now t → IsFirstRow symbols.now terms.old (rows_of table) fit.new t)) }
+    ensures none { IfOk result (λ yes. OnFalse yes ((t u : Term) → StandsForApplication symbols.now terms.old at.now t → ¬ IsFirstFit (rows_of table) t u)) }
     ensures same { terms.new ≡ terms.old }
 {
     for row in rows(table) {
@@ -200,7 +200,7 @@ fn open_by(
     at: &mut Application,
 ) -> Result<bool, Memory>
     requires { IsWellSortedTerm symbols.now terms.old r }
-    ensures open { IfOk result (λ yes. OnTrue yes ((t : Term) → RefersTo symbols.now terms.old r t → IsAt symbols.now terms.old at.new t)) }
+    ensures open { IfOk result (λ yes. OnTrue yes ((t : Term) → RefersTo symbols.now terms.old r t → StandsForApplication symbols.now terms.old at.new t)) }
     ensures other { IfOk result (λ yes. OnFalse yes ((table : List RewriteRow) (of : RewriteRow) (t : Term) → IsRow table of row →
         RefersTo symbols.now terms.old r t → ¬ FitsRow of t)) }
     ensures same { terms.new ≡ terms.old }
@@ -220,7 +220,7 @@ fn open(
     at: &mut Application,
 ) -> Result<bool, Memory>
     requires { IsWellSortedTerm symbols.now terms.old r }
-    ensures open { IfOk result (λ yes. OnTrue yes ((t : Term) → RefersTo symbols.now terms.old r t → IsAt symbols.now terms.old at.new t)) }
+    ensures open { IfOk result (λ yes. OnTrue yes ((t : Term) → RefersTo symbols.now terms.old r t → StandsForApplication symbols.now terms.old at.new t)) }
     ensures other { IfOk result (λ yes. OnFalse yes ((t : Term) → RefersTo symbols.now terms.old r t → ¬ Any (λ row. FitsRow row t) (rows_of table))) }
     ensures same { terms.new ≡ terms.old }
 {
@@ -262,7 +262,7 @@ fn over_negation(
     at: &mut Application,
 ) -> Result<bool, Memory>
     requires { IsNegationSettled symbols.now terms.old letters.now }
-    ensures next { IfOk result (λ yes. OnTrue yes ((f : Letter → Term) → Agrees symbols.now terms.old letters.now f → IsWellSorted (fill f (conj a (no b))) → IsAt symbols.now terms.old at.new (fill f (conj a (no b))))) }
+    ensures next { IfOk result (λ yes. OnTrue yes ((f : Letter → Term) → Agrees symbols.now terms.old letters.now f → IsWellSorted (fill f (conj a (no b))) → StandsForApplication symbols.now terms.old at.new (fill f (conj a (no b))))) }
     ensures ends { IfOk result (λ yes. OnFalse yes ((f : Letter → Term) (u : Term) → Agrees symbols.now terms.old letters.now f → ¬ IsFirstFit bool_simplify (fill f (conj a (no b))) u)) }
     ensures same { terms.new ≡ terms.old }
 {
@@ -314,7 +314,7 @@ fn advance(
     at: &mut Application,
 ) -> Result<Step, Memory>
     requires { IsSomeFit symbols.now terms.old (rows_of table) fit.now }
-    ensures step { IfOk result (λ step. (t : Term) (is : IsFirst symbols.now terms.old (rows_of table) fit.now t) →
+    ensures step { IfOk result (λ step. (t : Term) (is : IsFirstRow symbols.now terms.old (rows_of table) fit.now t) →
         IsStepTo symbols.now terms.old (rows_of table) at.new (fill is.fits.terms is.row.right) step) }
     ensures same { terms.new ≡ terms.old }
 {
@@ -354,7 +354,7 @@ fn reaches(
 ) -> Result<bool, Memory>
     requires at { IsSomeAt symbols.now terms.old at.old }
     requires right { IsTerm symbols.now terms.old right }
-    ensures reaches { IfOk result (λ yes. (t u : Term) → IsAt symbols.now terms.old at.old t → RefersTo symbols.now terms.old right u →
+    ensures reaches { IfOk result (λ yes. (t u : Term) → StandsForApplication symbols.now terms.old at.old t → RefersTo symbols.now terms.old right u →
         IsTrue yes ↔ IsReached (rows_of table) t u) }
     ensures same { terms.new ≡ terms.old }
 {

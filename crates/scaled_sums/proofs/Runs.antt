@@ -4,8 +4,8 @@ use Rattle.std.specs.List.Sorted.{IsNonDecreasingBy}
 use Rattle.std.proofs.lemmas.Bool.{eq-eqb}
 use Rattle.std.proofs.lemmas.Int.{ints}
 use Rattle.scaled_sums.specs.declared.coefficients.Coefficient.{Coefficient}
-use Rattle.scaled_sums.specs.Coefficients.{number_at}
-use Rattle.scaled_sums.specs.Runs.{Rises, IsRun}
+use Rattle.scaled_sums.specs.Coefficients.{sum_at}
+use Rattle.scaled_sums.specs.Runs.{Rises, IsRunOfTerm}
 use Rattle.scaled_sums.proofs.Sums.{other_counts}
 
 abbrev term_of : Coefficient → ℕ
@@ -16,7 +16,7 @@ rises_of [] r low up = tt
 rises_of (c ∷ cs) r low up =
     (low 0 c (omega arith), rises_of cs c.term (λ j d h. up 0 (suc j) d (omega arith) (omega (arith, h))) (λ i j d h g. up (suc i) (suc j) d (omega (arith, h)) (omega (arith, g))))
 
-later : (cs : List Coefficient) (r q : ℕ) → Rises q cs → r < q → number_at cs r ≡ pos 0
+later : (cs : List Coefficient) (r q : ℕ) → Rises q cs → r < q → sum_at cs r ≡ pos 0
 later [] r q h less = refl
 later (c ∷ cs) r q h less =
     let other : c.term ≢ r = λ e. absurd (omega (arith, e, h.0, less)) in
@@ -30,30 +30,30 @@ joined_if : (b : Bool) (m n : ℤ) → (if b then m else pos 0) +ℤ (if b then 
 joined_if true m n = refl
 joined_if false m n = refl
 
-pub run_starts : (cs : List Coefficient) → IsNonDecreasingBy term_of cs → IsRun cs 0 (pos 0) cs
+pub run_starts : (cs : List Coefficient) → IsNonDecreasingBy term_of cs → IsRunOfTerm cs 0 (pos 0) cs
 run_starts cs up = record {
   numbers = λ r. omega (arith, ints, nothing_if (0 == r));
   narrow = omega arith;
   rising = rises_of cs 0 (λ j d h. omega arith) up;
 }
 
-pub run_goes_on : (whole : List Coefficient) (current : ℕ) (so_far : ℤ) (c : Coefficient) (rest : List Coefficient) → IsRun whole current so_far (c ∷ rest) → c.term ≡ current → IsRun whole current (so_far +ℤ c.number) rest
+pub run_goes_on : (whole : List Coefficient) (current : ℕ) (so_far : ℤ) (c : Coefficient) (rest : List Coefficient) → IsRunOfTerm whole current so_far (c ∷ rest) → c.term ≡ current → IsRunOfTerm whole current (so_far +ℤ c.number) rest
 run_goes_on whole current so_far c rest run e = record {
   numbers = λ r. omega (arith, ints, run.numbers r, ap (λ x. if x == r then c.number else pos 0) e, joined_if (current == r) so_far c.number);
   narrow = let h = run.narrow in omega (arith, ints, h);
   rising = subst (λ x. Rises x rest) e run.rising.1;
 }
 
-new_run : (whole : List Coefficient) (current : ℕ) (so_far : ℤ) (c : Coefficient) (rest : List Coefficient) → IsRun whole current so_far (c ∷ rest) → so_far ≡ pos 0 → IsRun whole c.term (pos 0) (c ∷ rest)
+new_run : (whole : List Coefficient) (current : ℕ) (so_far : ℤ) (c : Coefficient) (rest : List Coefficient) → IsRunOfTerm whole current so_far (c ∷ rest) → so_far ≡ pos 0 → IsRunOfTerm whole c.term (pos 0) (c ∷ rest)
 new_run whole current so_far c rest run e = record {
   numbers = λ r. omega (arith, ints, run.numbers r, ap (λ x. if current == r then x else pos 0) e, nothing_if (current == r), nothing_if (c.term == r));
   narrow = let h = run.narrow in omega (arith, ints, h);
   rising = (omega arith, run.rising.1);
 }
 
-pub run_begins : (whole : List Coefficient) (current : ℕ) (so_far : ℤ) (c : Coefficient) (rest : List Coefficient) → IsRun whole current so_far (c ∷ rest) → so_far ≡ pos 0 → IsRun whole c.term (so_far +ℤ c.number) rest
+pub run_begins : (whole : List Coefficient) (current : ℕ) (so_far : ℤ) (c : Coefficient) (rest : List Coefficient) → IsRunOfTerm whole current so_far (c ∷ rest) → so_far ≡ pos 0 → IsRunOfTerm whole c.term (so_far +ℤ c.number) rest
 run_begins whole current so_far c rest run e =
-    subst (λ x. IsRun whole c.term x rest) (ap (λ x. x +ℤ c.number) (sym e)) (run_goes_on whole c.term (pos 0) c rest (new_run whole current so_far c rest run e) refl)
+    subst (λ x. IsRunOfTerm whole c.term x rest) (ap (λ x. x +ℤ c.number) (sym e)) (run_goes_on whole c.term (pos 0) c rest (new_run whole current so_far c rest run e) refl)
 
 own_if : (n : ℕ) (z : ℤ) → (if n == n then z else pos 0) ≡ z
 own_if n z = go (n == n) (eq-eqb n n refl)
@@ -62,7 +62,7 @@ own_if n z = go (n == n) (eq-eqb n n refl)
     go true e = refl
     go false e = absurd cc
 
-pub run_is_left : (whole : List Coefficient) (current : ℕ) (so_far : ℤ) (c : Coefficient) (rest : List Coefficient) → IsRun whole current so_far (c ∷ rest) → c.term ≢ current → so_far ≢ pos 0 → ((r : ℕ) → number_at whole r ≡ pos 0) → ⊥
+pub run_is_left : (whole : List Coefficient) (current : ℕ) (so_far : ℤ) (c : Coefficient) (rest : List Coefficient) → IsRunOfTerm whole current so_far (c ∷ rest) → c.term ≢ current → so_far ≢ pos 0 → ((r : ℕ) → sum_at whole r ≡ pos 0) → ⊥
 run_is_left whole current so_far c rest run other some all =
     let less : current < c.term = apart current c.term run.rising.0 other in
     some (omega (arith, ints, all current, run.numbers current, own_if current so_far, later (c ∷ rest) current c.term (omega arith, run.rising.1) less))
@@ -70,6 +70,6 @@ run_is_left whole current so_far c rest run other some all =
     apart : (m n : ℕ) → m ≤ n → n ≢ m → m < n
     apart m n le ne = omega (arith, le, ne)
 
-pub run_ends : (whole : List Coefficient) (current : ℕ) (so_far : ℤ) (b : Bool) → IsRun whole current so_far [] → (b ≡ true) ↔ (so_far ≡ pos 0) → (b ≡ true) ↔ ((r : ℕ) → number_at whole r ≡ pos 0)
+pub run_ends : (whole : List Coefficient) (current : ℕ) (so_far : ℤ) (b : Bool) → IsRunOfTerm whole current so_far [] → (b ≡ true) ↔ (so_far ≡ pos 0) → (b ≡ true) ↔ ((r : ℕ) → sum_at whole r ≡ pos 0)
 run_ends whole current so_far b run told =
     (λ e r. omega (arith, ints, run.numbers r, ap (λ x. if current == r then x else pos 0) (told.0 e), nothing_if (current == r)), λ all. told.1 (omega (arith, ints, all current, run.numbers current, own_if current so_far)))

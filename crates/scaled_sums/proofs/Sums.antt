@@ -11,13 +11,13 @@ use Rattle.std.specs.List.{sum_by}
 use Rattle.rule_model.specs.Arithmetic.{IsWhole}
 use Rattle.rule_model.proofs.Ring as ring
 use Rattle.scaled_sums.specs.declared.coefficients.Coefficient.{Coefficient}
-use Rattle.scaled_sums.specs.Coefficients.{number_at, sizes_of, AreApart, scale}
+use Rattle.scaled_sums.specs.Coefficients.{sum_at, sizes_of, AreApart, scale}
 use Rattle.scaled_sums.proofs.Wholes.{whole_nothing, whole_sum}
 
 abbrev pub counted : Coefficient → ℕ → ℤ
 counted c r = if c.term == r then c.number else pos 0
 
-pub joined : (cs ds : List Coefficient) (r : ℕ) → number_at (cs ++ ds) r ≡ number_at cs r +ℤ number_at ds r
+pub joined : (cs ds : List Coefficient) (r : ℕ) → sum_at (cs ++ ds) r ≡ sum_at cs r +ℤ sum_at ds r
 joined [] ds r = omega (arith, ints)
 joined (c ∷ cs) ds r = omega (arith, ints, joined cs ds r)
 
@@ -29,10 +29,10 @@ counted_scaled : (f : ℤ) (b : Bool) (n : ℤ) → (if b then f *ℤ n else pos
 counted_scaled f true n = refl
 counted_scaled f false n = omega (arith, ints, *ℤ_comm f (pos 0), zero-*ℤ f)
 
-pub scaled_number : (f : ℤ) (cs : List Coefficient) (r : ℕ) → number_at (map (scale f) cs) r ≡ f *ℤ number_at cs r
+pub scaled_number : (f : ℤ) (cs : List Coefficient) (r : ℕ) → sum_at (map (scale f) cs) r ≡ f *ℤ sum_at cs r
 scaled_number f [] r = omega (arith, ints, *ℤ_comm f (pos 0), zero-*ℤ f)
 scaled_number f (c ∷ cs) r =
-    omega (arith, ints, counted_scaled f (c.term == r) c.number, scaled_number f cs r, ring.mul-add f (counted c r) (number_at cs r))
+    omega (arith, ints, counted_scaled f (c.term == r) c.number, scaled_number f cs r, ring.mul-add f (counted c r) (sum_at cs r))
 
 pub sizes_scaled : (f : ℤ) (cs : List Coefficient) → sizes_of (map (scale f) cs) ≡ unsigned_abs f * sizes_of cs
 sizes_scaled f [] = omega arith
@@ -63,16 +63,16 @@ own_counts c = go (c.term == c.term) (eq-eqb c.term c.term refl)
     go true e = refl
     go false e = absurd cc
 
-pub absent : (cs : List Coefficient) (r : ℕ) → ((j : ℕ) (d : Coefficient) → j < length cs → (get_or cs j d).term ≢ r) → number_at cs r ≡ pos 0
+pub absent : (cs : List Coefficient) (r : ℕ) → ((j : ℕ) (d : Coefficient) → j < length cs → (get_or cs j d).term ≢ r) → sum_at cs r ≡ pos 0
 absent [] r h = refl
 absent (c ∷ cs) r h =
     omega (arith, ints, other_counts c r (h 0 c (omega arith)), absent cs r (λ j d l. h (suc j) d (omega (arith, l))))
 
 -- where no term stands twice, a term's coefficient is the one that stands with it
-pub alone : (cs : List Coefficient) (k : ℕ) (c : Coefficient) → AreApart cs → k < length cs → c ≡ get_or cs k c → number_at cs c.term ≡ c.number
+pub alone : (cs : List Coefficient) (k : ℕ) (c : Coefficient) → AreApart cs → k < length cs → c ≡ get_or cs k c → sum_at cs c.term ≡ c.number
 alone [] k c apart h e = absurd (omega (arith, h))
 alone (d ∷ cs) zero c apart h e =
-    subst (λ (x : Coefficient). number_at (d ∷ cs) x.term ≡ x.number) (sym e)
+    subst (λ (x : Coefficient). sum_at (d ∷ cs) x.term ≡ x.number) (sym e)
     (omega (arith, ints, own_counts d, absent cs d.term (λ j x l f. apart 0 (suc j) x (omega arith) (omega (arith, l)) (sym f))))
 alone (d ∷ cs) (suc k) c apart h e =
     let here : d.term ≢ c.term = λ f. apart 0 (suc k) c (omega arith) h (f ∙ ap (λ (x : Coefficient). x.term) e) in
@@ -94,11 +94,11 @@ counted_whole n f c r h = go (c.term == r)
     go true = h
     go false = subst (IsWhole n) (omega (arith, ints, *ℤ_comm f (pos 0), zero-*ℤ f)) (whole_nothing n)
 
-pub all_whole : (n : ℕ) (f : ℤ) (cs : List Coefficient) (r : ℕ) → AreWhole n f cs → IsWhole n (f *ℤ number_at cs r)
+pub all_whole : (n : ℕ) (f : ℤ) (cs : List Coefficient) (r : ℕ) → AreWhole n f cs → IsWhole n (f *ℤ sum_at cs r)
 all_whole n f [] r h = subst (IsWhole n) (omega (arith, ints, *ℤ_comm f (pos 0), zero-*ℤ f)) (whole_nothing n)
 all_whole n f (c ∷ cs) r h =
-    subst (IsWhole n) (sym (ring.mul-add f (counted c r) (number_at cs r)))
-    (whole_sum n (f *ℤ counted c r) (f *ℤ number_at cs r) (counted_whole n f c r (All-head (λ (c : Coefficient). IsWhole n (f *ℤ c.number)) c cs h)) (all_whole n f cs r (All-tail (λ (c : Coefficient). IsWhole n (f *ℤ c.number)) c cs h)))
+    subst (IsWhole n) (sym (ring.mul-add f (counted c r) (sum_at cs r)))
+    (whole_sum n (f *ℤ counted c r) (f *ℤ sum_at cs r) (counted_whole n f c r (All-head (λ (c : Coefficient). IsWhole n (f *ℤ c.number)) c cs h)) (all_whole n f cs r (All-tail (λ (c : Coefficient). IsWhole n (f *ℤ c.number)) c cs h)))
 
 -- in another order
 abbrev over : ℤ → ℕ
@@ -119,12 +119,12 @@ over_at r c = over (counted c r)
 abbrev under_at : ℕ → Coefficient → ℕ
 under_at r c = under (counted c r)
 
-parted : (cs : List Coefficient) (r : ℕ) → number_at cs r ≡ pos (sum_by (over_at r) cs) -ℤ pos (sum_by (under_at r) cs)
+parted : (cs : List Coefficient) (r : ℕ) → sum_at cs r ≡ pos (sum_by (over_at r) cs) -ℤ pos (sum_by (under_at r) cs)
 parted [] r = omega (arith, ints)
 parted (c ∷ cs) r =
     omega (arith, ints, both (counted c r), parted cs r, sum_by-cons (over_at r) c cs, sum_by-cons (under_at r) c cs)
 
-pub moved : (cs ds : List Coefficient) (r : ℕ) → IsPermutation cs ds → number_at ds r ≡ number_at cs r
+pub moved : (cs ds : List Coefficient) (r : ℕ) → IsPermutation cs ds → sum_at ds r ≡ sum_at cs r
 moved cs ds r h =
     omega (arith, ints, parted cs r, parted ds r, sum_by-IsPermutation (over_at r) cs ds h, sum_by-IsPermutation (under_at r) cs ds h)
 

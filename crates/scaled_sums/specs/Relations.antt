@@ -5,10 +5,10 @@ use Rattle.rule_model.specs.Arithmetic.{IsRoundedUp}
 use Rattle.scaled_sums.specs.declared.bounds.Relation.{Relation}
 
 -- as the conditions of rules have them
-abbrev pub relation_of : Relation → spec.Relation
-relation_of Relation.Exceeds = spec.exceeds
-relation_of Relation.Reaches = spec.reaches
-relation_of Relation.Equals = spec.equals
+abbrev pub relation_meant : Relation → spec.Relation
+relation_meant Relation.Exceeds = spec.exceeds
+relation_meant Relation.Reaches = spec.reaches
+relation_meant Relation.Equals = spec.equals
 
 -- the bound of a line, rounded up where it is to be
 abbrev pub IsBoundOf : Bool → ℕ → ℤ → ℤ → Type 0

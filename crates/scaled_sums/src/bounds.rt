@@ -1,7 +1,7 @@
 //! Factors and bounds of lines.
 ghost use Rattle.std.specs.Prelude.{◌≡◌, ◌≤◌, ◌<◌, ◌*◌, ◌+◌, ◌*ℤ◌, ◌&&◌, pos, neg_ℤ, max, unsigned_abs};
 ghost use Rattle.rule_model.specs.Arithmetic.{signed_by, bound_by, limit, IsRoundedUp};
-ghost use Rattle.scaled_sums.specs.Relations.{relation_of, IsBoundOf};
+ghost use Rattle.scaled_sums.specs.Relations.{relation_meant, IsBoundOf};
 
 /// That a sum exceeds a bound, reaches it, or equals it.
 #[derive(Clone, Copy, Debug, PartialEq, Eq, Drop)]
@@ -15,7 +15,7 @@ pub enum Relation {
 /// denominator in the common multiple.
 pub fn factor_of(relation: Relation, numerator: i128, share: u128) -> i128
     requires { max (unsigned_abs numerator) 1 * share < limit }
-    ensures { result ≡ signed_by (relation_of relation) numerator *ℤ pos share }
+    ensures { result ≡ signed_by (relation_meant relation) numerator *ℤ pos share }
 {
     match relation {
         Relation::Equals => numerator * share as i128,
@@ -26,7 +26,7 @@ pub fn factor_of(relation: Relation, numerator: i128, share: u128) -> i128
 /// The bound of a line that has this constant on its side of the sum: one more where the sum exceeds it.
 pub fn line_bound(relation: Relation, constant: i128) -> i128
     requires { unsigned_abs constant + 1 < limit }
-    ensures { result ≡ bound_by (relation_of relation) (neg_ℤ constant) }
+    ensures { result ≡ bound_by (relation_meant relation) (neg_ℤ constant) }
 {
     match relation {
         Relation::Exceeds => 1 - constant,

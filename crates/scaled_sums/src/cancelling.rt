@@ -2,7 +2,7 @@
 ghost use Rattle.std.specs.Prelude.{◌≡◌, ◌<◌, ◌↔◌, pos, ℕ, IsTrue};
 ghost use Rattle.std.specs.List.Sorted.{IsNonDecreasingBy};
 ghost use Rattle.rule_model.specs.Arithmetic.{limit};
-ghost use Rattle.scaled_sums.specs.Coefficients.{number_at, sizes_of};
+ghost use Rattle.scaled_sums.specs.Coefficients.{sum_at, sizes_of};
 
 use crate::coefficients::Coefficient;
 use pair_pool::Ref;
@@ -11,7 +11,7 @@ use pair_pool::Ref;
 fn runs_cancel(sum: &[Coefficient]) -> bool
     requires rising { IsNonDecreasingBy (λ c. c.term) sum.now }
     requires narrow { sizes_of sum.now < limit }
-    ensures { IsTrue result ↔ ((r : ℕ) → number_at sum.now r ≡ pos 0) }
+    ensures { IsTrue result ↔ ((r : ℕ) → sum_at sum.now r ≡ pos 0) }
 {
     let mut current = 0u32;
     let mut so_far = 0i128;
@@ -30,7 +30,7 @@ fn runs_cancel(sum: &[Coefficient]) -> bool
 /// Whether the coefficient of each term is 0. The coefficients are sorted by their terms.
 pub fn cancels(sum: &mut Vec<Coefficient>) -> bool
     requires { sizes_of sum.old.items < limit }
-    ensures { IsTrue result ↔ ((r : ℕ) → number_at sum.old.items r ≡ pos 0) }
+    ensures { IsTrue result ↔ ((r : ℕ) → sum_at sum.old.items r ≡ pos 0) }
 {
     sum.sort_unstable_by_key(|c| c.term.number());
     runs_cancel(sum)

@@ -1,7 +1,7 @@
 //! Sums of coefficients.
 ghost use Rattle.std.specs.Prelude.{◌≡◌, ◌≤◌, ◌<◌, ◌+◌, ◌*◌, ◌++◌, ◌↔◌, ◌+ℤ◌, ◌*ℤ◌, pos, ℕ, map, unsigned_abs, IsTrue, OnOk};
 ghost use Rattle.rule_model.specs.Arithmetic.{IsWhole, limit};
-ghost use Rattle.scaled_sums.specs.Coefficients.{number_at, sizes_of, scale, AreApart};
+ghost use Rattle.scaled_sums.specs.Coefficients.{sum_at, sizes_of, scale, AreApart};
 
 use pair_pool::{Memory, Ref};
 
@@ -31,7 +31,7 @@ pub fn add_scaled(
 ) -> Result<(), Memory>
     requires { unsigned_abs factor * sizes_of line.now < limit }
     ensures put { OnOk result (sum.new.items ≡ sum.old.items ++ map (scale factor) line.now) }
-    ensures numbers { OnOk result ((r : ℕ) → number_at sum.new.items r ≡ number_at sum.old.items r +ℤ factor *ℤ number_at line.now r) }
+    ensures numbers { OnOk result ((r : ℕ) → sum_at sum.new.items r ≡ sum_at sum.old.items r +ℤ factor *ℤ sum_at line.now r) }
     ensures sizes { OnOk result (sizes_of sum.new.items ≡ sizes_of sum.old.items + unsigned_abs factor * sizes_of line.now) }
 {
     for c in line {
@@ -63,7 +63,7 @@ pub fn are_whole(line: &[Coefficient], factor: i128, multiple: u128) -> bool
     requires narrow { unsigned_abs factor * sizes_of line.now < limit }
     requires apart { AreApart line.now }
     requires multiple { 0 < multiple }
-    ensures { IsTrue result ↔ ((r : ℕ) → IsWhole multiple (factor *ℤ number_at line.now r)) }
+    ensures { IsTrue result ↔ ((r : ℕ) → IsWhole multiple (factor *ℤ sum_at line.now r)) }
 {
     for c in line {
         if !comes_whole(*c, factor, multiple) {

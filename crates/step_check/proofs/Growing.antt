@@ -12,7 +12,7 @@ use Rattle.sym_table.specs.Table.{Table, IsTable, Keeps}
 use Rattle.term_model.specs.Terms.{Var, Term}
 use Rattle.term_pool.specs.Views.{TermsView, KeepsPass, KeepsTerms, ReferToAll}
 use Rattle.term_reader.specs.declared.flags.Flags.{Flags}
-use Rattle.proof_contexts.specs.OpenAnchors.{AreKept, IsImageOf}
+use Rattle.proof_contexts.specs.OpenAnchors.{AreKept, IsAnchorImage}
 use Rattle.proof_contexts.specs.Placing.{LacksRoomForSome, PlacesOf}
 use Rattle.proof_contexts.proofs.Growing.{keeps_none}
 use Rattle.proof_contexts.proofs.Placing.{lacks_kind, places_kind, places_then, places_nothing}
@@ -70,14 +70,14 @@ module _ (s : Table) (of : ProofItems Var Term) where
   pub lacks_side : (new : PassView) (i : ℕ) → rule_at of i ≡ Rule.Refl → LacksRoomForSome s new (IsSideOf of i) → LacksRoomForSome s new (IsPlacedOf of)
   lacks_side new i is h = lacks_kind s new (IsSideOf of i) (IsPlacedOf of) (side_is_placed of i is) h
 
-  pub lacks_image : (new : PassView) → LacksRoomForSome s new (IsImageOf of) → LacksRoomForSome s new (IsPlacedOf of)
-  lacks_image new h = lacks_kind s new (IsImageOf of) (IsPlacedOf of) (λ t image. inl image) h
+  pub lacks_image : (new : PassView) → LacksRoomForSome s new (IsAnchorImage of) → LacksRoomForSome s new (IsPlacedOf of)
+  lacks_image new h = lacks_kind s new (IsAnchorImage of) (IsPlacedOf of) (λ t image. inl image) h
 
-  pub places_image : (old new : PassView) → PlacesOf s old new (IsImageOf of) → PlacesOf s old new (IsPlacedOf of)
-  places_image old new h = places_kind s old new (IsImageOf of) (IsPlacedOf of) (λ t image. inl image) h
+  pub places_image : (old new : PassView) → PlacesOf s old new (IsAnchorImage of) → PlacesOf s old new (IsPlacedOf of)
+  places_image old new h = places_kind s old new (IsAnchorImage of) (IsPlacedOf of) (λ t image. inl image) h
 
   -- first the images of the scope, and then the sides
-  pub places_side : (old mid new : PassView) (i : ℕ) → rule_at of i ≡ Rule.Refl → KeepsPass mid new → PlacesOf s old mid (IsImageOf of) → PlacesOf s mid new (IsSideOf of i) → PlacesOf s old new (IsPlacedOf of)
+  pub places_side : (old mid new : PassView) (i : ℕ) → rule_at of i ≡ Rule.Refl → KeepsPass mid new → PlacesOf s old mid (IsAnchorImage of) → PlacesOf s mid new (IsSideOf of i) → PlacesOf s old new (IsPlacedOf of)
   places_side old mid new i is keeps h g =
       places_then s old mid new (IsPlacedOf of) keeps (places_image old mid h)
       (places_kind s mid new (IsSideOf of i) (IsPlacedOf of) (side_is_placed of i is) g)

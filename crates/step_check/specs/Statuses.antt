@@ -10,7 +10,7 @@ use Rattle.rule_model.specs.Statuses.{Checking, AreStatuses}
 use Rattle.rule_model.specs.declared.rules.Rule.{Rule}
 use Rattle.rule_model.specs.Reading.{rule_at}
 use Rattle.proof_store.specs.Meaning.{StandForItems}
-use Rattle.proof_contexts.specs.OpenAnchors.{IsImageOf}
+use Rattle.proof_contexts.specs.OpenAnchors.{IsAnchorImage}
 use Rattle.proof_contexts.specs.Placing.{LacksRoomForSome, PlacesOf}
 use Rattle.rules_refl.specs.Sides.{IsSideOf}
 use Rattle.term_reader.specs.declared.flags.Flags.{Flags}
@@ -45,7 +45,7 @@ pub record IsSideOfSome (proof : ProofItems Var Term) (t : Term) : Type 0 where
 
 -- the term is such a side, or the image of a variable that an anchor binds
 abbrev pub IsPlacedOf : ProofItems Var Term → Term → Type 0
-IsPlacedOf proof t = IsImageOf proof t ⊎ IsSideOfSome proof t
+IsPlacedOf proof t = IsAnchorImage proof t ⊎ IsSideOfSome proof t
 
 -- only cells of such terms were placed, of the proof for which the references stand
 abbrev pub PlacesOnly : Table → TermsView → TermsView → ProofItems ℕ ℕ → Type 0

@@ -3,8 +3,8 @@ use Rattle.std.proofs.Common.{◌≡◌, ◌≢◌, ◌↔◌, ◌≤◌, ◌<�
 use Rattle.std.specs.Int.{w128}
 use Rattle.std.proofs.lemmas.Int.{ints, fits_signed_from_abs}
 use Rattle.rule_model.specs.Arithmetic.{equals, signed_by, bound_by, IsWhole, limit}
-use Rattle.scaled_sums.specs.Coefficients.{number_at, sizes_of, scale}
-use Rattle.scaled_sums.specs.Relations.{relation_of, IsBoundOf}
+use Rattle.scaled_sums.specs.Coefficients.{sum_at, sizes_of, scale}
+use Rattle.scaled_sums.specs.Relations.{relation_meant, IsBoundOf}
 use Rattle.linear_lines.specs.Lines.{IsSumOf}
 use Rattle.linear_lines.proofs.SumLemmas.{size_by, form_fits, own_fits, sum_fits, line_added}
 use Rattle.linear_lines.proofs.sums.add_line.Goals as goal
@@ -16,7 +16,7 @@ rounds-rounded-requires-clause-narrow c =
     let share = c.args.multiple / line.denominator in
     let same_f : ◌≡◌ {A = ℤ} (to_z w128 (of_z w128 f)) f = omega (arith, ints) in
     let same_n : ◌≡◌ {A = ℤ} (to_z w128 (of_z w128 line.numerator)) line.numerator = omega (arith, ints) in
-    let size = size_by (relation_of line.comparison.relation) line.numerator _ f share c.factor_of-factor.ensures same_n in
+    let size = size_by (relation_meant line.comparison.relation) line.numerator _ f share c.factor_of-factor.ensures same_n in
     subst (λ x. unsigned_abs x * sizes_of c.args.form.now < limit) (sym same_f)
     (form_fits (unsigned_abs f) (max (unsigned_abs line.numerator) 1 * share) (unsigned_abs c.args.numbers.constant) (sizes_of c.args.form.now) c.args.numbers.weight c.args.multiple _ limit size c.requires.light c.requires.narrow)
 
@@ -29,7 +29,7 @@ own_bound-own-requires-clause-narrow c =
     let same_f : ◌≡◌ {A = ℤ} (to_z w128 (of_z w128 f)) f = omega (arith, ints) in
     let same_k : ◌≡◌ {A = ℤ} (to_z w128 (of_z w128 k)) k = omega (arith, ints) in
     let same_n : ◌≡◌ {A = ℤ} (to_z w128 (of_z w128 line.numerator)) line.numerator = omega (arith, ints) in
-    let size = size_by (relation_of line.comparison.relation) line.numerator _ f share c.factor_of-factor.ensures same_n in
+    let size = size_by (relation_meant line.comparison.relation) line.numerator _ f share c.factor_of-factor.ensures same_n in
     subst (λ y. unsigned_abs (to_z w128 (of_z w128 f)) * (unsigned_abs y + 1) + c.args.multiple < limit) (sym same_k)
     (subst (λ x. unsigned_abs x * (unsigned_abs k + 1) + c.args.multiple < limit) (sym same_f)
     (own_fits (unsigned_abs f) (max (unsigned_abs line.numerator) 1 * share) (unsigned_abs k) (sizes_of c.args.form.now) c.args.numbers.weight c.args.multiple _ limit size c.requires.light c.requires.narrow))
@@ -41,7 +41,7 @@ add_scaled-requires c =
     let share = c.args.multiple / line.denominator in
     let same_f : ◌≡◌ {A = ℤ} (to_z w128 (of_z w128 f)) f = omega (arith, ints) in
     let same_n : ◌≡◌ {A = ℤ} (to_z w128 (of_z w128 line.numerator)) line.numerator = omega (arith, ints) in
-    let size = size_by (relation_of line.comparison.relation) line.numerator _ f share c.factor_of-factor.ensures same_n in
+    let size = size_by (relation_meant line.comparison.relation) line.numerator _ f share c.factor_of-factor.ensures same_n in
     subst (λ x. unsigned_abs x * sizes_of c.args.form.now < limit) (sym same_f)
     (form_fits (unsigned_abs f) (max (unsigned_abs line.numerator) 1 * share) (unsigned_abs c.args.numbers.constant) (sizes_of c.args.form.now) c.args.numbers.weight c.args.multiple _ limit size c.requires.light c.requires.narrow)
 
@@ -55,7 +55,7 @@ overflow_add-result c =
     let same_f : ◌≡◌ {A = ℤ} (to_z w128 (of_z w128 f)) f = omega (arith, ints) in
     let same_k : ◌≡◌ {A = ℤ} (to_z w128 (of_z w128 k)) k = omega (arith, ints) in
     let same_n : ◌≡◌ {A = ℤ} (to_z w128 (of_z w128 line.numerator)) line.numerator = omega (arith, ints) in
-    let size = size_by (relation_of line.comparison.relation) line.numerator _ f share c.factor_of-factor.ensures same_n in
+    let size = size_by (relation_meant line.comparison.relation) line.numerator _ f share c.factor_of-factor.ensures same_n in
     let narrow : unsigned_abs own ≤ unsigned_abs f * (unsigned_abs k + 1) + c.args.multiple =
     subst (λ x. unsigned_abs own ≤ unsigned_abs x * (unsigned_abs k + 1) + c.args.multiple) same_f
     (subst (λ y. unsigned_abs own ≤ unsigned_abs (to_z w128 (of_z w128 f)) * (unsigned_abs y + 1) + c.args.multiple) same_k c.own_bound-own.ensures.narrow) in
@@ -75,7 +75,7 @@ returns c =
     let old = c.args.sum.now.items in
     let new = c.add_scaled.new.sum.items in
     let rounded = c.rounds-rounded.result in
-    let relation = relation_of line.comparison.relation in
+    let relation = relation_meant line.comparison.relation in
     let share = m / line.denominator in
     let same_f : ◌≡◌ {A = ℤ} (to_z w128 (of_z w128 f)) f = omega (arith, ints) in
     let same_k : ◌≡◌ {A = ℤ} (to_z w128 (of_z w128 k)) k = omega (arith, ints) in
@@ -87,14 +87,14 @@ returns c =
     (subst (λ y. unsigned_abs own ≤ unsigned_abs (to_z w128 (of_z w128 f)) * (unsigned_abs y + 1) + m) same_k c.own_bound-own.ensures.narrow) in
     let most : unsigned_abs c.args.bound + unsigned_abs own < limit =
     sum_fits (unsigned_abs f) (max (unsigned_abs line.numerator) 1 * share) (unsigned_abs k) (sizes_of form) c.args.numbers.weight m (unsigned_abs c.args.bound) (sizes_of old) (unsigned_abs own) limit size c.requires.light c.requires.narrow narrow in
-    let told : IsTrue rounded ↔ ((relation ≢ equals) × ((r : ℕ) → IsWhole m (f *ℤ number_at form r))) =
-    subst (λ x. IsTrue rounded ↔ ((relation ≢ equals) × ((r : ℕ) → IsWhole m (x *ℤ number_at form r)))) same_f c.rounds-rounded.ensures in
+    let told : IsTrue rounded ↔ ((relation ≢ equals) × ((r : ℕ) → IsWhole m (f *ℤ sum_at form r))) =
+    subst (λ x. IsTrue rounded ↔ ((relation ≢ equals) × ((r : ℕ) → IsWhole m (x *ℤ sum_at form r)))) same_f c.rounds-rounded.ensures in
     let bound_is : IsBoundOf rounded m (f *ℤ bound_by relation (neg_ℤ k)) own =
     subst (λ x. IsBoundOf rounded m (x *ℤ bound_by relation (neg_ℤ k)) own) same_f
     (subst (λ y. IsBoundOf rounded m (to_z w128 (of_z w128 f) *ℤ bound_by relation (neg_ℤ y)) own) same_k c.own_bound-own.ensures.bound) in
     let put : new ≡ old ++ map (scale f) form = subst (λ x. new ≡ old ++ map (scale x) form) same_f c.in_ok-add_scaled.ensures.put in
-    let numbers : (r : ℕ) → number_at new r ≡ number_at old r +ℤ f *ℤ number_at form r =
-    subst (λ x. (r : ℕ) → number_at new r ≡ number_at old r +ℤ x *ℤ number_at form r) same_f c.in_ok-add_scaled.ensures.numbers in
+    let numbers : (r : ℕ) → sum_at new r ≡ sum_at old r +ℤ f *ℤ sum_at form r =
+    subst (λ x. (r : ℕ) → sum_at new r ≡ sum_at old r +ℤ x *ℤ sum_at form r) same_f c.in_ok-add_scaled.ensures.numbers in
     let sizes : sizes_of new ≡ sizes_of old + unsigned_abs f * sizes_of form =
     subst (λ x. sizes_of new ≡ sizes_of old + unsigned_abs x * sizes_of form) same_f c.in_ok-add_scaled.ensures.sizes in
     let same : ◌≡◌ {A = ℤ} (to_z w128 (of_z w128 (to_z w128 (of_z w128 c.args.bound) +ℤ to_z w128 (of_z w128 own)))) (c.args.bound +ℤ own) = omega (arith, ints, most) in

@@ -3,7 +3,7 @@ use Rattle.std.proofs.Common.{◌≡◌, ◌≤◌, ◌+◌, ◌*◌, ℤ, neg_�
 use Rattle.std.specs.Int.{w128}
 use Rattle.std.proofs.lemmas.Int.{ints}
 use Rattle.rule_model.specs.Arithmetic.{bound_by}
-use Rattle.scaled_sums.specs.Relations.{relation_of}
+use Rattle.scaled_sums.specs.Relations.{relation_meant}
 use Rattle.linear_lines.proofs.SumLemmas.{bound_fits}
 use Rattle.linear_lines.proofs.sums.own_bound.Goals as goal
 
@@ -14,7 +14,7 @@ returns-clause-narrow c =
     let b = c.line_bound-bound.result in
     let r = c.scaled_bound.result in
     let m = c.args.multiple in
-    let relation = relation_of c.args.relation in
+    let relation = relation_meant c.args.relation in
     let same_f : ◌≡◌ {A = ℤ} (to_z w128 (of_z w128 f)) f = omega (arith, ints) in
     let same_k : ◌≡◌ {A = ℤ} (to_z w128 (of_z w128 k)) k = omega (arith, ints) in
     let same_b : ◌≡◌ {A = ℤ} (to_z w128 (of_z w128 b)) b = omega (arith, ints) in

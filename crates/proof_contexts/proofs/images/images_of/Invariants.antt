@@ -1,6 +1,6 @@
 use Rattle.std.proofs.Common.{◌≡◌, List, take}
 use Rattle.std.specs.List.{AllZip}
-use Rattle.contexts.specs.Kept.{IsRight, bindings_of, frames_of}
+use Rattle.contexts.specs.Kept.{IsRight, all_bindings, frames_of}
 use Rattle.contexts.specs.PutIn.{StandForReplacement}
 use Rattle.proof_store.specs.Meaning.{IsBindingOf}
 use Rattle.rule_model.specs.Contexts.{put_in_each}
@@ -16,6 +16,6 @@ invariant-bindings l = record {
   keeps : KeepsTerms l.fn.terms l.terms;
   right : IsRight l.terms l.outer;
   same : frames_of l.outer ≡ frames_of l.fn.outer;
-  images : (q : Replacement) (bound : List (Var × Term)) → StandForReplacement l.fn.symbols l.fn.terms (bindings_of l.fn.outer) q → AllZip (IsBindingOf l.fn.symbols l.fn.terms) l.anchor bound → AllZip (IsBindingOf l.fn.symbols l.terms) l.list.items (put_in_each q (take l.binding-index bound));
-  placed : (q : Replacement) (bound : List (Var × Term)) → StandForReplacement l.fn.symbols l.fn.terms (bindings_of l.fn.outer) q → AllZip (IsBindingOf l.fn.symbols l.fn.terms) l.anchor bound → PlacesOf l.fn.symbols l.fn.terms.pass l.terms.pass (IsImageIn q bound);
+  images : (q : Replacement) (bound : List (Var × Term)) → StandForReplacement l.fn.symbols l.fn.terms (all_bindings l.fn.outer) q → AllZip (IsBindingOf l.fn.symbols l.fn.terms) l.anchor bound → AllZip (IsBindingOf l.fn.symbols l.terms) l.list.items (put_in_each q (take l.binding-index bound));
+  placed : (q : Replacement) (bound : List (Var × Term)) → StandForReplacement l.fn.symbols l.fn.terms (all_bindings l.fn.outer) q → AllZip (IsBindingOf l.fn.symbols l.fn.terms) l.anchor bound → PlacesOf l.fn.symbols l.fn.terms.pass l.terms.pass (IsImageIn q bound);
 }

@@ -4,7 +4,7 @@ use Rattle.std.specs.Int.{w128}
 use Rattle.std.proofs.lemmas.Int.{ints}
 use Rattle.std.proofs.lemmas.List.{take_all}
 use Rattle.rule_model.specs.Arithmetic.{limit}
-use Rattle.scaled_sums.specs.Coefficients.{number_at, sizes_of, scale}
+use Rattle.scaled_sums.specs.Coefficients.{sum_at, sizes_of, scale}
 use Rattle.scaled_sums.proofs.coefficients.add_scaled.Goals as goal
 use Rattle.scaled_sums.proofs.Sums.{scaled_within, joined, scaled_number, sizes_joined, sizes_scaled}
 
@@ -24,8 +24,8 @@ returns-clause-put c = put c
 
 pub returns-clause-numbers : goal.returns-clause-numbers
 returns-clause-numbers c = λ r.
-    ap (λ cs. number_at cs r) (put c)
-    ∙ (joined c.args.sum.now.items (map (scale c.args.factor) c.args.line.now) r ∙ ap (λ x. number_at c.args.sum.now.items r +ℤ x) (scaled_number c.args.factor c.args.line.now r))
+    ap (λ cs. sum_at cs r) (put c)
+    ∙ (joined c.args.sum.now.items (map (scale c.args.factor) c.args.line.now) r ∙ ap (λ x. sum_at c.args.sum.now.items r +ℤ x) (scaled_number c.args.factor c.args.line.now r))
 
 pub returns-clause-sizes : goal.returns-clause-sizes
 returns-clause-sizes c =

@@ -6,7 +6,7 @@ use Rattle.std.proofs.lemmas.List.{take_all, take_more}
 use Rattle.std.proofs.lemmas.List.Elements.{All-push}
 use Rattle.rule_model.specs.Arithmetic.{IsWhole, limit}
 use Rattle.scaled_sums.specs.declared.coefficients.Coefficient.{Coefficient}
-use Rattle.scaled_sums.specs.Coefficients.{number_at}
+use Rattle.scaled_sums.specs.Coefficients.{sum_at}
 use Rattle.scaled_sums.proofs.coefficients.are_whole.Goals as goal
 use Rattle.scaled_sums.proofs.Sums.{AreWhole, scaled_within, alone, all_whole}
 
@@ -21,7 +21,7 @@ returns-then-not-comes_whole c =
     let n = c.args.multiple in
     let own = alone c.args.line.now c.loop-c.c-index c.c-item.result c.requires.apart c.loop-c-test.true c.c-item.is in
     let same : ◌≡◌ {A = ℤ} (to_z w128 (of_z w128 c.args.factor)) c.args.factor = omega (arith, ints) in
-    let here : ((r : ℕ) → IsWhole n (c.args.factor *ℤ number_at c.args.line.now r)) → IsWhole n (to_z w128 (of_z w128 c.args.factor) *ℤ c.c-item.result.number) =
+    let here : ((r : ℕ) → IsWhole n (c.args.factor *ℤ sum_at c.args.line.now r)) → IsWhole n (to_z w128 (of_z w128 c.args.factor) *ℤ c.c-item.result.number) =
     λ all. subst (IsWhole n) (ap (λ x. c.args.factor *ℤ x) own ∙ ap (λ x. x *ℤ c.c-item.result.number) (sym same)) (all c.c-item.result.term) in
     (λ e. absurd cc, λ all. sym c.if-not-comes_whole.true ∙ c.comes_whole.ensures.1 (here all))
 

@@ -2,7 +2,7 @@ use Rattle.std.proofs.Common.{◌≡◌, ◌∙◌, ◌++◌, ◌∷◌, [], tru
 use Rattle.contexts.specs.declared.frames.Frame.{Frame}
 use Rattle.contexts.specs.Becoming.{look_of}
 use Rattle.contexts.specs.Firsts.{first_for}
-use Rattle.contexts.specs.Kept.{IsRight, bindings_of}
+use Rattle.contexts.specs.Kept.{IsRight, all_bindings}
 use Rattle.contexts.proofs.FirstLemmas.{trees_of}
 use Rattle.contexts.proofs.FrameLemmas.{back_none}
 use Rattle.contexts.proofs.KeptFrames.{ok_where_room, first_where, right_again, frames_in, right_in}
@@ -32,12 +32,12 @@ pub returns-clause-right : goal.returns-clause-right
 returns-clause-right c =
     let went : is_ok c.push-room.result ≡ true = ok_where_room c.push-room.result _ c.push-room.ensures.full (λ full. let room = c.in_ok-reserve.ensures.ok in omega arith) in
     let items = first_where (is_ok c.push-room.result) c.push-room.new.self.items _ _ went c.push-room.ensures.items in
-    let trees = trees_of c.args.symbols.now c.count-leaves.ensures.table c.args.terms.now (c.args.bindings.items ++ bindings_of c.args.self.now) c.requires.bindings.means c.requires.bindings.are in
+    let trees = trees_of c.args.symbols.now c.count-leaves.ensures.table c.args.terms.now (c.args.bindings.items ++ all_bindings c.args.self.now) c.requires.bindings.means c.requires.bindings.are in
     subst (λ (f : Frame). IsRight c.args.terms.now (record { images = c.put_all.new.images; around = c.push-room.new.self; here = f })) (sym c.replace-outer.ensures.after)
     (right_in c.args.terms.now c.args.self.now
     (record { images = c.put_all.new.images; around = c.push-room.new.self; here = record { bindings = c.args.bindings; before = c.put_all.new.before; walked = c.in_ok-walked.walked } })
     (items ∙ ap (λ fs. fs ++ c.replace-outer.result ∷ []) c.reserve.ensures.items ∙ ap (λ (f : Frame). c.args.self.now.around.items ++ f ∷ []) c.replace-outer.ensures.value)
-    (λ k. c.in_default.ensures.put (bindings_of c.args.self.now) c.requires.right.images k ∙ ap (λ bs. first_for (bs ++ bindings_of c.args.self.now) k) c.deref.ensures.value)
+    (λ k. c.in_default.ensures.put (all_bindings c.args.self.now) c.requires.right.images k ∙ ap (λ bs. first_for (bs ++ all_bindings c.args.self.now) k) c.deref.ensures.value)
     (c.put_all.ensures.back (look_of c.args.self.now.images) (back_none _ c.new-before.ensures.items _))
-    (c.in_ok-walked.ensures c.args.terms.now.pass (first_for (c.args.bindings.items ++ bindings_of c.args.self.now)) trees.trees trees.are)
+    (c.in_ok-walked.ensures c.args.terms.now.pass (first_for (c.args.bindings.items ++ all_bindings c.args.self.now)) trees.trees trees.are)
     c.requires.right)
