@@ -1,5 +1,5 @@
 -- A literal with its coefficient at a time.
-use Rattle.std.proofs.Common.{◌≡◌, ◌<◌, length, map, take, true, sym, subst, ◌∙◌, arith}
+use Rattle.std.proofs.Common.{◌≡◌, length, map, take, true, sym, subst, ◌∙◌, arith}
 use Rattle.std.proofs.lemmas.List.{length-map, take_all}
 use Rattle.std.proofs.lemmas.List.Elements.{All-push}
 use Rattle.line_judging.specs.Weights.{IsLineOfTerms}
@@ -13,11 +13,14 @@ pub returns-then-clause-ratios-clause-lines : goal.returns-then-clause-ratios-cl
 returns-then-clause-ratios-clause-lines c ts refer ls are =
     let lengths : length c.args.clause.now ≡ length c.args.ratios.now =
     there_are c.args.symbols.now c.args.terms.now c.args.clause.now ts refer ∙ (same_lengths ts (map fraction_of_ratio c.args.ratios.now) ls are ∙ length-map c.args.ratios.now fraction_of_ratio) in
-    absurd (c.if-clause-ratios.true lengths)
+    let other = c.if-clause-ratios.true in
+    absurd (omega (arith, lengths, other))
 
 pub line_of-requires-clause-lowest : goal.line_of-requires-clause-lowest
 line_of-requires-clause-lowest c =
-    lowest_at c.args.ratios.now c.literals.k _ c.requires.lowest (subst (λ n. c.literals.k < n) c.if-clause-ratios.false c.literals-test.true)
+    let below = c.literals-test.true in
+    let lengths = c.if-clause-ratios.false in
+    lowest_at c.args.ratios.now c.literals.k _ c.requires.lowest (omega (arith, below, lengths))
 
 pub returns-in_default-clause-lines : goal.returns-in_default-clause-lines
 returns-in_default-clause-lines c ts refer =
@@ -25,11 +28,13 @@ returns-in_default-clause-lines c ts refer =
     let v = c.args.terms.now in
     let k = c.literals.k in
     let r = c.index-clause-k.result in
+    let below = c.literals-test.true in
+    let lengths = c.if-clause-ratios.false in
     let term = term_at s v c.args.clause.now ts k r refer c.literals-test.true in
     let here : RefersTo s v r term.0 = subst (λ x. RefersTo s v x term.0) (sym c.index-clause-k.is) term.2 in
     let none = rw c.literals.invariant.same at c.in_default.ensures.line in
     no_line s v ts (map fraction_of_ratio c.args.ratios.now) k term.0 _ c.literals.lines.items term.1
-    (ratio_at c.args.ratios.now k _ (subst (λ n. k < n) c.if-clause-ratios.false c.literals-test.true)) (none term.0 here)
+    (ratio_at c.args.ratios.now k _ (omega (arith, below, lengths))) (none term.0 here)
 
 pub literals-preserved : goal.literals-preserved
 literals-preserved c =
@@ -37,6 +42,8 @@ literals-preserved c =
     let v = c.args.terms.now in
     let k = c.literals.k in
     let r = c.index-clause-k.result in
+    let below = c.literals-test.true in
+    let lengths = c.if-clause-ratios.false in
     let terms = rw c.literals.invariant.same at c.in-Some.ensures.terms in
     let line = rw c.literals.invariant.same at c.in-Some.ensures.line in
     record {
@@ -47,7 +54,7 @@ literals-preserved c =
           let here : RefersTo s v r term.0 = subst (λ x. RefersTo s v x term.0) (sym c.index-clause-k.is) term.2 in
           rw c.in_ok-push.ensures.items
           (one_more s v ts (map fraction_of_ratio c.args.ratios.now) k term.0 _ c.literals.lines.items c.in-Some.line term.1
-          (ratio_at c.args.ratios.now k _ (subst (λ n. k < n) c.if-clause-ratios.false c.literals-test.true)) (c.literals.invariant.found ts refer) (line term.0 here)));
+          (ratio_at c.args.ratios.now k _ (omega (arith, below, lengths))) (c.literals.invariant.found ts refer) (line term.0 here)));
     }
 
 pub returns-clause-lines : goal.returns-clause-lines
