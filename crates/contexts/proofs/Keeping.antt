@@ -4,10 +4,13 @@ use Rattle.std.specs.HashMap.{get}
 use Rattle.pair_pool.specs.Trees.{Tree}
 use Rattle.pair_pool.specs.Views.{PassView, Knows, IsOneToOne, HasPartsOfTrees}
 use Rattle.term_pool.specs.Views.{KeepsPass}
+use Rattle.contexts.specs.declared.memo.Memo.{Memo}
+use Rattle.contexts.specs.declared.places.Place.{Place}
 use Rattle.contexts.specs.declared.places.Place.TheVariants.{Term}
 use Rattle.contexts.specs.Becoming.{becomes, Images, IsImageAt, AreImages, HasImages, Look, look_of}
 use Rattle.contexts.specs.Layers.{shadowed}
-use Rattle.contexts.specs.Places.{Lists, Memory, remembered, RemembersAsMuch, IsMemory, IsReady, IsWalked, becomes_there, leaf_there}
+use Rattle.contexts.specs.Places.{Lists, IsMemory, IsReady, IsWalked, becomes_there, leaf_there}
+use Rattle.contexts.specs.Remembering.{remembered, RemembersNoMore}
 use Rattle.contexts.proofs.Visiting.{looked, unseen_high}
 use Rattle.contexts.proofs.Walking.{images_later}
 
@@ -26,16 +29,16 @@ same_images p one images f g a b = λ i. λ k. at k i
     at : (k : ℕ) → f k ≡ g k
     at k = go k (get nat_eq images k) (a k) (b k)
 
-pub ready_of_walked : (p : PassView) (images : Images) (lists : Lists) (memo : Memory) → IsWalked p (look_of images) lists memo → IsReady p images lists memo
+pub ready_of_walked : (p : PassView) (images : Images) (lists : Lists) (memo : Memo) → IsWalked p (look_of images) lists memo → IsReady p images lists memo
 ready_of_walked p images lists memo h = record { trees = h.trees; are = h.are; right = h.right }
 
-pub right_for : (p : PassView) → IsOneToOne p → (images : Images) (lists : Lists) (memo : Memory) → IsWalked p (look_of images) lists memo → (f : ℕ → Tree) → AreImages p images f → IsMemory p f lists memo
+pub right_for : (p : PassView) → IsOneToOne p → (images : Images) (lists : Lists) (memo : Memo) → IsWalked p (look_of images) lists memo → (f : ℕ → Tree) → AreImages p images f → IsMemory p f lists memo
 right_for p one images lists memo h f are = subst (λ g. IsMemory p g lists memo) (same_images p one images h.trees f h.are are) h.right
 
-pub have_images : (p : PassView) (images : Images) (lists : Lists) (memo : Memory) → IsWalked p (look_of images) lists memo → HasImages p images
+pub have_images : (p : PassView) (images : Images) (lists : Lists) (memo : Memo) → IsWalked p (look_of images) lists memo → HasImages p images
 have_images p images lists memo h = record { trees = h.trees; are = h.are }
 
-pub walked_later : (p q : PassView) → KeepsPass p q → (put : Look) (lists : Lists) (memo : Memory) → IsWalked p put lists memo → IsWalked q put lists memo
+pub walked_later : (p q : PassView) → KeepsPass p q → (put : Look) (lists : Lists) (memo : Memo) → IsWalked p put lists memo → IsWalked q put lists memo
 walked_later p q k put lists memo h = record {
   trees = h.trees;
   are = λ n. image_later p q k (put n) n (h.trees n) (h.are n);
@@ -47,7 +50,7 @@ walked_later p q k put lists memo h = record {
 }
 
 -- after more was walked over
-pub walked_more : (p q : PassView) → KeepsPass p q → (images : Images) (lists after : Lists) (memo new : Memory) → IsWalked p (look_of images) lists memo → ((f : ℕ → Tree) → AreImages p images f → IsMemory q f after new) → shadowed after 0 ≡ [] → 0 < length after → IsWalked q (look_of images) after new
+pub walked_more : (p q : PassView) → KeepsPass p q → (images : Images) (lists after : Lists) (memo new : Memo) → IsWalked p (look_of images) lists memo → ((f : ℕ → Tree) → AreImages p images f → IsMemory q f after new) → shadowed after 0 ≡ [] → 0 < length after → IsWalked q (look_of images) after new
 walked_more p q k images lists after memo new h right first some = record {
   trees = h.trees;
   are = images_later p q k images h.trees h.are;
@@ -56,15 +59,15 @@ walked_more p q k images lists after memo new h right first some = record {
   some = some;
 }
 
-pub memory_same : (p : PassView) (f : ℕ → Tree) (lists : Lists) (old new : Memory) → RemembersAsMuch old new → IsMemory p f lists old → IsMemory p f lists new
-memory_same p f lists old new same right place r found = right place r (sym (same place) ∙ found)
+pub memory_same : (p : PassView) (f : ℕ → Tree) (lists : Lists) (old new : Memo) → RemembersNoMore old new → IsMemory p f lists old → IsMemory p f lists new
+memory_same p f lists old new less right place r found = right place r (less place r found)
 
 -- nothing is remembered yet
-pub walked_start : (lists : Lists) (memo : Memory) → memo.entries ≡ [] → shadowed lists 0 ≡ [] → length lists ≡ 1 → (pass : PassView) (put : Look) (f : ℕ → Tree) → ((k : ℕ) → IsImageAt pass (put k) k (f k)) → IsWalked pass put lists memo
+pub walked_start : (lists : Lists) (memo : Memo) → ((place : Place) → remembered memo place ≡ None) → shadowed lists 0 ≡ [] → length lists ≡ 1 → (pass : PassView) (put : Look) (f : ℕ → Tree) → ((k : ℕ) → IsImageAt pass (put k) k (f k)) → IsWalked pass put lists memo
 walked_start lists memo empty first one pass put f are = record {
   trees = f;
   are = are;
-  right = λ place r found. absurd (let none : remembered memo place ≡ None = rw empty in cc);
+  right = λ place r found. absurd (let none = empty place in cc);
   first = first;
   some = omega arith;
 }
@@ -74,7 +77,7 @@ no_some None h = refl
 no_some (Some x) h = absurd (h x refl)
 
 -- the root is looked up
-module _ (p : PassView) (images : Images) (lists : Lists) (memo : Memory) (r : ℕ) (found : Option ℕ) (low : r < 2 ^ 30 → found ≡ Some (leaf_there images lists (Term r 0))) (high : 2 ^ 30 ≤ r → found ≡ remembered memo (Term r 0)) where
+module _ (p : PassView) (images : Images) (lists : Lists) (memo : Memo) (r : ℕ) (found : Option ℕ) (low : r < 2 ^ 30 → found ≡ Some (leaf_there images lists (Term r 0))) (high : 2 ^ 30 ≤ r → found ≡ remembered memo (Term r 0)) where
   pub none_high : found ≡ None → 2 ^ 30 ≤ r
   none_high e = unseen_high r found _ low e
 

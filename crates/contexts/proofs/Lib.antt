@@ -18,3 +18,4 @@ pub mod Keeping
 pub mod FrameLemmas
 pub mod KeptFrames
 pub mod FoundImages
+pub mod SlotLemmas

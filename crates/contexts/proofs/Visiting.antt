@@ -9,6 +9,7 @@ use Rattle.term_pool.specs.Heights.{is_let_head}
 use Rattle.term_pool.specs.Trees.{IsPartOf, depth, pair_leaves}
 use Rattle.term_pool.specs.Views.{IsKnownCell}
 use Rattle.term_pool.specs.declared.stop.TermStop.{TermStop}
+use Rattle.contexts.specs.declared.memo.Memo.{Memo}
 use Rattle.contexts.specs.declared.places.Place.{Place}
 use Rattle.contexts.specs.declared.places.Place.TheVariants.{Term, Bindings}
 use Rattle.contexts.specs.declared.places.Visit.{Visit}
@@ -16,7 +17,8 @@ use Rattle.contexts.specs.declared.places.Visit.TheVariants.{Part, Done}
 use Rattle.contexts.specs.Becoming.{image, becomes, bindings_become, Images, IsImageAt, AreImages}
 use Rattle.contexts.specs.Hiding.{Hides}
 use Rattle.contexts.specs.Layers.{shadowed, KeepsLayers}
-use Rattle.contexts.specs.Places.{Lists, reference_of, layer_of, HasPlaceShape, becomes_there, IsSpot, image_of_leaf, leaf_there, other, Memory, remembered, IsMemory, IsUnder, HasDone, PlacesImage, LacksRoomForImage, IsReady, Visits, HasLetHead}
+use Rattle.contexts.specs.Places.{Lists, layer_of, HasPlaceShape, becomes_there, IsSpot, image_of_leaf, leaf_there, other, IsMemory, IsUnder, HasDone, PlacesImage, LacksRoomForImage, IsReady, Visits, HasLetHead}
+use Rattle.contexts.specs.Remembering.{reference_of, remembered}
 use Rattle.contexts.specs.Shapes.{HasShape, HasLetShape, HasListShape, IsShaped, IsLetRest, IsBindingList}
 use Rattle.contexts.proofs.Agreeing.{becomes_agree}
 use Rattle.contexts.proofs.CellBuilding.{placed-none}
@@ -49,7 +51,7 @@ image_known p images f are hidden k itself = go (list_any (nat_eq k) hidden) (ge
     go false None at = subst (Knows p k) (sym at) itself
     go false (Some r) at = at
 
-pub looked : (p : PassView) → IsOneToOne p → HasPartsOfTrees p → (images : Images) (lists : Lists) (memo : Memory) (f : ℕ → Tree) → AreImages p images f → IsMemory p f lists memo → (place : Place) (found : Option ℕ) (d : ℕ) → (reference_of place < 2 ^ 30 → found ≡ Some (leaf_there images lists place)) → (2 ^ 30 ≤ reference_of place → found ≡ remembered memo place) → found ≡ Some d → (t : Tree) → Knows p (reference_of place) t → Knows p d (becomes_there f lists place t)
+pub looked : (p : PassView) → IsOneToOne p → HasPartsOfTrees p → (images : Images) (lists : Lists) (memo : Memo) (f : ℕ → Tree) → AreImages p images f → IsMemory p f lists memo → (place : Place) (found : Option ℕ) (d : ℕ) → (reference_of place < 2 ^ 30 → found ≡ Some (leaf_there images lists place)) → (2 ^ 30 ≤ reference_of place → found ≡ remembered memo place) → found ≡ Some d → (t : Tree) → Knows p (reference_of place) t → Knows p d (becomes_there f lists place t)
 looked p one parts images lists memo f are right (Term r layer) found d low high e (leaf k) known =
     let n = parts.leaf_number r k known in
     let less : r < 2 ^ 30 = omega (arith, n.0, n.1) in
@@ -78,7 +80,7 @@ unseen_high r found d low e = go (low_or_high r)
     go (inr h) = h
 
 -- a part that was not found has to be visited first
-pub under : (p : PassView) → IsOneToOne p → (images : Images) (lists : Lists) (memo : Memory) (x y : Place) (found : Option ℕ) → (reference_of y < 2 ^ 30 → found ≡ Some (leaf_there images lists y)) → (2 ^ 30 ≤ reference_of y → found ≡ remembered memo y) → found ≡ None → (s t : Tree) → Knows p (reference_of x) s → Knows p (reference_of y) t → HasPlaceShape y t → layer_of y < length lists → depth t < depth s → ((f : ℕ → Tree) → AreImages p images f → IsPartOf (becomes_there f lists y t) (becomes_there f lists x s)) → IsUnder p images lists memo x y
+pub under : (p : PassView) → IsOneToOne p → (images : Images) (lists : Lists) (memo : Memo) (x y : Place) (found : Option ℕ) → (reference_of y < 2 ^ 30 → found ≡ Some (leaf_there images lists y)) → (2 ^ 30 ≤ reference_of y → found ≡ remembered memo y) → found ≡ None → (s t : Tree) → Knows p (reference_of x) s → Knows p (reference_of y) t → HasPlaceShape y t → layer_of y < length lists → depth t < depth s → ((f : ℕ → Tree) → AreImages p images f → IsPartOf (becomes_there f lists y t) (becomes_there f lists x s)) → IsUnder p images lists memo x y
 under p one images lists memo x y found low high e s t known_s known_t shape inside less part =
     let above = unseen_high (reference_of y) found _ low e in
     record {
@@ -94,7 +96,7 @@ under p one images lists memo x y found low high e s t known_s known_t shape ins
     }
 
 -- the four outcomes of a visit
-pub visit_part : (p : PassView) (images : Images) (before after : Lists) (memo : Memory) (x y : Place) → IsUnder p images after memo x y → Visits p p images before after memo x (Ok (Part y))
+pub visit_part : (p : PassView) (images : Images) (before after : Lists) (memo : Memo) (x y : Place) → IsUnder p images after memo x y → Visits p p images before after memo x (Ok (Part y))
 visit_part p images before after memo x y h = record {
   visit = h;
   done = λ f are right. tt;
@@ -102,10 +104,10 @@ visit_part p images before after memo x y h = record {
   full = tt;
 }
 
-pub visit_stops : (p q : PassView) (images : Images) (before after : Lists) (memo : Memory) (x : Place) (e : TermStop) → ((f : ℕ → Tree) → AreImages p images f → IsMemory p f before memo → PlacesImage p q f before x) → (e ≡ TermStop.PoolFull → (f : ℕ → Tree) → AreImages p images f → IsMemory p f before memo → LacksRoomForImage p q f before x) → Visits p q images before after memo x (Err e)
+pub visit_stops : (p q : PassView) (images : Images) (before after : Lists) (memo : Memo) (x : Place) (e : TermStop) → ((f : ℕ → Tree) → AreImages p images f → IsMemory p f before memo → PlacesImage p q f before x) → (e ≡ TermStop.PoolFull → (f : ℕ → Tree) → AreImages p images f → IsMemory p f before memo → LacksRoomForImage p q f before x) → Visits p q images before after memo x (Err e)
 visit_stops p q images before after memo x e placed full = record { visit = tt; done = tt; placed = placed; full = full }
 
-pub visit_done : (p q : PassView) (images : Images) (before after : Lists) (memo : Memory) (x : Place) (n : ℕ) → ((f : ℕ → Tree) → AreImages p images f → IsMemory p f before memo → HasDone p q f before x (Done n)) → ((f : ℕ → Tree) → AreImages p images f → IsMemory p f before memo → PlacesImage p q f before x) → Visits p q images before after memo x (Ok (Done n))
+pub visit_done : (p q : PassView) (images : Images) (before after : Lists) (memo : Memo) (x : Place) (n : ℕ) → ((f : ℕ → Tree) → AreImages p images f → IsMemory p f before memo → HasDone p q f before x (Done n)) → ((f : ℕ → Tree) → AreImages p images f → IsMemory p f before memo → PlacesImage p q f before x) → Visits p q images before after memo x (Ok (Done n))
 visit_done p q images before after memo x n done placed = record { visit = tt; done = done; placed = placed; full = tt }
 
 -- at the only tree of a reference
@@ -117,7 +119,7 @@ pub lists_same : (f : ℕ → Tree) (before after : Lists) → KeepsLayers befor
 lists_same f before after keeps (Term r layer) t inside = ap (λ (D : List ℕ). becomes f D t) (keeps.same layer inside)
 lists_same f before after keeps (Bindings r layer) t inside = ap (λ (D : List ℕ). bindings_become f D t) (keeps.same layer inside)
 
-pub memory_lists : (p : PassView) (f : ℕ → Tree) (before after : Lists) → KeepsLayers before after → (memo : Memory) → IsMemory p f before memo → IsMemory p f after memo
+pub memory_lists : (p : PassView) (f : ℕ → Tree) (before after : Lists) → KeepsLayers before after → (memo : Memo) → IsMemory p f before memo → IsMemory p f after memo
 memory_lists p f before after keeps memo right place r found =
     let h = right place r found in
     record {
@@ -147,7 +149,7 @@ pub record IsComposed (p : PassView) (images : Images) (before after : Lists) (x
       (f : ℕ → Tree) → AreImages p images f →
       becomes_there f before x tree ≡ compose (becomes_there f after y first) (becomes_there f after z second)
 
-module _ (p : PassView) (one : IsOneToOne p) (parts : HasPartsOfTrees p) (images : Images) (before after : Lists) (memo : Memory) (x y z : Place) (compose : Tree → Tree → Tree) (h : IsComposed p images before after x y z compose) where
+module _ (p : PassView) (one : IsOneToOne p) (parts : HasPartsOfTrees p) (images : Images) (before after : Lists) (memo : Memo) (x y z : Place) (compose : Tree → Tree → Tree) (h : IsComposed p images before after x y z compose) where
   after_is : (f : ℕ → Tree) → AreImages p images f → becomes_there f after x h.tree ≡ compose (becomes_there f after y h.first) (becomes_there f after z h.second)
   after_is f are = lists_same f before after h.keeps x h.tree h.inside ∙ h.is f are
 
@@ -188,7 +190,7 @@ module _ (p : PassView) (one : IsOneToOne p) (parts : HasPartsOfTrees p) (images
       (λ f are right. at_whole f are (PlacesOnlyIn p q) (lacks (becomes_there f after y h.first) (becomes_there f after z h.second) (first f are right) (second f are right)).1)
       (λ is f are right. at_whole f are (IsFullIn q) (lacks (becomes_there f after y h.first) (becomes_there f after z h.second) (first f are right) (second f are right)).0)
 
-pub image_is_known : (p : PassView) (images : Images) (lists : Lists) (memo : Memory) (d : ℕ) (T : (ℕ → Tree) → Tree) → IsReady p images lists memo → ((f : ℕ → Tree) → AreImages p images f → IsMemory p f lists memo → Knows p d (T f)) → IsKnown p d
+pub image_is_known : (p : PassView) (images : Images) (lists : Lists) (memo : Memo) (d : ℕ) (T : (ℕ → Tree) → Tree) → IsReady p images lists memo → ((f : ℕ → Tree) → AreImages p images f → IsMemory p f lists memo → Knows p d (T f)) → IsKnown p d
 image_is_known p images lists memo d T ready h = record { tree = T ready.trees; stands = h ready.trees ready.are ready.right }
 
 -- a cell that is no let

@@ -1,21 +1,24 @@
 -- The walk that puts references in: the places on the way, what is remembered, and what is placed.
-use Rattle.std.proofs.Common.{◌≡◌, ◌≢◌, ℕ, ◌<◌, ◌≤◌, ◌^◌, ◌⊎◌, inl, inr, List, [], ◌∷◌, ◌++◌, length, take, ◌-◌, Option, Some, None, nat_eq, refl, sym, ◌∙◌, ap, subst, arith}
+use Rattle.std.proofs.Common.{◌≡◌, ◌≢◌, ℕ, ◌<◌, ◌≤◌, ◌^◌, ◌⊎◌, inl, inr, List, [], ◌∷◌, ◌++◌, length, take, ◌-◌, Option, Some, None, Bool, true, false, if◌then◌else◌, nat_eq, refl, sym, ◌∙◌, ap, subst, arith}
 use Rattle.std.specs.HashMap.{get}
 use Rattle.std.specs.List.{AllByRecursion}
-use Rattle.pair_pool.specs.Trees.{Tree}
+use Rattle.pair_pool.specs.Trees.{Tree, cell}
 use Rattle.pair_pool.specs.Views.{PassView, Knows, IsOneToOne, HasPartsOfTrees}
 use Rattle.term_pool.specs.Building.{PlacesOnlyIn, IsFullIn}
+use Rattle.term_pool.specs.Heights.{is_let_head}
 use Rattle.term_pool.specs.Trees.{IsPartOf, depth}
 use Rattle.term_pool.specs.Views.{KeepsPass}
+use Rattle.contexts.specs.declared.memo.Memo.{Memo}
 use Rattle.contexts.specs.declared.places.Place.{Place}
-use Rattle.contexts.specs.declared.places.Place.TheVariants.{Term}
-use Rattle.contexts.specs.Becoming.{becomes, Images, IsImageAt, AreImages, HasImages}
+use Rattle.contexts.specs.declared.places.Place.TheVariants.{Term, Bindings}
+use Rattle.contexts.specs.Becoming.{becomes, let_becomes, Images, IsImageAt, AreImages, HasImages}
 use Rattle.contexts.specs.Layers.{shadowed, KeepsLayers}
-use Rattle.contexts.specs.Places.{Lists, reference_of, layer_of, HasPlaceShape, becomes_there, IsSpot, Memory, remembered, HasBecome, IsMemory, Remembers, IsUnder, PlacesImage, LacksRoomForImage, IsReady, image_of_leaf}
+use Rattle.contexts.specs.Places.{Lists, layer_of, HasPlaceShape, becomes_there, IsSpot, HasBecome, IsMemory, IsUnder, PlacesImage, LacksRoomForImage, IsReady, image_of_leaf}
+use Rattle.contexts.specs.Remembering.{reference_of, remembered, Remembers}
 use Rattle.contexts.specs.Shapes.{IsShaped}
 use Rattle.contexts.proofs.CellBuilding.{part-refl, part-trans, placed-larger, placed-trans, placed-none, full-larger}
 use Rattle.contexts.proofs.References.{leaf_of}
-use Rattle.contexts.proofs.Visiting.{lists_same, image_known}
+use Rattle.contexts.proofs.Visiting.{lists_same, image_known, split}
 
 -- what is known stays known
 pub images_later : (p q : PassView) → KeepsPass p q → (images : Images) (f : ℕ → Tree) → AreImages p images f → AreImages q images f
@@ -26,7 +29,7 @@ images_later p q k images f h n = go (get nat_eq images n) (h n)
     go (Some r) e = k.grows r (f n) e
 
 -- a place on the way
-pub record IsOn (o p : PassView) (images : Images) (lists : Lists) (memo : Memory) (root : Place) (whole : Tree) (x : Place) : Type 0 where
+pub record IsOn (o p : PassView) (images : Images) (lists : Lists) (memo : Memo) (root : Place) (whole : Tree) (x : Place) : Type 0 where
   tree : Tree
   known : Knows p (reference_of x) tree
   shape : HasPlaceShape x tree
@@ -50,14 +53,14 @@ Starts : Place → List Place → Type 0
 Starts root [] = ⊥
 Starts root (x ∷ xs) = x ≡ root
 
-pub record IsWalk (o p : PassView) (images : Images) (lists : Lists) (memo : Memory) (root : Place) (whole : Tree) (way : List Place) : Type 0 where
+pub record IsWalk (o p : PassView) (images : Images) (lists : Lists) (memo : Memo) (root : Place) (whole : Tree) (way : List Place) : Type 0 where
   pub root_inside : layer_of root < length lists
   on : AllByRecursion (IsOn o p images lists memo root whole) way
   descends : Descends p way
   starts : Starts root way
 
 -- what is remembered is right, and nothing is placed but cells of what the root becomes
-pub record GoesRight (o p : PassView) (f : ℕ → Tree) (lists : Lists) (memo : Memory) (root : Place) (whole : Tree) : Type 0 where
+pub record GoesRight (o p : PassView) (f : ℕ → Tree) (lists : Lists) (memo : Memo) (root : Place) (whole : Tree) : Type 0 where
   pub right : IsMemory p f lists memo
   pub placed : PlacesOnlyIn o p (becomes_there f lists root whole)
 
@@ -132,22 +135,35 @@ unfolding Starts
 starts_front root [] y at h = h
 starts_front root (x ∷ xs) y at h = h
 
+-- where nothing more is found, nothing is where nothing was
+none_left : (old new : Option ℕ) → ((d : ℕ) → new ≡ Some d → old ≡ Some d) → old ≡ None → new ≡ None
+none_left old None more e = refl
+none_left old (Some d) more e = absurd (let was = more d refl in cc)
+
 -- a place stays on the way
-on_later : (o p q : PassView) (images : Images) (before after : Lists) (old new : Memory) (root : Place) (whole : Tree) → KeepsPass p q → KeepsLayers before after → layer_of root < length before → (x : Place) → remembered new x ≡ remembered old x → IsOn o p images before old root whole x → IsOn o q images after new root whole x
+on_later : (o p q : PassView) (images : Images) (before after : Lists) (old new : Memo) (root : Place) (whole : Tree) → KeepsPass p q → KeepsLayers before after → layer_of root < length before → (x : Place) → (remembered old x ≡ None → remembered new x ≡ None) → IsOn o p images before old root whole x → IsOn o q images after new root whole x
 on_later o p q images before after old new root whole k keeps root_inside x same h = record {
   tree = h.tree;
   known = k.grows (reference_of x) h.tree h.known;
   shape = h.shape;
   high = h.high;
   inside = let i = h.inside in let m = keeps.more in omega arith;
-  unmet = same ∙ h.unmet;
+  unmet = same h.unmet;
   part = λ f are.
       subst (λ z. IsPartOf z (becomes_there f after root whole)) (sym (lists_same f before after keeps x h.tree h.inside))
       (subst (λ z. IsPartOf (becomes_there f before x h.tree) z) (sym (lists_same f before after keeps root whole root_inside)) (h.part f are));
 }
 
+becomes_cell : (f : ℕ → Tree) (lists : Lists) (x : Place) (a b : Tree) → (c : Tree) × (d : Tree) × (becomes_there f lists x (cell a b) ≡ cell c d)
+becomes_cell f lists (Term r layer) a b = go (is_let_head a)
+  where
+    go : (is_let : Bool) → (c : Tree) × (d : Tree) × ((if is_let then cell a (let_becomes f (shadowed lists layer) b) else cell (becomes f (shadowed lists layer) a) (becomes f (shadowed lists layer) b)) ≡ cell c d)
+    go true = (_, _, refl)
+    go false = (_, _, refl)
+becomes_cell f lists (Bindings r layer) a b = (_, _, refl)
+
 -- the walk begins
-pub walk_start : (o : PassView) (images : Images) (lists : Lists) (memo : Memory) (r : ℕ) (way : List Place) → remembered memo (Term r 0) ≡ None → 0 < length lists → (h : IsShaped o r) → 2 ^ 30 ≤ r → way ≡ [] → IsWalk o o images lists memo (Term r 0) h.tree (way ++ Term r 0 ∷ [])
+pub walk_start : (o : PassView) (images : Images) (lists : Lists) (memo : Memo) (r : ℕ) (way : List Place) → remembered memo (Term r 0) ≡ None → 0 < length lists → (h : IsShaped o r) → 2 ^ 30 ≤ r → way ≡ [] → IsWalk o o images lists memo (Term r 0) h.tree (way ++ Term r 0 ∷ [])
 unfolding Descends Starts
 walk_start o images lists memo r way unmet some h high none = rw none (record {
   root_inside = some;
@@ -167,13 +183,13 @@ walk_start o images lists memo r way unmet some h high none = rw none (record {
   starts = refl;
 })
 
-pub right_start : (o : PassView) (f : ℕ → Tree) (lists : Lists) (memo : Memory) (root : Place) (whole : Tree) → IsMemory o f lists memo → GoesRight o o f lists memo root whole
+pub right_start : (o : PassView) (f : ℕ → Tree) (lists : Lists) (memo : Memo) (root : Place) (whole : Tree) → IsMemory o f lists memo → GoesRight o o f lists memo root whole
 right_start o f lists memo root whole right = record {
   right = right;
   placed = placed-none o o (becomes_there f lists root whole) refl;
 }
 
-module _ (o p : PassView) (one : IsOneToOne p) (images : Images) (before : Lists) (memo : Memory) (root : Place) (whole : Tree) (way : List Place) (at : Place) (w : IsWalk o p images before memo root whole (way ++ at ∷ [])) where
+module _ (o p : PassView) (one : IsOneToOne p) (images : Images) (before : Lists) (memo : Memo) (root : Place) (whole : Tree) (way : List Place) (at : Place) (w : IsWalk o p images before memo root whole (way ++ at ∷ [])) where
   here : IsOn o p images before memo root whole at
   here = last_of (IsOn o p images before memo root whole) way at w.on
 
@@ -188,7 +204,7 @@ module _ (o p : PassView) (one : IsOneToOne p) (images : Images) (before : Lists
   walk_down q after part k₀ k keeps u = record {
     root_inside = let i = w.root_inside in let m = keeps.more in omega arith;
     on = push_all (IsOn o q images after memo root whole) (way ++ at ∷ []) part
-        (each (IsOn o p images before memo root whole) (IsOn o q images after memo root whole) (way ++ at ∷ []) (λ x h. on_later o p q images before after memo memo root whole k keeps w.root_inside x refl h) w.on)
+        (each (IsOn o p images before memo root whole) (IsOn o q images after memo root whole) (way ++ at ∷ []) (λ x h. on_later o p q images before after memo memo root whole k keeps w.root_inside x (λ e. e) h) w.on)
         (record {
           tree = u.spot.tree;
           known = k.grows (reference_of part) u.spot.tree u.spot.known;
@@ -237,14 +253,14 @@ module _ (o p : PassView) (one : IsOneToOne p) (images : Images) (before : Lists
         inside = let i = b.inside in let m = keeps.more in omega arith;
       }
 
-  pub memory_more : (q : PassView) (f : ℕ → Tree) (after : Lists) (new : Memory) (d : ℕ) → KeepsPass p q → KeepsLayers before after → ((x y : Place) → (x ≡ y) ⊎ (x ≢ y)) → IsMemory p f before memo → Remembers memo new at d → ((t : Tree) → Knows p (reference_of at) t → Knows q d (becomes_there f before at t)) → IsMemory q f after new
+  pub memory_more : (q : PassView) (f : ℕ → Tree) (after : Lists) (new : Memo) (d : ℕ) → KeepsPass p q → KeepsLayers before after → ((x y : Place) → (x ≡ y) ⊎ (x ≢ y)) → IsMemory p f before memo → Remembers memo new at d → ((t : Tree) → Knows p (reference_of at) t → Knows q d (becomes_there f before at t)) → IsMemory q f after new
   memory_more q f after new d k keeps decides right noted done place r found = go (decides place at)
     where
       same_some : {X : Type 0} {a b : X} → Some a ≡ Some b → a ≡ b
       same_some g = cc
 
       go : (place ≡ at) ⊎ (place ≢ at) → HasBecome q f after place r
-      go (inr other) = memory_kept q f after k keeps right place r (sym (noted.others place other) ∙ found)
+      go (inr other) = memory_kept q f after k keeps right place r (noted.others place other r found)
       go (inl same) =
           let is : d ≡ r = same_some (sym noted.here ∙ subst (λ z. remembered new z ≡ Some r) same found) in
           subst (λ z. HasBecome q f after z r) (sym same)
@@ -256,19 +272,29 @@ module _ (o p : PassView) (one : IsOneToOne p) (images : Images) (before : Lists
             inside = let i = here.inside in let m = keeps.more in omega arith;
           })
 
+  -- what a place becomes is a cell
+  pub made_high : (q : PassView) → IsOneToOne q → HasPartsOfTrees q → KeepsPass p q → (d : ℕ) → IsReady p images before memo → ((f : ℕ → Tree) → AreImages p images f → IsMemory p f before memo → (t : Tree) → Knows p (reference_of at) t → Knows q d (becomes_there f before at t)) → 2 ^ 30 ≤ d
+  made_high q one_q parts k d ready done =
+      let s = split q parts (reference_of at) (HasPlaceShape at) here.tree (k.grows (reference_of at) here.tree here.known) here.shape here.high in
+      let same = one_q.one_tree (reference_of at) (cell s.first s.second) here.tree s.known (k.grows (reference_of at) here.tree here.known) in
+      let c = becomes_cell ready.trees before at s.first s.second in
+      one_q.high d c.0 c.1
+      (subst (Knows q d) c.2
+      (subst (λ t. Knows q d (becomes_there ready.trees before at t)) (sym same) (done ready.trees ready.are ready.right here.tree here.known)))
+
 pub right_lists : (o p : PassView) (f : ℕ → Tree) (before after : Lists) (root : Place) (whole : Tree) → KeepsLayers before after → layer_of root < length before → PlacesOnlyIn o p (becomes_there f before root whole) → PlacesOnlyIn o p (becomes_there f after root whole)
 right_lists o p f before after root whole keeps inside h = subst (PlacesOnlyIn o p) (sym (lists_same f before after keeps root whole inside)) h
 
 -- a place is done
-unmet_after : (o p q : PassView) (images : Images) (before after : Lists) (old new : Memory) (root : Place) (whole : Tree) → IsOneToOne p → KeepsPass p q → KeepsLayers before after → layer_of root < length before → (at : Place) → ((x : Place) → x ≢ at → remembered new x ≡ remembered old x) → (xs : List Place) → Descends p (xs ++ at ∷ []) → AllByRecursion (IsOn o p images before old root whole) xs → AllByRecursion (IsOn o q images after new root whole) xs
+unmet_after : (o p q : PassView) (images : Images) (before after : Lists) (old new : Memo) (root : Place) (whole : Tree) → IsOneToOne p → KeepsPass p q → KeepsLayers before after → layer_of root < length before → (at : Place) → ((x : Place) → x ≢ at → (d : ℕ) → remembered new x ≡ Some d → remembered old x ≡ Some d) → (xs : List Place) → Descends p (xs ++ at ∷ []) → AllByRecursion (IsOn o p images before old root whole) xs → AllByRecursion (IsOn o q images after new root whole) xs
 unfolding Descends
 unmet_after o p q images before after old new root whole one k keeps inside at others [] d h = tt
 unmet_after o p q images before after old new root whole one k keeps inside at others (x ∷ xs) d h = (
-  on_later o p q images before after old new root whole k keeps inside x (others x (deeper_apart p one x at (last_of (IsDeeper p x) xs at d.0))) h.0,
+  on_later o p q images before after old new root whole k keeps inside x (none_left (remembered old x) (remembered new x) (others x (deeper_apart p one x at (last_of (IsDeeper p x) xs at d.0)))) h.0,
   unmet_after o p q images before after old new root whole one k keeps inside at others xs d.1 h.1,
 )
 
-pub walk_up : (o p q : PassView) → IsOneToOne p → (images : Images) (before after : Lists) (old new : Memory) (root : Place) (whole : Tree) (way : List Place) (above at : Place) (d : ℕ) → KeepsPass p q → KeepsLayers before after → Remembers old new at d → IsWalk o p images before old root whole ((way ++ above ∷ []) ++ at ∷ []) → IsWalk o q images after new root whole (way ++ above ∷ [])
+pub walk_up : (o p q : PassView) → IsOneToOne p → (images : Images) (before after : Lists) (old new : Memo) (root : Place) (whole : Tree) (way : List Place) (above at : Place) (d : ℕ) → KeepsPass p q → KeepsLayers before after → Remembers old new at d → IsWalk o p images before old root whole ((way ++ above ∷ []) ++ at ∷ []) → IsWalk o q images after new root whole (way ++ above ∷ [])
 walk_up o p q one images before after old new root whole way above at d k keeps noted w = record {
   root_inside = let i = w.root_inside in let m = keeps.more in omega arith;
   on = unmet_after o p q images before after old new root whole one k keeps w.root_inside at noted.others (way ++ above ∷ []) w.descends
@@ -277,7 +303,7 @@ walk_up o p q one images before after old new root whole way above at d k keeps 
   starts = starts_front root way above at w.starts;
 }
 
-pub walk_root : (o p : PassView) (images : Images) (lists : Lists) (memo : Memory) (root : Place) (whole : Tree) (way : List Place) (at : Place) → way ≡ [] → IsWalk o p images lists memo root whole (way ++ at ∷ []) → at ≡ root
+pub walk_root : (o p : PassView) (images : Images) (lists : Lists) (memo : Memo) (root : Place) (whole : Tree) (way : List Place) (at : Place) → way ≡ [] → IsWalk o p images lists memo root whole (way ++ at ∷ []) → at ≡ root
 unfolding Starts
 walk_root o p images lists memo root whole way at none w = only way none w.starts
   where
@@ -294,7 +320,7 @@ at_root o one r lists f whole t known known_t first P h =
     subst (λ (u : Tree). P (becomes f [] u)) (one.one_tree r whole t known known_t)
     (subst (λ (hidden : List ℕ). P (becomes f hidden whole)) first h)
 
-pub ready_of : (o p : PassView) → KeepsPass o p → (images : Images) (lists : Lists) (memo : Memory) (root : Place) (whole : Tree) → HasImages o images → ((f : ℕ → Tree) → AreImages o images f → GoesRight o p f lists memo root whole) → IsReady p images lists memo
+pub ready_of : (o p : PassView) → KeepsPass o p → (images : Images) (lists : Lists) (memo : Memo) (root : Place) (whole : Tree) → HasImages o images → ((f : ℕ → Tree) → AreImages o images f → GoesRight o p f lists memo root whole) → IsReady p images lists memo
 ready_of o p k images lists memo root whole has right = record {
   trees = has.trees;
   are = images_later o p k images has.trees has.are;

@@ -3,6 +3,7 @@ pub mod FreeLeaves
 pub mod Searching
 pub mod Layers
 pub mod Becoming
+pub mod Remembering
 pub mod Places
 pub mod Hiding
 pub mod PutIn

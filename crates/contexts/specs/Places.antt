@@ -1,30 +1,25 @@
 -- Private. The places that the walk visits, what it remembers of them, and what a visit comes to.
-use Rattle.std.specs.Prelude.{◌≡◌, ◌≢◌, ◌<◌, ◌≤◌, ◌+◌, ◌^◌, ℕ, List, [], length, Option, Some, None, Result, IfOk, IfErr, nat_eq, if◌then◌else◌, Vec, Bool}
-use Rattle.std.specs.HashMap.{HashMap, get, hash_map_len}
+use Rattle.std.specs.Prelude.{◌≡◌, ◌<◌, ◌≤◌, ◌^◌, ℕ, List, [], length, Option, Some, None, Result, IfOk, IfErr, nat_eq, if◌then◌else◌, Vec, Bool}
+use Rattle.std.specs.HashMap.{get}
 use Rattle.std.specs.List.{list_any}
 use Rattle.std.specs.declared.alloc.Global.{Global}
-use Rattle.std.specs.declared.hash.BuildHasherDefault.{BuildHasherDefault}
-use Rattle.std.specs.declared.hash.FoldHasher.{FoldHasher}
 use Rattle.pair_pool.specs.Trees.{Tree, cell}
 use Rattle.pair_pool.specs.Views.{PassView, Knows}
 use Rattle.term_pool.specs.Building.{PlacesOnlyIn, IsFullIn}
 use Rattle.term_pool.specs.Heights.{is_let_head}
 use Rattle.term_pool.specs.Trees.{IsPartOf, depth}
 use Rattle.term_pool.specs.declared.stop.TermStop.{TermStop}
-use Rattle.contexts.specs.contracts.places.PlacePartialEq.TheImpl as places
+use Rattle.contexts.specs.declared.memo.Memo.{Memo}
 use Rattle.contexts.specs.declared.places.Place.{Place}
 use Rattle.contexts.specs.declared.places.Place.TheVariants.{Term, Bindings}
 use Rattle.contexts.specs.declared.places.Visit.{Visit}
 use Rattle.contexts.specs.declared.places.Visit.TheVariants.{Part, Done}
 use Rattle.contexts.specs.Becoming.{becomes, bindings_become, Images, Look, IsImageAt, AreImages}
 use Rattle.contexts.specs.Layers.{shadowed}
+use Rattle.contexts.specs.Remembering.{reference_of, remembered}
 use Rattle.contexts.specs.Shapes.{HasShape, HasListShape}
 
--- the reference at a place, and the number of the list of what lets around it hide
-abbrev pub reference_of : Place → ℕ
-reference_of (Term r layer) = r
-reference_of (Bindings r layer) = r
-
+-- the number of the list of what lets around a place hide
 abbrev pub layer_of : Place → ℕ
 layer_of (Term r layer) = layer
 layer_of (Bindings r layer) = layer
@@ -62,34 +57,17 @@ abbrev pub leaf_there : Images → Lists → Place → ℕ
 leaf_there images lists (Term r layer) = image_of_leaf images (shadowed lists layer) r
 leaf_there images lists (Bindings r layer) = r
 
--- what places have become
-abbrev pub Memory : Type 0
-Memory = HashMap Place ℕ (BuildHasherDefault FoldHasher)
-
-abbrev pub remembered : Memory → Place → Option ℕ
-remembered memo place = get (places.ghosts).eq memo place
-
 pub record HasBecome (pass : PassView) (f : ℕ → Tree) (lists : Lists) (place : Place) (r : ℕ) : Type 0 where
   pub tree : Tree
   pub known : Knows pass (reference_of place) tree
   pub is : Knows pass r (becomes_there f lists place tree)
   pub inside : layer_of place < length lists
 
-abbrev pub IsMemory : PassView → (ℕ → Tree) → Lists → Memory → Type 0
+abbrev pub IsMemory : PassView → (ℕ → Tree) → Lists → Memo → Type 0
 IsMemory pass f lists memo = (place : Place) (r : ℕ) → remembered memo place ≡ Some r → HasBecome pass f lists place r
 
--- one place more is remembered, and what there was
-pub record Remembers (old new : Memory) (place : Place) (r : ℕ) : Type 0 where
-  pub here : remembered new place ≡ Some r
-  pub others : (q : Place) → q ≢ place → remembered new q ≡ remembered old q
-  pub size : hash_map_len new ≡ hash_map_len old + 1
-
--- what there was, and no more
-abbrev pub RemembersAsMuch : Memory → Memory → Type 0
-RemembersAsMuch old new = (q : Place) → remembered new q ≡ remembered old q
-
 -- y is a place that is not remembered, less deep than x, and what stands there becomes a part of what x becomes
-pub record IsUnder (pass : PassView) (images : Images) (lists : Lists) (memo : Memory) (x y : Place) : Type 0 where
+pub record IsUnder (pass : PassView) (images : Images) (lists : Lists) (memo : Memo) (x y : Place) : Type 0 where
   pub spot : IsSpot pass lists y
   pub unmet : remembered memo y ≡ None
   pub less : (s t : Tree) → Knows pass (reference_of x) s → Knows pass (reference_of y) t → depth t < depth s
@@ -98,7 +76,7 @@ pub record IsUnder (pass : PassView) (images : Images) (lists : Lists) (memo : M
       Knows pass (reference_of y) t → IsPartOf (becomes_there f lists y t) (becomes_there f lists x s)
 
 -- a visit of the place x has come to what it becomes, or found a place that is yet to be visited
-abbrev pub IsVisit : PassView → Images → Lists → Memory → Place → Visit → Type 0
+abbrev pub IsVisit : PassView → Images → Lists → Memo → Place → Visit → Type 0
 IsVisit pass images lists memo x (Done r) = Unit {0}
 IsVisit pass images lists memo x (Part y) = IsUnder pass images lists memo x y
 
@@ -115,13 +93,13 @@ abbrev pub LacksRoomForImage : PassView → PassView → (ℕ → Tree) → List
 LacksRoomForImage old new f lists x = (t : Tree) → Knows old (reference_of x) t → IsFullIn new (becomes_there f lists x t)
 
 -- the images are those of some trees, and what is remembered has become of them
-pub record IsReady (pass : PassView) (images : Images) (lists : Lists) (memo : Memory) : Type 0 where
+pub record IsReady (pass : PassView) (images : Images) (lists : Lists) (memo : Memo) : Type 0 where
   pub trees : ℕ → Tree
   pub are : AreImages pass images trees
   pub right : IsMemory pass trees lists memo
 
 -- what is remembered has become of places where this is put in for leaves, and the first list hides none
-pub record IsWalked (pass : PassView) (put : Look) (lists : Lists) (memo : Memory) : Type 0 where
+pub record IsWalked (pass : PassView) (put : Look) (lists : Lists) (memo : Memo) : Type 0 where
   pub trees : ℕ → Tree
   pub are : (k : ℕ) → IsImageAt pass (put k) k (trees k)
   pub right : IsMemory pass trees lists memo
@@ -129,7 +107,7 @@ pub record IsWalked (pass : PassView) (put : Look) (lists : Lists) (memo : Memor
   pub some : 0 < length lists
 
 -- what a visit of the place comes to, where the lists have become more
-pub record Visits (old new : PassView) (images : Images) (before after : Lists) (memo : Memory) (place : Place) (result : Result Visit TermStop) : Type 0 where
+pub record Visits (old new : PassView) (images : Images) (before after : Lists) (memo : Memo) (place : Place) (result : Result Visit TermStop) : Type 0 where
   pub visit : IfOk result (IsVisit old images after memo place)
   pub done :
       IfOk result (λ v. (f : ℕ → Tree) → AreImages old images f → IsMemory old f before memo → HasDone old new f before place v)

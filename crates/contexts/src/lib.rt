@@ -10,6 +10,7 @@ mod hiding;
 mod kept;
 mod layers;
 mod leaves;
+mod memo;
 mod places;
 mod putting;
 mod substitution;

@@ -1,11 +1,12 @@
 //! The places that the walk visits, and what it remembers of them.
 
-ghost use Rattle.std.specs.Prelude.{◌≡◌, ◌<◌, ◌≤◌, ◌^◌, ℕ, Some, None, IfOk, OnErr, OnOk, nat_eq, length};
-ghost use Rattle.std.specs.HashMap.{get, hash_map_len};
-ghost use Rattle.contexts.specs.Places.{image_of_leaf, layer_of, leaf_there, reference_of, remembered, Remembers, RemembersAsMuch};
+ghost use Rattle.std.specs.Prelude.{◌≡◌, ◌<◌, ◌≤◌, ◌^◌, Some, length};
+ghost use Rattle.contexts.specs.Places.{image_of_leaf, layer_of, leaf_there};
+ghost use Rattle.contexts.specs.Remembering.{reference_of, remembered};
 
 use crate::layers::Layers;
-use pair_pool::{Memory, Ref};
+use crate::memo::Memo;
+use pair_pool::Ref;
 use std::collections::HashMap;
 
 /// A reference, as what it is met, with the number of the list of the leaves that the lets around it bind.
@@ -42,7 +43,7 @@ pub(crate) fn of_leaf(images: &HashMap<u32, Ref>, hidden: &[u32], leaf: Ref) -> 
 pub(crate) fn look(
     images: &HashMap<u32, Ref>,
     layers: &Layers,
-    memo: &HashMap<Place, Ref>,
+    memo: &Memo,
     place: &Place,
 ) -> Option<Ref>
     requires { layer_of place.now < length layers.now.lists.items }
@@ -61,17 +62,5 @@ pub(crate) fn look(
             }
         }
     }
-    memo.get(place).copied()
-}
-
-/// Remembers what has become of a place.
-pub(crate) fn note(memo: &mut HashMap<Place, Ref>, place: &Place, r: Ref) -> Result<(), Memory>
-    requires { remembered memo.old place.now ≡ None }
-    ensures noted { OnOk result (Remembers memo.old memo.new place.now r) }
-    ensures kept { OnErr result (RemembersAsMuch memo.old memo.new) }
-    ensures few { hash_map_len memo.old < 2 ^ 64 }
-{
-    let _count = memo.len();
-    let _ = memo.insert(*place, r)?;
-    Ok(())
+    memo.get(place)
 }

@@ -16,7 +16,8 @@ ghost use Rattle.contexts.specs.declared.places.Place.TheVariants as Place;
 use crate::hiding::under_let;
 use crate::layers::Layers;
 use crate::leaves::LET;
-use crate::places::{Place, Visit, look, note};
+use crate::memo::{Memo, note};
+use crate::places::{Place, Visit, look};
 use crate::walked::Walked;
 use pair_pool::Ref;
 use std::collections::HashMap;
@@ -27,7 +28,7 @@ fn visit_plain(
     terms: &mut Terms<'_>,
     images: &HashMap<u32, Ref>,
     layers: &Layers,
-    memo: &HashMap<Place, Ref>,
+    memo: &Memo,
     r: Ref,
     layer: usize,
 ) -> Result<Visit, TermStop>
@@ -57,7 +58,7 @@ fn visit_bindings(
     terms: &mut Terms<'_>,
     images: &HashMap<u32, Ref>,
     layers: &Layers,
-    memo: &HashMap<Place, Ref>,
+    memo: &Memo,
     r: Ref,
     layer: usize,
 ) -> Result<Visit, TermStop>
@@ -88,7 +89,7 @@ fn visit_let(
     terms: &mut Terms<'_>,
     images: &HashMap<u32, Ref>,
     layers: &mut Layers,
-    memo: &HashMap<Place, Ref>,
+    memo: &Memo,
     r: Ref,
     layer: usize,
 ) -> Result<Visit, TermStop>
@@ -122,7 +123,7 @@ fn visit(
     terms: &mut Terms<'_>,
     images: &HashMap<u32, Ref>,
     layers: &mut Layers,
-    memo: &HashMap<Place, Ref>,
+    memo: &Memo,
     place: &Place,
 ) -> Result<Visit, TermStop>
     requires spot { IsSpot terms.old.pass layers.old.lists.items place.now }
@@ -176,7 +177,9 @@ pub(crate) fn put(
                 at = part;
             }
             Visit::Done(made) => {
-                note(&mut walked.memo, &at, made)?;
+                terms.one_to_one();
+                terms.parts_of_trees();
+                note(&mut walked.memo, walked.layers.alloc, &at, made)?;
                 match way.pop() {
                     Some(above) => at = above,
                     None => return Ok(made),

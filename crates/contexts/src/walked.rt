@@ -7,16 +7,15 @@ ghost use Rattle.contexts.specs.Becoming.{IsImageAt, Look};
 ghost use Rattle.contexts.specs.Places.{IsWalked};
 
 use crate::layers::Layers;
-use crate::places::Place;
-use pair_pool::{Memory, Ref};
+use crate::memo::Memo;
+use pair_pool::Memory;
 use std::alloc::Global;
-use std::collections::HashMap;
 
 /// What has become of the places that were walked over, and the numbered lists that they name.
 #[derive(Drop)]
 pub(crate) struct Walked {
     pub(crate) layers: Layers,
-    pub(crate) memo: HashMap<Place, Ref>,
+    pub(crate) memo: Memo,
 }
 
 impl Walked {
@@ -27,7 +26,7 @@ impl Walked {
         let layers = Layers::new(alloc)?;
         Ok(Walked {
             layers,
-            memo: HashMap::new(alloc),
+            memo: Memo::new(alloc),
         })
     }
 }

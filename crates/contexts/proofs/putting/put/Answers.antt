@@ -5,7 +5,7 @@ use Rattle.contexts.specs.declared.places.Place.TheVariants.{Term}
 use Rattle.contexts.proofs.CellBuilding.{terms-refl, terms-trans}
 use Rattle.contexts.proofs.PlaceKeys.{same_place}
 use Rattle.contexts.proofs.Results.{handed_on}
-use Rattle.contexts.proofs.Walking.{images_later, walk_start, right_start, walk_spot, walk_unmet, walk_down, walk_up, walk_root, no_places, places_more, lacks_more, memory_kept, memory_more, right_lists, at_root, ready_of, root_done}
+use Rattle.contexts.proofs.Walking.{images_later, walk_start, right_start, walk_spot, walk_unmet, walk_down, walk_up, walk_root, no_places, places_more, lacks_more, memory_kept, memory_more, made_high, right_lists, at_root, ready_of, root_done}
 use Rattle.contexts.proofs.Keeping.{found_done, none_high, none_unmet, right_for, have_images, walked_more, memory_same, no_some}
 use Rattle.contexts.proofs.putting.put.Goals as goal
 
@@ -93,8 +93,15 @@ places-preserved-in-Part c =
       };
     }
 
-pub note-requires : goal.note-requires
-note-requires c = walk_unmet _ _ c.one_to_one-in-places.ensures c.args.images.now _ c.places.walked.memo _ _ _ _ c.places.invariant.walk
+pub note-requires-clause-cell : goal.note-requires-clause-cell
+note-requires-clause-cell c =
+    let h = c.places.invariant in
+    let visits = rw c.in-Done.is at c.in_ok-part.ensures.visits in
+    made_high _ _ c.one_to_one-in-places.ensures c.args.images.now _ c.places.walked.memo _ _ _ _ h.walk _ c.one_to_one-in-Done.ensures c.parts_of_trees-in-Done.ensures c.visit.ensures.keeps.pass _
+    (ready_of _ _ h.keeps.pass _ _ _ _ _ (have_images _ _ _ _ c.requires.walked) h.right) visits.done
+
+pub note-requires-clause-unmet : goal.note-requires-clause-unmet
+note-requires-clause-unmet c = walk_unmet _ _ c.one_to_one-in-places.ensures c.args.images.now _ c.places.walked.memo _ _ _ _ c.places.invariant.walk
 
 pub places-preserved : goal.places-preserved
 places-preserved c =

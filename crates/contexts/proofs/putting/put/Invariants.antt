@@ -1,11 +1,11 @@
 use Rattle.std.proofs.Common.{◌≡◌, ◌<◌, length, ◌+◌, ◌-◌, ◌*◌, ◌^◌, ◌++◌, ◌∷◌, [], vec_len, ℕ}
-use Rattle.std.specs.HashMap.{hash_map_len}
 use Rattle.pair_pool.specs.Trees.{Tree}
 use Rattle.pair_pool.specs.Views.{Knows}
 use Rattle.term_pool.specs.Views.{KeepsTerms}
 use Rattle.contexts.specs.declared.places.Place.TheVariants.{Term}
 use Rattle.contexts.specs.Becoming.{AreImages}
 use Rattle.contexts.specs.Layers.{shadowed}
+use Rattle.contexts.specs.Remembering.{memory_size}
 use Rattle.contexts.proofs.Walking.{IsWalk, GoesRight}
 use Rattle.contexts.proofs.putting.put.Given as goal
 
@@ -21,4 +21,4 @@ invariant-places l = record {
 }
 
 abbrev pub decreases-places : goal.decreases-places
-decreases-places l = (2 ^ 64 - hash_map_len l.walked.memo) * 2 ^ 64 + (2 ^ 64 - vec_len l.way)
+decreases-places l = (2 ^ 65 - memory_size l.walked.memo) * 2 ^ 64 + (2 ^ 64 - vec_len l.way)
