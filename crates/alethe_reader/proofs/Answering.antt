@@ -1,4 +1,4 @@
--- Cited by crates above. AnswersAs of one part of the reader after another.
+-- Cited by crates above. Answers of one part of the reader after another.
 use Rattle.std.proofs.Common.{◌≡◌, Result, Ok, Err, sym, ap, subst}
 use Rattle.std.specs.Prelude.{Contains}
 use Rattle.sexpr.specs.declared.causes.Refusal.{Refusal}

@@ -122,7 +122,7 @@ module _ (s : Table) (v : TermsView) (at : ℕ → Terms) (own : ℕ) where
     own = mine;
   }
 
-  -- a part once, and taken_away
+  -- a part once, and taken away
   once_is : (reading : FormReading) (ts : Terms) (f : Found) → IsMet at own ts f → (once f.number).times *ℤ sum_in reading (at f.number) ≡ sum_in reading ts
   once_is reading ts f met = rw met.terms_are (one-mul (sum_in reading ts))
 

@@ -10,7 +10,7 @@ use Rattle.rules_simplify.specs.Chains.{heaviness}
 use Rattle.rules_simplify.specs.Conjoined.{conjunction, implication_of, conjoined}
 use Rattle.rules_simplify.proofs.ChainLemmas.{reached_none, reached_next}
 
--- what the first row that fits makes of an implication_of from an `and`
+-- what the first row that fits makes of an implication from an `and`
 pub record IsConjoinedOnce (x y z u : Term) : Type 0 where
   pub premise : Term
   pub rest : Term
@@ -49,7 +49,7 @@ conjoins_first x y b c =
       ),
     )
 
--- `(and x (not y))` fits no row but where x is an implication_of from that negation
+-- `(and x (not y))` fits no row but where x is an implication from that negation
 pub negation_fits_none : (x y u : Term) → ((z : Term) → x ≢ implication_of (not_of y) z) → ¬ IsFirstFit bool_simplify (conjunction x (not_of y)) u
 negation_fits_none x y u other (inl r) = absurd (let e = r.from in cc)
 negation_fits_none x y u other (inr (_, inl r)) = absurd (let e = r.from in cc)
@@ -62,7 +62,7 @@ negation_fits_none x y u other (inr (_, inr (_, inr (_, inr (_, inr (_, inr (_, 
     other (r.terms Letter.B) cc
 negation_fits_none x y u other (inr (_, inr (_, inr (_, inr (_, inr (_, inr (_, inr (_, h)))))))) = absurd h
 
--- each term that is reached from such an implication_of is one whose conclusion is lighter
+-- each term that is reached from such an implication is one whose conclusion is lighter
 pub record IsFarther (z u : Term) : Type 0 where
   pub premise : Term
   pub rest : Term
@@ -88,7 +88,7 @@ reached_farther x y z t u (again t' w u' h more) is =
     let after = later.lighter in
     record { premise = later.premise; rest = later.rest; is = later.is; lighter = omega (arith, falls, after) }
 
--- one step from an implication_of whose conclusion is one
+-- one step from an implication whose conclusion is one
 module _ (x y b c u : Term) where
   step_first : IsFirstFit bool_simplify (implication_of (conjunction x y) (implication_of b c)) (implication_of (conjunction (conjunction x y) b) c)
   step_first = conjoins_first x y b c

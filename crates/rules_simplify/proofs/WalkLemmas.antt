@@ -14,7 +14,7 @@ use Rattle.rules_simplify.specs.Conjoined.{AreOperands, conjunction, implication
 use Rattle.rules_simplify.proofs.ConjoinedLemmas.{reached_farther, conjoined_next, none_from, conjoined_last, lighter_conclusion}
 use Rattle.rules_simplify.proofs.WeightLemmas.{terms_are}
 
--- The walk has come to a conclusion: what is reached from the first term is what is reached from the implication_of from the
+-- The walk has come to a conclusion: what is reached from the first term is what is reached from the implication from the
 -- premises so far to this conclusion.
 pub record IsWalked (s : Table) (v : TermsView) (from : FromConjunction) (items : List ℕ) (conclusion : ℕ) (t u : Term) : Type 0 where
   pub first : Term
@@ -58,7 +58,7 @@ premises_of : (x y z w : Term) → implication_of x y ≡ implication_of z w →
 premises_of x y z w e = cc
 
 module _ (s : Table) (v : TermsView) (from : FromConjunction) (items : List ℕ) (conclusion : ℕ) (t u : Term) (walk : IsWalked s v from items conclusion t u) where
-  -- the conclusion is no implication_of
+  -- the conclusion is no implication
   pub walk_ends : ((w x y : Term) → RefersTo s v conclusion w → w ≢ implication_of x y) → IsTrue false ↔ IsReached bool_simplify t u
   walk_ends other = (
     λ e. absurd cc,

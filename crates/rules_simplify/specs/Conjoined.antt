@@ -25,7 +25,7 @@ abbrev pub conjoined : Term → List Term → Term
 conjoined t [] = t
 conjoined t (u ∷ us) = conjoined (conjunction t u) us
 
--- the term is the implication_of of the references
+-- the term is the implication of the references
 pub record IsFrom (s : Table) (v : TermsView) (from : FromConjunction) (t : Term) : Type 0 where
   pub first : Term
   pub second : Term
