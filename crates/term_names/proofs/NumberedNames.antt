@@ -6,7 +6,8 @@ use Rattle.std.specs.Str.{bytes_eq}
 use Rattle.std.proofs.lemmas.List.{map-append}
 use Rattle.std.proofs.lemmas.Slice.Eq.{bytes_eq-Decides}
 use Rattle.indexmap.specs.IndexSet.{insert_key}
-use Rattle.term_names.specs.NameNumbers.{texts, AreApart}
+use Rattle.term_names.specs.NameNumbers.{AreApart}
+use Rattle.term_names.specs.NameTables.{texts}
 use Rattle.term_names.proofs.Positions.{position-map, position-push_found, position-push_new, list_any-no_place, slice_get-push_cases}
 
 -- the place of a name in the table is its number

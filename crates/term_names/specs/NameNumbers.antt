@@ -1,10 +1,5 @@
 -- Public. Names, by the numbers that are their places.
-use Rattle.std.specs.Prelude.{◌≡◌, ℕ, List, map, position, slice_get, bytes_eq, Some, Vec, ◌+◌, ◌⊎◌, [], ◌∷◌, ◌++◌}
-use Rattle.std.specs.declared.alloc.Global.{Global}
-
--- names as byte strings
-abbrev pub texts : List (Vec ℕ Global) → List (List ℕ)
-texts names = map (λ name. name.items) names
+use Rattle.std.specs.Prelude.{◌≡◌, ℕ, List, position, slice_get, bytes_eq, Some, ◌⊎◌, [], ◌∷◌, ◌++◌}
 
 -- no name has two numbers
 abbrev pub AreApart : List (List ℕ) → Type 0

@@ -16,7 +16,8 @@ pub struct NameNumbers {
 
 impl Model for NameNumbers {
     ghost use Rattle.std.specs.Prelude.{List, ℕ};
-    ghost use Rattle.term_names.specs.NameNumbers.{texts, AreApart};
+    ghost use Rattle.term_names.specs.NameNumbers.{AreApart};
+    ghost use Rattle.term_names.specs.NameTables.{texts};
 
     ghost Value = { List (List ℕ) };
 

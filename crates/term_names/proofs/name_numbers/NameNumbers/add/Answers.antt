@@ -1,6 +1,7 @@
 -- The name is new, so it goes last.
 use Rattle.std.proofs.Common.{◌≡◌, ◌∙◌, ◌++◌, [], ◌∷◌, ap, sym, subst, position, bytes_eq, None}
-use Rattle.term_names.specs.NameNumbers.{texts, AreApart}
+use Rattle.term_names.specs.NameNumbers.{AreApart}
+use Rattle.term_names.specs.NameTables.{texts}
 use Rattle.term_names.proofs.NumberedNames.{texts-insert_key, AreApart-push}
 use Rattle.term_names.proofs.name_numbers.NameNumbers.add.Goals as goal
 
