@@ -42,7 +42,7 @@ impl Symbols {
         ensures refused { OnErr result (self.new ≡ self.old) }
         ensures keeps { Keeps self.old self.new }
     {
-        let number = names::find_or_add(self.alloc, &mut self.variable_names, name)?;
+        let number = names::find_or_add(&mut self.variable_names, name)?;
         let place = find_or_add(&mut self.leaves, Symbol::Variable(number, sort))?;
         Ok(FIRST_LEAVES + place as u32)
     }
@@ -75,8 +75,8 @@ impl Symbols {
             return first_name(leaf);
         }
         match &keys[(leaf - FIRST_LEAVES) as usize] {
-            Symbol::Function(number) => names::name_at(&self.function_names, *number),
-            Symbol::Variable(number, _) => names::name_at(&self.variable_names, *number),
+            Symbol::Function(number) => self.function_names.name(*number),
+            Symbol::Variable(number, _) => self.variable_names.name(*number),
             Symbol::Numeral(_) => b"",
         }
     }
