@@ -1,7 +1,6 @@
 pub mod ValueParts
 pub mod NameEntries
 pub mod Positions
-pub mod NumberedNames
 pub mod HeldVariables
 pub mod Operators
 pub mod Gathering

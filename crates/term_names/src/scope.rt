@@ -3,7 +3,7 @@ ghost use Rattle.std.specs.Prelude.{◌≡◌, ◌<◌, [], ◌∷◌, length, b
 ghost use Rattle.term_names.specs.Scope.{Scoped};
 ghost use Rattle.term_names.specs.NameNumbers.{IsNumbered};
 
-use crate::name_numbers::NameNumbers;
+use name_set::NameSet;
 use std::alloc::Global;
 use std::marker::Model;
 use sym_table::Memory;
@@ -25,7 +25,7 @@ pub(crate) struct Held {
 /// new variable, however many there are.
 #[derive(Drop)]
 pub struct Scope {
-    names: NameNumbers,
+    names: NameSet,
     innermost: Vec<usize>,
     held: Vec<Held>,
 }
@@ -49,7 +49,7 @@ impl Scope {
         ensures { result ≡ [] }
     {
         Scope {
-            names: NameNumbers::new(alloc),
+            names: NameSet::new(alloc),
             innermost: Vec::new(alloc),
             held: Vec::new(alloc),
         }
@@ -98,11 +98,7 @@ impl Scope {
 }
 
 /// The number of a name: the one that it has, or a new one. A new name has no variable yet.
-fn number_of(
-    names: &mut NameNumbers,
-    innermost: &mut Vec<usize>,
-    name: &[u8],
-) -> Result<usize, Memory>
+fn number_of(names: &mut NameSet, innermost: &mut Vec<usize>, name: &[u8]) -> Result<usize, Memory>
     requires { length names.old ≡ length innermost.old.items }
     ensures number { IfOk result (λ k. IsNumbered names.old names.new innermost.old.items innermost.new.items name.now k) }
     ensures names { OnErr result (names.new ≡ names.old) }
