@@ -8,6 +8,7 @@ ghost use Rattle.text_items.specs.Nodes.{IsNode, AreNodes};
 ghost use Rattle.text_items.specs.Stepping.{IsItemAt, AreItemsFrom};
 
 use crate::nodes::Node;
+use crate::one_pass::is_faultless;
 use crate::shapes::{excess, is_list, node_at, symbol_fault};
 use sexpr::{Lexer, TokenKind};
 
@@ -46,8 +47,9 @@ pub enum Next {
 
 /// The first fault of the attributes that stand from `first` to before `end`, in a list that begins at `place`.
 ///
-/// Costs as much as these items are, for each keyword that is known, and what stands in the lists that have to be lists of
-/// symbols.
+/// Where there is none, mostly one pass over the items tells it, in which each keyword is looked up once among those that are
+/// known. Else it costs as much as the items are, for each keyword that is known. Both go over what stands in the lists that
+/// have to be lists of symbols.
 pub fn attributes_fault(
     text: &Lexer<'_>,
     nodes: &[Node],
@@ -59,6 +61,9 @@ pub fn attributes_fault(
     requires { AreItemsFrom (source text.now) nodes.now first end }
     ensures { (items : Items) → AreNodes (source text.now) nodes.now first items end → result ≡ shape.attributes_fault (map shape.known_of known.now) place items }
 {
+    if is_faultless(text, nodes, known, first, end) {
+        return None;
+    }
     if is_value(at_end(text, nodes, known, first, end))
         || lacks_keyword(text, nodes, known, first, end)
     {
@@ -156,14 +161,14 @@ fn at_end(text: &Lexer<'_>, nodes: &[Node], known: &[Keyword<'_>], first: usize,
 }
 
 /// Whether a value has to stand next.
-fn is_value(next: Next) -> bool
+pub(crate) fn is_value(next: Next) -> bool
     ensures { result ≡ shape.is_value next }
 {
     matches!(next, Next::Value(_))
 }
 
 /// The first fault of an item, where this may stand.
-fn next_fault(text: &Lexer<'_>, nodes: &[Node], next: Next, k: usize) -> Option<u64>
+pub(crate) fn next_fault(text: &Lexer<'_>, nodes: &[Node], next: Next, k: usize) -> Option<u64>
     requires { IsItemAt (source text.now) nodes.now k }
     ensures { (i : Item) (m : ℕ) → IsNode (source text.now) nodes.now k i m → result ≡ shape.next_fault next i }
 {
