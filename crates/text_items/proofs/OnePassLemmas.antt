@@ -1,14 +1,14 @@
 -- One pass over attributes: what is still to come, by what stood.
 use Rattle.std.proofs.Common.{◌≡◌, ℕ, ◌≢◌, Bool, true, false, not, ◌&&◌, ◌||◌, if◌then◌else◌, List, [], ◌∷◌, bytes_eq, Option, Some, None, is_some, refl, sym, ap, ◌∙◌}
 use Rattle.std.specs.Option.{option_or}
-use Rattle.sexpr.specs.Items.{Item, Items, no_items, item, place_of}
+use Rattle.sexpr.specs.Items.{Item, Items, no_items, item}
 use Rattle.text_items.specs.ItemShapes.{excess}
-use Rattle.text_items.specs.Keywords.{Known, from_word, behind, is_it, keyword_of, first_of, second_of, earlier, repeated, lacks_keyword, misplaced, next_fault, after_item, after_keyword, at_end, is_value, word_next, attributes_fault}
-use Rattle.text_items.specs.OnePass.{marked, is_again, lacks_still, repeated_still, fault_still, AreMarked, IsMarked, IsPassed}
+use Rattle.text_items.specs.Keywords.{Known, from_word, behind, is_it, keyword_of, first_of, second_of, earlier, repeated, lacks_keyword, misplaced, next_fault, after_item, at_end, is_value, word_next, attributes_fault}
+use Rattle.text_items.specs.OnePass.{marked, is_again, lacks_still, repeated_still, fault_still, AreMarked, IsPassed}
 use Rattle.text_items.specs.declared.keywords.Next.{Next}
 use Rattle.text_items.specs.declared.nodes.Node.{Node}
 use Rattle.text_items.specs.Nodes.{IsNode}
-use Rattle.text_items.proofs.ItemLoops.{Left, left_on, left_end}
+use Rattle.text_items.proofs.ItemLoops.{Left, left_on}
 use Rattle.text_items.proofs.KeywordLemmas.{Says, IsRead}
 use Rattle.text_items.proofs.ShapeLemmas.{passed}
 

@@ -6,7 +6,6 @@ use Rattle.text_items.specs.Stepping.{AreItemsFrom}
 use Rattle.text_items.specs.Keywords as shape
 use Rattle.text_items.specs.OnePass.{fault_still}
 use Rattle.text_items.proofs.ItemLoops.{Left}
-use Rattle.text_items.proofs.OnePassLemmas.{fault_start}
 use Rattle.text_items.proofs.one_pass.is_faultless.Given as goal
 
 abbrev pub invariant-items : goal.invariant-items
