@@ -59,6 +59,14 @@ multiple_by_divisor a b g some other h = go h.first h.second
               (wholes.0, least_of p m wholes.0 over e wholes.1);
         })
 
+pub multiple_with_one : (a b : ℕ) → 0 < a → b ≡ 1 → IsLeastMultipleOf a b a
+multiple_with_one a b some e = record {
+  over = some;
+  first = (1, omega arith);
+  second = (a, omega (arith, ap (λ x. x * a) e));
+  least = λ m one other. one;
+}
+
 -- the least multiple is at most each that is over 0
 pub at_least : (n m : ℕ) → 0 < m → Divides n m → n ≤ m
 at_least n m some (zero, e) = absurd (omega (arith, some, e))

@@ -24,6 +24,9 @@ pub fn common_multiple(a: u128, b: u128) -> Option<u128>
     ensures some { IfSome result (IsLeastMultipleOf a b) }
     ensures wide { IfNone result ((m : ℕ) → 0 < m → Divides a m → Divides b m → limit ≤ m) }
 {
+    if b == 1 {
+        return Some(a);
+    }
     let divisor = common_divisor(a, b);
     (a / divisor).checked_mul(b)
 }
