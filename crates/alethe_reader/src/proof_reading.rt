@@ -73,8 +73,8 @@ fn finish(lexer: Lexer<'_>, session: Session<'_>) -> Result<Proof, ReadFault>
 ///
 /// Problem and symbols have to be what the reading of the problem left. Numerals and variables are put into the table, no
 /// more than the text has bytes, and the terms into the pool. Where the flags ask for a strict proof, the arguments of
-/// resolution are its pivots. The first fault is one of form, or else the first one of the commands in their order. Refused besides for want of memory, and where the pool had no room for a cell of a term that
-/// was read.
+/// resolution are its pivots. The first fault is one of form, or else the first one of the commands in their order. Refused
+/// besides for want of memory, and where the pool had no room for a cell of a term that was read.
 pub fn read_proof(
     alloc: Global,
     bytes: &[u8],
