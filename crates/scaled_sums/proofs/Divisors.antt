@@ -2,7 +2,8 @@
 use Rattle.std.proofs.Common.{◌≡◌, ℕ, zero, suc, ◌+◌, ◌*◌, ◌-◌, ◌/◌, ◌%◌, ◌^◌, ◌<◌, ◌≤◌, Option, Some, None, SomeIff, IfSome, IfNone, sym, ap, subst, ◌∙◌, arith}
 use Rattle.std.proofs.Math.Nat.{mul-sub, div-add-mod, mul-div_cancel_left, eq_of_mul-eq-mul_left}
 use Rattle.rule_model.specs.Arithmetic.{Divides}
-use Rattle.scaled_sums.specs.Multiples.{IsGreatestDivisor, IsLeastMultipleOf}
+use Rattle.scaled_sums.specs.Multiples.{IsLeastMultipleOf}
+use Rattle.scaled_sums.specs.Divisors.{IsGreatestDivisor}
 
 -- the number is its quotient's multiple and the rest
 whole : (a b : ℕ) → a ≡ b * (a / b) + a % b

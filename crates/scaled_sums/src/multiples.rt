@@ -1,7 +1,8 @@
 //! Least common multiples.
 ghost use Rattle.std.specs.Prelude.{◌≤◌, ◌<◌, ℕ, IfSome, IfNone};
 ghost use Rattle.rule_model.specs.Arithmetic.{Divides, limit};
-ghost use Rattle.scaled_sums.specs.Multiples.{IsGreatestDivisor, IsLeastMultipleOf};
+ghost use Rattle.scaled_sums.specs.Multiples.{IsLeastMultipleOf};
+ghost use Rattle.scaled_sums.specs.Divisors.{IsGreatestDivisor};
 
 /// The greatest common divisor, by Euclid's algorithm.
 fn common_divisor(a: u128, b: u128) -> u128
