@@ -22,7 +22,8 @@ use Rattle.term_parts.specs.Parts.{IsOver}
 use Rattle.term_parts.proofs.PartLemmas.{over_two}
 use Rattle.rule_model.specs.Arithmetic.{Relation, exceeds, reaches, equals, Comparison, if_true, if_false, denial}
 use Rattle.linear_lines.specs.declared.comparisons as code
-use Rattle.linear_lines.specs.Comparisons.{IsOfNumbers, said_by, IsComparisonRead, IsFound}
+use Rattle.linear_lines.specs.Comparisons.{IsOfNumbers}
+use Rattle.linear_lines.specs.ComparisonReads.{said_by, IsComparisonRead, IsFound}
 use Rattle.linear_lines.specs.Operands.{AreOperands, orders}
 
 -- what a literal's negation says is what the term behind its `not`s says

@@ -10,7 +10,8 @@ ghost use Rattle.term_model.specs.declared.symbols.Op.{Op};
 ghost use Rattle.term_parts.specs.Parts.{IsOver};
 ghost use Rattle.term_pool.specs.Views.{TermsView, IsTerm, RefersTo};
 ghost use Rattle.rule_model.specs.Arithmetic.{if_true, if_false};
-ghost use Rattle.linear_lines.specs.Comparisons.{IsFound, IsDenialRead, IsComparisonRead, said_by};
+ghost use Rattle.linear_lines.specs.Comparisons.{IsDenialRead};
+ghost use Rattle.linear_lines.specs.ComparisonReads.{IsFound, IsComparisonRead, said_by};
 ghost use Rattle.linear_lines.specs.Operands.{AreOperands, orders};
 
 use pair_pool::Ref;
