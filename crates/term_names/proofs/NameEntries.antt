@@ -8,7 +8,8 @@ use Rattle.std.proofs.lemmas.Slice.Eq.{bytes_eq-Decides}
 use Rattle.indexmap.specs.IndexMap.{insert_entry}
 use Rattle.term_names.specs.declared.entries.Entry.{Entry}
 use Rattle.term_names.specs.declared.entries.Entry.TheVariants.{Reserved, Macro, Named}
-use Rattle.term_names.specs.Entries.{EntriesView, lookup, Puts, IsThere, AreThere, names_of}
+use Rattle.term_names.specs.Entries.{EntriesView, lookup, Puts, IsThere}
+use Rattle.term_names.specs.NameTables.{AreThere, names_of}
 
 -- a look-up in the table is one among the names
 pub lookup-names_of : (es : List (Vec ℕ Global × Entry)) (name : List ℕ) → table.lookup (λ k. bytes_eq name k.items) es ≡ lookup (names_of es) name

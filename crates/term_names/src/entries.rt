@@ -53,7 +53,8 @@ pub struct Entries {
 }
 
 impl Model for Entries {
-    ghost use Rattle.term_names.specs.Entries.{EntriesView, names_of, AreThere};
+    ghost use Rattle.term_names.specs.Entries.{EntriesView};
+    ghost use Rattle.term_names.specs.NameTables.{names_of, AreThere};
 
     ghost Value = { EntriesView };
 

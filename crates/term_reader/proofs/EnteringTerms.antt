@@ -23,7 +23,8 @@ use Rattle.term_reader.specs.ShapeFaults.{IsLayer}
 use Rattle.term_names.specs.Making.{PlacesCellsOf}
 use Rattle.problem_text.specs.Names.{Place, meaning_of}
 use Rattle.text_items.specs.Nodes.{IsNode}
-use Rattle.term_reader.specs.Reading.{ReaderStands, IsAt, IsReadTerm, EndsWith, Goes}
+use Rattle.term_reader.specs.Reading.{IsReadTerm, EndsWith}
+use Rattle.term_reader.specs.Turns.{ReaderStands, IsAt, Goes}
 use Rattle.term_reader.specs.Resuming.{Waiting, arguments, bindings, naming, resumed}
 use Rattle.problem_text.specs.TypedTerms.{Typed}
 use Rattle.problem_text.specs.Outcomes.{Outcome, done}

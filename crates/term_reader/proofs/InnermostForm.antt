@@ -4,7 +4,7 @@ use Rattle.sym_table.specs.Table.{Table}
 use Rattle.term_pool.specs.Views.{TermsView}
 use Rattle.term_reader.specs.Frames.{WholeReading}
 use Rattle.term_reader.specs.Leaving.{with_open, Spends, Leaves}
-use Rattle.term_reader.specs.Reading.{HasRead, Goes}
+use Rattle.term_reader.specs.Turns.{HasRead, Goes}
 use Rattle.term_reader.specs.Credits.{node_of, bound_of, effort}
 use Rattle.term_names.specs.declared.faults.ReadFault.{ReadFault}
 use Rattle.term_reader.specs.declared.frames.Frame.{Frame}

@@ -10,7 +10,7 @@ use Rattle.term_reader.specs.Leaving.{with_open, Spends, Leaves}
 use Rattle.term_names.specs.InScope.{AreLow}
 use Rattle.term_names.specs.Making.{IsMade, Makes}
 use Rattle.problem_text.specs.Names.{Meaning, meaning_applied}
-use Rattle.term_reader.specs.Reading.{HasRead, IsAt, Goes}
+use Rattle.term_reader.specs.Turns.{HasRead, IsAt, Goes}
 use Rattle.term_reader.specs.Resuming.{Waiting, arguments, resumed}
 use Rattle.problem_text.specs.TypedTerms.{Typed}
 use Rattle.problem_text.specs.Outcomes.{done}

@@ -20,7 +20,7 @@ use Rattle.term_names.specs.InScope.{IsScope, AreValuesBound}
 use Rattle.term_names.specs.Known.{KnownView, known_entry, macro_of}
 use Rattle.term_names.specs.Making.{IsWantedCell, PlacesCellsOf, LacksCellOf}
 use Rattle.problem_text.specs.Names.{Bound, Place, Meaning}
-use Rattle.term_reader.specs.Reading.{ReaderStands}
+use Rattle.term_reader.specs.Turns.{ReaderStands}
 use Rattle.rule_model.specs.Replacement.{Replacement}
 use Rattle.term_reader.specs.Resuming.{Waiting}
 use Rattle.term_names.specs.Scope.{Scoped}

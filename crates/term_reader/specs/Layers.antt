@@ -1,4 +1,4 @@
--- Public. Forms as nodes spell them, and the tops of forms.
+-- Private. Forms as nodes spell them, and the tops of forms.
 use Rattle.std.specs.Prelude.{◌≡◌, ℕ, ◌+◌, ◌<◌, List, true, is_some, IsTrue}
 use Rattle.sexpr.specs.Items.{Item, Items, no_items, item, symbol_name}
 use Rattle.text_items.specs.ItemShapes.{Name}

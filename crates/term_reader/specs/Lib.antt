@@ -5,6 +5,7 @@ pub mod Resuming
 pub mod Frames
 pub mod Credits
 pub mod Reading
+pub mod Turns
 pub mod Settling
 pub mod Naming
 pub mod Entering

@@ -4,7 +4,7 @@ ghost use Rattle.sexpr.specs.Source.{source};
 ghost use Rattle.term_pool.specs.Views.{KeepsTerms};
 ghost use Rattle.term_reader.specs.Frames.{WholeReading};
 ghost use Rattle.term_reader.specs.Leaving.{with_open, Leaves};
-ghost use Rattle.term_reader.specs.Reading.{HasRead, Goes};
+ghost use Rattle.term_reader.specs.Turns.{HasRead, Goes};
 ghost use Rattle.term_reader.specs.Credits.{node_of, bound_of, effort};
 ghost use Rattle.term_names.specs.Standing.{AddsNoSymbols};
 ghost use Rattle.term_reader.specs.declared.frames.Frame.TheVariants as frame;

@@ -1,7 +1,8 @@
 -- The name is put into the table, and its macro goes last.
 use Rattle.std.proofs.Common.{◌≡◌, ◌+◌, length, subst, arith, rules}
 use Rattle.term_names.specs.declared.entries.Entry.{Entry}
-use Rattle.term_names.specs.Entries.{EntriesView, Puts, names_of}
+use Rattle.term_names.specs.Entries.{EntriesView, Puts}
+use Rattle.term_names.specs.NameTables.{names_of}
 use Rattle.term_names.proofs.NameEntries.{Puts-insert, AreThere-Puts, length_pushed}
 use Rattle.term_names.proofs.entries.Entries.define.Goals as goal
 

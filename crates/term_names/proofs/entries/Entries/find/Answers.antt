@@ -1,6 +1,7 @@
 -- The table's look-up is that of the names.
 use Rattle.std.proofs.Common.{ap, ◌∙◌, sym, subst, IfSome}
-use Rattle.term_names.specs.Entries.{EntriesView, lookup, IsThere, AreThere}
+use Rattle.term_names.specs.Entries.{EntriesView, lookup, IsThere}
+use Rattle.term_names.specs.NameTables.{AreThere}
 use Rattle.term_names.proofs.NameEntries.{lookup-names_of}
 use Rattle.term_names.proofs.entries.Entries.find.Goals as goal
 

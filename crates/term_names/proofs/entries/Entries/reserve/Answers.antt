@@ -1,7 +1,8 @@
 -- The name is put into the table.
 use Rattle.std.proofs.Common.{subst, arith}
 use Rattle.term_names.specs.declared.entries.Entry.TheVariants as Entry
-use Rattle.term_names.specs.Entries.{EntriesView, Puts, names_of}
+use Rattle.term_names.specs.Entries.{EntriesView, Puts}
+use Rattle.term_names.specs.NameTables.{names_of}
 use Rattle.term_names.proofs.NameEntries.{Puts-insert, AreThere-Puts}
 use Rattle.term_names.proofs.entries.Entries.reserve.Goals as goal
 
