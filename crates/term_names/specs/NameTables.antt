@@ -11,7 +11,3 @@ AreThere v = (name : List ℕ) → IfSome (lookup v.names name) (IsThere v)
 -- the names of a table as byte strings
 abbrev pub names_of : List (Vec ℕ Global × Entry) → List (List ℕ × Entry)
 names_of es = map (λ e. (e.0.items, e.1)) es
-
--- names as byte strings
-abbrev pub texts : List (Vec ℕ Global) → List (List ℕ)
-texts names = map (λ name. name.items) names
