@@ -1,13 +1,19 @@
--- Private. The names of tables as the code holds them.
-use Rattle.std.specs.Prelude.{ℕ, List, map, IfSome, Vec}
-use Rattle.std.specs.declared.alloc.Global.{Global}
+-- Private. The names and their entries as the code holds them.
+use Rattle.std.specs.Prelude.{◌≡◌, ℕ, List, zip, length, IfSome}
 use Rattle.term_names.specs.declared.entries.Entry.{Entry}
+use Rattle.term_names.specs.declared.entries.Macro as macro
+use Rattle.term_names.specs.declared.entries.Named as named
 use Rattle.term_names.specs.Entries.{EntriesView, lookup, IsThere}
+
+-- what contracts see of names, of the entries at their places, and of macros and named terms
+abbrev pub entries_view : List (List ℕ) → List Entry → List macro.Macro → List named.Named → EntriesView
+entries_view names entries macros named = record { names = zip names entries; macros = macros; named = named }
 
 -- what the entry of each name is that of, is there
 abbrev pub AreThere : EntriesView → Type 0
 AreThere v = (name : List ℕ) → IfSome (lookup v.names name) (IsThere v)
 
--- the names of a table as byte strings
-abbrev pub names_of : List (Vec ℕ Global × Entry) → List (List ℕ × Entry)
-names_of es = map (λ e. (e.0.items, e.1)) es
+-- each name has an entry, and what that is that of is there
+pub record IsInStep (names : List (List ℕ)) (entries : List Entry) (macros : List macro.Macro) (named : List named.Named) : Type 0 where
+  pub one_each : length entries ≡ length names
+  pub there : AreThere (entries_view names entries macros named)

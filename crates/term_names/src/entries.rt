@@ -1,10 +1,10 @@
 //! The names of macros and of named terms, and what they stand for (SMT-LIB 2.6, "Commands", and on attributes of
 //! terms).
-ghost use Rattle.std.specs.Prelude.{◌≡◌, [], ◌∷◌, ◌++◌, ◌<◌, length, slice_get, Some, None, OnOk, OnErr, IfSome};
+ghost use Rattle.std.specs.Prelude.{◌≡◌, [], ◌∷◌, ◌++◌, ◌<◌, length, slice_get, position, bytes_eq, Some, None, OnOk, OnErr, IfSome};
 ghost use Rattle.term_names.specs.Entries.{lookup, no_entries, Puts, IsThere};
 ghost use Rattle.term_names.specs.declared.entries.Entry.TheVariants as Entry;
 
-use indexmap::IndexMap;
+use name_set::NameSet;
 use pair_pool::Ref;
 use std::alloc::Global;
 use std::collections::HashMap;
@@ -44,7 +44,9 @@ pub enum Entry {
 #[derive(Drop)]
 pub struct Entries {
     alloc: Global,
-    names: IndexMap<Vec<u8>, Entry>,
+    names: NameSet,
+    /// What each name is that of, by the name's number.
+    entries: Vec<Entry>,
     macros: Vec<Macro>,
     named: Vec<Named>,
     /// A name of each term that has one, by its reference. It only helps to find a named term again: who asks looks up
@@ -54,13 +56,32 @@ pub struct Entries {
 
 impl Model for Entries {
     ghost use Rattle.term_names.specs.Entries.{EntriesView};
-    ghost use Rattle.term_names.specs.NameTables.{names_of, AreThere};
+    ghost use Rattle.term_names.specs.NameTables.{IsInStep, entries_view};
 
     ghost Value = { EntriesView };
 
-    ghost view = { λ e. record { names = names_of e.names.entries; macros = e.macros.items; named = e.named.items } };
+    ghost view = { λ e. entries_view e.names e.entries.items e.macros.items e.named.items };
 
-    ghost invariant = { λ e. AreThere (record { names = names_of e.names.entries; macros = e.macros.items; named = e.named.items }) };
+    ghost invariant = { λ e. IsInStep e.names e.entries.items e.macros.items e.named.items };
+}
+
+/// Gives a name that has no number the next one, and its entry that place.
+fn put_new(
+    names: &mut NameSet,
+    entries: &mut Vec<Entry>,
+    name: &[u8],
+    entry: Entry,
+) -> Result<(), Memory>
+    requires { position (bytes_eq name.now) names.old ≡ None }
+    ensures names { OnOk result (names.new ≡ names.old ++ name.now ∷ []) }
+    ensures entries { OnOk result (entries.new.items ≡ entries.old.items ++ entry ∷ []) }
+    ensures names_refused { OnErr result (names.new ≡ names.old) }
+    ensures entries_refused { OnErr result (entries.new.items ≡ entries.old.items) }
+{
+    entries.reserve(1)?;
+    names.add(name)?;
+    entries.push(entry).unwrap();
+    Ok(())
 }
 
 /// Remembers the name for the term.
@@ -81,7 +102,8 @@ impl Entries {
     {
         Entries {
             alloc,
-            names: IndexMap::new(alloc),
+            names: NameSet::new(alloc),
+            entries: Vec::new(alloc),
             macros: Vec::new(alloc),
             named: Vec::new(alloc),
             given: HashMap::new(alloc),
@@ -93,8 +115,8 @@ impl Entries {
         ensures entry { result ≡ lookup self.now.names name.now }
         ensures there { IfSome result (IsThere self.now) }
     {
-        let entry = self.names.get(name)?;
-        Some(*entry)
+        let number = self.names.find(name)?;
+        Some(self.entries[number])
     }
 
     /// Takes a name that has no entry for a macro whose body is to be read. After a refusal nothing has changed.
@@ -105,8 +127,7 @@ impl Entries {
         ensures named { self.new.named ≡ self.old.named }
         ensures refused { OnErr result (self.new ≡ self.old) }
     {
-        let owned = Vec::from_slice(self.alloc, name)?;
-        self.names.insert(owned, Entry::Reserved)?;
+        put_new(&mut self.names, &mut self.entries, name, Entry::Reserved)?;
         Ok(())
     }
 
@@ -125,10 +146,9 @@ impl Entries {
         ensures named { self.new.named ≡ self.old.named }
         ensures refused { OnErr result (self.new ≡ self.old) }
     {
-        let owned = Vec::from_slice(self.alloc, name)?;
         self.macros.reserve(1)?;
-        let number = self.macros.len();
-        self.names.insert(owned, Entry::Macro(number))?;
+        let place = self.names.find(name).unwrap();
+        self.entries[place] = Entry::Macro(self.macros.len());
         let defined = Macro {
             parameters,
             sorts,
@@ -147,11 +167,10 @@ impl Entries {
         ensures macros { self.new.macros ≡ self.old.macros }
         ensures refused { OnErr result (self.new ≡ self.old) }
     {
-        let owned = Vec::from_slice(self.alloc, name)?;
         self.named.reserve(1)?;
         remember(self.alloc, &mut self.given, value.term, name)?;
-        let number = self.named.len();
-        self.names.insert(owned, Entry::Named(number))?;
+        let entry = Entry::Named(self.named.len());
+        put_new(&mut self.names, &mut self.entries, name, entry)?;
         self.named.push(Named { value, free }).unwrap();
         Ok(())
     }
