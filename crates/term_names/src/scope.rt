@@ -22,7 +22,8 @@ pub(crate) struct Held {
 ///
 /// A name keeps its number when its variables go out of scope. `innermost` has for each name where its innermost
 /// variable stands, counted from 1, or 0 where there is none. So a look-up takes the time of one hash, and so does a
-/// new variable, however many there are.
+/// new variable, however many there are. Where no variable is in scope, which is so in most of a text, a look-up takes
+/// no hash.
 #[derive(Drop)]
 pub struct Scope {
     names: NameSet,
@@ -66,6 +67,9 @@ impl Scope {
     pub fn find(&self, name: &[u8]) -> Option<Bound>
         ensures { result ≡ option_map (λ e. e.bound) (find (λ e. bytes_eq e.name name.now) self.now) }
     {
+        if self.held.is_empty() {
+            return None;
+        }
         let number = self.names.find(name)?;
         let place = self.innermost[number];
         if place == 0 {
