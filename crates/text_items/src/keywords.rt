@@ -113,13 +113,22 @@ fn after_word(known: &[Keyword<'_>], word: &[u8]) -> Next
     match known {
         [] => Next::Anything,
         [keyword, others @ ..] => {
-            if keyword.spelling == word {
+            if is_spelled_so(keyword, word) {
                 Next::Value(keyword.wants)
             } else {
                 after_word(others, word)
             }
         }
     }
+}
+
+/// Whether a known keyword is spelled like this word.
+// Most keywords differ in their lengths, which are compared here without a call.
+#[inline(always)]
+pub(crate) fn is_spelled_so(keyword: &Keyword<'_>, word: &[u8]) -> bool
+    ensures { result ≡ bytes_eq keyword.now.spelling.now word.now }
+{
+    keyword.spelling.len() == word.len() && keyword.spelling == word
 }
 
 /// The place of the first item that may not stand behind those before it.

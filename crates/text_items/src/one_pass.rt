@@ -7,7 +7,7 @@ ghost use Rattle.text_items.specs.Nodes.{IsNode, AreNodes};
 ghost use Rattle.text_items.specs.OnePass.{IsMarked, IsPassed, lacks_still};
 ghost use Rattle.text_items.specs.Stepping.{IsItemAt, AreItemsFrom};
 
-use crate::keywords::{Keyword, Next, is_value, keyword_at, next_fault};
+use crate::keywords::{Keyword, Next, is_spelled_so, is_value, keyword_at, next_fault};
 use crate::nodes::Node;
 use crate::shapes::node_at;
 use sexpr::Lexer;
@@ -70,9 +70,9 @@ fn pass_word(known: &[Keyword<'_>], word: &[u8], stood: &mut [bool]) -> Option<N
         [keyword, others @ ..] => match stood.split_first_mut() {
             None => None,
             Some((first, rest)) => {
-                if keyword.spelling != word {
+                if !is_spelled_so(keyword, word) {
                     pass_word(others, word, rest)
-                } else if mark_one(keyword, word, first) && mark(others, word, rest) {
+                } else if mark_keyword(keyword, first) && mark(others, word, rest) {
                     Some(Next::Value(keyword.wants))
                 } else {
                     None
@@ -101,9 +101,16 @@ fn mark_one(keyword: &Keyword<'_>, word: &[u8], stood: &mut bool) -> bool
     ensures kept { stood.new ≡ stood.old || bytes_eq keyword.now.spelling.now word.now }
     ensures once { result ≡ not (keyword.now.once && stood.old && bytes_eq keyword.now.spelling.now word.now) }
 {
-    let here = keyword.spelling == word;
-    let again = keyword.once && *stood && here;
-    *stood = *stood || here;
+    !is_spelled_so(keyword, word) || mark_keyword(keyword, stood)
+}
+
+/// Marks that a known keyword stood. False where it stands once at most and stood before.
+fn mark_keyword(keyword: &Keyword<'_>, stood: &mut bool) -> bool
+    ensures kept { stood.new ≡ true }
+    ensures once { result ≡ not (keyword.now.once && stood.old) }
+{
+    let again = keyword.once && *stood;
+    *stood = true;
     !again
 }
 
