@@ -287,8 +287,11 @@ pub(crate) fn is_left_out(name: &[u8]) -> bool
         || is_one(name, b"qnt_cnf")
 }
 
+/// Whether the name is this word.
+// Most names differ in length from the words that are asked for, which is seen here without a call.
+#[inline(always)]
 fn is_one(name: &[u8], word: &[u8]) -> bool
     ensures { result ≡ bytes_eq name.now word.now }
 {
-    name == word
+    name.len() == word.len() && name == word
 }
