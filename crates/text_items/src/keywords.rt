@@ -47,8 +47,8 @@ pub enum Next {
 
 /// The first fault of the attributes that stand from `first` to before `end`, in a list that begins at `place`.
 ///
-/// Where there is none, mostly one pass over the items tells it, in which each keyword is looked up once among those that are
-/// known. Else it costs as much as the items are, for each keyword that is known. Both go over what stands in the lists that
+/// Where there is none, mostly one pass over the items tells it, in which each keyword is compared with those that are known.
+/// Else it costs as much as the items are, for each keyword that is known. Both go over what stands in the lists that
 /// have to be lists of symbols.
 pub fn attributes_fault(
     text: &Lexer<'_>,
@@ -107,7 +107,7 @@ fn after_item(text: &Lexer<'_>, nodes: &[Node], known: &[Keyword<'_>], k: usize)
 }
 
 /// What may stand behind a keyword.
-fn after_word(known: &[Keyword<'_>], word: &[u8]) -> Next
+pub(crate) fn after_word(known: &[Keyword<'_>], word: &[u8]) -> Next
     ensures { result ≡ shape.after_known (find (λ k. bytes_eq k.spelling word.now) (map shape.known_of known.now)) }
 {
     match known {
@@ -128,7 +128,19 @@ fn after_word(known: &[Keyword<'_>], word: &[u8]) -> Next
 pub(crate) fn is_spelled_so(keyword: &Keyword<'_>, word: &[u8]) -> bool
     ensures { result ≡ bytes_eq keyword.now.spelling.now word.now }
 {
-    keyword.spelling.len() == word.len() && keyword.spelling == word
+    keyword.spelling.len() == word.len() && are_same(keyword.spelling, word)
+}
+
+/// Whether two words are the same.
+// To go through the few bytes of a keyword takes less time than the comparison of slices, which is made for long ones.
+fn are_same(one: &[u8], other: &[u8]) -> bool
+    ensures { result ≡ bytes_eq one.now other.now }
+{
+    match (one, other) {
+        ([], []) => true,
+        ([a, one @ ..], [b, other @ ..]) => *a == *b && are_same(one, other),
+        _ => false,
+    }
 }
 
 /// The place of the first item that may not stand behind those before it.

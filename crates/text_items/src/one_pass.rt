@@ -7,7 +7,7 @@ ghost use Rattle.text_items.specs.Nodes.{IsNode, AreNodes};
 ghost use Rattle.text_items.specs.OnePass.{IsMarked, IsPassed, lacks_still};
 ghost use Rattle.text_items.specs.Stepping.{IsItemAt, AreItemsFrom};
 
-use crate::keywords::{Keyword, Next, is_spelled_so, is_value, keyword_at, next_fault};
+use crate::keywords::{Keyword, Next, after_word, is_spelled_so, is_value, keyword_at, next_fault};
 use crate::nodes::Node;
 use crate::shapes::node_at;
 use sexpr::Lexer;
@@ -15,8 +15,8 @@ use sexpr::Lexer;
 /// Of how many known keywords it is kept whether they stood. Where more are known the pass tells nothing.
 const MOST: usize = 8;
 
-/// Whether one pass shows that the attributes that stand from `first` to before `end` have no fault. Each keyword among them
-/// is looked up once. Where it is false they mostly have one.
+/// Whether one pass shows that the attributes that stand from `first` to before `end` have no fault. Where it is false they
+/// mostly have one.
 pub(crate) fn is_faultless(
     text: &Lexer<'_>,
     nodes: &[Node],
@@ -55,30 +55,14 @@ fn pass(
     ensures { IfSome result (λ next. (i : Item) (m : ℕ) → IsNode (source text.now) nodes.now k i m → IsPassed (map shape.known_of known.now) (shape.keyword_of i) stood.old next stood.new) }
 {
     match keyword_at(text, nodes, k) {
-        Some(word) => pass_word(known, word, stood),
         None => Some(Next::Word),
-    }
-}
-
-/// Marks a keyword as one that stood: what may stand behind it, and None where it stood before and stands once at most.
-/// Nothing is said of the marks then.
-fn pass_word(known: &[Keyword<'_>], word: &[u8], stood: &mut [bool]) -> Option<Next>
-    ensures { IfSome result (λ next. IsPassed (map shape.known_of known.now) (Some word.now) stood.old next stood.new) }
-{
-    match known {
-        [] => Some(Next::Anything),
-        [keyword, others @ ..] => match stood.split_first_mut() {
-            None => None,
-            Some((first, rest)) => {
-                if !is_spelled_so(keyword, word) {
-                    pass_word(others, word, rest)
-                } else if mark_keyword(keyword, first) && mark(others, word, rest) {
-                    Some(Next::Value(keyword.wants))
-                } else {
-                    None
-                }
+        Some(word) => {
+            if mark(known, word, stood) {
+                Some(after_word(known, word))
+            } else {
+                None
             }
-        },
+        }
     }
 }
 
@@ -101,14 +85,9 @@ fn mark_one(keyword: &Keyword<'_>, word: &[u8], stood: &mut bool) -> bool
     ensures kept { stood.new ≡ stood.old || bytes_eq keyword.now.spelling.now word.now }
     ensures once { result ≡ not (keyword.now.once && stood.old && bytes_eq keyword.now.spelling.now word.now) }
 {
-    !is_spelled_so(keyword, word) || mark_keyword(keyword, stood)
-}
-
-/// Marks that a known keyword stood. False where it stands once at most and stood before.
-fn mark_keyword(keyword: &Keyword<'_>, stood: &mut bool) -> bool
-    ensures kept { stood.new ≡ true }
-    ensures once { result ≡ not (keyword.now.once && stood.old) }
-{
+    if !is_spelled_so(keyword, word) {
+        return true;
+    }
     let again = keyword.once && *stood;
     *stood = true;
     !again
@@ -120,9 +99,15 @@ fn lacks(known: &[Keyword<'_>], stood: &[bool]) -> bool
 {
     match known {
         [] => false,
-        [keyword, others @ ..] => match stood {
-            [] => keyword.needed || lacks(others, stood),
-            [first, rest @ ..] => keyword.needed && !*first || lacks(others, rest),
-        },
+        [keyword, others @ ..] => {
+            let (here, rest) = match stood {
+                [] => (false, stood),
+                [first, rest @ ..] => (*first, rest),
+            };
+            if keyword.needed && !here {
+                return true;
+            }
+            lacks(others, rest)
+        }
     }
 }
