@@ -4,6 +4,7 @@ pub mod Positions
 pub mod HeldVariables
 pub mod Operators
 pub mod Gathering
+pub mod NoVariables
 pub mod SymbolNames
 pub mod ScopeNames
 pub mod Meant
