@@ -1,15 +1,15 @@
 -- The entries of names, by the numbers of the names and as contracts see them.
-use Rattle.std.proofs.Common.{◌≡◌, ℕ, suc, ◌≤◌, ◌<◌, Bool, true, false, cond, List, [], ◌∷◌, ◌++◌, ◌+◌, length, get_or, set, zip, position, slice_get, Option, Some, None, IfSome, IsSome, refl, sym, ◌∙◌, ap, subst, arith}
+use Rattle.std.proofs.Common.{◌≡◌, ℕ, suc, ◌≤◌, ◌<◌, Bool, true, false, cond, List, [], ◌∷◌, ◌++◌, ◌+◌, length, get_or, set, zip, eqb, position, slice_get, Option, Some, None, IfSome, IsSome, refl, sym, ◌∙◌, ap, subst, arith}
 use Rattle.std.specs.Str.{bytes_eq}
 use Rattle.std.proofs.lemmas.List.{length_push}
 use Rattle.std.proofs.lemmas.List.Quantifiers.{position-Some}
-use Rattle.std.proofs.lemmas.Option.{slice_get-get_or}
+use Rattle.std.proofs.lemmas.Option.{slice_get-get_or, same_Some}
 use Rattle.std.proofs.lemmas.Slice.Eq.{bytes_eq-Decides}
 use Rattle.indexmap.proofs.ReorderLemmas.{zip_push}
 use Rattle.term_names.specs.declared.entries.Entry.{Entry}
 use Rattle.term_names.specs.declared.entries.Entry.TheVariants.{Reserved, Macro, Named}
 use Rattle.term_names.specs.Entries.{EntriesView, lookup, Puts, IsThere}
-use Rattle.term_names.specs.NameTables.{AreThere}
+use Rattle.term_names.specs.NameTables.{AreThere, AreNumbers, number_given}
 use Rattle.term_names.proofs.Positions.{next_place, position_cons}
 
 -- the entry of a name with a number stands at that place
@@ -147,3 +147,18 @@ AreThere-Puts v w name e m n h puts there other =
 -- one more at the end
 pub length_pushed : {X : Type 0} (xs ys more : List X) (x : X) → more ≡ ys ++ x ∷ [] → ys ≡ xs → length more ≡ length xs + 1
 length_pushed xs ys more x e g = ap length (e ∙ ap (λ zs. zs ++ x ∷ []) g) ∙ length_push xs x
+
+-- numbers of names stay that where more names come, and where the references are put in another order
+pub AreNumbers-more : (given : List (ℕ × ℕ)) (m n : ℕ) → m ≤ n → AreNumbers given m → AreNumbers given n
+AreNumbers-more given m n more h r k is = let below = h r k is in omega arith
+
+pub AreNumbers-same : (given other : List (ℕ × ℕ)) (n : ℕ) → ((r : ℕ) → number_given other r ≡ number_given given r) → AreNumbers given n → AreNumbers other n
+AreNumbers-same given other n same h r k is = h r k (sym (same r) ∙ is)
+
+-- one more number is kept
+pub AreNumbers-put : (given other : List (ℕ × ℕ)) (r number n : ℕ) → ((q : ℕ) → number_given other q ≡ cond (eqb r q) (Some number) (number_given given q)) → number < n → AreNumbers given n → AreNumbers other n
+AreNumbers-put given other r number n updates below h q k is = go (eqb r q) (sym (updates q) ∙ is)
+  where
+    go : (b : Bool) → cond b (Some number) (number_given given q) ≡ Some k → k < n
+    go true e = subst (λ j. j < n) (same_Some _ _ e) below
+    go false e = h q k e

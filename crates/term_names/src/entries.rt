@@ -43,15 +43,14 @@ pub enum Entry {
 /// The names with what they stand for. A look-up takes the time of one hash, whatever there is.
 #[derive(Drop)]
 pub struct Entries {
-    alloc: Global,
     names: NameSet,
     /// What each name is that of, by the name's number.
     entries: Vec<Entry>,
     macros: Vec<Macro>,
     named: Vec<Named>,
-    /// A name of each term that has one, by its reference. It only helps to find a named term again: who asks looks up
-    /// what the name stands for.
-    given: HashMap<u32, Vec<u8>>,
+    /// The number of a name of each term that has one, by the term's reference. It only helps to find a named term again:
+    /// who asks looks up what the name stands for.
+    given: HashMap<u32, usize>,
 }
 
 impl Model for Entries {
@@ -62,7 +61,7 @@ impl Model for Entries {
 
     ghost view = { λ e. entries_view e.names e.entries.items e.macros.items e.named.items };
 
-    ghost invariant = { λ e. IsInStep e.names e.entries.items e.macros.items e.named.items };
+    ghost invariant = { λ e. IsInStep e.names e.entries.items e.macros.items e.named.items e.given.entries };
 }
 
 /// Gives a name that has no number the next one, and its entry that place.
@@ -84,24 +83,11 @@ fn put_new(
     Ok(())
 }
 
-/// Remembers the name for the term.
-fn remember(
-    alloc: Global,
-    given: &mut HashMap<u32, Vec<u8>>,
-    term: Ref,
-    name: &[u8],
-) -> Result<(), Memory> {
-    let owned = Vec::from_slice(alloc, name)?;
-    let _ = given.insert(term.number(), owned)?;
-    Ok(())
-}
-
 impl Entries {
     pub fn new(alloc: Global) -> Entries
         ensures { result ≡ no_entries }
     {
         Entries {
-            alloc,
             names: NameSet::new(alloc),
             entries: Vec::new(alloc),
             macros: Vec::new(alloc),
@@ -168,17 +154,20 @@ impl Entries {
         ensures refused { OnErr result (self.new ≡ self.old) }
     {
         self.named.reserve(1)?;
-        remember(self.alloc, &mut self.given, value.term, name)?;
+        self.given.reserve(1)?;
+        let number = self.names.len();
         let entry = Entry::Named(self.named.len());
         put_new(&mut self.names, &mut self.entries, name, entry)?;
+        let remembered: Result<_, _> = self.given.insert(value.term.number(), number);
+        remembered.unwrap();
         self.named.push(Named { value, free }).unwrap();
         Ok(())
     }
 
     /// A name that was given to the term, if any was.
     pub fn name_given(&self, term: Ref) -> Option<&[u8]> {
-        let name = self.given.get(&term.number())?;
-        Some(name)
+        let number = self.given.get(&term.number())?;
+        Some(self.names.name(*number))
     }
 
     /// The macro of this number.

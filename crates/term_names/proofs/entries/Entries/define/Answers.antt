@@ -39,6 +39,7 @@ pub invariant_of-self-2 : goal.invariant_of-self-2
 invariant_of-self-2 c = record {
   one_each = length-set _ _ _ ∙ c.self.invariant.one_each;
   there = AreThere-Puts _ _ _ _ (omega (arith, longer c)) (omega arith) c.self.invariant.there (puts c) (omega (arith, longer c, number c));
+  numbers = c.self.invariant.numbers;
 }
 
 pub returns-clause-names : goal.returns-clause-names
