@@ -101,6 +101,9 @@ impl Entries {
         ensures entry { result ≡ lookup self.now.names name.now }
         ensures there { IfSome result (IsThere self.now) }
     {
+        if self.entries.is_empty() {
+            return None;
+        }
         let number = self.names.find(name)?;
         Some(self.entries[number])
     }
