@@ -18,7 +18,7 @@ abbrev pub around : Reader → List Frame → Reader
 around r frames = record r { frames = frames }
 
 module _ (source : List ℕ) (nodes : List Node) (s : Table) (v : TermsView) (r : Reader) (c : Value) (n : ℕ) (frame : Frame) (frames : List Frame) (is : r.frames ≡ frame ∷ frames) where
-  same_reader : r ≡ with_open (around r frames) frame
+  pub same_reader : r ≡ with_open (around r frames) frame
   same_reader = ap (around r) is
 
   module _ (t : Table) (w : TermsView) (q : Reader) (result : Result Turn ReadFault) where

@@ -11,3 +11,4 @@ pub mod Naming
 pub mod Entering
 pub mod ProblemViews
 pub mod Leaving
+pub mod OpenApplications
