@@ -8,6 +8,7 @@ pub mod NoVariables
 pub mod SymbolNames
 pub mod ScopeNames
 pub mod Meant
+pub mod OperatorNames
 pub mod Alone
 pub mod BoundVariables
 pub mod Stops
