@@ -91,7 +91,7 @@ module _ (s : Table) (v : TermsView) (sc : Script) (terms : List Term) (names : 
 
   pub stands_alike : (r : Reader) (p : Place) → ReaderStands s v r sc p → ReaderStands s v r (alike sc terms names) p
   stands_alike r p h = record {
-    script = record { sorts = h.script.sorts; names = λ name. meant_alike r.known name (known_entry r.known name) (h.script.names name) };
+    script = record { sorts = h.script.sorts; built_in = h.script.built_in; names = λ name. meant_alike r.known name (known_entry r.known name) (h.script.names name) };
     scope = h.scope;
     settings = h.settings;
     low = h.low;
