@@ -31,6 +31,7 @@ returns-clause-session c s v new = record {
   idle = record {
     script = record {
       sorts = new.sorts;
+      built_in = λ name built. refl;
       names = λ name.
           subst (IsNameMeant s v c.new.result empty_script name) (sym (no_entry c.new.result name c.new.ensures.base c.new.ensures.own)) (
             record { no_named = refl; no_macro = refl },
