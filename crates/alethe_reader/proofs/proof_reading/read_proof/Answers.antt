@@ -1,6 +1,6 @@
 -- The text's form, then its commands, then what stands behind them.
 use Rattle.std.proofs.lemmas.Result.{err_from_is_err_and}
-use Rattle.alethe_reader.proofs.ReadProofs.{settings_with, some_items, some_behind, begun, some_left, all_read, some_end, read_placed, read_fault, read_full, finished_proof, finished_fault, never_full, never_both, same_fault}
+use Rattle.alethe_reader.proofs.ReadProofs.{settings_with, some_items, some_behind, begun, some_left, all_read, some_end, read_placed, read_fault, read_full, finished_proof, finished_fault, never_full, never_both, same_fault, nothing_read}
 use Rattle.alethe_reader.proofs.proof_reading.read_proof.Goals as goal
 
 pub skip_answer-requires : goal.skip_answer-requires
@@ -27,6 +27,16 @@ returns-in_err-read_commands-clause-fault c before r problem e =
     read_fault c.args.bytes.now (settings_with c.args.flags) before c.in_ok-form.ensures.formed _ _ _ _ _ _ c.in_err-read_commands.field-0.0 r
     (same_fault c.from_residual-in_err-read_commands.result _ _ (err_from_is_err_and c.from_residual-in_err-read_commands.result c.from_residual-in_err-read_commands.ensures.1) e)
     (all_read begin c.in_err-read_commands.ensures.reads)
+
+pub returns-in_err-read_commands-clause-proof : goal.returns-in_err-read_commands-clause-proof
+returns-in_err-read_commands-clause-proof c before problem =
+    nothing_read c.from_residual-in_err-read_commands.result _ c.in_err-read_commands.field-0.0
+    (err_from_is_err_and c.from_residual-in_err-read_commands.result c.from_residual-in_err-read_commands.ensures.1)
+
+pub returns-in_err-read_commands-clause-refused : goal.returns-in_err-read_commands-clause-refused
+returns-in_err-read_commands-clause-refused c before r problem faulty =
+    nothing_read c.from_residual-in_err-read_commands.result _ c.in_err-read_commands.field-0.0
+    (err_from_is_err_and c.from_residual-in_err-read_commands.result c.from_residual-in_err-read_commands.ensures.1)
 
 pub returns-in_err-read_commands-clause-placed : goal.returns-in_err-read_commands-clause-placed
 returns-in_err-read_commands-clause-placed c before problem =
