@@ -1,6 +1,7 @@
 -- The command of a top item, by its word.
-use Rattle.std.proofs.Common.{◌≡◌, ℕ, ◌∙◌, Bool, true, false, List, [], ◌∷◌, Option, Some, None, Result, Err, refl, sym, ap}
+use Rattle.std.proofs.Common.{◌≡◌, ℕ, ◌∙◌, Bool, true, false, ◌||◌, List, [], ◌∷◌, Option, Some, None, Result, Err, refl, sym, ap}
 use Rattle.std.specs.Prelude.{if◌then◌else◌, codes, bytes_eq}
+use Rattle.std.proofs.lemmas.Slice.Eq.{bytes_eq-Decides}
 use Rattle.sexpr.specs.declared.causes.Cause.TheVariants.{BadCommand}
 use Rattle.sexpr.specs.declared.causes.Refusal.{Refusal}
 use Rattle.sexpr.specs.Words.{is_symbol}
@@ -16,20 +17,45 @@ choice : {A B : Type 0} (f : A → B) (b : Bool) (x y : A) (u v : B) → u ≡ f
 choice f true x y u v p q = p
 choice f false x y u v p q = q
 
+-- the same where either of two words is chosen
+choice_of_two : {A B : Type 0} (f : A → B) (b c : Bool) (x y : A) (u v : B) → u ≡ f x → v ≡ f y → (if b || (c || false) then u else v) ≡ f (if b then x else if c then x else y)
+choice_of_two f true c x y u v p q = p
+choice_of_two f false true x y u v p q = p
+choice_of_two f false false x y u v p q = q
+
+turned : (a b : List ℕ) → bytes_eq a b ≡ bytes_eq b a
+turned a b = go (bytes_eq a b) (bytes_eq b a) refl refl
+  where
+    go : (p q : Bool) → bytes_eq a b ≡ p → bytes_eq b a ≡ q → bytes_eq a b ≡ bytes_eq b a
+    go true q e f = e ∙ sym ((bytes_eq-Decides b a).1 (sym ((bytes_eq-Decides a b).0 e)))
+    go false true e f = (bytes_eq-Decides a b).1 (sym ((bytes_eq-Decides b a).0 f)) ∙ sym f
+    go false false e f = e ∙ sym f
+
+-- the same of comparisons whose sides are turned
+by_one : {A B : Type 0} (f : A → B) (name known : List ℕ) (x y : A) (u v : B) → u ≡ f x → v ≡ f y → (if bytes_eq name known then u else v) ≡ f (if bytes_eq known name then x else y)
+by_one f name known x y u v p q = ap (λ b. if b then u else v) (turned name known) ∙ choice f (bytes_eq known name) x y u v p q
+
+by_two : {A B : Type 0} (f : A → B) (name one other : List ℕ) (x y : A) (u v : B) → u ≡ f x → v ≡ f y
+    → (if is_among (one ∷ other ∷ []) name then u else v) ≡ f (if bytes_eq one name then x else if bytes_eq other name then x else y)
+by_two f name one other x y u v p q =
+    ap (λ b. if b || (bytes_eq name other || false) then u else v) (turned name one)
+    ∙ ap (λ b. if bytes_eq one name || (b || false) then u else v) (turned name other)
+    ∙ choice_of_two f (bytes_eq one name) (bytes_eq other name) x y u v p q
+
 pub by_word : (checked : Bool) (place word_place : ℕ) (name : List ℕ) (items : Items)
     → script_command_named checked place word_place name items ≡ script_command_so (script_word_named name) checked place word_place items
 by_word checked place word_place name items =
     let f : CommandWord → Result Shape Refusal = λ w. script_command_so w checked place word_place items in
-    choice f (bytes_eq name (codes "assert")) _ _ _ _ refl
-    (choice f (bytes_eq name (codes "declare-fun")) _ _ _ _ refl
-    (choice f (bytes_eq name (codes "declare-const")) _ _ _ _ refl
-    (choice f (bytes_eq name (codes "define-fun")) _ _ _ _ refl
-    (choice f (bytes_eq name (codes "declare-sort")) _ _ _ _ refl
-    (choice f (bytes_eq name (codes "set-logic")) _ _ _ _ refl
-    (choice f (is_among (codes "set-info" ∷ codes "set-option" ∷ []) name) _ _ _ _ refl
-    (choice f (bytes_eq name (codes "check-sat")) _ _ _ _ refl
-    (choice f (is_among (codes "get-proof" ∷ codes "get-unsat-core" ∷ []) name) _ _ _ _ refl
-    (choice f (bytes_eq name (codes "exit")) _ _ _ _ refl
+    by_one f name (codes "assert") _ _ _ _ refl
+    (by_one f name (codes "declare-fun") _ _ _ _ refl
+    (by_one f name (codes "declare-const") _ _ _ _ refl
+    (by_one f name (codes "define-fun") _ _ _ _ refl
+    (by_one f name (codes "declare-sort") _ _ _ _ refl
+    (by_one f name (codes "set-logic") _ _ _ _ refl
+    (by_two f name (codes "set-info") (codes "set-option") _ _ _ _ refl
+    (by_one f name (codes "check-sat") _ _ _ _ refl
+    (by_two f name (codes "get-proof") (codes "get-unsat-core") _ _ _ _ refl
+    (by_one f name (codes "exit") _ _ _ _ refl
     (choice f (is_among left_out_commands name) _ _ _ _ refl refl))))))))))
 
 -- the command by its head

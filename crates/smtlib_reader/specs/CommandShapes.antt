@@ -73,16 +73,18 @@ head_word (list place items) = None
 -- what a command's word asks for
 abbrev pub script_word_named : List ℕ → CommandWord
 script_word_named name =
-    if bytes_eq name (codes "assert") then CommandWord.Assert
-    else if bytes_eq name (codes "declare-fun") then CommandWord.DeclareFun
-    else if bytes_eq name (codes "declare-const") then CommandWord.DeclareConst
-    else if bytes_eq name (codes "define-fun") then CommandWord.DefineFun
-    else if bytes_eq name (codes "declare-sort") then CommandWord.DeclareSort
-    else if bytes_eq name (codes "set-logic") then CommandWord.SetLogic
-    else if is_among (codes "set-info" ∷ codes "set-option" ∷ []) name then CommandWord.Attribute
-    else if bytes_eq name (codes "check-sat") then CommandWord.CheckSat
-    else if is_among (codes "get-proof" ∷ codes "get-unsat-core" ∷ []) name then CommandWord.Question
-    else if bytes_eq name (codes "exit") then CommandWord.Exit
+    if bytes_eq (codes "assert") name then CommandWord.Assert
+    else if bytes_eq (codes "declare-fun") name then CommandWord.DeclareFun
+    else if bytes_eq (codes "declare-const") name then CommandWord.DeclareConst
+    else if bytes_eq (codes "define-fun") name then CommandWord.DefineFun
+    else if bytes_eq (codes "declare-sort") name then CommandWord.DeclareSort
+    else if bytes_eq (codes "set-logic") name then CommandWord.SetLogic
+    else if bytes_eq (codes "set-info") name then CommandWord.Attribute
+    else if bytes_eq (codes "set-option") name then CommandWord.Attribute
+    else if bytes_eq (codes "check-sat") name then CommandWord.CheckSat
+    else if bytes_eq (codes "get-proof") name then CommandWord.Question
+    else if bytes_eq (codes "get-unsat-core") name then CommandWord.Question
+    else if bytes_eq (codes "exit") name then CommandWord.Exit
     else if is_among left_out_commands name then CommandWord.LeftOut
     else CommandWord.Unknown
 

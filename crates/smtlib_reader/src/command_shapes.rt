@@ -114,7 +114,7 @@ pub(crate) fn is_zero(text: &Lexer<'_>, nodes: &[Node], k: usize) -> bool
 fn is_nought(word: &[u8]) -> bool
     ensures { result ≡ bytes_eq word.now (codes "0") }
 {
-    word == b"0".as_slice()
+    matches!(word, b"0")
 }
 
 /// Where a list of pairs, each of a symbol and another item, has to stand: the parameters of a defined function.

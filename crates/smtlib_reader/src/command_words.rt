@@ -29,37 +29,23 @@ pub(crate) enum CommandWord {
 pub(crate) fn word_named(name: &[u8]) -> CommandWord
     ensures { result ≡ spec.script_word_named name.now }
 {
-    if name == b"assert".as_slice() {
-        CommandWord::Assert
-    } else if name == b"declare-fun".as_slice() {
-        CommandWord::DeclareFun
-    } else if name == b"declare-const".as_slice() {
-        CommandWord::DeclareConst
-    } else if name == b"define-fun".as_slice() {
-        CommandWord::DefineFun
-    } else if name == b"declare-sort".as_slice() {
-        CommandWord::DeclareSort
-    } else if name == b"set-logic".as_slice() {
-        CommandWord::SetLogic
-    } else if is_among(&ATTRIBUTES, name) {
-        CommandWord::Attribute
-    } else if name == b"check-sat".as_slice() {
-        CommandWord::CheckSat
-    } else if is_among(&QUESTIONS, name) {
-        CommandWord::Question
-    } else if name == b"exit".as_slice() {
-        CommandWord::Exit
-    } else if is_among(&LEFT_OUT, name) {
-        CommandWord::LeftOut
-    } else {
-        CommandWord::Unknown
+    match name {
+        b"assert" => CommandWord::Assert,
+        b"declare-fun" => CommandWord::DeclareFun,
+        b"declare-const" => CommandWord::DeclareConst,
+        b"define-fun" => CommandWord::DefineFun,
+        b"declare-sort" => CommandWord::DeclareSort,
+        b"set-logic" => CommandWord::SetLogic,
+        b"set-info" | b"set-option" => CommandWord::Attribute,
+        b"check-sat" => CommandWord::CheckSat,
+        b"get-proof" | b"get-unsat-core" => CommandWord::Question,
+        b"exit" => CommandWord::Exit,
+        _ if is_among(&LEFT_OUT, name) => CommandWord::LeftOut,
+        _ => CommandWord::Unknown,
     }
 }
 
-static ATTRIBUTES: [&[u8]; 2] = [b"set-info", b"set-option"];
-
-static QUESTIONS: [&[u8]; 2] = [b"get-proof", b"get-unsat-core"];
-
+/// These end the reading, so one may be compared with each of them.
 static LEFT_OUT: [&[u8]; 18] = [
     b"define-sort",
     b"define-fun-rec",

@@ -8,11 +8,11 @@ ghost use Rattle.sexpr.specs.declared.lexing.Token.{Token};
 ghost use Rattle.text_items.specs.Lexers.{IsFirstOfItem, GoesOnWith};
 ghost use Rattle.problem_text.specs.Sorts as spec;
 ghost use Rattle.problem_text.specs.Sorts.{sort_from};
+ghost use Rattle.problem_text.specs.Words.{is_among, left_out_sorts};
 
 use sexpr::{Cause, Lexer, Refusal, Token, TokenKind, symbol_name};
 use sym_table::Symbols;
 use term_model::Sort;
-use term_names::words::is_among;
 use text_items::refusals::refused;
 
 /// Reads the sort that begins with `first`, the token that the lexer gave last: `Bool`, `Int` or a declared sort.
@@ -52,14 +52,11 @@ pub(crate) fn sort_spelled(
 fn sort_named(name: &[u8], place: u64, symbols: &Symbols) -> Result<Sort, Refusal>
     ensures { result ≡ spec.sort_named symbols.now.sorts (record { place = place; name = name.now }) }
 {
-    if name == b"Bool".as_slice() {
-        Ok(Sort::Bool)
-    } else if name == b"Int".as_slice() {
-        Ok(Sort::Int)
-    } else if is_among(&LEFT_OUT, name) {
-        Err(refused(Cause::LeftOut, place))
-    } else {
-        declared_sort(name, place, symbols)
+    match name {
+        b"Bool" => Ok(Sort::Bool),
+        b"Int" => Ok(Sort::Int),
+        _ if is_left_out(name) => Err(refused(Cause::LeftOut, place)),
+        _ => declared_sort(name, place, symbols),
     }
 }
 
@@ -75,5 +72,9 @@ fn declared_sort(name: &[u8], place: u64, symbols: &Symbols) -> Result<Sort, Ref
     }
 }
 
-/// The sorts of other theories: Reals, Strings and ArraysEx.
-static LEFT_OUT: [&[u8]; 4] = [b"Real", b"String", b"RegLan", b"Array"];
+/// Whether it is the name of a sort of another theory: of Reals, Strings or ArraysEx.
+fn is_left_out(name: &[u8]) -> bool
+    ensures { result ≡ is_among left_out_sorts name.now }
+{
+    matches!(name, b"Real" | b"String" | b"RegLan" | b"Array")
+}
