@@ -1,6 +1,7 @@
 -- The commands of a proof by their words, and by the nodes of their items.
 use Rattle.std.proofs.Common.{◌≡◌, ◌≢◌, ℕ, ◌+◌, ◌∙◌, Bool, true, false, ◌||◌, List, [], length, Option, Some, None, is_some, unwrap_or, Result, Err, refl, sym, ap, subst, arith}
 use Rattle.std.specs.Prelude.{if◌then◌else◌, codes, bytes_eq, nat_le}
+use Rattle.std.proofs.lemmas.Slice.Eq.{bytes_eq-Decides}
 use Rattle.std.specs.Option.{option_or}
 use Rattle.sexpr.specs.declared.causes.Cause.TheVariants.{BadCommand}
 use Rattle.sexpr.specs.declared.causes.Refusal.{Refusal}
@@ -25,13 +26,25 @@ pub choice : {A B : Type 0} (f : A → B) (b : Bool) (x y : A) (u v : B) → u �
 choice f true x y u v p q = p
 choice f false x y u v p q = q
 
+turned : (a b : List ℕ) → bytes_eq a b ≡ bytes_eq b a
+turned a b = go (bytes_eq a b) (bytes_eq b a) refl refl
+  where
+    go : (p q : Bool) → bytes_eq a b ≡ p → bytes_eq b a ≡ q → bytes_eq a b ≡ bytes_eq b a
+    go true q e f = e ∙ sym ((bytes_eq-Decides b a).1 (sym ((bytes_eq-Decides a b).0 e)))
+    go false true e f = (bytes_eq-Decides a b).1 (sym ((bytes_eq-Decides b a).0 f)) ∙ sym f
+    go false false e f = e ∙ sym f
+
+-- the same of a comparison whose sides are turned
+turned_choice : {A B : Type 0} (f : A → B) (name known : List ℕ) (x y : A) (u v : B) → u ≡ f x → v ≡ f y → (if bytes_eq name known then u else v) ≡ f (if bytes_eq known name then x else y)
+turned_choice f name known x y u v p q = ap (λ b. if b then u else v) (turned name known) ∙ choice f (bytes_eq known name) x y u v p q
+
 by_word : (place word_place : ℕ) (name : List ℕ) (items : Items) → command_named place word_place name items ≡ command_so (word_named name) place word_place items
 by_word place word_place name items =
     let f : CommandWord → Result Shape Refusal = λ w. command_so w place word_place items in
-    choice f (bytes_eq name (codes "assume")) _ _ _ _ refl
-    (choice f (bytes_eq name (codes "step")) _ _ _ _ refl
-    (choice f (bytes_eq name (codes "anchor")) _ _ _ _ refl
-    (choice f (bytes_eq name (codes "define-fun")) _ _ _ _ refl refl)))
+    turned_choice f name (codes "assume") _ _ _ _ refl
+    (turned_choice f name (codes "step") _ _ _ _ refl
+    (turned_choice f name (codes "anchor") _ _ _ _ refl
+    (turned_choice f name (codes "define-fun") _ _ _ _ refl refl)))
 
 -- the command by its head
 abbrev headed : ℕ → ℕ → Option (List ℕ) → Items → Result Shape Refusal

@@ -30,10 +30,10 @@ head_word (list place items) = None
 -- what a command's word asks for
 abbrev pub word_named : List ℕ → CommandWord
 word_named name =
-    if bytes_eq name (codes "assume") then CommandWord.Assume
-    else if bytes_eq name (codes "step") then CommandWord.Step
-    else if bytes_eq name (codes "anchor") then CommandWord.Anchor
-    else if bytes_eq name (codes "define-fun") then CommandWord.LeftOut
+    if bytes_eq (codes "assume") name then CommandWord.Assume
+    else if bytes_eq (codes "step") name then CommandWord.Step
+    else if bytes_eq (codes "anchor") name then CommandWord.Anchor
+    else if bytes_eq (codes "define-fun") name then CommandWord.LeftOut
     else CommandWord.Unknown
 
 -- the command of a word of this kind

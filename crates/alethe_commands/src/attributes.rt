@@ -69,6 +69,10 @@ const STEP: Keyword<'static> = Keyword {
     needed: false,
 };
 
+static STEP_KEYWORDS: [Keyword<'static>; 4] = [RULE, PREMISES, ARGUMENTS, DISCHARGE];
+
+static ANCHOR_KEYWORDS: [Keyword<'static>; 2] = [STEP, ARGUMENTS];
+
 /// The first fault of a step's attributes, which stand from `first` to before `end`. The step begins at `place`.
 pub(crate) fn step_attributes_fault(
     text: &Lexer<'_>,
@@ -80,8 +84,7 @@ pub(crate) fn step_attributes_fault(
     requires { AreItemsFrom (source text.now) nodes.now first end }
     ensures { (items : Items) → AreNodes (source text.now) nodes.now first items end → result ≡ keywords.attributes_fault shape.step_keywords place items }
 {
-    let known = [RULE, PREMISES, ARGUMENTS, DISCHARGE];
-    attributes_fault(text, nodes, &known, place, first, end)
+    attributes_fault(text, nodes, &STEP_KEYWORDS, place, first, end)
 }
 
 /// The first fault of an anchor's attributes, which stand from `first` to before `end`, as a list of attributes. The anchor
@@ -96,7 +99,7 @@ pub(crate) fn anchor_attributes_fault(
     requires { AreItemsFrom (source text.now) nodes.now first end }
     ensures { (items : Items) → AreNodes (source text.now) nodes.now first items end → result ≡ keywords.attributes_fault shape.anchor_keywords place items }
 {
-    attributes_fault(text, nodes, &[STEP, ARGUMENTS], place, first, end)
+    attributes_fault(text, nodes, &ANCHOR_KEYWORDS, place, first, end)
 }
 
 /// The next of a step's attributes that stand from `at` to before `end` and have no fault of shape, where there is one. It
@@ -183,16 +186,12 @@ fn word_at(text: &Lexer<'_>, nodes: &[Node], k: usize) -> Option<AttributeWord>
 fn word_named(word: &[u8]) -> Option<AttributeWord>
     ensures { result ≡ spec.attribute_word (Some word.now) }
 {
-    if b":rule".as_slice() == word {
-        Some(AttributeWord::Rule)
-    } else if b":premises".as_slice() == word {
-        Some(AttributeWord::Premises)
-    } else if b":args".as_slice() == word {
-        Some(AttributeWord::Arguments)
-    } else if b":discharge".as_slice() == word {
-        Some(AttributeWord::Discharge)
-    } else {
-        None
+    match word {
+        b":rule" => Some(AttributeWord::Rule),
+        b":premises" => Some(AttributeWord::Premises),
+        b":args" => Some(AttributeWord::Arguments),
+        b":discharge" => Some(AttributeWord::Discharge),
+        _ => None,
     }
 }
 

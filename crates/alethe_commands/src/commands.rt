@@ -79,16 +79,12 @@ pub fn command_of(text: &Lexer<'_>, nodes: &[Node]) -> Result<Command, Refusal>
 fn word_named(name: &[u8]) -> CommandWord
     ensures { result ≡ spec.word_named name.now }
 {
-    if name == b"assume".as_slice() {
-        CommandWord::Assume
-    } else if name == b"step".as_slice() {
-        CommandWord::Step
-    } else if name == b"anchor".as_slice() {
-        CommandWord::Anchor
-    } else if name == b"define-fun".as_slice() {
-        CommandWord::LeftOut
-    } else {
-        CommandWord::Unknown
+    match name {
+        b"assume" => CommandWord::Assume,
+        b"step" => CommandWord::Step,
+        b"anchor" => CommandWord::Anchor,
+        b"define-fun" => CommandWord::LeftOut,
+        _ => CommandWord::Unknown,
     }
 }
 

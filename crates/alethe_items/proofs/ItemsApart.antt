@@ -16,7 +16,8 @@ use Rattle.text_items.specs.Spelling.{is_list_item}
 use Rattle.text_items.specs.declared.nodes.Node.{Node}
 use Rattle.alethe_text.specs.Commands.{is_symbol_of}
 use Rattle.alethe_text.specs.ProofTexts.{behind_answer, unwrapped_commands, is_list_of_commands}
-use Rattle.alethe_items.specs.TextItems.{HasCommandItems, IsListEnd, IsFirst, behind_list, is_open, is_close, is_bracket, begins_bracket}
+use Rattle.alethe_items.specs.TextItems.{HasCommandItems, IsListEnd, IsFirst, behind_list}
+use Rattle.alethe_items.specs.Brackets.{is_open, is_close, is_bracket, begins_bracket}
 
 -- what reading one token tells of the tokens that are left
 abbrev Begins : Read → List Token → Type 0

@@ -1,40 +1,12 @@
 -- Public. A proof's text that is being read, item by item: its commands stand by themselves or in one list.
-use Rattle.std.specs.Prelude.{◌≡◌, ℕ, Bool, true, false, if◌then◌else◌, List, [], length, Some, None, Ok, Err}
+use Rattle.std.specs.Prelude.{◌≡◌, ℕ, Bool, true, false, if◌then◌else◌, List, [], length}
 use Rattle.sexpr.specs.declared.lexing.Token.{Token}
-use Rattle.sexpr.specs.declared.lexing.TokenKind.{TokenKind}
-use Rattle.sexpr.specs.declared.lexing.TokenKind.TheVariants.{Open, Close, Text, Quoted, Word}
+use Rattle.sexpr.specs.declared.lexing.TokenKind.TheVariants.{Close}
 use Rattle.sexpr.specs.Items.{Item, Items, no_items, item, IsBracket, AreItems}
-use Rattle.sexpr.specs.Tokens.{Read, AreTokens}
+use Rattle.sexpr.specs.Tokens.{AreTokens}
 use Rattle.text_items.specs.Nodes.{IsNode}
 use Rattle.text_items.specs.declared.nodes.Node.{Node}
 use Rattle.alethe_text.specs.ProofTexts.{is_list_of_commands}
-
-abbrev pub is_close : TokenKind → Bool
-is_close Open = false
-is_close Close = true
-is_close Text = false
-is_close Quoted = false
-is_close Word = false
-
-abbrev pub is_bracket : TokenKind → Bool
-is_bracket Open = true
-is_bracket Close = true
-is_bracket Text = false
-is_bracket Quoted = false
-is_bracket Word = false
-
-abbrev pub is_open : TokenKind → Bool
-is_open Open = true
-is_open Close = false
-is_open Text = false
-is_open Quoted = false
-is_open Word = false
-
--- what is read begins with a bracket
-abbrev pub begins_bracket : Read → Bool
-begins_bracket (Ok (Some t)) = is_bracket t.kind
-begins_bracket (Ok None) = false
-begins_bracket (Err refusal) = false
 
 -- what stands behind the list of the commands
 abbrev pub behind_list : Items → Items

@@ -6,7 +6,8 @@ ghost use Rattle.sexpr.specs.Source as at;
 ghost use Rattle.sexpr.specs.Tokens.{next_token, token_text};
 ghost use Rattle.text_items.specs.ItemShapes as shape;
 ghost use Rattle.alethe_text.specs.ProofTexts.{behind_answer, unwrapped_commands};
-ghost use Rattle.alethe_items.specs.TextItems.{HasCommandItems, IsItemRead, behind_list, is_open, is_close, is_bracket, begins_bracket};
+ghost use Rattle.alethe_items.specs.TextItems.{HasCommandItems, IsItemRead, behind_list};
+ghost use Rattle.alethe_items.specs.Brackets.{is_open, is_close, is_bracket, begins_bracket};
 
 use sexpr::{Lexer, Token, TokenKind, symbol_name};
 use std::alloc::AllocError;

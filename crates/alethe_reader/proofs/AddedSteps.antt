@@ -1,5 +1,5 @@
 -- A step that was read may be added to the proof over references, and what is written then is that of the state.
-use Rattle.std.proofs.Common.{◌≡◌, inl, inr, ℕ, ◌+◌, ◌-◌, List, [], ◌∷◌, ◌++◌, map, length, take, Bool, true, false, if◌then◌else◌, Option, Some, None, IfSome, All, Contains, refl, sym, ◌∙◌, ap, subst, arith}
+use Rattle.std.proofs.Common.{◌≡◌, ◌⊎◌, inl, inr, ℕ, ◌+◌, ◌-◌, List, [], ◌∷◌, ◌++◌, map, length, take, Bool, true, false, if◌then◌else◌, Option, Some, None, IfSome, All, Contains, refl, sym, ◌∙◌, ap, subst, arith}
 use Rattle.std.specs.Prelude.{bytes_eq}
 use Rattle.std.specs.List.{AllZip}
 use Rattle.std.proofs.lemmas.List.{map-append, length-append}
@@ -7,6 +7,7 @@ use Rattle.std.proofs.Math.Seq.{take-append_seam}
 use Rattle.sym_table.specs.Table.{Table}
 use Rattle.term_model.specs.Terms.{Var, Term}
 use Rattle.term_pool.specs.Views.{TermsView, RefersTo, ReferToAll}
+use Rattle.rule_model.specs.declared.rules.Rule.{Rule}
 use Rattle.rule_model.specs.Proofs.{Step, ProofItems, no_items, with_assume, with_step, with_subproof}
 use Rattle.rule_model.specs.RuleNames.{rule_named, left_out_rules, IsSymbolName}
 use Rattle.rule_model.specs.Scopes.{Anchor, Nesting, outermost, inside, Scope, at, own_bindings, first_index, commands_in, next_index, next_scope}
@@ -80,15 +81,19 @@ module _ (s : Table) (v : TermsView) where
 
   module _ (step : Step ℕ) (of : Step Term) (is : IsStepOf s v step of) where
     -- the rule of the step over references
-    rule_same : of.pivots ≡ [] → HasRule of → HasRule step
-    rule_same none h = record {
+    rule_same : HasRule of → HasRule step
+    rule_same h = record {
       named = is.rule ∙ (h.named ∙ ap rule_named (sym is.rule_name));
       symbol = subst IsSymbolName (sym is.rule_name) h.symbol;
       kept = subst (λ w. ¬ Contains left_out_rules w) (sym is.rule_name) h.kept;
-      pivots = inr (no_pair (IsPivotOf s v) step.pivots of.pivots none is.pivots);
+      pivots = elim h.pivots [ inl e ↦ inl (resolution_same e) | inr none ↦ inr (no_pair (IsPivotOf s v) step.pivots of.pivots none is.pivots) ];
       ratios = elim h.ratios [ inl e ↦ inl (is.rule ∙ e) | inr e ↦ inr (is.ratios ∙ e) ];
       lowest = subst (λ o. IfSome o (λ qs. All IsLowest qs)) (sym is.ratios) h.lowest;
     }
+      where
+        resolution_same : (of.rule ≡ Rule.Resolution) ⊎ (of.rule ≡ Rule.ThResolution) → (step.rule ≡ Rule.Resolution) ⊎ (step.rule ≡ Rule.ThResolution)
+        resolution_same (inl e) = inl (is.rule ∙ e)
+        resolution_same (inr e) = inr (is.rule ∙ e)
 
 module _ (s : Table) (v : TermsView) (settings : ProofSettings) (d : Session) (n : NewStep) (of : Step Term) (p : ProofState) (h : IsToAdd s v settings d n of p) where
   abbrev step : Step ℕ
@@ -102,7 +107,7 @@ module _ (s : Table) (v : TermsView) (settings : ProofSettings) (d : Session) (n
     clause = refer_pairs s v d.parts.clause.items of.clause h.clause;
     premises = h.parts.premises;
     discharged = h.parts.discharged;
-    pivots = subst (AllZip (IsPivotOf s v) []) (sym h.parts.pivots) tt;
+    pivots = h.parts.pivots;
     ratios = h.parts.ratios;
   }
 
@@ -113,7 +118,7 @@ module _ (s : Table) (v : TermsView) (settings : ProofSettings) (d : Session) (n
   unopens b e = ap (is_open_id p.scope.nesting) (sym is.id) ∙ (sym (open_same s v d.builder.nesting p.scope.nesting step.id h.written.nesting) ∙ e)
 
   has_rule : HasRule step
-  has_rule = rule_same s v step of is h.parts.pivots h.named
+  has_rule = rule_same s v step of is h.named
 
   -- it stands in the scope that is written
   may_stand : (o : Option OpenAnchor) → IsClosing d.ids p of.id h.here o → is_open_id p.scope.nesting of.id ≡ false → MayStand d.builder.nesting d.builder.items step
@@ -244,26 +249,26 @@ module _ (s : Table) (v : TermsView) (settings : ProofSettings) (d : Session) (n
       go outermost = refl
       go (inside around before anchor) = refl
 
-  is_session : (e : Session) → e.reader ≡ d.reader → IsWritten s v e (steps.with_step of p) → IsProofSession s v settings e (steps.with_step of p)
-  is_session e same written = record {
-    lax = h.lax;
+  is_session : (e : Session) → e.strict ≡ d.strict → e.reader ≡ d.reader → IsWritten s v e (steps.with_step of p) → IsProofSession s v settings e (steps.with_step of p)
+  is_session e strict same written = record {
+    strict = h.strict ∙ sym strict;
     reader = subst (λ r. IsReaderOf s v r p.script (place_in settings (steps.with_step of p).scope.nesting)) (sym same)
         (subst (λ m. IsReaderOf s v d.reader p.script (place_in settings m)) (place_after n.closes h.closes) h.reader);
     written = written;
   }
 
-  pub added_here : (e : Session) → n.closes ≡ None → e.reader ≡ d.reader → e.builder ≡ take_step d.builder step → e.ids ≡ d.ids ++ in_use step.id role.Step (next_index d.builder) ∷ [] → e.anchors ≡ d.anchors → e.bound ≡ d.bound
+  pub added_here : (e : Session) → e.strict ≡ d.strict → n.closes ≡ None → e.reader ≡ d.reader → e.builder ≡ take_step d.builder step → e.ids ≡ d.ids ++ in_use step.id role.Step (next_index d.builder) ∷ [] → e.anchors ≡ d.anchors → e.bound ≡ d.bound
       → IsProofSession s v settings e (steps.with_step of p)
-  added_here e none same built used anchors bound = is_session e same (written_here e (subst (IsClosing d.ids p of.id h.here) none h.closes).0 built used anchors bound)
+  added_here e strict none same built used anchors bound = is_session e strict same (written_here e (subst (IsClosing d.ids p of.id h.here) none h.closes).0 built used anchors bound)
 
-  pub added_around : (e : Session) (a : OpenAnchor) → n.closes ≡ Some a → e.reader ≡ d.reader → e.builder ≡ take_step d.builder step
+  pub added_around : (e : Session) (a : OpenAnchor) → e.strict ≡ d.strict → n.closes ≡ Some a → e.reader ≡ d.reader → e.builder ≡ take_step d.builder step
       → e.ids ≡ take a.ids d.ids ++ in_use step.id role.Step (next_index d.builder) ∷ []
       → ((front : List OpenAnchor) (last : OpenAnchor) → d.anchors.items ≡ front ++ last ∷ [] → e.anchors.items ≡ front)
       → ((around : Nesting Var Term) (before : ProofItems Var Term) (other : Anchor Var Term) → a.variables ≡ length other.bindings → AreBound s v d.bound (inside around before other) → AreBound s v e.bound around)
       → IsProofSession s v settings e (steps.with_step of p)
-  added_around e a some same built used popped left =
+  added_around e a strict some same built used popped left =
       let closes = subst (IsClosing d.ids p of.id h.here) some h.closes in
-      is_session e same (written_around e a closes.0 closes.2 built used popped left)
+      is_session e strict same (written_around e a closes.0 closes.2 built used popped left)
 
   -- its id is not in use where it is put in use
   pub unused_here : n.closes ≡ None → IsUnused d.ids step.id

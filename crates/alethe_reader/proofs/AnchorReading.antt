@@ -151,9 +151,9 @@ module _ (settings : ProofSettings) (place : ℕ) (n : Name) (others : List Argu
         pub is_opened : (d : Session) (ids variables : ℕ) → ids ≡ length e.ids → variables ≡ length b.opened.items
             → ((sc : Script) (at : Place) (bs : List (Var × Term)) → AllZip (IsBindingOf z w) b.opened.items bs → IsReaderOf z w r sc at → IsReaderOf z w d.reader sc (record at { scope = entered (length bs) bs at.scope }))
             → d.builder ≡ open_anchor e.builder (anchor_with n.name b.opened.items) → d.ids ≡ e.ids ++ in_use n.name Anchor (next_scope e.builder) ∷ []
-            → d.anchors.items ≡ e.anchors.items ++ record { place = place; ids = ids; variables = variables } ∷ [] → d.bound ≡ b
+            → d.anchors.items ≡ e.anchors.items ++ record { place = place; ids = ids; variables = variables } ∷ [] → d.bound ≡ b → d.strict ≡ e.strict
             → AnswersAs z v w (StandsAfter z w settings d) (anchor_read settings place n others p) (Ok tt)
-        is_opened d ids variables ids_are variables_are enters built used anchors bound =
+        is_opened d ids variables ids_are variables_are enters built used anchors bound strict =
             same_outcome (judged (Ok tt) new_id)
             (goes opened keeps_opened h (adds_none z).keeps (keeps_none w) (λ bs q k. answers tt (with_anchor place n.name bs q) refl refl (record { session = after bs q k })))
           where
@@ -184,7 +184,7 @@ module _ (settings : ProofSettings) (place : ℕ) (n : Name) (others : List Argu
 
             after : (bs : List (Var × Term)) (q : ProofState) → AreArgumentsRead z w settings r b p tt bs q → IsProofSession z w settings d (with_anchor place n.name bs q)
             after bs q k = record {
-              lax = session.lax;
+              strict = session.strict ∙ sym strict;
               reader =
                   reader_inside z w d.reader q.script settings q.scope.nesting q.scope.items (record { id = n.name; bindings = bs })
                   (enters q.script (place_in settings q.scope.nesting) bs k.opening.opened k.opening.reader);

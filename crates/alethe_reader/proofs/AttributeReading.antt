@@ -1,15 +1,17 @@
 -- One attribute of a step, and others behind it.
-use Rattle.std.proofs.Common.{◌≡◌, ℕ, ◌≤◌, ◌-◌, arith, Bool, true, false, ◌&&◌, List, [], map, Option, Some, None, Result, Ok, Err, refl, sym, ap, subst, ◌∙◌, if◌then◌else◌}
+use Rattle.std.proofs.Common.{◌≡◌, ℕ, ◌≤◌, ◌-◌, arith, Bool, true, false, ◌&&◌, List, [], map, Option, Some, None, unwrap_or, Result, Ok, Err, refl, sym, ap, subst, ◌∙◌, if◌then◌else◌}
 use Rattle.std.specs.Prelude.{⊤, not}
+use Rattle.std.specs.List.{AllZip}
 use Rattle.sexpr.specs.declared.causes.Cause.TheVariants.{LeftOut}
 use Rattle.sexpr.specs.declared.causes.Refusal.{Refusal}
 use Rattle.sexpr.specs.Items.{Items}
-use Rattle.sym_table.specs.Table.{Table}
+use Rattle.sym_table.specs.Table.{Table, Keeps}
 use Rattle.term_model.specs.Terms.{Term}
 use Rattle.term_pool.specs.Views.{TermsView, KeepsTerms}
 use Rattle.rule_model.specs.Proofs.{Step, Fraction}
 use Rattle.rule_model.specs.RuleNames.{left_out_rules}
 use Rattle.rule_model.specs.Visibility.{Sight}
+use Rattle.proof_store.specs.Meaning.{IsPivotOf}
 use Rattle.proof_store.specs.Ratios.{fraction_of_ratio}
 use Rattle.text_items.specs.declared.nodes.Node.{Node}
 use Rattle.text_items.specs.ItemShapes.{Name}
@@ -22,7 +24,7 @@ use Rattle.term_reader.specs.ProblemViews.{ReaderView, IsReaderOf}
 use Rattle.term_reader.proofs.Staying.{adds_none, keeps_none, places_none, places_more, places_then}
 use Rattle.alethe_commands.specs.CommandNodes.{AreAttributes, HasFirstAttribute, LiesWithin}
 use Rattle.alethe_commands.specs.declared.attributes.StepAttribute.{StepAttribute}
-use Rattle.alethe_text.specs.Arguments.{takes_coefficients, takes_pivots, named_among, arguments_from}
+use Rattle.alethe_text.specs.Arguments.{takes_coefficients, takes_pivots, named_among, pivots_from, arguments_from}
 use Rattle.alethe_text.specs.Coefficients.{coefficients_from}
 use Rattle.alethe_text.specs.Commands.{Attribute, rule, premises, arguments, discharge}
 use Rattle.alethe_text.specs.Ids as text
@@ -31,12 +33,14 @@ use Rattle.alethe_text.specs.States.{ProofSettings, ProofState, Reading, ◌>>=�
 use Rattle.alethe_text.specs.Steps.{attribute_read, attributes_read}
 use Rattle.alethe_reader.specs.Answers.{WasRead, IsAnswerOf, AnswersAs}
 use Rattle.alethe_reader.specs.Arguments.{AreNamed}
+use Rattle.alethe_reader.specs.Pivots.{AreReadPivots}
 use Rattle.alethe_reader.specs.Reach.{IsReach, AreIndices}
-use Rattle.alethe_reader.specs.StepParts.{AreStepParts, StandsAt, AreReadAttributes, IsRuleJudged, AreRatios, KeepsOthers, own_nodes, nodes_from}
+use Rattle.alethe_reader.specs.StepParts.{AreStepParts, IsBare, StandsAt, AreReadAttributes, IsRuleJudged, AreRatios, KeepsOthers, own_nodes, nodes_from}
 use Rattle.alethe_reader.specs.declared.session.Session.{Session}
 use Rattle.alethe_reader.specs.declared.session.StepParts.{StepParts}
 use Rattle.alethe_reader.specs.declared.standing.Standing.{Standing}
 use Rattle.alethe_reader.proofs.Answering.{read_on, stops, goes, answers, refuses, no_memory, same_outcome}
+use Rattle.alethe_reader.proofs.PivotReading.{pivots_stay}
 use Rattle.alethe_reader.proofs.StillRead.{keeps_give}
 use Rattle.alethe_reader.proofs.StillReadCommands.{keeps_attributes}
 
@@ -102,22 +106,65 @@ module _ (s : Table) (v : TermsView) (settings : ProofSettings) (at : text.Stand
       → AnswersAs s v v (AreReadAttributes s v settings at.nesting e p before) (attribute_read settings at (arguments items) before p) result
   ratios_answer items takes parts result are after = same_outcome (are_ratios items takes) (ratios_read parts (coefficients_from items) result are after)
 
--- the arguments of another rule, where nothing is judged strictly
-are_names : (settings : ProofSettings) (at : text.Standing) (p : ProofState) (before : Step Term) (items : Items) → settings.is_strict ≡ false → takes_coefficients before.rule ≡ false
-    → attribute_read settings at (arguments items) before p ≡ and_then (named_among settings at.nesting items p) (λ _. give before)
-unfolding attribute_read arguments_from ◌>>=◌
-are_names settings at p before items lax takes =
-    other_of (takes_coefficients before.rule) _ _ p takes ∙ other_of (settings.is_strict && takes_pivots before.rule) _ _ p (ap (λ b. b && takes_pivots before.rule) lax)
+-- the arguments of a rule that takes no coefficients
+module _ (settings : ProofSettings) (at : text.Standing) (p : ProofState) (before : Step Term) (items : Items) (no_coefficients : takes_coefficients before.rule ≡ false) where
+  -- a step with these pivots
+  abbrev put : Option (List (Term × Bool)) → Reading (Step Term)
+  put of = give (record before { pivots = unwrap_or of [] })
 
-pub names_answer : (s : Table) (old v : TermsView) (settings : ProofSettings) (at : text.Standing) (e : Session) (p : ProofState) (before : Step Term) (items : Items) → settings.is_strict ≡ false → takes_coefficients before.rule ≡ false
-    → (result : Result ⊤ ReadFault) → AnswersAs s old v (AreNamed s v settings at.nesting e.reader p) (named_among settings at.nesting items p) result
-    → AreStepParts e.parts before → AnswersAs s old v (AreReadAttributes s v settings at.nesting e p before) (attribute_read settings at (arguments items) before p) result
-names_answer s old v settings at e p before items lax takes (Ok _) h parts =
-    same_outcome (are_names settings at p before items lax takes)
-    (goes (λ _. give before) (λ _. keeps_give before) h (adds_none s).keeps (keeps_none v)
-    (λ t q k. answers before q refl refl (record { parts = parts; id = refl; rule = refl; rule_name = refl; clause = refl; behind = k.behind })))
-names_answer s old v settings at e p before items lax takes (Err fault) h parts =
-    same_outcome (are_names settings at p before items lax takes) (stops (λ _. give before) (λ _. keeps_give before) h)
+  are_pivots : (settings.is_strict && takes_pivots before.rule) ≡ true → attribute_read settings at (arguments items) before p ≡ and_then (pivots_from settings at.nesting items p) put
+  unfolding attribute_read arguments_from ◌>>=◌
+  are_pivots takes = other_of (takes_coefficients before.rule) _ _ p no_coefficients ∙ one_of (settings.is_strict && takes_pivots before.rule) _ _ p takes
+
+  are_names : (settings.is_strict && takes_pivots before.rule) ≡ false → attribute_read settings at (arguments items) before p ≡ and_then (named_among settings at.nesting items p) (λ _. give before)
+  unfolding attribute_read arguments_from ◌>>=◌
+  are_names takes = other_of (takes_coefficients before.rule) _ _ p no_coefficients ∙ other_of (settings.is_strict && takes_pivots before.rule) _ _ p takes
+
+  module _ (s : Table) (old v : TermsView) (e : Session) where
+    pub pivots_answer : (settings.is_strict && takes_pivots before.rule) ≡ true → (result : Result ⊤ ReadFault) → AnswersAs s old v (AreReadPivots s v settings at.nesting e.reader p e.parts.pivots.items) (pivots_from settings at.nesting items p) result
+        → e.parts.premises.items ≡ before.premises → e.parts.discharged.items ≡ before.discharged → (if e.parts.has_ratios then Some (map fraction_of_ratio e.parts.ratios.items) else None) ≡ before.ratios
+        → AnswersAs s old v (AreReadAttributes s v settings at.nesting e p before) (attribute_read settings at (arguments items) before p) result
+    pivots_answer takes (Ok _) h same_premises same_discharged same_ratios =
+        same_outcome (are_pivots takes)
+        (goes put (λ of. keeps_give (record before { pivots = unwrap_or of [] })) h (adds_none s).keeps (keeps_none v)
+        (λ of q k. answers (record before { pivots = unwrap_or of [] }) q refl refl (record {
+          parts = record { premises = same_premises; discharged = same_discharged; pivots = k.stand; ratios = same_ratios };
+          id = refl;
+          rule = refl;
+          rule_name = refl;
+          clause = refl;
+          behind = k.behind;
+        })))
+    pivots_answer takes (Err fault) h same_premises same_discharged same_ratios = same_outcome (are_pivots takes) (stops put (λ of. keeps_give (record before { pivots = unwrap_or of [] })) h)
+
+    pub names_answer : (settings.is_strict && takes_pivots before.rule) ≡ false → (result : Result ⊤ ReadFault) → AnswersAs s old v (AreNamed s v settings at.nesting e.reader p) (named_among settings at.nesting items p) result
+        → AreStepParts s v e.parts before → AnswersAs s old v (AreReadAttributes s v settings at.nesting e p before) (attribute_read settings at (arguments items) before p) result
+    names_answer takes (Ok _) h parts =
+        same_outcome (are_names takes)
+        (goes (λ _. give before) (λ _. keeps_give before) h (adds_none s).keeps (keeps_none v)
+        (λ t q k. answers before q refl refl (record { parts = parts; id = refl; rule = refl; rule_name = refl; clause = refl; behind = k.behind })))
+    names_answer takes (Err fault) h parts = same_outcome (are_names takes) (stops (λ _. give before) (λ _. keeps_give before) h)
+
+-- the parts go on being those of the step
+pub parts_stay : (s z : Table) (v w : TermsView) → Keeps s z → KeepsTerms v w → (d : StepParts) (step : Step Term) → AreStepParts s v d step → AreStepParts z w d step
+parts_stay s z v w table terms d step h = record {
+  premises = h.premises;
+  discharged = h.discharged;
+  pivots = pivots_stay s z v w table terms d.pivots.items step.pivots h.pivots;
+  ratios = h.ratios;
+}
+
+-- nothing of a step is among its parts
+pub none_among : (s : Table) (v : TermsView) (d : StepParts) (before : Step Term) → IsBare before → takes_coefficients before.rule ≡ d.has_ratios
+    → d.premises.items ≡ [] → d.discharged.items ≡ [] → d.pivots.items ≡ [] → d.ratios.items ≡ [] → AreStepParts s v d before
+none_among s v d before bare takes no_premises no_discharged no_pivots no_ratios = record {
+  premises = no_premises ∙ sym bare.premises;
+  discharged = no_discharged ∙ sym bare.discharged;
+  pivots = subst (λ ps. AllZip (IsPivotOf s v) ps before.pivots) (sym no_pivots) (subst (AllZip (IsPivotOf s v) []) (sym bare.pivots) tt);
+  ratios =
+      ap (λ qs. if d.has_ratios then Some (map fraction_of_ratio qs) else None) no_ratios
+      ∙ (ap (λ b. if b then Some [] else None) (sym takes) ∙ sym bare.ratios);
+}
 
 -- The attributes before node k were read, and the step before all became this one.
 pub record AreSoFar (source : List ℕ) (nodes : List Node) (settings : ProofSettings) (at : text.Standing) (standing : Standing) (s : Table) (old v : TermsView) (d : Session) (p : ProofState) (before : Step Term) (k m : ℕ) (whole : Outcome ProofState (Step Term)) : Type 0 where
@@ -131,16 +178,16 @@ pub record AreSoFar (source : List ℕ) (nodes : List Node) (settings : ProofSet
   pub placed : PlacesCellsOf s old.pass v.pass (WasRead whole)
 
 -- a session with the same ids and the same reader stands at the same place
-pub stands_still : (s : Table) (v : TermsView) (settings : ProofSettings) (at : text.Standing) (standing : Standing) (d e : Session) (p : ProofState) → StandsAt s v settings at d standing p → e.ids ≡ d.ids → e.reader ≡ d.reader → StandsAt s v settings at e standing p
-stands_still s v settings at standing d e p h ids reader = record {
-  lax = h.lax;
+pub stands_still : (s : Table) (v : TermsView) (settings : ProofSettings) (at : text.Standing) (standing : Standing) (d e : Session) (p : ProofState) → StandsAt s v settings at d standing p → e.ids ≡ d.ids → e.reader ≡ d.reader → e.strict ≡ d.strict → StandsAt s v settings at e standing p
+stands_still s v settings at standing d e p h ids reader strict = record {
+  strict = h.strict ∙ sym strict;
   sees = subst (λ us. IsReach us standing.premises at.sees) (sym ids) h.sees;
   discharges = subst (λ us. IsReach us standing.discharges at.discharges) (sym ids) h.discharges;
   reader = subst (λ (r : ReaderView). IsReaderOf s v r p.script (place_in settings at.nesting)) (sym reader) h.reader;
 }
 
 module _ (source : List ℕ) (nodes : List Node) (settings : ProofSettings) (at : text.Standing) (standing : Standing) (p : ProofState) (before : Step Term) (k m : ℕ) where
-  pub so_far_first : (s : Table) (v : TermsView) (d : Session) (attributes : List Attribute) → AreAttributes source nodes k attributes m → StandsAt s v settings at d standing p → AreStepParts d.parts before
+  pub so_far_first : (s : Table) (v : TermsView) (d : Session) (attributes : List Attribute) → AreAttributes source nodes k attributes m → StandsAt s v settings at d standing p → AreStepParts s v d.parts before
       → AreSoFar source nodes settings at standing s v v d p before k m (attributes_read settings at attributes before p)
   so_far_first s v d attributes are stands parts = record {
     rest = attributes;
@@ -195,7 +242,7 @@ module _ (source : List ℕ) (nodes : List Node) (settings : ProofSettings) (at 
             there = f.there;
             comes = splits ∙ ap (λ (o : Outcome ProofState (Step Term)). and_then o (attributes_read settings at f.others)) a.comes;
             stands = record {
-              lax = h.stands.lax;
+              strict = h.stands.strict ∙ sym others.strict;
               sees = subst (λ us. IsReach us standing.premises at.sees) (sym others.ids) h.stands.sees;
               discharges = subst (λ us. IsReach us standing.discharges at.discharges) (sym others.ids) h.stands.discharges;
               reader = a.after.behind.reader;
@@ -231,6 +278,7 @@ others_kept a b c h k = record {
   ids = k.ids ∙ h.ids;
   anchors = k.anchors ∙ h.anchors;
   bound = k.bound ∙ h.bound;
+  strict = k.strict ∙ h.strict;
   clause = k.clause ∙ h.clause;
 }
 
@@ -245,7 +293,7 @@ kept_in out place p e = rw e refl
 pub stands_on : (s z : Table) (v w : TermsView) (settings : ProofSettings) (at : text.Standing) (standing : Standing) (d e : Session) (p q : ProofState) → StandsAt s v settings at d standing p → KeepsOthers d e → IsReaderOf z w e.reader q.script (place_in settings at.nesting)
     → StandsAt z w settings at e standing q
 stands_on s z v w settings at standing d e p q h others reader = record {
-  lax = h.lax;
+  strict = h.strict ∙ sym others.strict;
   sees = subst (λ us. IsReach us standing.premises at.sees) (sym others.ids) h.sees;
   discharges = subst (λ us. IsReach us standing.discharges at.discharges) (sym others.ids) h.discharges;
   reader = reader;

@@ -4,7 +4,7 @@ use Rattle.std.specs.Str.{bytes_eq}
 use Rattle.std.proofs.lemmas.List.{length-set, length_push, get_or_append_left, get_or-set_same, get_or-set_other}
 use Rattle.std.proofs.lemmas.Option.{slice_get-map, slice_get_within, slice_get-get_or, get_or_from_slice_get}
 use Rattle.term_names.specs.NameNumbers.{IsNumbered}
-use Rattle.term_names.specs.NameNumbers.{AreApart}
+use Rattle.name_set.specs.Names.{StandOnce}
 use Rattle.term_names.proofs.HeldVariables.{at_place}
 use Rattle.alethe_reader.specs.declared.ids.Held.{Held}
 use Rattle.alethe_reader.specs.declared.ids.Found.{Found}
@@ -28,14 +28,14 @@ stands_at names held k u e = go (slice_get held k) refl (sym (slice_get-map (use
         inside g = cc
 
 -- the id's number is that of the name
-number_of_match : (names : List (List ℕ)) (h : Held) (id : List ℕ) → AreApart names → h.name < length names → slice_index_or names h.name [] ≡ id → position (bytes_eq id) names ≡ Some h.name
+number_of_match : (names : List (List ℕ)) (h : Held) (id : List ℕ) → StandOnce names → h.name < length names → slice_index_or names h.name [] ≡ id → position (bytes_eq id) names ≡ Some h.name
 number_of_match names h id apart within e = apart h.name id (slice_get-get_or names h.name [] within ∙ ap Some e)
 
 -- what is read at a place
 pub read_at : {X : Type 0} (xs : List X) (k : ℕ) (x : X) → k < length xs → x ≡ get_or xs k x → slice_get xs k ≡ Some x
 read_at xs k x within e = slice_get-get_or xs k x within ∙ ap Some (sym e)
 
-module _ (names : List (List ℕ)) (latest : List ℕ) (held : List Held) (id : List ℕ) (apart : AreApart names) (inv : IsLatest names latest held) where
+module _ (names : List (List ℕ)) (latest : List ℕ) (held : List Held) (id : List ℕ) (apart : StandOnce names) (inv : IsLatest names latest held) where
   pub no_name : position (bytes_eq id) names ≡ None → IsUnused (used names held) id
   no_name none k u e same =
       let s = stands_at names held k u e in

@@ -31,6 +31,8 @@ mod RuleWords
 mod FormulaLists
 mod NamingItems
 mod NamedArguments
+mod PivotReading
+mod PivotPairs
 mod AddedSteps
 mod StepReading
 mod AttributeReading

@@ -48,7 +48,7 @@ and_then_then {A} {B} {C} o next last = go o.result o.state
     go (Ok a) s = refl
     go (Err refusal) s = refl
 
-never : true ≡ false → ⊥
+pub never : true ≡ false → ⊥
 never h = cc
 
 module _ (settings : ProofSettings) (nesting : Nesting Var Term) where

@@ -21,6 +21,7 @@ use Rattle.term_names.specs.Making.{PlacesCellsOf, LacksCellOf}
 use Rattle.term_names.specs.declared.faults.ReadFault.{ReadFault}
 use Rattle.term_reader.specs.ProblemViews.{IsReaderOf}
 use Rattle.term_reader.specs.Reading.{EndsWith}
+use Rattle.term_reader.specs.declared.flags.Flags.{Flags}
 use Rattle.term_reader.proofs.Staying.{places_more, lacks_more}
 use Rattle.alethe_text.specs.ProofTerms.{place_in}
 use Rattle.alethe_text.specs.ProofTexts.{commands, behind_answer, is_list_of_commands, unwrapped_commands, excess_behind, none_behind, closed_proof, finished, proof_from, StandsForProof, IsFirstProofFault}
@@ -37,15 +38,15 @@ use Rattle.alethe_reader.specs.declared.session.Session.{Session}
 use Rattle.alethe_text.proofs.CommandNames.{commands_named}
 use Rattle.alethe_text.proofs.SymbolNames.{AreSpelled}
 
--- a proof is read in which nothing is judged strictly
-abbrev pub lax_with : Bool → ProofSettings
-lax_with replaces_lets = record { replaces_lets = replaces_lets; is_strict = false }
+-- how a proof is read with these flags
+abbrev pub settings_with : Flags → ProofSettings
+settings_with flags = record { replaces_lets = flags.expand_lets; is_strict = flags.strict }
 
 -- nothing was read of a proof
-pub is_new : (s : Table) (v : TermsView) (settings : ProofSettings) (d : Session) (before : Script) → settings.is_strict ≡ false → d.builder ≡ unwritten → d.ids ≡ [] → d.anchors.items ≡ []
+pub is_new : (s : Table) (v : TermsView) (settings : ProofSettings) (d : Session) (before : Script) → settings.is_strict ≡ d.strict → d.builder ≡ unwritten → d.ids ≡ [] → d.anchors.items ≡ []
     → AreBound s v d.bound outermost → IsReaderOf s v d.reader before (place_in settings outermost) → IsProofSession s v settings d (unread before)
-is_new s v settings d before lax built none no_anchors bound reader = record {
-  lax = lax;
+is_new s v settings d before strict built none no_anchors bound reader = record {
+  strict = strict;
   reader = reader;
   written = record {
     nesting = rw built tt;
@@ -260,3 +261,7 @@ module _ (text : List ℕ) (settings : ProofSettings) (before : Script) (form : 
 -- a fault that is handed on
 pub same_fault : {A : Type 0} (result : Result A ReadFault) (f g : ReadFault) → (x : ReadFault) × (result ≡ Err x) × (x ≡ f) → result ≡ Err g → f ≡ g
 same_fault result f g (x, is, same) e = cc
+
+-- where a fault is handed on nothing was read
+pub nothing_read : {A : Type 0} (result : Result A ReadFault) (P : A → Type 0) (f : ReadFault) → (x : ReadFault) × (result ≡ Err x) × (x ≡ f) → IfOk result P
+nothing_read result P f (x, is, same) = subst (λ r. IfOk r P) (sym is) tt

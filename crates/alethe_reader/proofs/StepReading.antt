@@ -146,8 +146,8 @@ is_bare id word clause = record { premises = refl; discharged = refl; pivots = r
 
 module _ (settings : ProofSettings) (n : Name) (p : ProofState) (d : Session) (standing : ReaderStanding) (stands : IsStandingOf d.ids p n standing) {z : Table} {w : TermsView} {r : ReaderView} {refs : List ℕ} (clause : List Term) (q : ProofState) (k : AreReadFormulas z w settings stands.here.nesting r p refs tt clause q) where
   -- behind the literals the step stands as before
-  pub stands_there : {parts : StepParts} → settings.is_strict ≡ false → StandsAt z w settings stands.here (record d { reader = r; parts = parts }) standing q
-  stands_there lax = record { lax = lax; sees = stands.premises; discharges = stands.discharges; reader = k.behind.reader }
+  pub stands_there : {parts : StepParts} → settings.is_strict ≡ d.strict → StandsAt z w settings stands.here (record d { reader = r; parts = parts }) standing q
+  stands_there strict = record { strict = strict; sees = stands.premises; discharges = stands.discharges; reader = k.behind.reader }
 
   -- The step that was read is to be added.
   pub to_add : {s y : Table} {v x : TermsView} {parts : StepParts} {e : Session} → IsProofSession s v settings d p → AddsNoSymbols s z → AddsNoSymbols z y → KeepsTerms v w → KeepsTerms w x → KeepsOthers (record d { reader = r; parts = parts }) e → parts.clause.items ≡ refs
@@ -160,7 +160,7 @@ module _ (settings : ProofSettings) (n : Name) (p : ProofState) (d : Session) (s
       let scope = read.behind.scope ∙ k.behind.scope in
       record {
         here = stands.here;
-        lax = session.lax;
+        strict = session.strict ∙ sym others.strict;
         reader = read.behind.reader;
         written =
             written_same y x d e p t others.builder others.ids others.anchors others.bound scope (read.behind.anchors ∙ k.behind.anchors)

@@ -1,5 +1,5 @@
 -- Private. A step that is to be added to a proof.
-use Rattle.std.specs.Prelude.{◌≡◌, ℕ, false, List, [], map, All, Contains, Option, Some, None, if◌then◌else◌}
+use Rattle.std.specs.Prelude.{◌≡◌, ℕ, List, map, All, Contains, Option, Some, None, if◌then◌else◌}
 use Rattle.sym_table.specs.Table.{Table}
 use Rattle.term_model.specs.Terms.{Term}
 use Rattle.term_pool.specs.Views.{TermsView, ReferToAll}
@@ -30,7 +30,7 @@ step_added d n = record {
   clause = d.clause.items;
   premises = d.premises.items;
   discharged = d.discharged.items;
-  pivots = [];
+  pivots = d.pivots.items;
   ratios = ratios_told d;
 }
 
@@ -41,7 +41,7 @@ AreSeen sights indices = All (Contains (map (λ c. c.index) sights)) indices
 -- The step was read in the state, and may be added to its proof; the session has its parts.
 pub record IsToAdd (s : Table) (v : TermsView) (settings : ProofSettings) (d : Session) (n : NewStep) (step : Step Term) (p : ProofState) : Type 0 where
   pub here : Standing
-  pub lax : settings.is_strict ≡ false
+  pub strict : settings.is_strict ≡ d.strict
   pub reader : IsReaderOf s v d.reader p.script (place_in settings here.nesting)
   pub written : IsWritten s v d p
   pub id : step.id ≡ n.id.name.now
@@ -52,4 +52,4 @@ pub record IsToAdd (s : Table) (v : TermsView) (settings : ProofSettings) (d : S
   pub premises : AreSeen here.sees step.premises
   pub discharged : AreSeen here.discharges step.discharged
   pub clause : ReferToAll s v d.parts.clause.items step.clause
-  pub parts : AreStepParts d.parts step
+  pub parts : AreStepParts s v d.parts step

@@ -11,6 +11,7 @@ pub mod ReadTerms
 pub mod Judging
 pub mod Reach
 pub mod Standing
+pub mod Pivots
 pub mod StepParts
 pub mod Arguments
 pub mod AddedSteps

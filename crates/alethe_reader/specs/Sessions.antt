@@ -1,5 +1,5 @@
 -- Public. What was read of a proof, and the state of the reading for which it stands.
-use Rattle.std.specs.Prelude.{◌≡◌, ℕ, false, List, [], ◌∷◌, ◌++◌, map, length, ⊤}
+use Rattle.std.specs.Prelude.{◌≡◌, ℕ, List, [], ◌∷◌, ◌++◌, map, length, ⊤}
 use Rattle.std.specs.List.{AllZip}
 use Rattle.sym_table.specs.Table.{Table}
 use Rattle.term_model.specs.Terms.{Var, Term}
@@ -41,9 +41,9 @@ pub record IsWritten (s : Table) (v : TermsView) (d : Session) (p : ProofState) 
   pub counts_kept : map (λ a. a.variables) d.anchors.items ≡ counts d.builder.nesting
   pub bound : AreBound s v d.bound p.scope.nesting
 
--- what was read of a proof, in which nothing is judged strictly, stands for the state
+-- what was read of a proof stands for the state, and the proof is read as a strict one where it is to be
 pub record IsProofSession (s : Table) (v : TermsView) (settings : ProofSettings) (d : Session) (p : ProofState) : Type 0 where
-  pub lax : settings.is_strict ≡ false
+  pub strict : settings.is_strict ≡ d.strict
   pub reader : IsReaderOf s v d.reader p.script (place_in settings p.scope.nesting)
   pub written : IsWritten s v d p
 

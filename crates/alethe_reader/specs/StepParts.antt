@@ -1,11 +1,13 @@
 -- Private. What was read of a step's attributes.
-use Rattle.std.specs.Prelude.{◌≡◌, ℕ, ◌-◌, false, List, [], map, Option, Some, None, Result, Ok, Err, if◌then◌else◌, ⊤}
+use Rattle.std.specs.Prelude.{◌≡◌, ℕ, ◌-◌, List, [], map, Option, Some, None, Result, Ok, Err, if◌then◌else◌, ⊤}
+use Rattle.std.specs.List.{AllZip}
 use Rattle.sexpr.specs.declared.causes.Refusal.{Refusal}
 use Rattle.sym_table.specs.Table.{Table}
 use Rattle.term_model.specs.Terms.{Var, Term}
 use Rattle.term_pool.specs.Views.{TermsView}
 use Rattle.rule_model.specs.Proofs.{Step, Fraction}
 use Rattle.rule_model.specs.Scopes.{Nesting}
+use Rattle.proof_store.specs.Meaning.{IsPivotOf}
 use Rattle.proof_store.specs.Ratios.{fraction_of_ratio}
 use Rattle.coefficients.specs.declared.stops.Stop.{Stop}
 use Rattle.problem_text.specs.Outcomes.{Outcome, done}
@@ -22,11 +24,11 @@ use Rattle.alethe_reader.specs.declared.standing.Standing.{Standing}
 use Rattle.alethe_reader.specs.Reach.{IsReach}
 use Rattle.alethe_reader.specs.Sessions.{IsBehind}
 
--- the parts are those of the step
-pub record AreStepParts (d : StepParts) (step : Step Term) : Type 0 where
+-- the parts are those of the step, and its pivots stand for those of it
+pub record AreStepParts (s : Table) (v : TermsView) (d : StepParts) (step : Step Term) : Type 0 where
   pub premises : d.premises.items ≡ step.premises
   pub discharged : d.discharged.items ≡ step.discharged
-  pub pivots : step.pivots ≡ []
+  pub pivots : AllZip (IsPivotOf s v) d.pivots.items step.pivots
   pub ratios : (if d.has_ratios then Some (map fraction_of_ratio d.ratios.items) else None) ≡ step.ratios
 
 -- nothing of the step's attributes is read
@@ -39,14 +41,14 @@ pub record IsBare (step : Step Term) : Type 0 where
 -- What is read of a proof stands where a step stands, and the ids within reach are those of the commands that the step sees and
 -- of those that it may discharge.
 pub record StandsAt (s : Table) (v : TermsView) (settings : ProofSettings) (at : text.Standing) (d : Session) (standing : Standing) (p : ProofState) : Type 0 where
-  pub lax : settings.is_strict ≡ false
+  pub strict : settings.is_strict ≡ d.strict
   pub sees : IsReach d.ids standing.premises at.sees
   pub discharges : IsReach d.ids standing.discharges at.discharges
   pub reader : IsReaderOf s v d.reader p.script (place_in settings at.nesting)
 
 -- Attributes were read, and the step before them became this one, of which the session has the parts.
 pub record AreReadAttributes (s : Table) (v : TermsView) (settings : ProofSettings) (nesting : Nesting Var Term) (d : Session) (old : ProofState) (before : Step Term) (_ : ⊤) (step : Step Term) (new : ProofState) : Type 0 where
-  pub parts : AreStepParts d.parts step
+  pub parts : AreStepParts s v d.parts step
   pub id : step.id ≡ before.id
   pub rule : step.rule ≡ before.rule
   pub rule_name : step.rule_name ≡ before.rule_name
@@ -59,6 +61,7 @@ pub record KeepsOthers (old new : Session) : Type 0 where
   pub ids : new.ids ≡ old.ids
   pub anchors : new.anchors ≡ old.anchors
   pub bound : new.bound ≡ old.bound
+  pub strict : new.strict ≡ old.strict
   pub clause : new.parts.clause ≡ old.parts.clause
 
 -- how many nodes an attribute's arguments have, and how many there are from the first of them on

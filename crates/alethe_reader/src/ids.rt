@@ -3,10 +3,10 @@ ghost use Rattle.std.specs.Prelude.{◌≡◌, ◌++◌, [], ◌∷◌, length, 
 ghost use Rattle.term_names.specs.NameNumbers.{IsNumbered};
 ghost use Rattle.alethe_reader.specs.Ids.{IsUnused, IsIdFound};
 
+use name_set::NameSet;
 use std::alloc::Global;
 use std::marker::Model;
 use sym_table::Memory;
-use term_names::name_numbers::NameNumbers;
 
 /// What an id is the id of.
 #[derive(Clone, Copy, Debug, PartialEq, Eq)]
@@ -41,7 +41,7 @@ pub(crate) struct Held {
 /// scope with all its ids is left, and no scope is copied.
 #[derive(Drop)]
 pub struct Ids {
-    names: NameNumbers,
+    names: NameSet,
     latest: Vec<usize>,
     held: Vec<Held>,
 }
@@ -65,7 +65,7 @@ impl Ids {
         ensures { result ≡ [] }
     {
         Ids {
-            names: NameNumbers::new(alloc),
+            names: NameSet::new(alloc),
             latest: Vec::new(alloc),
             held: Vec::new(alloc),
         }
@@ -121,7 +121,7 @@ impl Ids {
 }
 
 /// The number of a name: the one that it has, or a new one.
-fn number_of(names: &mut NameNumbers, latest: &mut Vec<usize>, name: &[u8]) -> Result<usize, Memory>
+fn number_of(names: &mut NameSet, latest: &mut Vec<usize>, name: &[u8]) -> Result<usize, Memory>
     requires { length names.old ≡ length latest.old.items }
     ensures number { IfOk result (λ k. IsNumbered names.old names.new latest.old.items latest.new.items name.now k) }
     ensures names { OnErr result (names.new ≡ names.old) }

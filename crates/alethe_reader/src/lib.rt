@@ -4,9 +4,9 @@
 //!
 //! - `proof_reading`: [`read_proof`], the whole text. `text_reading`: from command to command. `performing`: what a command does.
 //! - `assuming`: assumes. `stepping`: steps, with `standing` (how a step stands by its id), `premises`, `rules`,
-//!   `step_attributes`, and `arguments` (the terms in arguments that get a name). `anchors`: anchors, with `anchor_arguments`,
-//!   `needed_images` (the images that an argument needs), `scopes` and `bound` (the variables that open anchors bind).
-//!   `formulas`: formulas in a scope. `judging`: the id of a command.
+//!   `step_attributes`, `arguments` (the terms in arguments that get a name) and `pivots` (those of resolution in a strict
+//!   proof). `anchors`: anchors, with `anchor_arguments`, `needed_images` (the images that an argument needs), `scopes` and
+//!   `bound` (the variables that open anchors bind). `formulas`: formulas in a scope. `judging`: the id of a command.
 //! - `session`: what was read of a proof. [`Ids`] has the ids of the visible commands and of the open anchors, by name, with no
 //!   copy of a scope; `laws` ties them to the proof that is written, as `rule_model` has it.
 //!
@@ -25,6 +25,7 @@ mod judging;
 pub mod laws;
 mod needed_images;
 mod performing;
+mod pivots;
 mod premises;
 mod proof_reading;
 mod rules;

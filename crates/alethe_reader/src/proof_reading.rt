@@ -34,7 +34,7 @@ use text_items::refusals::refused;
 
 /// A proof of which nothing was read yet.
 fn new_session<'a>(alloc: Global, problem: &'a Problem, flags: Flags) -> Session<'a>
-    ensures session { (s : Table) (v : TermsView) (before : Script) → IsProblemOf s v problem.now before → IsProofSession s v (record { replaces_lets = flags.expand_lets; is_strict = false }) result (unread before) }
+    ensures session { (s : Table) (v : TermsView) (before : Script) → IsProblemOf s v problem.now before → IsProofSession s v (record { replaces_lets = flags.expand_lets; is_strict = flags.strict }) result (unread before) }
     ensures short { IsBehindCommands result.builder 0 }
 {
     Session {
@@ -47,9 +47,11 @@ fn new_session<'a>(alloc: Global, problem: &'a Problem, flags: Flags) -> Session
             clause: Vec::new(alloc),
             premises: Vec::new(alloc),
             discharged: Vec::new(alloc),
+            pivots: Vec::new(alloc),
             has_ratios: false,
             ratios: Vec::new(alloc),
         },
+        strict: flags.strict,
     }
 }
 
@@ -70,9 +72,9 @@ fn finish(lexer: Lexer<'_>, session: Session<'_>) -> Result<Proof, ReadFault>
 /// Reads the text of a proof behind a problem: what it stands for, or its first fault.
 ///
 /// Problem and symbols have to be what the reading of the problem left. Numerals and variables are put into the table, no
-/// more than the text has bytes, and the terms into the pool. The first fault is one of form, or else the first one of the
-/// commands in their order. Refused besides for want of memory, and where the pool had no room for a cell of a term that
-/// was read.
+/// more than the text has bytes, and the terms into the pool. Where the flags ask for a strict proof, the arguments of
+/// resolution are its pivots. The first fault is one of form, or else the first one of the commands in their order. Refused
+/// besides for want of memory, and where the pool had no room for a cell of a term that was read.
 pub fn read_proof(
     alloc: Global,
     bytes: &[u8],
@@ -82,19 +84,18 @@ pub fn read_proof(
     terms: &mut Terms<'_>,
 ) -> Result<Proof, ReadFault>
     requires short { length bytes.now ≤ 268435456 }
-    requires lax { flags.strict ≡ false }
     requires problem { (before : Script) × IsProblemOf symbols.old terms.old problem.now before }
     requires room { length symbols.old.leaves + length bytes.now ≤ 2 ^ 30 }
     ensures proof { (before : Script) → IsProblemOf symbols.old terms.old problem.now before →
-        IfOk result (λ proof. IsProofOf bytes.now (record { replaces_lets = flags.expand_lets; is_strict = false }) before symbols.new terms.new proof) }
+        IfOk result (λ proof. IsProofOf bytes.now (record { replaces_lets = flags.expand_lets; is_strict = flags.strict }) before symbols.new terms.new proof) }
     ensures fault { (before : Script) (r : Refusal) → IsProblemOf symbols.old terms.old problem.now before →
-        result ≡ Err (fault.Text r) → IsFirstProofFault bytes.now (record { replaces_lets = flags.expand_lets; is_strict = false }) before r }
+        result ≡ Err (fault.Text r) → IsFirstProofFault bytes.now (record { replaces_lets = flags.expand_lets; is_strict = flags.strict }) before r }
     ensures refused { (before : Script) (r : Refusal) → IsProblemOf symbols.old terms.old problem.now before →
-        IsFirstProofFault bytes.now (record { replaces_lets = flags.expand_lets; is_strict = false }) before r → IfOk result (λ _. ⊥) }
+        IsFirstProofFault bytes.now (record { replaces_lets = flags.expand_lets; is_strict = flags.strict }) before r → IfOk result (λ _. ⊥) }
     ensures placed { (before : Script) → IsProblemOf symbols.old terms.old problem.now before →
-        PlacesCellsOf symbols.new terms.old.pass terms.new.pass (IsCountedOfProof bytes.now (record { replaces_lets = flags.expand_lets; is_strict = false }) before) }
+        PlacesCellsOf symbols.new terms.old.pass terms.new.pass (IsCountedOfProof bytes.now (record { replaces_lets = flags.expand_lets; is_strict = flags.strict }) before) }
     ensures full { (before : Script) → IsProblemOf symbols.old terms.old problem.now before → result ≡ Err fault.PoolFull →
-        LacksCellOf symbols.new terms.new.pass (IsCountedOfProof bytes.now (record { replaces_lets = flags.expand_lets; is_strict = false }) before) }
+        LacksCellOf symbols.new terms.new.pass (IsCountedOfProof bytes.now (record { replaces_lets = flags.expand_lets; is_strict = flags.strict }) before) }
     ensures few { length symbols.new.leaves ≤ length symbols.old.leaves + length bytes.now }
     ensures symbols { AddsNoSymbols symbols.old symbols.new }
     ensures keeps { KeepsTerms terms.old terms.new }

@@ -102,41 +102,43 @@ fn known_rules() -> &'static [Rule]
     &KNOWN
 }
 
+// The rules whose words have so many bytes. Those that stand in most proofs come first, since they are found soonest there.
 static OF_2: [Rule; 1] = [Rule::Or];
 
 static OF_3: [Rule; 2] = [Rule::And, Rule::Let];
 
 static OF_4: [Rule; 9] = [
+    Rule::Cong,
+    Rule::Refl,
+    Rule::Symm,
     Rule::Hole,
     Rule::True,
     Rule::Xor1,
     Rule::Xor2,
     Rule::Ite1,
     Rule::Ite2,
-    Rule::Refl,
-    Rule::Symm,
-    Rule::Cong,
 ];
 
 static OF_5: [Rule; 2] = [Rule::False, Rule::Trans];
 
 static OF_6: [Rule; 5] = [
+    Rule::Equiv1,
+    Rule::Equiv2,
     Rule::OrPos,
     Rule::OrNeg,
     Rule::NotOr,
-    Rule::Equiv1,
-    Rule::Equiv2,
 ];
 
 static OF_7: [Rule; 5] = [
+    Rule::Implies,
     Rule::NotNot,
     Rule::AndPos,
     Rule::AndNeg,
     Rule::NotAnd,
-    Rule::Implies,
 ];
 
 static OF_8: [Rule; 15] = [
+    Rule::Subproof,
     Rule::XorPos1,
     Rule::XorPos2,
     Rule::XorNeg1,
@@ -150,13 +152,14 @@ static OF_8: [Rule; 15] = [
     Rule::NotIte1,
     Rule::NotIte2,
     Rule::NotSymm,
-    Rule::Subproof,
     Rule::LaRwEq,
 ];
 
 static OF_9: [Rule; 3] = [Rule::Weakening, Rule::Tautology, Rule::IteIntro];
 
 static OF_10: [Rule; 9] = [
+    Rule::Resolution,
+    Rule::LaGeneric,
     Rule::EquivPos1,
     Rule::EquivPos2,
     Rule::EquivNeg1,
@@ -164,8 +167,6 @@ static OF_10: [Rule; 9] = [
     Rule::NotEquiv1,
     Rule::NotEquiv2,
     Rule::Reordering,
-    Rule::Resolution,
-    Rule::LaGeneric,
 ];
 
 static OF_11: [Rule; 6] = [
@@ -287,8 +288,11 @@ pub(crate) fn is_left_out(name: &[u8]) -> bool
         || is_one(name, b"qnt_cnf")
 }
 
+/// Whether the name is this word.
+// Most names differ in length from the words that are asked for, which is seen here without a call.
+#[inline(always)]
 fn is_one(name: &[u8], word: &[u8]) -> bool
     ensures { result ≡ bytes_eq name.now word.now }
 {
-    name == word
+    name.len() == word.len() && name == word
 }

@@ -23,13 +23,15 @@ pub struct StepParts {
     pub clause: Vec<Ref>,
     pub premises: Vec<u32>,
     pub discharged: Vec<u32>,
+    /// Its pivots, each with its truth value.
+    pub pivots: Vec<(Ref, bool)>,
     /// Whether its arguments are coefficients, and then these.
     pub has_ratios: bool,
     pub ratios: Vec<Ratio>,
 }
 
 /// What was read of a proof: the names, the proof as far as it is written, the ids in use, the anchors that are open, the
-/// outermost first, and the variables that they bind.
+/// outermost first, and the variables that they bind; and how it is read.
 #[derive(Drop)]
 pub struct Session<'a> {
     pub reader: TermReader<'a>,
@@ -38,4 +40,6 @@ pub struct Session<'a> {
     pub anchors: Vec<OpenAnchor>,
     pub bound: BoundVariables,
     pub parts: StepParts,
+    /// Whether the arguments of resolution are its pivots.
+    pub strict: bool,
 }

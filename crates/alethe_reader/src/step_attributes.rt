@@ -1,10 +1,11 @@
 //! The attributes of a step, in the order of the text (Alethe specification, "The Proof Format").
-ghost use Rattle.std.specs.Prelude.{◌≡◌, ◌≤◌, ◌^◌, ◌+◌, ◌-◌, not, ℕ, List, [], length, OnOk};
+ghost use Rattle.std.specs.Prelude.{◌≡◌, ◌≤◌, ◌^◌, ◌+◌, ◌-◌, ◌&&◌, not, ℕ, List, [], length, OnOk};
 ghost use Rattle.sexpr.specs.declared.causes.Cause.TheVariants.{LeftOut};
 ghost use Rattle.sexpr.specs.Items.{Items};
 ghost use Rattle.sexpr.specs.Source.{source};
+ghost use Rattle.sym_table.specs.Table.{Table};
 ghost use Rattle.term_model.specs.Terms.{Term};
-ghost use Rattle.term_pool.specs.Views.{KeepsTerms};
+ghost use Rattle.term_pool.specs.Views.{TermsView, KeepsTerms};
 ghost use Rattle.rule_model.specs.Proofs.{Step};
 ghost use Rattle.rule_model.specs.RuleNames.{left_out_rules};
 ghost use Rattle.text_items.specs.ItemShapes.{Name};
@@ -25,6 +26,7 @@ ghost use Rattle.alethe_reader.specs.StepParts.{AreStepParts, IsBare, StandsAt, 
 
 use crate::arguments::{ArgumentNodes, names_at};
 use crate::judging::named_at;
+use crate::pivots::pivots_at;
 use crate::premises::indices_at;
 use crate::rules::is_left_out;
 use crate::session::{Session, StepParts};
@@ -59,9 +61,9 @@ struct OneAttribute {
 /// of what was in them; its literals stay there.
 ///
 /// Refused at the first fault: a rule that is left out, a premise that is no visible command, an id to be discharged that is no
-/// assume of the scope that the step closes, a coefficient that is too wide, or the first fault of a term that gets a name in
-/// the arguments of another rule; and besides for want of memory, and where the pool had no room for a cell of a term that was
-/// read. After a refusal the session is given up.
+/// assume of the scope that the step closes, a coefficient that is too wide, the first fault of a pivot in a strict proof, or
+/// that of a term that gets a name in other arguments; and besides for want of memory, and where the pool had no room for a cell
+/// of a term that was read. After a refusal the session is given up.
 pub(crate) fn attributes_at(
     text: &Lexer<'_>,
     nodes: &[Node],
@@ -95,11 +97,12 @@ pub(crate) fn attributes_at(
 
 /// Empties what attributes have of a step's parts. There are coefficients, though none so far, where its rule takes them.
 fn clear(parts: &mut StepParts, has_ratios: bool)
-    ensures parts { (before : Step Term) → IsBare before → spec.takes_coefficients before.rule ≡ has_ratios → AreStepParts parts.new before }
+    ensures parts { (s : Table) (v : TermsView) (before : Step Term) → IsBare before → spec.takes_coefficients before.rule ≡ has_ratios → AreStepParts s v parts.new before }
     ensures clause { parts.new.clause ≡ parts.old.clause }
 {
     parts.premises.clear();
     parts.discharged.clear();
+    parts.pivots.clear();
     parts.ratios.clear();
     parts.has_ratios = has_ratios;
 }
@@ -111,6 +114,19 @@ fn takes_coefficients(rule: Rule) -> bool
         Rule::LaGeneric => true,
         _ => false,
     }
+}
+
+/// Whether the arguments of a step by this rule are its pivots.
+fn reads_pivots(strict: bool, rule: Rule) -> bool
+    ensures { result ≡ (strict && spec.takes_pivots rule) }
+{
+    strict && takes_pivots(rule)
+}
+
+fn takes_pivots(rule: Rule) -> bool
+    ensures { result ≡ spec.takes_pivots rule }
+{
+    matches!(rule, Rule::Resolution | Rule::ThResolution)
 }
 
 /// Reads one attribute into the parts of the session.
@@ -125,7 +141,7 @@ fn attribute_at(
     requires says { (a : Attribute) × SaysAttribute (source text.now) nodes.now one.attribute a }
     requires stands { (settings : ProofSettings) × (at : ids.Standing) × (p : ProofState) × StandsAt symbols.old terms.old settings at session.old one.standing p }
     requires room { length symbols.old.leaves + nodes_from one.attribute (length nodes.now) ≤ 2 ^ 30 }
-    ensures read { (a : Attribute) (settings : ProofSettings) (at : ids.Standing) (p : ProofState) (before : Step Term) → SaysAttribute (source text.now) nodes.now one.attribute a → StandsAt symbols.old terms.old settings at session.old one.standing p → before.rule ≡ one.rule → AreStepParts session.old.parts before → AnswersAs symbols.new terms.old terms.new (AreReadAttributes symbols.new terms.new settings at.nesting session.new p before) (attribute_read settings at a before p) result }
+    ensures read { (a : Attribute) (settings : ProofSettings) (at : ids.Standing) (p : ProofState) (before : Step Term) → SaysAttribute (source text.now) nodes.now one.attribute a → StandsAt symbols.old terms.old settings at session.old one.standing p → before.rule ≡ one.rule → AreStepParts symbols.old terms.old session.old.parts before → AnswersAs symbols.new terms.old terms.new (AreReadAttributes symbols.new terms.new settings at.nesting session.new p before) (attribute_read settings at a before p) result }
     ensures spent { OnOk result (length symbols.new.leaves ≤ length symbols.old.leaves + own_nodes one.attribute) }
     ensures few { length symbols.new.leaves ≤ length symbols.old.leaves + nodes_from one.attribute (length nodes.now) }
     ensures symbols { AddsNoSymbols symbols.old symbols.new }
@@ -138,32 +154,21 @@ fn attribute_at(
         StepAttribute::Rule(k) => judge_rule(text, nodes, k),
         StepAttribute::Premises { first, end } => {
             let reach = standing.premises;
-            indices_at(
-                text,
-                nodes,
-                first,
-                end,
-                &session.ids,
-                reach,
-                &mut parts.premises,
-            )
+            let indices = &mut parts.premises;
+            indices_at(text, nodes, first, end, &session.ids, reach, indices)
         }
         StepAttribute::Discharge { first, end } => {
             let reach = standing.discharges;
-            indices_at(
-                text,
-                nodes,
-                first,
-                end,
-                &session.ids,
-                reach,
-                &mut parts.discharged,
-            )
+            let indices = &mut parts.discharged;
+            indices_at(text, nodes, first, end, &session.ids, reach, indices)
         }
         StepAttribute::Arguments { first, end } => {
             let arguments = ArgumentNodes { first, end };
             if takes_coefficients(one.rule) {
                 ratios_at(text, nodes, arguments, parts)
+            } else if reads_pivots(session.strict, one.rule) {
+                let (reader, pivots) = (&mut session.reader, &mut parts.pivots);
+                pivots_at(text, nodes, arguments, symbols, terms, reader, pivots)
             } else {
                 names_at(text, nodes, arguments, symbols, terms, &mut session.reader)
             }
@@ -195,6 +200,7 @@ fn ratios_at(
     ensures clause { parts.new.clause ≡ parts.old.clause }
     ensures premises { parts.new.premises ≡ parts.old.premises }
     ensures discharged { parts.new.discharged ≡ parts.old.discharged }
+    ensures pivots { parts.new.pivots ≡ parts.old.pivots }
 {
     let all = coefficients_at(
         text,

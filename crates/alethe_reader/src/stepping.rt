@@ -161,6 +161,7 @@ fn take_step(builder: &mut ProofBuilder, parts: &StepParts, new: NewStep<'_>) ->
     let clause = parts.clause.as_slice();
     let premises = parts.premises.as_slice();
     let discharged = parts.discharged.as_slice();
+    let pivots = parts.pivots.as_slice();
     let ratios = ratios_of(parts);
     builder.step(
         new.id.name,
@@ -169,7 +170,7 @@ fn take_step(builder: &mut ProofBuilder, parts: &StepParts, new: NewStep<'_>) ->
         clause,
         premises,
         discharged,
-        &[],
+        pivots,
         ratios,
     )
 }
@@ -193,6 +194,7 @@ fn leave_scope(session: &mut Session<'_>, anchor: OpenAnchor)
     ensures bound { (s : Table) (v : TermsView) (around : Nesting Var Term) (before : Proof Var Term) (other : Anchor Var Term) → anchor.variables ≡ length other.bindings → AreBound s v session.old.bound (inside around before other) → AreBound s v session.new.bound around }
     ensures builder { session.new.builder ≡ session.old.builder }
     ensures reader { session.new.reader ≡ session.old.reader }
+    ensures strict { session.new.strict ≡ session.old.strict }
 {
     session.ids.leave(anchor.ids);
     session.anchors.pop();

@@ -23,12 +23,18 @@ use Rattle.alethe_text.specs.Commands.{Attribute, Argument, variable_alone, assi
 use Rattle.alethe_text.specs.States.{ProofSettings, ProofState, unread, Reading, ◌>>=◌, give}
 use Rattle.alethe_text.specs.Ids.{closes_scope, stands_in, id_judged, standing_of}
 use Rattle.alethe_text.specs.ProofTerms.{term_in, formula_in, formulas_in}
-use Rattle.alethe_text.specs.Soundness.{IsFormula, HasTerms, IsBinding, AreSorted, AreSortedAround}
+use Rattle.alethe_text.specs.Soundness.{IsFormula, HasTerms, IsBinding, AreSorted}
 use Rattle.alethe_text.specs.Steps.{assume_read, rule_word, bare_step, attributes_read, step_read}
 use Rattle.alethe_text.specs.Anchors.{bound_names, sort_given, image_of, argument_read, arguments_read, anchor_read}
 use Rattle.alethe_text.specs.ProofTexts.{performed, commands, behind_answer, unwrapped_commands, excess_behind, none_behind, closed_proof, proof_from, StandsForProof}
 use Rattle.alethe_text.proofs.Endings.{After, Ends, and_next, looked, asked, asked_last, given_next, changed_next, always}
 use Rattle.alethe_text.proofs.SortedReadings.{Keeps, term_reads, formula_reads, formulas_read, attributes_reads}
+
+-- the terms around a scope are sorted
+abbrev pub AreSortedAround : Nesting Var Term → Type 0
+AreSortedAround outermost = ⊤
+AreSortedAround (inside around before opened) =
+    AreSortedAround around × AreSorted around before × AllByRecursion (IsBinding around) opened.bindings
 
 -- the terms in a scope and around it are sorted
 pub record IsSorted (scope : Scope Var Term) : Type 0 where

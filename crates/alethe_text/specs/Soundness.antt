@@ -6,7 +6,7 @@ use Rattle.term_model.specs.declared.symbols.Sort.{Sort}
 use Rattle.term_model.specs.Terms.{Var, Term}
 use Rattle.rule_model.specs.Heights.{height}
 use Rattle.rule_model.specs.Proofs.{Step, ProofItems, no_items, with_assume, with_step, with_subproof}
-use Rattle.rule_model.specs.Scopes.{Nesting, outermost, inside, inner}
+use Rattle.rule_model.specs.Scopes.{Nesting, inner}
 use Rattle.problem_text.specs.Limits.{most_height}
 use Rattle.problem_text.specs.Soundness.{IsRead}
 use Rattle.alethe_text.specs.Anchors.{image_of}
@@ -37,9 +37,3 @@ AreSorted nesting (with_step items s) = AreSorted nesting items × HasTerms s
 AreSorted nesting (with_subproof items bindings proof s) =
     AreSorted nesting items × AllByRecursion (IsBinding nesting) bindings
     × AreSorted (inner nesting items bindings s) proof × HasTerms s
-
--- and those around a scope
-abbrev pub AreSortedAround : Nesting Var Term → Type 0
-AreSortedAround outermost = ⊤
-AreSortedAround (inside around before anchor) =
-    AreSortedAround around × AreSorted around before × AllByRecursion (IsBinding around) anchor.bindings

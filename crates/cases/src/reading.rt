@@ -68,7 +68,9 @@ fn read(alloc: Global, text: &[u8], symbols: &mut Symbols, terms: &mut Terms<'_>
     requires new_symbols { IsNewTable symbols.old }
     ensures { IfSome result (λ f. IfSome f.last (IsKnown terms.new.pass)) }
 {
-    let problem = read_problem(alloc, text, FLAGS, symbols, terms).ok()?;
+    let Ok(problem) = read_problem(alloc, text, FLAGS, symbols, terms) else {
+        return None;
+    };
     let assertions = problem.count();
     let last = last_of(&problem);
     Some(Found { assertions, last })

@@ -17,11 +17,11 @@ use Rattle.linear_forms.specs.declared.nodes.Info.{Info}
 use Rattle.linear_forms.specs.declared.visiting.Visit.TheVariants as Visit
 use Rattle.linear_forms.specs.Factors.{IsAbove}
 use Rattle.linear_forms.specs.Graphs.{AreSome, IsItemMeant, IsItem, IsNode, AreFactors, IsInfo, IsEntry, no_info, info_at, IsGraphAt, IsGraph, AddsEntry, KeepsNumbers, IsVisitOfItem}
-use Rattle.linear_forms.specs.Memos.{Memo, number_remembered}
+use Rattle.linear_forms.specs.Memos.{IsForgotten, number_remembered}
 use Rattle.linear_forms.specs.Sweeps.{node_at}
 use Rattle.linear_forms.proofs.Walking.{same_item}
 
-pub empty_graph : (s : Table) (v : TermsView) (graph : Graph) → graph.nodes.items ≡ [] → graph.infos.items ≡ [] → ((x : Item) → number_remembered graph.memo x ≡ None) → IsGraph s v graph
+pub empty_graph : (s : Table) (v : TermsView) (graph : Graph) → graph.nodes.items ≡ [] → graph.infos.items ≡ [] → IsForgotten graph.memo → IsGraph s v graph
 empty_graph s v graph nodes infos memo = record {
   at = λ k. term (numeral 0) no_terms;
   right = record {
@@ -43,12 +43,12 @@ empty_graph s v graph nodes infos memo = record {
     nothing x k e = let f : None ≡ Some k = sym (memo x) ∙ e in absurd (cc)
 
 -- lists with one item more
-before : {X : Type 0} (xs : List X) (y d : X) (k : ℕ) → k < length xs → slice_index_or (xs ++ y ∷ []) k d ≡ slice_index_or xs k d
+pub before : {X : Type 0} (xs : List X) (y d : X) (k : ℕ) → k < length xs → slice_index_or (xs ++ y ∷ []) k d ≡ slice_index_or xs k d
 before [] y d k h = absurd (omega (arith, h))
 before (x ∷ xs) y d zero h = refl
 before (x ∷ xs) y d (suc k) h = before xs y d k (omega (arith, h))
 
-last : {X : Type 0} (xs : List X) (y d : X) → slice_index_or (xs ++ y ∷ []) (length xs) d ≡ y
+pub last : {X : Type 0} (xs : List X) (y d : X) → slice_index_or (xs ++ y ∷ []) (length xs) d ≡ y
 last [] y d = refl
 last (x ∷ xs) y d = last xs y d
 
@@ -57,7 +57,7 @@ behind [] d k h = refl
 behind (x ∷ xs) d zero h = absurd (omega (arith, h))
 behind (x ∷ xs) d (suc k) h = behind xs d k (omega (arith, h))
 
-longer : {X : Type 0} (xs : List X) (y : X) → length (xs ++ y ∷ []) ≡ suc (length xs)
+pub longer : {X : Type 0} (xs : List X) (y : X) → length (xs ++ y ∷ []) ≡ suc (length xs)
 longer [] y = refl
 longer (x ∷ xs) y = ap suc (longer xs y)
 
@@ -246,9 +246,3 @@ module _ (s : Table) (v : TermsView) (old new : Graph) (x : Item) (entry : Entry
 
       infos_long : length new.infos.items ≡ length new.nodes.items
       infos_long = ap length settles.infos ∙ longer old.infos.items entry.info ∙ ap suc graph.right.long ∙ sym long
-
-pub empty_memo : (memo : Memo) → memo.entries ≡ [] → (x : Item) → number_remembered memo x ≡ None
-empty_memo memo e x = go memo e
-  where
-    go : (m : Memo) → m.entries ≡ [] → number_remembered m x ≡ None
-    go m f = rw f refl

@@ -8,3 +8,4 @@ mod Visited
 mod Walking
 mod Graphing
 mod Forming
+mod Remembering

@@ -9,11 +9,12 @@ use Rattle.term_pool.specs.Views.{TermsView}
 use Rattle.term_pool.proofs.Ways.{IsWay, way_start, way_unmet, way_here, way_end, way_down, way_up}
 use Rattle.linear_forms.specs.contracts.memory.ItemPartialEq.TheImpl as items
 use Rattle.linear_forms.specs.declared.memory.Item.{Item}
+use Rattle.linear_forms.specs.declared.memory.Memo.{Memo}
 use Rattle.linear_forms.specs.declared.memory.Item.TheVariants.{Term as TermItem, List as ListItem}
 use Rattle.linear_forms.specs.Graphs.{item_reference, IsItemMeant, IsItem, IsItemBelow}
-use Rattle.linear_forms.specs.Memos.{Memo, number_remembered, RemembersItem}
+use Rattle.linear_forms.specs.Memos.{number_remembered, RemembersItem}
 
-decides_item : (x y : Item) → Decides ((items.ghosts).eq x y) (x ≡ y)
+pub decides_item : (x y : Item) → Decides ((items.ghosts).eq x y) (x ≡ y)
 decides_item (TermItem a) (TermItem c) = (λ h. ap TermItem ((Decides-eqb a c).0 h), λ h. (Decides-eqb a c).1 (cc))
 decides_item (ListItem a) (ListItem c) = (λ h. ap ListItem ((Decides-eqb a c).0 h), λ h. (Decides-eqb a c).1 (cc))
 decides_item (TermItem a) (ListItem c) = (λ h. cc, λ h. cc)

@@ -1,7 +1,6 @@
 //! The terms and the lists of terms that a call has met, as numbered nodes, parts below wholes.
 
 ghost use Rattle.std.specs.Prelude.{◌≡◌, None, OnOk, IfOk, length};
-ghost use Rattle.std.specs.HashMap.{IsEmpty};
 ghost use Rattle.sym_table.specs.Table.{Table};
 ghost use Rattle.term_pool.specs.Views.{TermsView, IsTerm};
 ghost use Rattle.linear_forms.specs.Graphs.{IsGraph, HasInfos, IsMetItem, AreBothFound, AddsEntry, KeepsNumbers, IsRemembered};
@@ -9,12 +8,11 @@ ghost use Rattle.linear_forms.specs.Memos.{number_remembered};
 ghost use Rattle.linear_forms.specs.declared.memory.Item.TheVariants as Item;
 
 use crate::entries::{Entry, Found};
-use crate::memory::{Item, look, note};
+use crate::memory::{Item, Memo};
 use crate::nodes::{Info, Node};
 use crate::visiting::{Visit, visit_item};
 use pair_pool::{Memory, Ref};
 use std::alloc::Global;
-use std::collections::HashMap;
 use sym_table::Symbols;
 use term_pool::Terms;
 
@@ -27,24 +25,10 @@ pub(crate) enum Both {
     Found(Found, Found),
 }
 
-// Up to so many items a table is emptied, which takes time by its room, and not made anew.
-const FEW: usize = 64;
-
-/// Forgets what is remembered. A table that few items were put in is kept.
-fn forget(memo: &mut HashMap<Item, usize>, alloc: Global)
-    ensures { IsEmpty memo.new }
-{
-    if memo.len() <= FEW {
-        memo.clear();
-        return;
-    }
-    *memo = HashMap::new(alloc);
-}
-
 /// What has been met.
 #[derive(Drop)]
 pub(crate) struct Graph {
-    memo: HashMap<Item, usize>,
+    memo: Memo,
     pub(crate) nodes: Vec<Node>,
     pub(crate) infos: Vec<Info>,
 }
@@ -55,7 +39,7 @@ impl Graph {
         ensures { (s : Table) (v : TermsView) → IsGraph s v result }
     {
         Graph {
-            memo: HashMap::new(alloc),
+            memo: Memo::new(alloc),
             nodes: Vec::new(alloc),
             infos: Vec::new(alloc),
         }
@@ -65,7 +49,7 @@ impl Graph {
     pub(crate) fn clear(&mut self, alloc: Global)
         ensures { (s : Table) (v : TermsView) → IsGraph s v self.new }
     {
-        forget(&mut self.memo, alloc);
+        self.memo.forget(alloc);
         self.nodes.clear();
         self.infos.clear();
     }
@@ -75,7 +59,7 @@ impl Graph {
         requires { HasInfos self.now }
         ensures { IsMetItem self.now item.now result }
     {
-        let number = look(&self.memo, item)?;
+        let number = self.memo.look(item)?;
         Some(Found {
             number,
             info: self.infos[number],
@@ -108,7 +92,7 @@ impl Graph {
         requires { number_remembered self.old.memo item.now ≡ None }
         ensures { OnOk result (AddsEntry self.old self.new item.now entry) }
     {
-        note(&mut self.memo, item, self.nodes.len())?;
+        self.memo.note(item, self.nodes.len())?;
         self.nodes.push(entry.node)?;
         self.infos.push(entry.info)?;
         Ok(())
@@ -131,7 +115,7 @@ impl Graph {
         ensures same { terms.new ≡ terms.old }
     {
         let mut at = Item::Term(r);
-        if let Some(number) = look(&self.memo, &at) {
+        if let Some(number) = self.memo.look(&at) {
             return Ok(number);
         }
         let _leaves = symbols.count();

@@ -1,5 +1,5 @@
 -- What terms and negated literals say as comparisons.
-use Rattle.std.proofs.Common.{◌≡◌, ◌≢◌, ◌↔◌, ℕ, zero, suc, ◌%◌, ◌<◌, [], ◌∷◌, length, Bool, true, false, IsTrue, Option, Some, None, refl, sym, ap, ◌∙◌, subst, arith}
+use Rattle.std.proofs.Common.{◌≡◌, ◌≢◌, ◌↔◌, ℕ, zero, suc, ◌%◌, ◌<◌, List, [], ◌∷◌, length, Bool, true, false, IsTrue, Option, Some, None, refl, sym, ap, ◌∙◌, subst, arith}
 use Rattle.std.specs.List.{slice_get}
 use Rattle.std.proofs.lemmas.List.Elements.{All-head, All-tail}
 use Rattle.sort_check.proofs.Leaves.{there, at_leaf, operator_leaf}
@@ -10,10 +10,10 @@ use Rattle.sym_table.specs.declared.kind.Kind.{Kind}
 use Rattle.sort_check.specs.WellSorted.{IsWellSortedTerm}
 use Rattle.term_model.specs.declared.symbols.Op.{Op}
 use Rattle.term_model.specs.declared.symbols.Sort.{Sort}
-use Rattle.term_model.specs.Sorts.{IsOf, IsWellSorted}
+use Rattle.term_model.specs.Sorts.{IsOf, AreOf, IsWellSorted, application_sort, at_least, when}
 use Rattle.term_model.specs.Terms as term
 use Rattle.term_model.specs.Terms.{Term, Terms, operation, no_terms, not_of}
-use Rattle.term_model.proofs.Sorting.{operation_parts}
+use Rattle.term_model.proofs.Sorting.{operation_parts, one_sort}
 use Rattle.term_pool.specs.Building.{IsAppliedLeaf}
 use Rattle.term_pool.specs.Nots.{negated}
 use Rattle.term_pool.specs.Reading.{arguments_of, IsLet}
@@ -22,8 +22,9 @@ use Rattle.term_parts.specs.Parts.{IsOver}
 use Rattle.term_parts.proofs.PartLemmas.{over_two}
 use Rattle.rule_model.specs.Arithmetic.{Relation, exceeds, reaches, equals, Comparison, if_true, if_false, denial}
 use Rattle.linear_lines.specs.declared.comparisons as code
-use Rattle.linear_lines.specs.Comparisons.{IsOfNumbers, said_by, IsComparisonRead, IsFound}
-use Rattle.linear_lines.specs.Operands.{AreOperands}
+use Rattle.linear_lines.specs.Comparisons.{IsOfNumbers}
+use Rattle.linear_lines.specs.ComparisonReads.{said_by, IsComparisonRead, IsFound}
+use Rattle.linear_lines.specs.Operands.{AreOperands, orders}
 
 -- what a literal's negation says is what the term behind its `not`s says
 bare_denial : (u : Term) → ((w : Term) → u ≡ not_of w → ⊥) → denial u ≡ if_false u
@@ -55,6 +56,10 @@ under_not u h = All-head IsWellSorted u [] (operation_parts Op.Not (term.term u 
 pub under_nots : (n : ℕ) (u : Term) → IsWellSorted (negated n u) → IsWellSorted u
 under_nots zero u h = h
 under_nots (suc n) u h = under_nots n u (under_not (negated n u) h)
+
+-- a reference that is known to stand for a well-sorted term stands for no other
+pub same_sorted : (s : Table) (v : TermsView) (r : ℕ) (t : Term) → ((p q : ℕ) (x y : Term) → RefersTo s v p x → RefersTo s v q y → (p ≡ q) ↔ (x ≡ y)) → IsWellSortedTerm s v r → RefersTo s v r t → IsWellSorted t
+same_sorted s v r t law h refers = subst IsWellSorted ((law r r h.means t h.refers refers).0 refl) h.sorted
 
 pub both_sorted : (op : Op) (t u : Term) → IsWellSorted (operation op (term.term t (term.term u no_terms))) → IsWellSorted t × IsWellSorted u
 both_sorted op t u h =
@@ -122,6 +127,63 @@ numbers_are false Op.GreaterEq t u c e = numbers_in _ _ c e (turned exceeds t u)
 numbers_are false Op.Greater t u c e = numbers_in _ _ c e (turned reaches t u)
 numbers_are _ _ t u c e = absurd cc
 
+-- the sorts of two terms to which an operator is applied
+both_int : (a b s : Sort) → when (at_least 2 Sort.Int (a ∷ b ∷ [])) Sort.Bool ≡ Some s → (a ≡ Sort.Int) × (b ≡ Sort.Int)
+both_int Sort.Int Sort.Int s e = (refl, refl)
+both_int Sort.Int Sort.Bool s e = absurd cc
+both_int Sort.Int (Sort.Declared n) s e = absurd cc
+both_int Sort.Bool b s e = absurd cc
+both_int (Sort.Declared n) b s e = absurd cc
+
+equal_int : (b s : Sort) → application_sort Op.Equal (Sort.Int ∷ b ∷ []) ≡ Some s → b ≡ Sort.Int
+equal_int Sort.Int s e = refl
+equal_int Sort.Bool s e = absurd cc
+equal_int (Sort.Declared n) s e = absurd cc
+
+record HaveSorts (op : Op) (t u : Term) : Type 0 where
+  one : Sort
+  other : Sort
+  whole : Sort
+  one_of : IsOf t one
+  other_of : IsOf u other
+  is : application_sort op (one ∷ other ∷ []) ≡ Some whole
+
+have_sorts : (op : Op) (t u : Term) → IsWellSorted (operation op (term.term t (term.term u no_terms))) → HaveSorts op t u
+have_sorts op t u h = go h.of.sorts h.of.arguments h.of.is
+  where
+    go : (ss : List Sort) → AreOf (term.term t (term.term u no_terms)) ss → application_sort op ss ≡ Some h.sort → HaveSorts op t u
+    go [] are is = absurd are
+    go (a ∷ []) are is = absurd are.1
+    go (a ∷ b ∷ []) are is = record { one = a; other = b; whole = h.sort; one_of = are.0; other_of = are.1.0; is = is }
+    go (a ∷ b ∷ c ∷ ss) are is = absurd are.1.1
+
+-- the operators of an order have terms of Int
+pub first_number : (op : Op) (t u : Term) → orders op ≡ true → IsWellSorted (operation op (term.term t (term.term u no_terms))) → IsOf t Sort.Int
+first_number op t u order h =
+    let x = have_sorts op t u h in subst (IsOf t) (go op order x.one x.other x.whole x.is) x.one_of
+  where
+    go : (o : Op) → orders o ≡ true → (a b s : Sort) → application_sort o (a ∷ b ∷ []) ≡ Some s → a ≡ Sort.Int
+    go Op.LessEq order a b s is = (both_int a b s is).0
+    go Op.Less order a b s is = (both_int a b s is).0
+    go Op.GreaterEq order a b s is = (both_int a b s is).0
+    go Op.Greater order a b s is = (both_int a b s is).0
+    go _ order a b s is = absurd cc
+
+-- the second term of a comparison is of Int where the first is
+second_int : (truth : Bool) (op : Op) (t u : Term) (c : Comparison) → said_by truth (operation op (term.term t (term.term u no_terms))) ≡ Some c → (a b s : Sort) → application_sort op (a ∷ b ∷ []) ≡ Some s → a ≡ Sort.Int → b ≡ Sort.Int
+second_int truth Op.LessEq t u c e a b s is first = (both_int a b s is).1
+second_int truth Op.Less t u c e a b s is first = (both_int a b s is).1
+second_int truth Op.GreaterEq t u c e a b s is first = (both_int a b s is).1
+second_int truth Op.Greater t u c e a b s is first = (both_int a b s is).1
+second_int true Op.Equal t u c e a b s is first = equal_int b s (subst (λ x. application_sort Op.Equal (x ∷ b ∷ []) ≡ Some s) first is)
+second_int true _ t u c e a b s is first = absurd cc
+second_int false _ t u c e a b s is first = absurd cc
+
+second_number : (truth : Bool) (op : Op) (t u : Term) (c : Comparison) → said_by truth (operation op (term.term t (term.term u no_terms))) ≡ Some c → IsWellSorted (operation op (term.term t (term.term u no_terms))) → IsOf t Sort.Int → IsOf u Sort.Int
+second_number truth op t u c e h first =
+    let x = have_sorts op t u h in
+    subst (IsOf u) (second_int truth op t u c e x.one x.other x.whole x.is (one_sort t x.one Sort.Int x.one_of first)) x.other_of
+
 -- the operands of an application to two terms, and what it says
 module _ (s : Table) (v : TermsView) (op : Op) (p : ℕ × ℕ) (t : Term) (are : AreOperands s v op p t) where
   sorted_operands : IsWellSorted t → IsWellSorted are.first × IsWellSorted are.second
@@ -141,16 +203,16 @@ module _ (s : Table) (v : TermsView) (op : Op) (p : ℕ × ℕ) (t : Term) (are 
         go None found f = absurd cc
         go (Some d) found f = found
 
-    pub found_numbers : (found : code.Comparison.Comparison) → IsFound s v (Some found) (said_by truth (operation op (term.term are.first (term.term are.second no_terms)))) → IsOf are.first Sort.Int → IsOf are.second Sort.Int → IsComparisonRead s v truth t (Some found)
-    found_numbers found is first second = go (said_by truth (operation op (term.term are.first (term.term are.second no_terms)))) refl is
+    pub found_numbers : (found : code.Comparison.Comparison) → IsFound s v (Some found) (said_by truth (operation op (term.term are.first (term.term are.second no_terms)))) → IsWellSorted t → IsOf are.first Sort.Int → IsComparisonRead s v truth t (Some found)
+    found_numbers found is sorted first = go (said_by truth (operation op (term.term are.first (term.term are.second no_terms)))) refl is
       where
         go : (o : Option Comparison) → said_by truth (operation op (term.term are.first (term.term are.second no_terms))) ≡ o → IsFound s v (Some found) o → IsComparisonRead s v truth t (Some found)
         go None e is = absurd is
-        go (Some c) e is = (c, ap (said_by truth) are.is ∙ e, is, (numbers_are truth op are.first are.second c e).1 (first, second))
+        go (Some c) e is = (c, ap (said_by truth) are.is ∙ e, is, (numbers_are truth op are.first are.second c e).1 (first, second_number truth op are.first are.second c e (subst IsWellSorted are.is sorted) first))
 
-    pub found_others : (IsOf are.first Sort.Int → IsOf are.second Sort.Int → ⊥) → IsComparisonRead s v truth t None
+    pub found_others : (IsOf are.first Sort.Int → ⊥) → IsComparisonRead s v truth t None
     found_others other c e numbers =
-        let both = (numbers_are truth op are.first are.second c (ap (said_by truth) (sym are.is) ∙ e)).0 numbers in other both.0 both.1
+        other ((numbers_are truth op are.first are.second c (ap (said_by truth) (sym are.is) ∙ e)).0 numbers).0
 
 -- the operands by the arguments
 pub operands_are : (s : Table) (v : TermsView) (a b : ℕ) (op : Op) (t : Term) → IsOver op 2 t → ((x : Term) → slice_get (arguments_of t) 0 ≡ Some x → RefersTo s v a x) → ((x : Term) → slice_get (arguments_of t) 1 ≡ Some x → RefersTo s v b x) → AreOperands s v op (a, b) t

@@ -1,11 +1,11 @@
 -- Public. Literals as comparisons of terms that are known by references.
-use Rattle.std.specs.Prelude.{◌≡◌, Bool, true, false, Option, Some, None, ⊤}
+use Rattle.std.specs.Prelude.{◌≡◌, Option, Some, None}
 use Rattle.sym_table.specs.Table.{Table}
 use Rattle.term_model.specs.declared.symbols.Sort.{Sort}
 use Rattle.term_model.specs.Sorts.{IsOf}
 use Rattle.term_model.specs.Terms.{Term}
 use Rattle.term_pool.specs.Views.{TermsView, RefersTo}
-use Rattle.rule_model.specs.Arithmetic.{Comparison, if_true, if_false, denial}
+use Rattle.rule_model.specs.Arithmetic.{Comparison, denial}
 use Rattle.scaled_sums.specs.Relations.{relation_meant}
 use Rattle.linear_lines.specs.declared.comparisons as code
 
@@ -14,11 +14,6 @@ pub record StandsForComparison (s : Table) (v : TermsView) (l : code.Comparison.
   pub relation : relation_meant l.relation ≡ c.relation
   pub first : RefersTo s v l.first c.first
   pub second : RefersTo s v l.second c.second
-
-abbrev pub IsFound : Table → TermsView → Option code.Comparison.Comparison → Option Comparison → Type 0
-IsFound s v (Some l) (Some c) = StandsForComparison s v l c
-IsFound s v None None = ⊤
-IsFound s v _ _ = ⊥
 
 -- the terms of a comparison are of Int
 pub record IsOfNumbers (c : Comparison) : Type 0 where
@@ -29,14 +24,6 @@ pub record IsOfNumbers (c : Comparison) : Type 0 where
 abbrev pub IsNumberComparison : Table → TermsView → Option Comparison → Option code.Comparison.Comparison → Type 0
 IsNumberComparison s v o (Some l) = (c : Comparison) × (o ≡ Some c) × StandsForComparison s v l c × IsOfNumbers c
 IsNumberComparison s v o None = (c : Comparison) → o ≡ Some c → IsOfNumbers c → ⊥
-
--- what a term says by its truth
-abbrev pub said_by : Bool → Term → Option Comparison
-said_by true t = if_true t
-said_by false t = if_false t
-
-abbrev pub IsComparisonRead : Table → TermsView → Bool → Term → Option code.Comparison.Comparison → Type 0
-IsComparisonRead s v truth t found = IsNumberComparison s v (said_by truth t) found
 
 -- of a literal, what its negation says
 abbrev pub IsDenialRead : Table → TermsView → Term → Option code.Comparison.Comparison → Type 0

@@ -1,3 +1,4 @@
 pub mod Comparisons
+pub mod ComparisonReads
 pub mod Operands
 pub mod Lines

@@ -1,7 +1,7 @@
 //! Literals as comparisons of terms of Int.
 
 ghost use Rattle.std.specs.Prelude.{◌≡◌, ◌↔◌, IfNone, IfSome, IsTrue};
-ghost use Rattle.term_model.specs.Sorts.{IsOf};
+ghost use Rattle.term_model.specs.Sorts.{IsOf, IsWellSorted};
 ghost use Rattle.term_model.specs.declared.symbols.Sort.TheVariants as Sort;
 ghost use Rattle.sym_table.specs.Table.{Table};
 ghost use Rattle.sort_check.specs.WellSorted.{IsWellSortedTerm};
@@ -10,8 +10,9 @@ ghost use Rattle.term_model.specs.declared.symbols.Op.{Op};
 ghost use Rattle.term_parts.specs.Parts.{IsOver};
 ghost use Rattle.term_pool.specs.Views.{TermsView, IsTerm, RefersTo};
 ghost use Rattle.rule_model.specs.Arithmetic.{if_true, if_false};
-ghost use Rattle.linear_lines.specs.Comparisons.{IsFound, IsDenialRead, IsComparisonRead, said_by};
-ghost use Rattle.linear_lines.specs.Operands.{AreOperands};
+ghost use Rattle.linear_lines.specs.Comparisons.{IsDenialRead};
+ghost use Rattle.linear_lines.specs.ComparisonReads.{IsFound, IsComparisonRead, said_by};
+ghost use Rattle.linear_lines.specs.Operands.{AreOperands, orders};
 
 use pair_pool::Ref;
 use scaled_sums::Relation;
@@ -148,12 +149,36 @@ pub fn is_number(symbols: &Symbols, terms: &mut Terms<'_>, r: Ref) -> bool
     }
 }
 
-/// What a term says where it is true, or where it is false, if that is a comparison of terms of Int.
+/// Whether an operator is that of an order.
+fn is_order(op: Op) -> bool
+    ensures { result ≡ orders op }
+{
+    matches!(op, Op::LessEq | Op::Less | Op::GreaterEq | Op::Greater)
+}
+
+/// Whether the first of two terms to which an operator is applied is of Int. The operators of an order have no other terms, so
+/// these are not looked at.
+fn is_of_numbers(symbols: &Symbols, terms: &mut Terms<'_>, op: Op, first: Ref) -> bool
+    requires { IsWellSortedTerm symbols.now terms.old first }
+    ensures number { (t u : Term) → RefersTo symbols.now terms.old first t → IsWellSorted (operation op (term t (term u no_terms))) →
+        IsTrue result ↔ IsOf t Sort.Int }
+    ensures same { terms.new ≡ terms.old }
+{
+    if is_order(op) {
+        return true;
+    }
+    is_number(symbols, terms, first)
+}
+
+/// What a term says where it is true, or where it is false, if that is a comparison of terms of Int. The second term of such a
+/// comparison is of the sort of the first.
 fn compared(symbols: &Symbols, terms: &mut Terms<'_>, truth: bool, r: Ref) -> Option<Comparison>
     requires { IsWellSortedTerm symbols.now terms.old r }
     ensures read { (t : Term) → RefersTo symbols.now terms.old r t → IsComparisonRead symbols.now terms.old truth t result }
     ensures same { terms.new ≡ terms.old }
 {
+    let _leaves = symbols.count();
+    terms.equal_exactly_where_terms_are();
     let Some(op) = binary_operator(symbols, terms, r) else {
         return None;
     };
@@ -161,10 +186,7 @@ fn compared(symbols: &Symbols, terms: &mut Terms<'_>, truth: bool, r: Ref) -> Op
     let Some(comparison) = said(op, truth, a, b) else {
         return None;
     };
-    if !is_number(symbols, terms, a) {
-        return None;
-    }
-    if !is_number(symbols, terms, b) {
+    if !is_of_numbers(symbols, terms, op, a) {
         return None;
     }
     Some(comparison)

@@ -9,7 +9,7 @@ use Rattle.rule_model.specs.Substitution.{put_in}
 use Rattle.sym_table.specs.Table.{Table}
 use Rattle.term_model.specs.Terms.{Var, Term}
 use Rattle.term_pool.specs.Views.{TermsView, KeepsTerms}
-use Rattle.proof_contexts.specs.Images.{BindTerms}
+use Rattle.proof_contexts.specs.Bindings.{BindTerms}
 
 pub stand_joined : (s : Table) (v : TermsView) (bs cs : List (ℕ × ℕ)) (q r : Replacement) → AllZip (IsBindingOf s v) bs q → StandForReplacement s v cs r → StandForReplacement s v (bs ++ cs) (q ++ r)
 stand_joined s v [] cs [] r h g = g

@@ -14,7 +14,8 @@ use Rattle.sym_table.specs.Table.{Table, IsTable}
 use Rattle.term_model.specs.Terms.{Var, Term}
 use Rattle.term_pool.specs.Views.{TermsView, IsTerm, KeepsTerms}
 use Rattle.proof_contexts.specs.declared.scopes.OpenScopes.{OpenScopes}
-use Rattle.proof_contexts.specs.Images.{BindTerms, IsImageIn}
+use Rattle.proof_contexts.specs.Images.{IsImageIn}
+use Rattle.proof_contexts.specs.Bindings.{BindTerms}
 use Rattle.proof_contexts.specs.OpenAnchors.{IsLevel, AreLevels, IsAnchorImage, scopes_entered, AreKept}
 use Rattle.proof_contexts.specs.Placing.{PlacesOf, LacksRoomForSome}
 use Rattle.proof_contexts.proofs.ImageLists.{stand_joined}

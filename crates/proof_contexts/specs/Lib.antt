@@ -1,3 +1,4 @@
+pub mod Bindings
 pub mod Placing
 pub mod Images
 pub mod OpenAnchors

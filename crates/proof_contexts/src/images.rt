@@ -11,7 +11,8 @@ ghost use Rattle.rule_model.specs.Substitution.{put_in};
 ghost use Rattle.term_model.specs.Terms.{Var, Term};
 ghost use Rattle.term_pool.specs.Views.{KeepsTerms};
 ghost use Rattle.term_pool.specs.declared.stop.TermStop.TheVariants as TermStop;
-ghost use Rattle.proof_contexts.specs.Images.{BindTerms, IsImageIn};
+ghost use Rattle.proof_contexts.specs.Images.{IsImageIn};
+ghost use Rattle.proof_contexts.specs.Bindings.{BindTerms};
 ghost use Rattle.proof_contexts.specs.Placing.{LacksRoomForSome, PlacesOf};
 
 use contexts::{Substitution, substitutions_stay};

@@ -12,7 +12,8 @@ use Rattle.term_model.specs.Terms.{Var, Term}
 use Rattle.rule_model.specs.Clausal.{as_it_stands}
 use Rattle.term_parts.specs.Parts.{AreSidesOf}
 use Rattle.term_pool.specs.Views.{TermsView, RefersTo}
-use Rattle.rules_refl.specs.Sides.{States, HasSides, substituted}
+use Rattle.rules_refl.specs.Sides.{States, substituted}
+use Rattle.rules_refl.specs.StatedSides.{HasSides}
 
 first_same : {X : Type 0} {x y : X} → x ∷ [] ≡ y ∷ [] → x ≡ y
 first_same e = cc

@@ -6,7 +6,8 @@ ghost use Rattle.proof_store.specs.Meaning.{StandForItems};
 ghost use Rattle.rule_model.specs.Proofs.{ProofItems};
 ghost use Rattle.rule_model.specs.Scopes.{commands_in};
 ghost use Rattle.term_model.specs.Terms.{Var, Term};
-ghost use Rattle.rules_refl.specs.Sides.{States, HasSides};
+ghost use Rattle.rules_refl.specs.Sides.{States};
+ghost use Rattle.rules_refl.specs.StatedSides.{HasSides};
 
 use pair_pool::Ref;
 use proof_store::{Proof, commands_correspond, terms_correspond};

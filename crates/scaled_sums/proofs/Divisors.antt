@@ -2,7 +2,8 @@
 use Rattle.std.proofs.Common.{◌≡◌, ℕ, zero, suc, ◌+◌, ◌*◌, ◌-◌, ◌/◌, ◌%◌, ◌^◌, ◌<◌, ◌≤◌, Option, Some, None, SomeIff, IfSome, IfNone, sym, ap, subst, ◌∙◌, arith}
 use Rattle.std.proofs.Math.Nat.{mul-sub, div-add-mod, mul-div_cancel_left, eq_of_mul-eq-mul_left}
 use Rattle.rule_model.specs.Arithmetic.{Divides}
-use Rattle.scaled_sums.specs.Multiples.{IsGreatestDivisor, IsLeastMultipleOf}
+use Rattle.scaled_sums.specs.Multiples.{IsLeastMultipleOf}
+use Rattle.scaled_sums.specs.Divisors.{IsGreatestDivisor}
 
 -- the number is its quotient's multiple and the rest
 whole : (a b : ℕ) → a ≡ b * (a / b) + a % b
@@ -58,6 +59,14 @@ multiple_by_divisor a b g some other h = go h.first h.second
               let wholes = h.greatest (a * b) m (two.0, omega (arith, ap (λ x. a * x) two.1)) (one.0, omega (arith, ap (λ x. b * x) one.1)) in
               (wholes.0, least_of p m wholes.0 over e wholes.1);
         })
+
+pub multiple_with_one : (a b : ℕ) → 0 < a → b ≡ 1 → IsLeastMultipleOf a b a
+multiple_with_one a b some e = record {
+  over = some;
+  first = (1, omega arith);
+  second = (a, omega (arith, ap (λ x. x * a) e));
+  least = λ m one other. one;
+}
 
 -- the least multiple is at most each that is over 0
 pub at_least : (n m : ℕ) → 0 < m → Divides n m → n ≤ m

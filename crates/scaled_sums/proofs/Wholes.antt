@@ -5,7 +5,7 @@ use Rattle.std.proofs.Math.Nat.{div-add-mod, mod-lt, mul-mod_right}
 use Rattle.std.proofs.lemmas.Int.{ints, unsigned_abs-mul}
 use Rattle.std.specs.Int.{int_rem_euclid}
 use Rattle.rule_model.specs.Arithmetic.{IsWhole, IsRoundedUp}
-use Rattle.rule_model.proofs.Ring.{mul-add, mul-neg}
+use Rattle.rule_model.proofs.Ring.{mul-add, mul-neg, one-mul}
 
 whole : (a n : ℕ) → a ≡ n * (a / n) + a % n
 whole a n = sym (div-add-mod a n)
@@ -56,3 +56,14 @@ whole_nothing n = (pos 0, sym (natural n 0 ∙ ap pos (omega arith)))
 
 pub whole_sum : (n : ℕ) (x y : ℤ) → IsWhole n x → IsWhole n y → IsWhole n (x +ℤ y)
 whole_sum n x y (j, e) (k, f) = (j +ℤ k, omega (arith, ints, e, f, mul-add (pos n) j k))
+
+-- each number is a multiple of 1
+pub whole_by_one : (n : ℕ) (z : ℤ) → n ≡ 1 → IsWhole n z
+whole_by_one n z e = (z, rw e (sym (one-mul z)))
+
+pub rounded_by_one : (n : ℕ) (z : ℤ) → n ≡ 1 → IsRoundedUp n z z
+rounded_by_one n z e = record {
+  whole = whole_by_one n z e;
+  above = omega (arith, ints);
+  near = omega (arith, ints, e);
+}

@@ -1,3 +1,4 @@
+pub mod Divisors
 pub mod Multiples
 pub mod Coefficients
 pub mod Relations

@@ -1,5 +1,5 @@
 -- Public. Least common multiples.
-use Rattle.std.specs.Prelude.{ℕ, ◌<◌, ◌*◌}
+use Rattle.std.specs.Prelude.{ℕ, ◌<◌}
 use Rattle.rule_model.specs.Arithmetic.{Divides}
 
 -- the least multiple of two numbers, which divides each other one
@@ -8,10 +8,3 @@ pub record IsLeastMultipleOf (a b n : ℕ) : Type 0 where
   pub first : Divides a n
   pub second : Divides b n
   pub least : (m : ℕ) → Divides a m → Divides b m → Divides n m
-
--- A common divisor that is divided by all others. This is said of their multiples too: where d divides the same multiple of
--- both numbers, it divides that multiple of their divisor.
-pub record IsGreatestDivisor (a b g : ℕ) : Type 0 where
-  pub first : Divides g a
-  pub second : Divides g b
-  pub greatest : (d m : ℕ) → Divides d (a * m) → Divides d (b * m) → Divides d (g * m)

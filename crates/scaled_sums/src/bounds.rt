@@ -40,6 +40,9 @@ fn rounded_up(value: i128, multiple: u128) -> i128
     requires narrow { unsigned_abs value + multiple < limit }
     ensures { IsRoundedUp multiple value result }
 {
+    if multiple == 1 {
+        return value;
+    }
     value + (-value).rem_euclid(multiple as i128)
 }
 

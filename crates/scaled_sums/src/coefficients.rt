@@ -40,11 +40,14 @@ pub fn add_scaled(
     Ok(())
 }
 
-/// Whether a number is a multiple.
+/// Whether a number is a multiple. By 1 each number is, and nothing is divided.
 fn is_whole(value: i128, multiple: u128) -> bool
     requires { 0 < multiple }
     ensures { IsTrue result ↔ IsWhole multiple value }
 {
+    if multiple == 1 {
+        return true;
+    }
     value.unsigned_abs() % multiple == 0
 }
 

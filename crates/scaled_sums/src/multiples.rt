@@ -1,7 +1,8 @@
 //! Least common multiples.
 ghost use Rattle.std.specs.Prelude.{◌≤◌, ◌<◌, ℕ, IfSome, IfNone};
 ghost use Rattle.rule_model.specs.Arithmetic.{Divides, limit};
-ghost use Rattle.scaled_sums.specs.Multiples.{IsGreatestDivisor, IsLeastMultipleOf};
+ghost use Rattle.scaled_sums.specs.Multiples.{IsLeastMultipleOf};
+ghost use Rattle.scaled_sums.specs.Divisors.{IsGreatestDivisor};
 
 /// The greatest common divisor, by Euclid's algorithm.
 fn common_divisor(a: u128, b: u128) -> u128
@@ -24,6 +25,9 @@ pub fn common_multiple(a: u128, b: u128) -> Option<u128>
     ensures some { IfSome result (IsLeastMultipleOf a b) }
     ensures wide { IfNone result ((m : ℕ) → 0 < m → Divides a m → Divides b m → limit ≤ m) }
 {
+    if b == 1 {
+        return Some(a);
+    }
     let divisor = common_divisor(a, b);
     (a / divisor).checked_mul(b)
 }

@@ -10,9 +10,9 @@ use Rattle.schema_match.specs.declared.letters.Letters.{Letters}
 use Rattle.schema_match.specs.declared.part.Part.{Part}
 use Rattle.schema_match.specs.declared.part.Part.TheVariants.{Any, Apply}
 use Rattle.schema_match.specs.Pushing.{AddsArguments}
-use Rattle.schema_match.specs.Letters.{slot, with_letter, IsSettledAt}
+use Rattle.schema_match.specs.Letters.{slot, IsSettledAt}
 use Rattle.term_parts.specs.Parts.{IsOver}
-use Rattle.schema_match.specs.Reads.{Reads, Left}
+use Rattle.schema_match.specs.Reads.{Reads, Left, with_letter}
 use Rattle.schema_match.proofs.OverLemmas.{over_term, is_over}
 use Rattle.schema_match.proofs.ReferLemmas.{AreOne, stack_top, stack_more}
 

@@ -21,10 +21,3 @@ IsSettledAt s v (Some r) t = RefersTo s v r t
 -- the letters that are settled stand for these terms
 abbrev pub Agrees : Table → TermsView → Letters → (Letter → Term) → Type 0
 Agrees s v letters f = (l : Letter) → IsSettledAt s v (slot letters l) (f l)
-
--- the same letters, but that one stands for r
-abbrev pub with_letter : Letters → Letter → ℕ → Letters
-with_letter letters Letter.A r = record letters { a = Some r }
-with_letter letters Letter.B r = record letters { b = Some r }
-with_letter letters Letter.C r = record letters { c = Some r }
-with_letter letters Letter.D r = record letters { d = Some r }

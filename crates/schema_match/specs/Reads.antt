@@ -1,5 +1,5 @@
 -- Private. How the parts of a schema are read from terms, and how far they are when some have been read.
-use Rattle.std.specs.Prelude.{◌≡◌, ◌↔◌, ◌++◌, ℕ, List, [], ◌∷◌, length, ⊤}
+use Rattle.std.specs.Prelude.{◌≡◌, ◌↔◌, ◌++◌, ℕ, List, [], ◌∷◌, length, ⊤, Some}
 use Rattle.sym_table.specs.Table.{Table}
 use Rattle.term_model.specs.Terms.{Term, Terms, operation, list_of}
 use Rattle.term_pool.specs.Views.{TermsView}
@@ -27,3 +27,10 @@ pub record Left (s : Table) (v : TermsView) (whole : List Part) (whole_terms : L
   pub example : Letter → Term
   pub agrees : Agrees s v letters example
   pub reads : (f : Letter → Term) → Reads f whole whole_terms ↔ (Agrees s v letters f × Reads f parts terms)
+
+-- the same letters, but that one stands for r
+abbrev pub with_letter : Letters → Letter → ℕ → Letters
+with_letter letters Letter.A r = record letters { a = Some r }
+with_letter letters Letter.B r = record letters { b = Some r }
+with_letter letters Letter.C r = record letters { c = Some r }
+with_letter letters Letter.D r = record letters { d = Some r }

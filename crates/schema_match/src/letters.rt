@@ -1,7 +1,8 @@
 //! What the letters of a schema stand for.
 
 ghost use Rattle.std.specs.Prelude.{◌≡◌, ◌↔◌, IsTrue, IfNone, IfSome, None};
-ghost use Rattle.schema_match.specs.Letters.{slot, with_letter};
+ghost use Rattle.schema_match.specs.Letters.{slot};
+ghost use Rattle.schema_match.specs.Reads.{with_letter};
 
 use pair_pool::Ref;
 use rule_model::Letter;

@@ -59,6 +59,7 @@ impl<'a> Lexer<'a> {
     /// White space and comments before the token are skipped. A byte that no token can have there is refused
     /// as a bad byte at its place; the lexer then stays where it is, so the same refusal comes again.
     #[tactic(auto, unfolding(crate::specs::Tokens::next_token))]
+    #[inline(always)]
     pub fn next(&mut self) -> Result<Option<Token>, Refusal>
         ensures exact { result ≡ next_token (source self.old) (position self.old) }
         ensures source { source self.new ≡ source self.old }

@@ -82,6 +82,7 @@ idle_moves s z v r a b p keeps h script = record {
 pub script_agrees : (s : Table) (v : TermsView) (k : KnownView) (a b : Script) → b.sorts ≡ a.sorts → ((name : List ℕ) → AgreesOn a b name) → IsScript s v k a → IsScript s v k b
 script_agrees s v k a b sorts agree h = record {
   sorts = h.sorts ∙ sym sorts;
+  built_in = λ name built. (agree name).taken ∙ h.built_in name built;
   names = λ name. meant_moves s s v v (table_keeps_none s) (keeps_none v) a b name (agree name) (λ f. f) k (known_entry k name) (h.names name);
 }
 

@@ -21,7 +21,7 @@ use Rattle.problem_text.specs.Words.{is_among, is_built_in}
 use Rattle.smtlib_reader.specs.declared.session.Session.{Session}
 use Rattle.smtlib_reader.proofs.AgreeingScripts.{meant_moves, idle_moves, all_refer_still}
 use Rattle.smtlib_reader.proofs.DeclaredSorts.{is_no_word}
-use Rattle.term_reader.proofs.GivenNames.{apart, no_entry}
+use Rattle.term_reader.proofs.GivenNames.{apart, no_entry, no_word_taken}
 use Rattle.term_names.proofs.HeldVariables.{slice_get-last}
 use Rattle.term_names.proofs.Positions.{slice_get-push_cases}
 use Rattle.term_reader.proofs.Staying.{keeps_none}
@@ -97,7 +97,7 @@ module _ (s : Table) (v : TermsView) (f : Fun) (sc : Script) where
 
   module _ (keeps : Keeps s (with_leaf s (function_leaf f))) where
     function_script : (k : KnownView) → is_taken sc f.name ≡ false → IsScript s v k sc → IsScript (with_leaf s (function_leaf f)) v k (with_declared f sc)
-    function_script k untaken is = record { sorts = is.sorts; names = λ other. go other (bytes_eq other f.name) refl }
+    function_script k untaken is = record { sorts = is.sorts; built_in = no_word_taken sc f.name untaken is.built_in; names = λ other. go other (bytes_eq other f.name) refl }
       where
         here : HasNoEntry sc f.name × IsFreeName s sc f.name → IsNameMeant (with_leaf s (function_leaf f)) v k (with_declared f sc) f.name None
         here (none, free) = (

@@ -76,6 +76,7 @@ module _ (s : Table) (v : TermsView) (name : List ℕ) (sc : Script) (keeps : Ke
   sort_script : (k : KnownView) → IsScript s v k sc → IsScript (with_sort_name s name) v k (spec.with_sort name sc)
   sort_script k h = record {
     sorts = ap (λ names. names ++ name ∷ []) h.sorts;
+    built_in = h.built_in;
     names = λ other.
         meant_moves s (with_sort_name s name) v v keeps (keeps_none v) sc (spec.with_sort name sc) other
         (record { functions = refl; macros = refl; named = refl; taken = refl }) (λ f. f) k (known_entry k other) (h.names other);

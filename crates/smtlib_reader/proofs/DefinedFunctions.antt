@@ -115,7 +115,7 @@ module _ (replaces : Bool) (n : Name) (parameters : Items) (target body : Item) 
           let here : TakesName d.reader.known k n.name = subst (λ (x : List ℕ). TakesName d.reader.known k x) same takes in
           rw same (record {
             idle = record {
-              script = reserved_script s v d.reader.known k sc n.name here session.idle.script untaken none;
+              script = reserved_script s v d.reader.known k sc n.name here session.idle.script free none;
               scope = session.idle.scope;
               settings = refl;
               no_values = session.idle.no_values;

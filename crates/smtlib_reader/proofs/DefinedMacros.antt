@@ -8,16 +8,16 @@ use Rattle.sym_table.specs.Table.{Table}
 use Rattle.term_pool.specs.Views.{TermsView}
 use Rattle.term_names.specs.Entries.{EntriesView, lookup}
 use Rattle.term_names.specs.Known.{KnownView, known_entry, own_entry, base_entry, PutsKnown, macro_of, named_of}
-use Rattle.problem_text.specs.Scripts.{Macro, Script, with_name, with_macro}
+use Rattle.problem_text.specs.Scripts.{Macro, Script, is_taken, with_name, with_macro}
 use Rattle.term_names.specs.Standing.{IsScript, IsNameMeant, IsMacroOf, HasNoEntry, IsFunctionAt, IsFreeName, IsReservedName, macro_in}
-use Rattle.problem_text.specs.Words.{is_among}
+use Rattle.problem_text.specs.Words.{is_among, is_built_in}
 use Rattle.term_names.specs.declared.entries.Entry.{Entry}
 use Rattle.term_names.specs.declared.entries.Macro as macro
 use Rattle.term_names.specs.declared.entries.Named as held_named
 use Rattle.term_names.specs.declared.known.KnownEntry.{KnownEntry}
 use Rattle.term_names.specs.declared.known.Which.{Which}
 use Rattle.term_names.specs.declared.known.Which.TheVariants.{Base, Own}
-use Rattle.term_reader.proofs.GivenNames.{slice_get-before, macros_kept, apart, or_none, or_false}
+use Rattle.term_reader.proofs.GivenNames.{slice_get-before, macros_kept, apart, or_none, or_false, either_false, no_word_taken}
 use Rattle.term_names.proofs.HeldVariables.{slice_get-last}
 use Rattle.smtlib_reader.proofs.KeptByReading.{IsReservedIn}
 
@@ -97,12 +97,16 @@ module _ (s : Table) (v : TermsView) (old new : KnownView) (sc : Script) (name :
         taken = among_now sc.taken name;
       }
 
-  pub reserved_script : IsScript s v old sc → is_among sc.taken name ≡ false → known_entry old name ≡ None → IsScript s v new (with_name name sc)
-  reserved_script is free none = record {
+  pub reserved_script : IsScript s v old sc → is_taken sc name ≡ false → known_entry old name ≡ None → IsScript s v new (with_name name sc)
+  reserved_script is untaken none = record {
     sorts = is.sorts;
+    built_in = no_word_taken sc name untaken is.built_in;
     names = λ other. subst (IsNameMeant s v new (with_name name sc) other) (sym (takes.entry other)) (go other (bytes_eq other name) refl);
   }
     where
+      free : is_among sc.taken name ≡ false
+      free = either_false (is_built_in name) (is_among sc.taken name) untaken
+
       go : (other : List ℕ) (b : Bool) → bytes_eq other name ≡ b → IsNameMeant s v new (with_name name sc) other (cond b (Some KnownEntry.Reserved) (known_entry old other))
       go other false e = before_taking other e (known_entry old other) (is.names other)
       go other true e =
@@ -183,6 +187,7 @@ module _ (s : Table) (v : TermsView) (old new : KnownView) (sc : Script) (d : Ma
   pub defined_script : IsScript s v old sc → IsMacroOf s v held d → IsReservedName s sc d.name → IsScript s v new (with_macro d sc)
   defined_script is held_is r = record {
     sorts = is.sorts;
+    built_in = is.built_in;
     names = λ other. subst (IsNameMeant s v new (with_macro d sc) other) (sym (puts.entry other)) (go other (bytes_eq other d.name) refl);
   }
     where

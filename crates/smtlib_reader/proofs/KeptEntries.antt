@@ -27,4 +27,4 @@ pub script_of_own : (s : Table) (v : TermsView) (k : KnownView) (e : EntriesView
     → IsScript s v (record { base = e; own = no_entries }) sc
 script_of_own s v k e sc none same is =
     let own : IsScript s v (own_of k.own) sc = subst (λ b. IsScript s v (record { base = b; own = k.own }) sc) none is in
-    rw same (record { sorts = own.sorts; names = λ name. meant_still s v k.own sc name (lookup k.own.names name) (own.names name) })
+    rw same (record { sorts = own.sorts; built_in = own.built_in; names = λ name. meant_still s v k.own sc name (lookup k.own.names name) (own.names name) })

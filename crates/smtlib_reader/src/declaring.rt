@@ -15,11 +15,11 @@ ghost use Rattle.term_names.specs.declared.faults.ReadFault.TheVariants as ReadF
 
 use crate::session::Session;
 use crate::sorts_at::{sort_at, sorts_at};
+use name_set::NameSet;
 use sexpr::{Cause, Lexer};
 use sym_table::{NameFault, Symbols};
 use term_model::Sort;
 use term_names::faults::ReadFault;
-use term_names::name_numbers::NameNumbers;
 use term_names::words::is_logic;
 use term_pool::Terms;
 use term_reader::repeats;
@@ -163,7 +163,7 @@ pub(crate) fn declare_fun(
 /// Adds a function of a name that is free. Refused for want of memory alone.
 fn add_function(
     symbols: &mut Symbols,
-    functions: &mut NameNumbers,
+    functions: &mut NameSet,
     name: &[u8],
     arguments: &[Sort],
     target: Sort,

@@ -14,13 +14,13 @@ ghost use Rattle.term_names.specs.declared.faults.ReadFault.TheVariants as fault
 
 use crate::script_reading::read_commands;
 use crate::session::Session;
+use name_set::NameSet;
 use problem_text::laws::texts_have_one_reading;
 use sexpr::{Lexer, form};
 use std::alloc::Global;
 use sym_table::Symbols;
 use term_names::faults::ReadFault;
 use term_names::known::Known;
-use term_names::name_numbers::NameNumbers;
 use term_names::scope::Scope;
 use term_names::stacks::Values;
 use term_pool::Terms;
@@ -45,7 +45,7 @@ fn new_session(alloc: Global, replaces_lets: bool) -> Session<'static>
             leaves: Vec::new(alloc),
             frames: Frames::new(alloc),
         },
-        functions: NameNumbers::new(alloc),
+        functions: NameSet::new(alloc),
         assertions: Vec::new(alloc),
         has_logic: false,
         is_checked: false,

@@ -1,9 +1,9 @@
 //! A problem that is being read.
 
 use crate::parameters::Parameter;
+use name_set::NameSet;
 use pair_pool::Ref;
 use term_model::Sort;
-use term_names::name_numbers::NameNumbers;
 use term_reader::reader::Reader;
 
 /// What was read of a problem.
@@ -11,7 +11,7 @@ use term_reader::reader::Reader;
 pub(crate) struct Session<'a> {
     pub(crate) reader: Reader<'a>,
     /// The names of the declared functions, in their order.
-    pub(crate) functions: NameNumbers,
+    pub(crate) functions: NameSet,
     pub(crate) assertions: Vec<Ref>,
     pub(crate) has_logic: bool,
     /// Whether a check stands before.

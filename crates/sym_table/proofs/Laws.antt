@@ -3,12 +3,13 @@ use Rattle.std.proofs.Common.{◌≡◌, ◌⊎◌, inl, inr, ℤ, pos, ◌≤�
 use Rattle.std.proofs.lemmas.Bool.Decides.{Decides-eqb}
 use Rattle.std.proofs.lemmas.Option.{slice_get-get_or, none-some, same_Some}
 use Rattle.term_model.specs.declared.symbols.Op.{Op}
+use Rattle.term_model.specs.declared.symbols.Sort.{Sort}
 use Rattle.sym_table.specs.declared.kind.Kind.{Kind}
 use Rattle.sym_table.specs.declared.cells.Symbol.{Symbol}
 use Rattle.sym_table.specs.declared.cells.Function.{Function}
 use Rattle.sym_table.specs.Names.{Lacks, AreApart}
-use Rattle.sym_table.specs.Leaf.{Leaf, function, numeral, kind_of, name_of, first_leaves}
-use Rattle.sym_table.specs.Table.{Table, IsTable, LacksLeaf}
+use Rattle.sym_table.specs.Leaf.{Leaf, function, variable, numeral, kind_of, name_of, first_leaves}
+use Rattle.sym_table.specs.Table.{Table, IsTable, IsLeaf, LacksLeaf}
 use Rattle.sym_table.specs.Cells.{function_at, leaf_of_key, leaves_of, IsInRange, AreKeysLinked}
 use Rattle.sym_table.proofs.Lists.{slice_get-there, true-false, passes_at, and_left, and_right}
 use Rattle.sym_table.proofs.Tables.{function_at-known, first_leaf, leaf_cases}
@@ -169,3 +170,18 @@ LacksLeaf-key names functions variables keys sorts key h r lacks k e =
       | inl a ↦ true-false (sym (first_kind k _ a) ∙ key_kind names functions variables key h.named r)
       | inr a ↦ lacks a.0 (a.3 ∙ ap Some (same_key names functions variables keys h a.1 key (h.in_range a.0 a.1 a.3) r (ap (kind_of 0) (sym a.4)) (ap name_of (sym a.4))))
     ]
+
+-- where no name is a variable's, no leaf is that of a variable
+pub lacks_variables : (t : Table) (names : List (List ℕ)) (functions : List Function) (variables : List (List ℕ)) (keys : List Symbol) (sorts : List (List ℕ)) → table_of names functions variables keys sorts ≡ t → AreKeysLinked names functions variables keys → length variables ≡ 0 → (leaf : ℕ) (name : List ℕ) (sort : Sort) → IsLeaf t leaf (variable name sort) → ⊥
+lacks_variables t names functions variables keys sorts e linked none leaf name sort h =
+    elim (leaf_cases names functions variables keys leaf (variable name sort) (subst (λ (t' : Table). slice_get t'.leaves leaf ≡ Some (variable name sort)) (sym e) h)) [
+      | inl first ↦ (let kind = first_kind leaf (variable name sort) first in cc)
+      | inr found ↦ go found.1 (linked.in_range found.0 found.1 found.3) found.4
+    ]
+  where
+    go : (key : Symbol) → IsInRange (length functions) (length variables) key → variable name sort ≡ leaf_of_key names functions variables key → ⊥
+    go (Symbol.Function n) range e =
+        let at = function_at-shape names functions n linked.named range in
+        cc
+    go (Symbol.Variable n s) range e = absurd (omega arith)
+    go (Symbol.Numeral n) range e = cc

@@ -1,10 +1,5 @@
--- Private. Lists in which the place of an item is its number, and sets of names as such lists.
-use Rattle.std.specs.Prelude.{◌≡◌, ◌⊎◌, ◌++◌, [], ◌∷◌, ℕ, List, map, length, slice_get, Some, Vec}
-use Rattle.std.specs.declared.alloc.Global.{Global}
-
--- names as byte strings
-abbrev pub texts : List (Vec ℕ Global) → List (List ℕ)
-texts names = map (λ name. name.items) names
+-- Private. Lists in which the place of an item is its number.
+use Rattle.std.specs.Prelude.{◌≡◌, ◌⊎◌, ◌++◌, [], ◌∷◌, ℕ, List, length, slice_get, Some}
 
 -- the item is nowhere in the list
 abbrev pub Lacks : {X : Type 0} → List X → X → Type 0

@@ -10,6 +10,7 @@ mod sorts;
 use crate::cells::{Function, Symbol};
 use crate::faults::Memory;
 use indexmap::IndexSet;
+use name_set::NameSet;
 use std::alloc::Global;
 use std::marker::Model;
 
@@ -20,31 +21,31 @@ const FIRST_LEAVES: u32 = 19;
 #[derive(Drop)]
 pub struct Symbols {
     alloc: Global,
-    sort_names: IndexSet<Vec<u8>>,
-    function_names: IndexSet<Vec<u8>>,
+    sort_names: NameSet,
+    function_names: NameSet,
     functions: Vec<Function>,
-    variable_names: IndexSet<Vec<u8>>,
+    variable_names: NameSet,
     leaves: IndexSet<Symbol>,
 }
 
 impl Model for Symbols {
     ghost use Rattle.std.specs.Prelude.{◌+◌, ◌^◌, ◌≤◌, length};
     ghost use Rattle.sym_table.specs.Table.{Table};
-    ghost use Rattle.sym_table.specs.Names.{texts, AreApart};
+    ghost use Rattle.sym_table.specs.Names.{AreApart};
     ghost use Rattle.sym_table.specs.Cells.{leaves_of, AreKeysLinked};
 
     ghost Value = { Table };
 
     ghost view = { λ s. record {
-      leaves = leaves_of (texts s.function_names.keys) s.functions.items (texts s.variable_names.keys) s.leaves.keys;
-      sorts = texts s.sort_names.keys;
+      leaves = leaves_of s.function_names s.functions.items s.variable_names s.leaves.keys;
+      sorts = s.sort_names;
     } };
 
     ghost invariant = { λ s.
-        AreKeysLinked (texts s.function_names.keys) s.functions.items (texts s.variable_names.keys) s.leaves.keys
+        AreKeysLinked s.function_names s.functions.items s.variable_names s.leaves.keys
         × (length s.leaves.keys + 19 ≤ 2 ^ 30)
-        × (length (texts s.sort_names.keys) ≤ 2 ^ 30)
-        × AreApart (texts s.sort_names.keys) };
+        × (length s.sort_names ≤ 2 ^ 30)
+        × AreApart s.sort_names };
 }
 
 impl Symbols {
@@ -55,10 +56,10 @@ impl Symbols {
     {
         Ok(Symbols {
             alloc,
-            sort_names: IndexSet::new(alloc),
-            function_names: IndexSet::new(alloc),
+            sort_names: NameSet::new(alloc),
+            function_names: NameSet::new(alloc),
             functions: Vec::new(alloc),
-            variable_names: IndexSet::new(alloc),
+            variable_names: NameSet::new(alloc),
             leaves: IndexSet::new(alloc),
         })
     }

@@ -15,8 +15,8 @@ use Rattle.term_pool.specs.StandsFor.{variable_leaf, function_leaf, StandsFor, S
 use Rattle.term_pool.specs.Trees.{depth}
 use Rattle.term_pool.specs.Views.{TermsView}
 use Rattle.rule_model.specs.Heights.{height, highest, highest_bound}
-use Rattle.term_expansion.specs.Images.{IsPieceOf, IsSomeReplacement, IsSomeValue, PlacesTerm, LacksRoomFor}
-use Rattle.term_expansion.specs.PutFor.{PutsFor, ArePutFor}
+use Rattle.term_expansion.specs.Images.{IsSomeReplacement, IsSomeValue, PlacesTerm, LacksRoomFor}
+use Rattle.term_expansion.specs.PutFor.{PutsFor, ArePutFor, IsPieceOf}
 use Rattle.rule_model.specs.Replacement.{Replacement, replaced_by, replaced, replaced_all, HasNoLet, HaveNoLet}
 use Rattle.problem_text.specs.TypedTerms.{Typed}
 use Rattle.term_expansion.specs.Values.{IsValue, PutsIn, IsReplacement}

@@ -15,7 +15,8 @@ use Rattle.term_pool.specs.Building.{IsAppliedLeaf, AreBindings}
 use Rattle.term_pool.specs.Reading.{IsLet}
 use Rattle.term_pool.specs.StandsFor.{variable_leaf, function_leaf}
 use Rattle.term_pool.specs.Views.{TermsView, ReferToAll, KeepsTerms}
-use Rattle.term_expansion.specs.Free.{HasVariable, IsLeafOfSome, AddsLeaves, AddsOne, AddsUnbound, Bodies}
+use Rattle.term_expansion.specs.Free.{HasVariable, IsLeafOfSome, AddsLeaves, AddsOne, AddsUnbound}
+use Rattle.term_expansion.specs.Needs.{Needs}
 use Rattle.term_expansion.proofs.Images.{leaf_variable}
 use Rattle.term_expansion.proofs.SetLemmas.{none_in}
 
@@ -143,7 +144,7 @@ added-leaves s leaves a b P are adds = record {
     new k c = elim (are.only k c) [ inl none ↦ absurd (none_in k none) | inr is ↦ is ]
 
 -- bodies
-pub one-more : (P : ℕ → Vec ℕ Global → Type 0) (old new : Bodies) (r : ℕ) (leaves : Vec ℕ Global) → ((q : ℕ) → get nat_eq new q ≡ cond (eqb r q) (Some leaves) (get nat_eq old q)) → P r leaves → ((q : ℕ) (ls : Vec ℕ Global) → get nat_eq old q ≡ Some ls → P q ls) → (q : ℕ) (ls : Vec ℕ Global) → get nat_eq new q ≡ Some ls → P q ls
+pub one-more : (P : ℕ → Vec ℕ Global → Type 0) (old new : Needs) (r : ℕ) (leaves : Vec ℕ Global) → ((q : ℕ) → get nat_eq new q ≡ cond (eqb r q) (Some leaves) (get nat_eq old q)) → P r leaves → ((q : ℕ) (ls : Vec ℕ Global) → get nat_eq old q ≡ Some ls → P q ls) → (q : ℕ) (ls : Vec ℕ Global) → get nat_eq new q ≡ Some ls → P q ls
 one-more P old new r leaves updates right h q ls is = go (eqb r q) (eqb_tells r q) (sym (updates q) ∙ is)
   where
     go : (b : Bool) → ((b ≡ true) × (r ≡ q)) ⊎ ((b ≡ false) × (r ≢ q)) → cond b (Some leaves) (get nat_eq old q) ≡ Some ls → P q ls

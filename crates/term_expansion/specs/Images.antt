@@ -1,25 +1,17 @@
 -- Public. What is put in for leaves, by a replacement.
-use Rattle.std.specs.Prelude.{◌≡◌, true, List}
+use Rattle.std.specs.Prelude.{List}
 use Rattle.pair_pool.specs.Trees.{Tree}
 use Rattle.pair_pool.specs.Views.{PassView}
 use Rattle.sym_table.specs.Table.{Table}
 use Rattle.term_model.specs.Terms.{Term}
 use Rattle.term_pool.specs.Building.{PlacesOnlyIn, IsFullIn}
-use Rattle.term_pool.specs.Putting.{Piece}
 use Rattle.term_pool.specs.StandsFor.{StandsFor}
 use Rattle.term_pool.specs.Views.{TermsView}
-use Rattle.rule_model.specs.Heights.{height}
-use Rattle.rule_model.specs.Replacement.{Replacement, HasNoLet}
+use Rattle.rule_model.specs.Replacement.{Replacement}
 use Rattle.problem_text.specs.TypedTerms.{Typed}
 use Rattle.term_expansion.specs.Values.{IsValue, IsReplacement}
 use Rattle.term_expansion.specs.declared.values.Bound.{Bound}
 use Rattle.term_expansion.specs.declared.values.Value.{Value}
-
--- the piece stands for the term
-pub record IsPieceOf (s : Table) (p : Piece) (t : Term) : Type 0 where
-  pub stands : StandsFor s p.tree t
-  pub height : p.height ≡ height t
-  pub plain : p.plain ≡ true → HasNoLet t
 
 -- by the table the list is some replacement
 pub record IsSomeReplacement (s : Table) (v : TermsView) (bs : List Bound) : Type 0 where

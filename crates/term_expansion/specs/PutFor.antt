@@ -1,13 +1,19 @@
 -- Private. What is put in for variables, one by one.
-use Rattle.std.specs.Prelude.{◌≡◌, ◌≢◌, ℕ}
+use Rattle.std.specs.Prelude.{◌≡◌, ◌≢◌, ℕ, true}
 use Rattle.sym_table.specs.Leaf.{Leaf}
 use Rattle.sym_table.specs.Table.{Table, IsLeaf}
-use Rattle.term_model.specs.Terms.{Var}
+use Rattle.term_model.specs.Terms.{Var, Term}
 use Rattle.term_pool.specs.Putting.{Piece, staying, CellImages, ArePiecesOfLeaves}
-use Rattle.term_pool.specs.StandsFor.{variable_leaf}
+use Rattle.term_pool.specs.StandsFor.{variable_leaf, StandsFor}
 use Rattle.term_pool.specs.Views.{TermsView}
-use Rattle.rule_model.specs.Replacement.{Replacement, replaced_by}
-use Rattle.term_expansion.specs.Images.{IsPieceOf}
+use Rattle.rule_model.specs.Replacement.{Replacement, replaced_by, HasNoLet}
+use Rattle.rule_model.specs.Heights.{height}
+
+-- the piece stands for the term
+pub record IsPieceOf (s : Table) (p : Piece) (t : Term) : Type 0 where
+  pub stands : StandsFor s p.tree t
+  pub height : p.height ≡ height t
+  pub plain : p.plain ≡ true → HasNoLet t
 
 -- what the replacement puts in for leaves: something for variables, and other leaves stay
 pub record PutsFor (s : Table) (q : Replacement) (f : ℕ → Piece) : Type 0 where

@@ -10,7 +10,8 @@ use Rattle.term_pool.specs.Building.{IsAppliedLeaf, AreBindings}
 use Rattle.term_pool.specs.Reading.{arguments_of, IsLet, IsLetTerm}
 use Rattle.term_pool.specs.StandsFor.{variable_leaf}
 use Rattle.term_pool.specs.Views.{TermsView, RefersTo, ReferToAll}
-use Rattle.term_expansion.specs.Free.{HasVariable, IsLeafOfSome, AreFreeLeaves, AddsLeaves, AddsOne, AddsUnbound, IsAtMost, IsFreeInAny, AreLeavesOf, ArePartsOfLet, CoversFree, Bodies, AreBodies}
+use Rattle.term_expansion.specs.Free.{HasVariable, IsLeafOfSome, AreFreeLeaves, AddsLeaves, AddsOne, AddsUnbound}
+use Rattle.term_names.specs.FreeParts.{IsAtMost, IsFreeInAny, AreLeavesOf, ArePartsOfLet, CoversFree, Bodies, AreBodies}
 use Rattle.rule_model.specs.Heights.{height, highest, highest_bound}
 use Rattle.term_names.specs.Known.{KnownView, named_of}
 use Rattle.rule_model.specs.Replacement.{free_variables}

@@ -7,7 +7,7 @@ use Rattle.std.proofs.lemmas.List.Quantifiers.{position-Some}
 use Rattle.std.proofs.lemmas.Option.{slice_get-get_or, slice_get_read, get_or_from_slice_get}
 use Rattle.std.proofs.lemmas.Slice.Eq.{bytes_eq-Decides}
 use Rattle.term_names.specs.declared.scope.Held.{Held}
-use Rattle.term_names.specs.NameNumbers.{AreApart}
+use Rattle.name_set.specs.Names.{StandOnce}
 use Rattle.term_names.specs.Scope.{Scoped}
 use Rattle.term_names.specs.Held.{scoped_held, scoped, innermost_held, AreHeld, IsHeldLinked}
 use Rattle.term_names.specs.NameNumbers.{IsNumbered}
@@ -56,7 +56,7 @@ find-innermost k (h ∷ held) =
     go false e = e ∙ sym (place_in-kept (reverse held) h (innermost_held k held) (omega (arith, innermost-within k held, length-reverse held)))
 
 -- the name at a place is found there
-own_place : (names : List (List ℕ)) (k : ℕ) (name : List ℕ) → AreApart names → k < length names → bytes_eq (get_or names k []) name ≡ true → position (bytes_eq name) names ≡ Some k
+own_place : (names : List (List ℕ)) (k : ℕ) (name : List ℕ) → StandOnce names → k < length names → bytes_eq (get_or names k []) name ≡ true → position (bytes_eq name) names ≡ Some k
 own_place names k name apart l e =
     apart k name (slice_get-get_or names k [] l ∙ ap Some ((bytes_eq-Decides (get_or names k []) name).0 e))
 
@@ -67,7 +67,7 @@ at_place names k name e =
     slice_get-get_or names k [] at.0 ∙ ap Some (sym ((bytes_eq-Decides name (get_or names k [])).0 at.1))
 
 -- a name is that of number k where its own number is k
-same_test : (names : List (List ℕ)) (k j : ℕ) (name : List ℕ) → AreApart names → position (bytes_eq name) names ≡ Some k → j < length names → bytes_eq (get_or names j []) name ≡ eqb j k
+same_test : (names : List (List ℕ)) (k j : ℕ) (name : List ℕ) → StandOnce names → position (bytes_eq name) names ≡ Some k → j < length names → bytes_eq (get_or names j []) name ≡ eqb j k
 same_test names k j name apart e l = elim (eqb_tells j k) [ inl h ↦ same h.1 ∙ sym h.0 | inr h ↦ other (bytes_eq (get_or names j []) name) refl h.1 ∙ sym h.0 ]
   where
     same : j ≡ k → bytes_eq (get_or names j []) name ≡ true
@@ -82,7 +82,7 @@ same_test names k j name apart e l = elim (eqb_tells j k) [ inl h ↦ same h.1 �
         absurd (apart' (cc))
     other false f apart' = refl
 
-no_test : (names : List (List ℕ)) (j : ℕ) (name : List ℕ) → AreApart names → position (bytes_eq name) names ≡ None → j < length names → bytes_eq (get_or names j []) name ≡ false
+no_test : (names : List (List ℕ)) (j : ℕ) (name : List ℕ) → StandOnce names → position (bytes_eq name) names ≡ None → j < length names → bytes_eq (get_or names j []) name ≡ false
 no_test names j name apart e l = go (bytes_eq (get_or names j []) name) refl
   where
     go : (b : Bool) → bytes_eq (get_or names j []) name ≡ b → b ≡ false
@@ -95,7 +95,7 @@ abbrev pub is_named : List ℕ → Scoped → Bool
 is_named name e = bytes_eq e.name name
 
 -- to look for a name is to look for its number
-pub find-scoped : (names : List (List ℕ)) (k : ℕ) (name : List ℕ) (held : List Held) → AreApart names → position (bytes_eq name) names ≡ Some k → AreHeld (length names) held → find (is_named name) (scoped names held) ≡ option_map (scoped_held names) (find (has_number k) held)
+pub find-scoped : (names : List (List ℕ)) (k : ℕ) (name : List ℕ) (held : List Held) → StandOnce names → position (bytes_eq name) names ≡ Some k → AreHeld (length names) held → find (is_named name) (scoped names held) ≡ option_map (scoped_held names) (find (has_number k) held)
 find-scoped names k name [] apart e h = refl
 find-scoped names k name (x ∷ held) apart e h =
     ap (λ b. cond b (Some (scoped_held names x)) (find (is_named name) (scoped names held))) (same_test names k x.name name apart e h.0)
@@ -106,7 +106,7 @@ find-scoped names k name (x ∷ held) apart e h =
     go false f = f
 
 -- a name without a number is that of no variable
-pub find-no_number : (names : List (List ℕ)) (name : List ℕ) (held : List Held) → AreApart names → position (bytes_eq name) names ≡ None → AreHeld (length names) held → find (is_named name) (scoped names held) ≡ None
+pub find-no_number : (names : List (List ℕ)) (name : List ℕ) (held : List Held) → StandOnce names → position (bytes_eq name) names ≡ None → AreHeld (length names) held → find (is_named name) (scoped names held) ≡ None
 find-no_number names name [] apart e h = refl
 find-no_number names name (x ∷ held) apart e h =
     ap (λ b. cond b (Some (scoped_held names x)) (find (is_named name) (scoped names held))) (no_test names x.name name apart e h.0)
@@ -200,7 +200,7 @@ module _ (names : List (List ℕ)) (firsts : List ℕ) (held : List Held) (h : H
     ];
   }
 
-module _ (names : List (List ℕ)) (firsts : List ℕ) (items : List Held) (k : ℕ) (name : List ℕ) (place : ℕ) (apart : AreApart names) (number : position (bytes_eq name) names ≡ Some k) (l : IsHeldLinked names firsts (reverse items)) where
+module _ (names : List (List ℕ)) (firsts : List ℕ) (items : List Held) (k : ℕ) (name : List ℕ) (place : ℕ) (apart : StandOnce names) (number : position (bytes_eq name) names ≡ Some k) (l : IsHeldLinked names firsts (reverse items)) where
   pub number-within : k < length firsts
   number-within =
       let at = (position-Some (bytes_eq name) names k [] number).0 in

@@ -1,13 +1,14 @@
 pub mod ValueParts
 pub mod NameEntries
 pub mod Positions
-pub mod NumberedNames
 pub mod HeldVariables
 pub mod Operators
 pub mod Gathering
+pub mod NoVariables
 pub mod SymbolNames
 pub mod ScopeNames
 pub mod Meant
+pub mod OperatorNames
 pub mod Alone
 pub mod BoundVariables
 pub mod Stops

@@ -17,7 +17,7 @@ use Rattle.problem_text.specs.Names.{Place, Bound, Meaning, value, macro, innerm
 use Rattle.rule_model.specs.Replacement.{free_variables}
 use Rattle.term_names.specs.Scope.{Scoped}
 use Rattle.problem_text.specs.Scripts.{Script, Named}
-use Rattle.term_names.specs.Standing.{IsNameMeant, IsNamedOf, named_in_script, macro_in}
+use Rattle.term_names.specs.Standing.{IsNameMeant, IsNamedOf, HasNoEntry, named_in_script, macro_in}
 use Rattle.term_names.specs.declared.entries.Named as held
 use Rattle.term_names.specs.declared.heads.Head.{Head}
 use Rattle.term_names.specs.declared.known.KnownEntry.{KnownEntry}
@@ -30,6 +30,9 @@ use Rattle.term_names.proofs.ScopeNames.{AreFound, found_in_scope}
 without_named : (p : Place) (sc : Script) (name : List ℕ) → named_in_script sc name ≡ None → meaning_of_entry p sc name ≡ option_map macro (macro_in sc name)
 without_named p sc name none =
     ap (λ o. option_or (option_and_then (λ n. meaning_of_named p n.meant) o) (option_map macro (macro_in sc name))) none
+
+pub without_entry : (p : Place) (sc : Script) (name : List ℕ) → HasNoEntry sc name → meaning_of_entry p sc name ≡ None
+without_entry p sc name none = without_named p sc name none.no_named ∙ ap (option_map macro) none.no_macro
 
 with_named : (p : Place) (sc : Script) (name : List ℕ) (d : Named) (b : Bool) → named_in_script sc name ≡ Some d → b ≡ list_all (is_bound p.scope) (free_variables d.meant.tree) → meaning_of_entry p sc name ≡ option_or (cond b (Some (value (term_used p d.meant))) None) (option_map macro (macro_in sc name))
 with_named p sc name d b found bound =

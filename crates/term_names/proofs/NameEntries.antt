@@ -1,22 +1,71 @@
--- The entries of names, in a table and as contracts see them.
-use Rattle.std.proofs.Common.{◌≡◌, ℕ, ◌≤◌, Bool, true, false, cond, List, [], ◌∷◌, ◌++◌, ◌+◌, length, Option, Some, None, IfSome, Vec, refl, sym, ◌∙◌, ap, subst, if◌then◌else◌, arith}
-use Rattle.std.specs.declared.alloc.Global.{Global}
-use Rattle.std.specs.Map as table
+-- The entries of names, by the numbers of the names and as contracts see them.
+use Rattle.std.proofs.Common.{◌≡◌, ℕ, suc, ◌≤◌, ◌<◌, Bool, true, false, cond, List, [], ◌∷◌, ◌++◌, ◌+◌, length, get_or, set, zip, eqb, position, slice_get, Option, Some, None, IfSome, IsSome, refl, sym, ◌∙◌, ap, subst, arith}
 use Rattle.std.specs.Str.{bytes_eq}
 use Rattle.std.proofs.lemmas.List.{length_push}
+use Rattle.std.proofs.lemmas.List.Quantifiers.{position-Some}
+use Rattle.std.proofs.lemmas.Option.{slice_get-get_or, same_Some}
 use Rattle.std.proofs.lemmas.Slice.Eq.{bytes_eq-Decides}
-use Rattle.indexmap.specs.IndexMap.{insert_entry}
+use Rattle.indexmap.proofs.ReorderLemmas.{zip_push}
 use Rattle.term_names.specs.declared.entries.Entry.{Entry}
 use Rattle.term_names.specs.declared.entries.Entry.TheVariants.{Reserved, Macro, Named}
-use Rattle.term_names.specs.Entries.{EntriesView, lookup, Puts, IsThere, AreThere, names_of}
+use Rattle.term_names.specs.Entries.{EntriesView, lookup, Puts, IsThere}
+use Rattle.term_names.specs.NameTables.{AreThere, AreNumbers, number_given}
+use Rattle.term_names.proofs.Positions.{next_place, position_cons}
 
--- a look-up in the table is one among the names
-pub lookup-names_of : (es : List (Vec ℕ Global × Entry)) (name : List ℕ) → table.lookup (λ k. bytes_eq name k.items) es ≡ lookup (names_of es) name
-lookup-names_of [] name = refl
-lookup-names_of (e ∷ es) name = ap (λ o. cond (bytes_eq name e.0.items) (Some e.1) o) (lookup-names_of es name)
+-- the entry of a name with a number stands at that place
+lookup_at : (names : List (List ℕ)) (es : List Entry) (name : List ℕ) (k : ℕ) (e : Entry) → position (bytes_eq name) names ≡ Some k → slice_get es k ≡ Some e → lookup (zip names es) name ≡ Some e
+lookup_at [] es name k e p g = cc
+lookup_at (n ∷ names) [] name k e p g = cc
+lookup_at (n ∷ names) (x ∷ es) name k e p g =
+    go (bytes_eq name n) (position (bytes_eq name) names) (λ j. lookup_at names es name j e) refl refl (sym (position_cons (bytes_eq name) n names) ∙ p)
+  where
+    go : (b : Bool) (o : Option ℕ) → ((j : ℕ) → position (bytes_eq name) names ≡ Some j → slice_get es j ≡ Some e → lookup (zip names es) name ≡ Some e)
+        → bytes_eq name n ≡ b → position (bytes_eq name) names ≡ o → next_place b o ≡ Some k → lookup (zip (n ∷ names) (x ∷ es)) name ≡ Some e
+    go true o rest d f h =
+        let here : k ≡ 0 = cc in
+        rw d (subst (λ i. slice_get (x ∷ es) i ≡ Some e) here g)
+    go false None rest d f h = cc
+    go false (Some j) rest d f h =
+        let later : k ≡ suc j = cc in
+        rw d (rest j f (subst (λ i. slice_get (x ∷ es) i ≡ Some e) later g))
 
-abbrev same_name : Vec ℕ Global → Vec ℕ Global → Bool
-same_name x y = bytes_eq x.items y.items
+-- the entry that is read at the number of a name is the name's
+pub lookup_found : (names : List (List ℕ)) (es : List Entry) (name : List ℕ) (k : ℕ) (e : Entry) → length es ≡ length names → position (bytes_eq name) names ≡ Some k → e ≡ get_or es k e → lookup (zip names es) name ≡ Some e
+lookup_found names es name k e l p g =
+    let place = position-Some (bytes_eq name) names k [] p in
+    lookup_at names es name k e p (slice_get-get_or es k e (omega (arith, l, place.0)) ∙ ap Some (sym g))
+
+-- a name without a number has no entry
+pub lookup_nowhere : (names : List (List ℕ)) (es : List Entry) (name : List ℕ) → position (bytes_eq name) names ≡ None → lookup (zip names es) name ≡ None
+lookup_nowhere [] es name p = refl
+lookup_nowhere (n ∷ names) [] name p = refl
+lookup_nowhere (n ∷ names) (x ∷ es) name p =
+    go (bytes_eq name n) (position (bytes_eq name) names) (λ f. lookup_nowhere names es name f) refl refl (sym (position_cons (bytes_eq name) n names) ∙ p)
+  where
+    go : (b : Bool) (o : Option ℕ) → (position (bytes_eq name) names ≡ None → lookup (zip names es) name ≡ None)
+        → bytes_eq name n ≡ b → position (bytes_eq name) names ≡ o → next_place b o ≡ None → lookup (zip (n ∷ names) (x ∷ es)) name ≡ None
+    go true o rest d f h = cc
+    go false None rest d f h = rw d (rest f)
+    go false (Some j) rest d f h = cc
+
+-- a name with an entry has a number
+pub numbered : (names : List (List ℕ)) (es : List Entry) (name : List ℕ) (e : Entry) → lookup (zip names es) name ≡ Some e → IsSome (position (bytes_eq name) names)
+numbered names es name e l = go (position (bytes_eq name) names) refl
+  where
+    go : (o : Option ℕ) → position (bytes_eq name) names ≡ o → IsSome o
+    go None p = let nowhere = lookup_nowhere names es name p in cc
+    go (Some k) p = refl
+
+-- a name without an entry has none
+pub unnumbered : (names : List (List ℕ)) (es : List Entry) (name : List ℕ) → length es ≡ length names → lookup (zip names es) name ≡ None → position (bytes_eq name) names ≡ None
+unnumbered [] es name l h = refl
+unnumbered (n ∷ names) [] name l h = absurd (omega arith)
+unnumbered (n ∷ names) (x ∷ es) name l h = go (bytes_eq name n) (λ f. unnumbered names es name (omega (arith, l)) f) refl h
+  where
+    go : (b : Bool) → (lookup (zip names es) name ≡ None → position (bytes_eq name) names ≡ None)
+        → bytes_eq name n ≡ b → cond b (Some x) (lookup (zip names es) name) ≡ None → position (bytes_eq name) (n ∷ names) ≡ None
+    go true rest d f = cc
+    go false rest d f = position_cons (bytes_eq name) n names ∙ ap (λ b. next_place b (position (bytes_eq name) names)) d ∙ ap (next_place false) (rest f)
 
 -- the first name is the one that is looked for, or it is not
 module _ (es more : List (List ℕ × Entry)) (key first other : List ℕ) (v w : Entry) where
@@ -41,19 +90,44 @@ module _ (es more : List (List ℕ × Entry)) (key first other : List ℕ) (v w 
       go false true p q h = h
       go false false p q h = h
 
--- what an `insert` puts
-pub Puts-insert_entry : (es : List (Vec ℕ Global × Entry)) (key : Vec ℕ Global) (v : Entry) → Puts (names_of es) key.items v (names_of (insert_entry same_name es key v))
-Puts-insert_entry [] key v other = refl
-Puts-insert_entry (e ∷ es) key v other = go (bytes_eq key.items e.0.items) refl (Puts-insert_entry es key v other)
+-- what a new name puts, last
+Puts-push : (es : List (List ℕ × Entry)) (name : List ℕ) (v : Entry) → lookup es name ≡ None → Puts es name v (es ++ (name, v) ∷ [])
+Puts-push [] name v new other = refl
+Puts-push (e ∷ es) name v new other = go (bytes_eq name e.0) (λ h. Puts-push es name v h other) refl new
   where
-    go : (b : Bool) → bytes_eq key.items e.0.items ≡ b
-        → lookup (names_of (insert_entry same_name es key v)) other ≡ cond (bytes_eq other key.items) (Some v) (lookup (names_of es) other)
-        → lookup (names_of (if b then (e.0, v) ∷ es else e ∷ insert_entry same_name es key v)) other ≡ cond (bytes_eq other key.items) (Some v) (lookup (names_of (e ∷ es)) other)
-    go true p rest = replaced_first (names_of es) [] key.items e.0.items other v e.1 (sym ((bytes_eq-Decides key.items e.0.items).0 p))
-    go false p rest = kept_first (names_of es) (names_of (insert_entry same_name es key v)) key.items e.0.items other v e.1 p rest
+    go : (b : Bool) → (lookup es name ≡ None → lookup (es ++ (name, v) ∷ []) other ≡ cond (bytes_eq other name) (Some v) (lookup es other))
+        → bytes_eq name e.0 ≡ b → cond b (Some e.1) (lookup es name) ≡ None → lookup (e ∷ es ++ (name, v) ∷ []) other ≡ cond (bytes_eq other name) (Some v) (lookup (e ∷ es) other)
+    go true rest d h = cc
+    go false rest d h = kept_first es (es ++ (name, v) ∷ []) name e.0 other v e.1 d (rest h)
 
-pub Puts-insert : (es new : List (Vec ℕ Global × Entry)) (key : Vec ℕ Global) (name : List ℕ) (v : Entry) → new ≡ insert_entry same_name es key v → key.items ≡ name → Puts (names_of es) name v (names_of new)
-Puts-insert es new key name v e n = subst (λ es'. Puts (names_of es) name v (names_of es')) (sym e) (subst (λ n'. Puts (names_of es) n' v (names_of (insert_entry same_name es key v))) n (Puts-insert_entry es key v))
+-- the same where the name gets the next number
+pub Puts-new : (names more : List (List ℕ)) (es entries : List Entry) (name : List ℕ) (v : Entry) → length es ≡ length names → lookup (zip names es) name ≡ None
+    → more ≡ names ++ name ∷ [] → entries ≡ es ++ v ∷ [] → Puts (zip names es) name v (zip more entries)
+Puts-new names more es entries name v l new a b =
+    rw (a, b) (subst (Puts (zip names es) name v) (sym (zip_push names es name v l)) (Puts-push (zip names es) name v new))
+
+pub length_put : (names more : List (List ℕ)) (es entries : List Entry) (name : List ℕ) (v : Entry) → length es ≡ length names → more ≡ names ++ name ∷ [] → entries ≡ es ++ v ∷ [] → length entries ≡ length more
+length_put names more es entries name v l a b = rw (a, b) (length_push es v ∙ ap (λ n. n + 1) l ∙ sym (length_push names name))
+
+-- what is put at the place of a name
+pub Puts-set : (names : List (List ℕ)) (es : List Entry) (name : List ℕ) (k : ℕ) (v : Entry) → position (bytes_eq name) names ≡ Some k → k < length es → Puts (zip names es) name v (zip names (set es k v))
+Puts-set [] es name k v p l other = cc
+Puts-set (n ∷ names) [] name k v p l other = absurd (omega arith)
+Puts-set (n ∷ names) (e ∷ es) name k v p l other =
+    go (bytes_eq name n) (position (bytes_eq name) names) (λ j f m. Puts-set names es name j v f m other) refl refl (sym (position_cons (bytes_eq name) n names) ∙ p)
+  where
+    go : (b : Bool) (o : Option ℕ) → ((j : ℕ) → position (bytes_eq name) names ≡ Some j → j < length es → lookup (zip names (set es j v)) other ≡ cond (bytes_eq other name) (Some v) (lookup (zip names es) other))
+        → bytes_eq name n ≡ b → position (bytes_eq name) names ≡ o → next_place b o ≡ Some k
+        → lookup (zip (n ∷ names) (set (e ∷ es) k v)) other ≡ cond (bytes_eq other name) (Some v) (lookup (zip (n ∷ names) (e ∷ es)) other)
+    go true o rest d f h =
+        let here : 0 ≡ k = cc in
+        subst (λ i. lookup (zip (n ∷ names) (set (e ∷ es) i v)) other ≡ cond (bytes_eq other name) (Some v) (lookup (zip (n ∷ names) (e ∷ es)) other)) here
+        (replaced_first (zip names es) [] name n other v e (sym ((bytes_eq-Decides name n).0 d)))
+    go false None rest d f h = cc
+    go false (Some j) rest d f h =
+        let later : suc j ≡ k = cc in
+        subst (λ i. lookup (zip (n ∷ names) (set (e ∷ es) i v)) other ≡ cond (bytes_eq other name) (Some v) (lookup (zip (n ∷ names) (e ∷ es)) other)) later
+        (kept_first (zip names es) (zip names (set es j v)) name n other v e d (rest j f (omega (arith, later, l))))
 
 -- entries stay where more macros and named terms come
 pub IsThere-more : (v w : EntriesView) (e : Entry) → length v.macros ≤ length w.macros → length v.named ≤ length w.named → IsThere v e → IsThere w e
@@ -73,3 +147,18 @@ AreThere-Puts v w name e m n h puts there other =
 -- one more at the end
 pub length_pushed : {X : Type 0} (xs ys more : List X) (x : X) → more ≡ ys ++ x ∷ [] → ys ≡ xs → length more ≡ length xs + 1
 length_pushed xs ys more x e g = ap length (e ∙ ap (λ zs. zs ++ x ∷ []) g) ∙ length_push xs x
+
+-- numbers of names stay that where more names come, and where the references are put in another order
+pub AreNumbers-more : (given : List (ℕ × ℕ)) (m n : ℕ) → m ≤ n → AreNumbers given m → AreNumbers given n
+AreNumbers-more given m n more h r k is = let below = h r k is in omega arith
+
+pub AreNumbers-same : (given other : List (ℕ × ℕ)) (n : ℕ) → ((r : ℕ) → number_given other r ≡ number_given given r) → AreNumbers given n → AreNumbers other n
+AreNumbers-same given other n same h r k is = h r k (sym (same r) ∙ is)
+
+-- one more number is kept
+pub AreNumbers-put : (given other : List (ℕ × ℕ)) (r number n : ℕ) → ((q : ℕ) → number_given other q ≡ cond (eqb r q) (Some number) (number_given given q)) → number < n → AreNumbers given n → AreNumbers other n
+AreNumbers-put given other r number n updates below h q k is = go (eqb r q) (sym (updates q) ∙ is)
+  where
+    go : (b : Bool) → cond b (Some number) (number_given given q) ≡ Some k → k < n
+    go true e = subst (λ j. j < n) (same_Some _ _ e) below
+    go false e = h q k e

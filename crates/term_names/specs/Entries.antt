@@ -1,6 +1,5 @@
 -- Public. The names of macros and of named terms, with what they stand for.
-use Rattle.std.specs.Prelude.{◌≡◌, ℕ, ◌<◌, List, [], ◌∷◌, length, map, if◌then◌else◌, bytes_eq, Option, Some, None, IfSome, Vec}
-use Rattle.std.specs.declared.alloc.Global.{Global}
+use Rattle.std.specs.Prelude.{◌≡◌, ℕ, ◌<◌, List, [], ◌∷◌, length, if◌then◌else◌, bytes_eq, Option, Some, None}
 use Rattle.term_names.specs.declared.entries.Entry.{Entry}
 use Rattle.term_names.specs.declared.entries.Entry.TheVariants.{Reserved, Macro, Named}
 use Rattle.term_names.specs.declared.entries.Macro as macro
@@ -29,10 +28,3 @@ abbrev pub IsThere : EntriesView → Entry → Type 0
 IsThere v Reserved = Unit {0}
 IsThere v (Macro n) = n < length v.macros
 IsThere v (Named n) = n < length v.named
-
-abbrev pub AreThere : EntriesView → Type 0
-AreThere v = (name : List ℕ) → IfSome (lookup v.names name) (IsThere v)
-
--- the names of a table as byte strings
-abbrev pub names_of : List (Vec ℕ Global × Entry) → List (List ℕ × Entry)
-names_of es = map (λ e. (e.0.items, e.1)) es

@@ -1,6 +1,8 @@
+pub mod FreeParts
 pub mod Stacks
 pub mod StackParts
 pub mod Entries
+pub mod NameTables
 pub mod Known
 pub mod NameNumbers
 pub mod Scope

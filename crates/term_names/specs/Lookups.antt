@@ -12,13 +12,16 @@ use Rattle.problem_text.specs.Words.{operator_named}
 use Rattle.term_names.specs.declared.looking_up.Found.{Found}
 use Rattle.term_names.specs.LookingUp.{IsFoundMeaning}
 
--- the named term or the macro of a name, and the function or the operator
+-- the named term or the macro of a name, the function, and the function or the operator
 abbrev pub meaning_of_entry : Place → Script → List ℕ → Option Meaning
 meaning_of_entry p sc name =
     option_or (option_and_then (λ n. meaning_of_named p n.meant) (named_in_script sc name)) (option_map macro (macro_in sc name))
 
+abbrev pub meaning_of_function : Script → List ℕ → Option Meaning
+meaning_of_function sc name = option_map function (function_in sc name)
+
 abbrev pub meaning_of_symbol : Script → List ℕ → Option Meaning
-meaning_of_symbol sc name = option_or (option_map function (function_in sc name)) (option_map operator (operator_named name))
+meaning_of_symbol sc name = option_or (meaning_of_function sc name) (option_map operator (operator_named name))
 
 -- The table and the script agree on the function of a name.
 abbrev pub AgreeOnFunction : Table → Script → List ℕ → Type 0

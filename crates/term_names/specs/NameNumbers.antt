@@ -1,14 +1,5 @@
 -- Public. Names, by the numbers that are their places.
-use Rattle.std.specs.Prelude.{◌≡◌, ℕ, List, map, position, slice_get, bytes_eq, Some, Vec, ◌+◌, ◌⊎◌, [], ◌∷◌, ◌++◌}
-use Rattle.std.specs.declared.alloc.Global.{Global}
-
--- names as byte strings
-abbrev pub texts : List (Vec ℕ Global) → List (List ℕ)
-texts names = map (λ name. name.items) names
-
--- no name has two numbers
-abbrev pub AreApart : List (List ℕ) → Type 0
-AreApart names = (k : ℕ) (name : List ℕ) → slice_get names k ≡ Some name → position (bytes_eq name) names ≡ Some k
+use Rattle.std.specs.Prelude.{◌≡◌, ℕ, List, slice_get, Some, ◌⊎◌, [], ◌∷◌, ◌++◌}
 
 -- The name has number k: it had it and nothing changed, or it is new and has no variable yet.
 pub record IsNumbered (old new : List (List ℕ)) (old_tops new_tops : List ℕ) (name : List ℕ) (k : ℕ) : Type 0 where

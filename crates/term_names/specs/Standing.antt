@@ -10,7 +10,7 @@ use Rattle.term_names.specs.Known.{KnownView, known_entry, macro_of, named_of}
 use Rattle.rule_model.specs.Replacement.{free_variables}
 use Rattle.problem_text.specs.Scripts.{Macro, Named, Script}
 use Rattle.term_expansion.specs.Values.{IsValue}
-use Rattle.problem_text.specs.Words.{is_among}
+use Rattle.problem_text.specs.Words.{is_among, is_built_in}
 use Rattle.term_names.specs.declared.entries.Macro as macro
 use Rattle.term_names.specs.declared.entries.Named as named
 use Rattle.term_names.specs.declared.known.KnownEntry.{KnownEntry}
@@ -99,9 +99,11 @@ IsNameMeant s v k sc name (Some KnownEntry.Reserved) = IsReservedName s sc name
 IsNameMeant s v k sc name (Some (KnownEntry.Macro w)) = IsMacroName s v sc name (macro_of k w)
 IsNameMeant s v k sc name (Some (KnownEntry.Named w)) = IsNamedName s v sc name (named_of k w)
 
--- the table, the pool and the entries stand for what the script declares and names
+-- The table, the pool and the entries stand for what the script declares and names. No function, macro or named term has
+-- a built-in word for its name.
 pub record IsScript (s : Table) (v : TermsView) (k : KnownView) (sc : Script) : Type 0 where
   pub sorts : s.sorts ≡ sc.sorts
+  pub built_in : (name : List ℕ) → is_built_in name ≡ true → is_among sc.taken name ≡ false
   pub names : (name : List ℕ) → IsNameMeant s v k sc name (known_entry k name)
 
 -- Only numerals and variables are added to the table.

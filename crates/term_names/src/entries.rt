@@ -1,10 +1,10 @@
 //! The names of macros and of named terms, and what they stand for (SMT-LIB 2.6, "Commands", and on attributes of
 //! terms).
-ghost use Rattle.std.specs.Prelude.{◌≡◌, [], ◌∷◌, ◌++◌, ◌<◌, length, slice_get, Some, None, OnOk, OnErr, IfSome};
+ghost use Rattle.std.specs.Prelude.{◌≡◌, [], ◌∷◌, ◌++◌, ◌<◌, length, slice_get, position, bytes_eq, Some, None, OnOk, OnErr, IfSome};
 ghost use Rattle.term_names.specs.Entries.{lookup, no_entries, Puts, IsThere};
 ghost use Rattle.term_names.specs.declared.entries.Entry.TheVariants as Entry;
 
-use indexmap::IndexMap;
+use name_set::NameSet;
 use pair_pool::Ref;
 use std::alloc::Global;
 use std::collections::HashMap;
@@ -43,34 +43,43 @@ pub enum Entry {
 /// The names with what they stand for. A look-up takes the time of one hash, whatever there is.
 #[derive(Drop)]
 pub struct Entries {
-    alloc: Global,
-    names: IndexMap<Vec<u8>, Entry>,
+    names: NameSet,
+    /// What each name is that of, by the name's number.
+    entries: Vec<Entry>,
     macros: Vec<Macro>,
     named: Vec<Named>,
-    /// A name of each term that has one, by its reference. It only helps to find a named term again: who asks looks up
-    /// what the name stands for.
-    given: HashMap<u32, Vec<u8>>,
+    /// The number of a name of each term that has one, by the term's reference. It only helps to find a named term again:
+    /// who asks looks up what the name stands for.
+    given: HashMap<u32, usize>,
 }
 
 impl Model for Entries {
-    ghost use Rattle.term_names.specs.Entries.{EntriesView, names_of, AreThere};
+    ghost use Rattle.term_names.specs.Entries.{EntriesView};
+    ghost use Rattle.term_names.specs.NameTables.{IsInStep, entries_view};
 
     ghost Value = { EntriesView };
 
-    ghost view = { λ e. record { names = names_of e.names.entries; macros = e.macros.items; named = e.named.items } };
+    ghost view = { λ e. entries_view e.names e.entries.items e.macros.items e.named.items };
 
-    ghost invariant = { λ e. AreThere (record { names = names_of e.names.entries; macros = e.macros.items; named = e.named.items }) };
+    ghost invariant = { λ e. IsInStep e.names e.entries.items e.macros.items e.named.items e.given.entries };
 }
 
-/// Remembers the name for the term.
-fn remember(
-    alloc: Global,
-    given: &mut HashMap<u32, Vec<u8>>,
-    term: Ref,
+/// Gives a name that has no number the next one, and its entry that place.
+fn put_new(
+    names: &mut NameSet,
+    entries: &mut Vec<Entry>,
     name: &[u8],
-) -> Result<(), Memory> {
-    let owned = Vec::from_slice(alloc, name)?;
-    let _ = given.insert(term.number(), owned)?;
+    entry: Entry,
+) -> Result<(), Memory>
+    requires { position (bytes_eq name.now) names.old ≡ None }
+    ensures names { OnOk result (names.new ≡ names.old ++ name.now ∷ []) }
+    ensures entries { OnOk result (entries.new.items ≡ entries.old.items ++ entry ∷ []) }
+    ensures names_refused { OnErr result (names.new ≡ names.old) }
+    ensures entries_refused { OnErr result (entries.new.items ≡ entries.old.items) }
+{
+    entries.reserve(1)?;
+    names.add(name)?;
+    entries.push(entry).unwrap();
     Ok(())
 }
 
@@ -79,8 +88,8 @@ impl Entries {
         ensures { result ≡ no_entries }
     {
         Entries {
-            alloc,
-            names: IndexMap::new(alloc),
+            names: NameSet::new(alloc),
+            entries: Vec::new(alloc),
             macros: Vec::new(alloc),
             named: Vec::new(alloc),
             given: HashMap::new(alloc),
@@ -92,8 +101,11 @@ impl Entries {
         ensures entry { result ≡ lookup self.now.names name.now }
         ensures there { IfSome result (IsThere self.now) }
     {
-        let entry = self.names.get(name)?;
-        Some(*entry)
+        if self.entries.is_empty() {
+            return None;
+        }
+        let number = self.names.find(name)?;
+        Some(self.entries[number])
     }
 
     /// Takes a name that has no entry for a macro whose body is to be read. After a refusal nothing has changed.
@@ -104,8 +116,7 @@ impl Entries {
         ensures named { self.new.named ≡ self.old.named }
         ensures refused { OnErr result (self.new ≡ self.old) }
     {
-        let owned = Vec::from_slice(self.alloc, name)?;
-        self.names.insert(owned, Entry::Reserved)?;
+        put_new(&mut self.names, &mut self.entries, name, Entry::Reserved)?;
         Ok(())
     }
 
@@ -124,10 +135,9 @@ impl Entries {
         ensures named { self.new.named ≡ self.old.named }
         ensures refused { OnErr result (self.new ≡ self.old) }
     {
-        let owned = Vec::from_slice(self.alloc, name)?;
         self.macros.reserve(1)?;
-        let number = self.macros.len();
-        self.names.insert(owned, Entry::Macro(number))?;
+        let place = self.names.find(name).unwrap();
+        self.entries[place] = Entry::Macro(self.macros.len());
         let defined = Macro {
             parameters,
             sorts,
@@ -146,19 +156,21 @@ impl Entries {
         ensures macros { self.new.macros ≡ self.old.macros }
         ensures refused { OnErr result (self.new ≡ self.old) }
     {
-        let owned = Vec::from_slice(self.alloc, name)?;
         self.named.reserve(1)?;
-        remember(self.alloc, &mut self.given, value.term, name)?;
-        let number = self.named.len();
-        self.names.insert(owned, Entry::Named(number))?;
+        self.given.reserve(1)?;
+        let number = self.names.len();
+        let entry = Entry::Named(self.named.len());
+        put_new(&mut self.names, &mut self.entries, name, entry)?;
+        let remembered: Result<_, _> = self.given.insert(value.term.number(), number);
+        remembered.unwrap();
         self.named.push(Named { value, free }).unwrap();
         Ok(())
     }
 
     /// A name that was given to the term, if any was.
     pub fn name_given(&self, term: Ref) -> Option<&[u8]> {
-        let name = self.given.get(&term.number())?;
-        Some(name)
+        let number = self.given.get(&term.number())?;
+        Some(self.names.name(*number))
     }
 
     /// The macro of this number.

@@ -12,7 +12,8 @@ ghost use Rattle.term_model.specs.FreeVariables.{IsFree};
 ghost use Rattle.term_model.specs.Terms.{Term};
 ghost use Rattle.term_pool.specs.Reading.{arguments_of, IsLet, IsLetTerm};
 ghost use Rattle.term_pool.specs.Views.{RefersTo, ReferToAll, KeepsTerms};
-ghost use Rattle.term_expansion.specs.Free.{AreFreeLeaves, ArePartsOfLet, AddsLeaves, IsAtMost, IsFreeInAny, CoversFree, AreBodies};
+ghost use Rattle.term_expansion.specs.Free.{AreFreeLeaves, AddsLeaves};
+ghost use Rattle.term_names.specs.FreeParts.{ArePartsOfLet, IsAtMost, IsFreeInAny, CoversFree, AreBodies};
 ghost use Rattle.term_expansion.specs.Images.{IsSomeValue};
 ghost use Rattle.rule_model.specs.Replacement.{free_variables};
 ghost use Rattle.problem_text.specs.TypedTerms.{Typed};
@@ -260,7 +261,7 @@ fn leaves_of(
 ///
 /// Goes through each distinct cell once for each distinct body of a let that it stands in, but for those of terms that
 /// were named before, whose leaves are kept, and takes memory for each that it meets there. Takes stack in proportion to
-/// the term's height. Refuses want of memory alone.
+/// the term's height. Where the table has no variable it does none of this. Refuses want of memory alone.
 pub fn free_leaves(
     alloc: Global,
     symbols: &Symbols,
@@ -276,6 +277,9 @@ pub fn free_leaves(
     ensures unchanged { IsUnchanged terms.old.pass terms.new.pass }
 {
     let _leaves = symbols.count();
+    if !symbols.may_have_variables() {
+        return Ok(Vec::new(alloc));
+    }
     let mut bodies = HashMap::new(alloc);
     leaves_of(
         alloc,

@@ -1,6 +1,6 @@
 //! What names mean where they stand in a term, and the terms that are made of what they mean.
 //!
-//! - `name_numbers`, `scope`: names by numbers, and the variables in scope by their names. `entries`, `known`: macros and
+//! - `scope`: the variables in scope by their names. `entries`, `known`: macros and
 //!   named terms, those of a problem and those of a reader of terms. `words`: the operators' names.
 //! - `looking_up`: what a name is found to be; `using`: a symbol alone; `heads`, `applying`: a symbol applied to terms;
 //!   `lets`: variables of lets, and lets made; `stacks`: the terms that were read and not yet used.
@@ -18,7 +18,6 @@ pub mod heads;
 pub mod known;
 pub mod lets;
 pub mod looking_up;
-pub mod name_numbers;
 pub mod scope;
 pub mod stacks;
 pub mod using;

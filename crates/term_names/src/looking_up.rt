@@ -10,7 +10,7 @@ ghost use Rattle.term_expansion.specs.Free.{AreFreeLeaves};
 ghost use Rattle.term_names.specs.InScope.{IsScope};
 ghost use Rattle.term_names.specs.Known.{KnownView};
 ghost use Rattle.term_names.specs.LookingUp.{IsFoundMeaning};
-ghost use Rattle.term_names.specs.Lookups.{IsEntryMeant, IsSymbolMeant, AgreeOnFunction, meaning_of_symbol};
+ghost use Rattle.term_names.specs.Lookups.{IsEntryMeant, IsSymbolMeant, AgreeOnFunction, meaning_of_function};
 ghost use Rattle.problem_text.specs.Names.{Place, Meaning, is_bound, meaning_of};
 ghost use Rattle.problem_text.specs.Scripts.{Script};
 ghost use Rattle.term_names.specs.Standing.{IsScript};
@@ -40,17 +40,22 @@ pub enum Found {
 /// What a name means where these variables are in scope: the innermost variable of that name, then a named term or a
 /// macro, then a function, then an operator.
 ///
-/// Costs one look-up in each table, and for a named term one for each of its free variables.
+/// Operators are asked for first, since nothing that a problem declares or names has the name of one. Costs one look-up
+/// among the variables, for other names one in each further table, and for a named term one for each of its free
+/// variables.
 pub fn find(symbols: &Symbols, known: &Known<'_>, scope: &Scope, name: &[u8]) -> Found
     ensures { (v : TermsView) (sc : Script) (p : Place) → IsScript symbols.now v known.now sc → IsScope symbols.now v scope.now p.scope → IsFoundMeaning symbols.now v known.now p result (meaning_of p sc name.now) }
 {
     if let Some(bound) = scope.find(name) {
         return Found::Term(bound.value);
     }
+    if let Some(op) = operator_of(name) {
+        return Found::Symbol(symbols.operator(op));
+    }
     if let Some(found) = entry_named(symbols, known, scope, name) {
         return found;
     }
-    match symbol_named(symbols, name) {
+    match function_named(symbols, name) {
         Some(leaf) => Found::Symbol(leaf),
         None => Found::Unknown,
     }
@@ -98,16 +103,13 @@ fn is_bound_here(symbols: &Symbols, scope: &Scope, leaf: u32) -> bool
     }
 }
 
-/// The leaf of the function of this name, or else of the operator.
-fn symbol_named(symbols: &Symbols, name: &[u8]) -> Option<u32>
-    ensures { (sc : Script) → AgreeOnFunction symbols.now sc name.now → IsSymbolMeant symbols.now result (meaning_of_symbol sc name.now) }
+/// The leaf of the function of this name.
+fn function_named(symbols: &Symbols, name: &[u8]) -> Option<u32>
+    ensures { (sc : Script) → AgreeOnFunction symbols.now sc name.now → IsSymbolMeant symbols.now result (meaning_of_function sc name.now) }
 {
+    // The table has no two functions of one name.
     let _leaves = symbols.count();
-    if let Some(leaf) = symbols.find(name) {
-        return Some(leaf);
-    }
-    let op = operator_of(name)?;
-    Some(symbols.operator(op))
+    symbols.find(name)
 }
 
 /// What is found, as the head of an application. A term takes no arguments.

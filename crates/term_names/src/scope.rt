@@ -3,7 +3,7 @@ ghost use Rattle.std.specs.Prelude.{◌≡◌, ◌<◌, [], ◌∷◌, length, b
 ghost use Rattle.term_names.specs.Scope.{Scoped};
 ghost use Rattle.term_names.specs.NameNumbers.{IsNumbered};
 
-use crate::name_numbers::NameNumbers;
+use name_set::NameSet;
 use std::alloc::Global;
 use std::marker::Model;
 use sym_table::Memory;
@@ -22,10 +22,11 @@ pub(crate) struct Held {
 ///
 /// A name keeps its number when its variables go out of scope. `innermost` has for each name where its innermost
 /// variable stands, counted from 1, or 0 where there is none. So a look-up takes the time of one hash, and so does a
-/// new variable, however many there are.
+/// new variable, however many there are. Where no variable is in scope, which is so in most of a text, a look-up takes
+/// no hash.
 #[derive(Drop)]
 pub struct Scope {
-    names: NameNumbers,
+    names: NameSet,
     innermost: Vec<usize>,
     held: Vec<Held>,
 }
@@ -49,7 +50,7 @@ impl Scope {
         ensures { result ≡ [] }
     {
         Scope {
-            names: NameNumbers::new(alloc),
+            names: NameSet::new(alloc),
             innermost: Vec::new(alloc),
             held: Vec::new(alloc),
         }
@@ -66,6 +67,9 @@ impl Scope {
     pub fn find(&self, name: &[u8]) -> Option<Bound>
         ensures { result ≡ option_map (λ e. e.bound) (find (λ e. bytes_eq e.name name.now) self.now) }
     {
+        if self.held.is_empty() {
+            return None;
+        }
         let number = self.names.find(name)?;
         let place = self.innermost[number];
         if place == 0 {
@@ -98,11 +102,7 @@ impl Scope {
 }
 
 /// The number of a name: the one that it has, or a new one. A new name has no variable yet.
-fn number_of(
-    names: &mut NameNumbers,
-    innermost: &mut Vec<usize>,
-    name: &[u8],
-) -> Result<usize, Memory>
+fn number_of(names: &mut NameSet, innermost: &mut Vec<usize>, name: &[u8]) -> Result<usize, Memory>
     requires { length names.old ≡ length innermost.old.items }
     ensures number { IfOk result (λ k. IsNumbered names.old names.new innermost.old.items innermost.new.items name.now k) }
     ensures names { OnErr result (names.new ≡ names.old) }

@@ -5,7 +5,8 @@ use Rattle.std.proofs.lemmas.Map.Steps.{length-le_from_distinct_below}
 use Rattle.std.proofs.lemmas.Bool.{eqb-true}
 use Rattle.pair_pool.specs.Trees.{Tree, leaf, cell}
 use Rattle.pair_pool.specs.Views.{PassView, Knows, IsOneToOne, HasPartsOfTrees}
-use Rattle.term_pool.specs.Trees.{list_length, depth}
+use Rattle.term_pool.specs.Trees.{depth}
+use Rattle.term_pool.specs.TreeLists.{list_length}
 use Rattle.term_pool.specs.Views.{IsKnownCell}
 
 -- a reference that is known to be above the leaves is that of a cell

@@ -8,7 +8,8 @@ use Rattle.term_model.specs.declared.symbols.Op.{Op}
 use Rattle.term_model.specs.Terms.{Term, numeral, variable, operation, call, let_in, no_terms, term, not_of}
 use Rattle.term_pool.specs.StandsFor.{nil_tree, let_tree, function_leaf, StandsFor}
 use Rattle.term_pool.specs.Views.{TermsView, RefersTo}
-use Rattle.term_pool.specs.Nots.{negated, IsStripped, not_tree, nots_tree, IsNotOf, IsUnderNots}
+use Rattle.term_pool.specs.Nots.{negated, IsStripped}
+use Rattle.term_pool.specs.NotTrees.{not_tree, nots_tree, IsNotOf, IsUnderNots}
 use Rattle.term_pool.specs.Views.{IsKnownCell}
 use Rattle.term_pool.proofs.Depth.{depth-bound}
 use Rattle.term_pool.specs.Trees.{depth}

@@ -9,8 +9,9 @@ use Rattle.sym_table.specs.Leaf.{Leaf, operator, let_head}
 use Rattle.sym_table.specs.Table.{Table, IsLeaf, IsTable}
 use Rattle.term_model.specs.Terms.{Var, Term, Terms, Bindings, numeral, variable, operation, call, let_in, no_terms, term, list_of, no_bindings, binding}
 use Rattle.term_pool.specs.StandsFor.{nil_tree, let_tree, function_leaf, StandsFor, StandsForApplication, StandsForList, StandsForBindings}
-use Rattle.term_pool.specs.Trees.{tree_items, AreLeafPairs, pair_leaves, pair_trees}
-use Rattle.term_pool.specs.Views.{TermsView, RefersTo, ReferToAll, KnowsAll, IsKnownCell, AddsItems, IsPairList, AddsPairs}
+use Rattle.term_pool.specs.Trees.{pair_leaves}
+use Rattle.term_pool.specs.TreeLists.{tree_items, AreLeafPairs, pair_trees, AddsItems, IsPairList, AddsPairs}
+use Rattle.term_pool.specs.Views.{TermsView, RefersTo, ReferToAll, KnowsAll, IsKnownCell}
 use Rattle.term_pool.specs.Building.{IsAppliedLeaf, AreBindings}
 use Rattle.term_pool.specs.Reading.{arguments_of, IsLet, IsLetTerm}
 use Rattle.term_pool.specs.StandsFor.{StandForAll}

@@ -2,8 +2,8 @@
 use Rattle.std.proofs.Common.{◌≡◌, ℕ, ◌+◌, ◌<◌, ◌≤◌, ◌^◌, ◌∙◌, ap, arith, suc}
 use Rattle.pair_pool.specs.Trees.{Tree, leaf, cell}
 use Rattle.pair_pool.specs.Views.{PassView, Knows, IsUnchanged, IsOneToOne, HasPartsOfTrees, HasListsInOrder}
-use Rattle.term_pool.specs.Trees.{list_length, list_item}
-use Rattle.term_pool.specs.Views.{IsKnownCell, HasItem}
+use Rattle.term_pool.specs.TreeLists.{list_length, list_item, HasItem}
+use Rattle.term_pool.specs.Views.{IsKnownCell}
 use Rattle.term_pool.proofs.Depth.{depth-bound, list_length-depth, is_cell}
 
 pub same_pass : (old new : PassView) → IsUnchanged old new → new ≡ old

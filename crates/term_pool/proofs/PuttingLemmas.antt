@@ -9,8 +9,8 @@ use Rattle.term_pool.specs.declared.putting.Image.{Image}
 use Rattle.term_pool.specs.Trees.{IsPartOf, depth}
 use Rattle.term_pool.specs.Views.{IsKnownCell, KeepsPass}
 use Rattle.term_pool.specs.Building.{IsCellIn, PlacesOnlyIn, IsFullIn, Interns, Refuses, Builds, LacksRoom}
-use Rattle.term_pool.specs.Putting.{Piece, staying, joined_pieces, put, CellImages, IsImageOfPiece, IsLowPiece, IsImageOf, ArePiecesOfLeaves, HasPieceImages, HasBecomeImage, IsImageMemory, IsPuttingReady, image_of_leaf_or_itself, IsCellUnder, PlacesPiece, LacksRoomForPiece}
-use Rattle.term_pool.specs.PuttingVisits.{joined_image, RemembersImage}
+use Rattle.term_pool.specs.Putting.{Piece, staying, joined_pieces, put, CellImages, IsImageOfPiece, IsLowPiece, IsImageOf, ArePiecesOfLeaves, HasPieceImages, PlacesPiece, LacksRoomForPiece}
+use Rattle.term_pool.specs.PuttingVisits.{joined_image, RemembersImage, HasBecomeImage, IsImageMemory, IsPuttingReady, image_of_leaf_or_itself, IsCellUnder}
 use Rattle.term_pool.proofs.Depth.{depth-bound, is_cell}
 use Rattle.term_pool.proofs.BuildingLemmas.{keeps-refl, keeps-trans, part-refl, first-larger, second-larger, in_larger, placed-larger, placed-trans, placed-none, interned, refused}
 use Rattle.term_pool.proofs.ReadingLemmas.{reference_cell, part_known, second_known, leaf_of}

@@ -6,8 +6,9 @@ use Rattle.sym_table.specs.Leaf.{Leaf, operator}
 use Rattle.sym_table.specs.Table.{Table, IsLeaf}
 use Rattle.term_model.specs.Terms.{Var, Term, Terms, Bindings, numeral, variable, operation, call, let_in, no_terms, term, list_of, no_bindings, binding}
 use Rattle.term_pool.specs.StandsFor.{let_tree, variable_leaf, function_leaf, StandsFor, StandsForApplication, StandsForList, StandsForBindings}
-use Rattle.term_pool.specs.Trees.{list_length, list_item, IsCellTree}
-use Rattle.term_pool.specs.Views.{TermsView, RefersTo, KeepsTerms, IsKnownCell, HasItem}
+use Rattle.term_pool.specs.Trees.{IsCellTree}
+use Rattle.term_pool.specs.TreeLists.{list_length, list_item, HasItem}
+use Rattle.term_pool.specs.Views.{TermsView, RefersTo, KeepsTerms, IsKnownCell}
 use Rattle.term_pool.specs.Reading.{arguments_of, list_of_bindings, bindings_of, IsLet, HasArgument, HasBinding, IsLetTerm}
 use Rattle.term_pool.specs.CellShapes.{IsTermCell}
 use Rattle.term_pool.proofs.BuildingLemmas.{keeps-refl}

@@ -7,7 +7,8 @@ use Rattle.sym_table.specs.Leaf.{Leaf, operator, let_head}
 use Rattle.sym_table.specs.Table.{Table, IsLeaf, IsTable}
 use Rattle.term_model.specs.Terms.{Term, Bindings, numeral, variable, operation, call, let_in, no_terms, term, no_bindings, binding}
 use Rattle.term_pool.specs.StandsFor.{let_tree, variable_leaf, function_leaf, StandsFor, StandsForBindings}
-use Rattle.term_pool.specs.Trees.{list_length, IsCellTree}
+use Rattle.term_pool.specs.Trees.{IsCellTree}
+use Rattle.term_pool.specs.TreeLists.{list_length}
 use Rattle.term_pool.specs.Views.{TermsView, RefersTo, IsTerm}
 use Rattle.term_pool.specs.Reading.{list_of_bindings, IsShapeOf}
 use Rattle.term_pool.specs.CellShapes.{leaf_shape, cell_shape, IsTermCell}

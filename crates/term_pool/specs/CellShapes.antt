@@ -5,7 +5,8 @@ use Rattle.pair_pool.specs.Views.{PassView, Knows}
 use Rattle.sym_table.specs.Leaf.{Leaf, operator, function}
 use Rattle.term_pool.specs.declared.shape.Shape.{Shape}
 use Rattle.term_pool.specs.StandsFor.{let_tree}
-use Rattle.term_pool.specs.Trees.{IsCellTree, list_length}
+use Rattle.term_pool.specs.Trees.{IsCellTree}
+use Rattle.term_pool.specs.TreeLists.{list_length}
 
 -- the shape of a term that is leaf k and stands for the symbol l
 abbrev pub leaf_shape : ℕ → Leaf → Shape

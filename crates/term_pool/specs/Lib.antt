@@ -1,6 +1,8 @@
 pub mod StandsFor
+pub mod NotTrees
 pub mod Trees
 pub mod Views
+pub mod TreeLists
 pub mod ReadingOnly
 pub mod Building
 pub mod Reading

@@ -1,12 +1,12 @@
 -- Public. Putting trees in for the leaves of a tree.
-use Rattle.std.specs.Prelude.{◌≡◌, ℕ, ◌+◌, ◌≤◌, ◌<◌, max, Bool, true, ◌&&◌, Option, Some, None, nat_eq}
+use Rattle.std.specs.Prelude.{◌≡◌, ℕ, ◌+◌, ◌≤◌, max, Bool, true, ◌&&◌, Option, Some, None, nat_eq}
 use Rattle.std.specs.declared.hash.FoldHasher.{FoldHasher}
 use Rattle.std.specs.declared.hash.BuildHasherDefault.{BuildHasherDefault}
 use Rattle.std.specs.HashMap.{get, HashMap}
 use Rattle.pair_pool.specs.Trees.{Tree, leaf, cell}
 use Rattle.pair_pool.specs.Views.{PassView, Knows}
 use Rattle.term_pool.specs.declared.putting.Image.{Image}
-use Rattle.term_pool.specs.Trees.{IsPartOf, depth}
+use Rattle.term_pool.specs.Trees.{depth}
 use Rattle.term_pool.specs.Building.{PlacesOnlyIn, IsFullIn}
 
 -- A tree, its height as a term, that of its highest item as a list of arguments, and whether a term that stands there
@@ -57,35 +57,6 @@ ArePiecesOfLeaves pass images f = (k : ℕ) → IsImageOf pass (get nat_eq image
 pub record HasPieceImages (pass : PassView) (images : CellImages) : Type 0 where
   pub pieces : ℕ → Piece
   pub are : ArePiecesOfLeaves pass images pieces
-
--- what a cell has become
-pub record HasBecomeImage (pass : PassView) (f : ℕ → Piece) (r : ℕ) (d : Image) : Type 0 where
-  pub tree : Tree
-  pub known : Knows pass r tree
-  pub image : IsImageOfPiece pass d (put f tree)
-
-abbrev pub IsImageMemory : PassView → (ℕ → Piece) → CellImages → Type 0
-IsImageMemory pass f memo = (r : ℕ) (d : Image) → get nat_eq memo r ≡ Some d → HasBecomeImage pass f r d
-
--- the images are those of some pieces, and what is remembered has become of them
-pub record IsPuttingReady (pass : PassView) (images memo : CellImages) : Type 0 where
-  pub pieces : ℕ → Piece
-  pub are : ArePiecesOfLeaves pass images pieces
-  pub right : IsImageMemory pass pieces memo
-
-abbrev pub image_of_leaf_or_itself : Option Image → ℕ → Image
-image_of_leaf_or_itself None k = record { term = k; height = 1; highest = 0; plain = true }
-image_of_leaf_or_itself (Some d) k = d
-
--- y is a cell that is a part of what x is known to be, and not all of it
-pub record IsCellUnder (pass : PassView) (x y : ℕ) : Type 0 where
-  pub upper : Tree
-  pub upper_known : Knows pass x upper
-  pub first : Tree
-  pub second : Tree
-  pub known : Knows pass y (cell first second)
-  pub part : IsPartOf (cell first second) upper
-  pub less : depth (cell first second) < depth upper
 
 -- nothing is placed but cells of what the known reference becomes
 abbrev pub PlacesPiece : PassView → PassView → (ℕ → Piece) → ℕ → Type 0

@@ -1,5 +1,5 @@
 -- Public. The trees of lists, applications and lets, and the parts and sizes of trees.
-use Rattle.std.specs.Prelude.{◌≡◌, ℕ, zero, suc, ◌⊎◌, List, [], ◌∷◌, max}
+use Rattle.std.specs.Prelude.{◌≡◌, ℕ, ◌⊎◌, List, [], ◌∷◌}
 pub use Rattle.pair_pool.specs.Trees.{depth}
 use Rattle.pair_pool.specs.Trees.{Tree, leaf, cell}
 use Rattle.term_pool.specs.StandsFor.{nil_tree, let_tree}
@@ -33,37 +33,9 @@ abbrev pub IsCellTree : Tree → Type 0
 IsCellTree (leaf k) = ⊥
 IsCellTree (cell a b) = Unit {0}
 
--- how many items the tree has as a list
-abbrev pub list_length : Tree → ℕ
-list_length (leaf k) = 0
-list_length (cell a b) = suc (list_length b)
-
--- the items of the tree as a list
-abbrev pub tree_items : Tree → List Tree
-tree_items (leaf k) = []
-tree_items (cell a b) = a ∷ tree_items b
-
--- the item of the tree as a list at place i, counted from 0
-abbrev pub list_item : Tree → ℕ → Tree
-list_item (leaf k) i = leaf k
-list_item (cell a b) zero = a
-list_item (cell a b) (suc i) = list_item b i
-
--- each item of the tree as a list is the cell of a leaf and a tree
-abbrev pub AreLeafPairs : Tree → Type 0
-AreLeafPairs (leaf k) = Unit {0}
-AreLeafPairs (cell (leaf j) b) = ⊥
-AreLeafPairs (cell (cell (leaf k) t) b) = AreLeafPairs b
-AreLeafPairs (cell (cell (cell c d) t) b) = ⊥
-
--- the leaves of these cells, and the trees
+-- the leaves of the items of the tree as a list, up to the first that is not the cell of a leaf and a tree
 abbrev pub pair_leaves : Tree → List ℕ
 pair_leaves (leaf k) = []
 pair_leaves (cell (leaf j) b) = []
 pair_leaves (cell (cell (leaf k) t) b) = k ∷ pair_leaves b
 pair_leaves (cell (cell (cell c d) t) b) = []
-
-abbrev pub pair_trees : Tree → List Tree
-pair_trees (leaf k) = []
-pair_trees (cell (leaf j) b) = []
-pair_trees (cell (cell c t) b) = t ∷ pair_trees b

@@ -1,11 +1,10 @@
 -- Public. What contracts see of a `Terms`, and when a reference in it stands for a term.
-use Rattle.std.specs.Prelude.{◌≡◌, ℕ, ◌<◌, List, [], ◌∷◌, ◌++◌}
+use Rattle.std.specs.Prelude.{◌≡◌, ℕ, List, [], ◌∷◌}
 use Rattle.pair_pool.specs.Trees.{Tree, cell}
 use Rattle.pair_pool.specs.Views.{PoolView, PassView, Knows, Grows, SeesMore}
 use Rattle.sym_table.specs.Table.{Table}
 use Rattle.term_model.specs.Terms.{Term}
 use Rattle.term_pool.specs.StandsFor.{StandsFor}
-use Rattle.term_pool.specs.Trees.{list_length, tree_items, AreLeafPairs, pair_leaves, pair_trees}
 
 -- a pool, and a pass on it
 pub record TermsView : Type 0 where
@@ -54,30 +53,3 @@ pub record IsKnownCell (pass : PassView) (r : ℕ) : Type 0 where
   pub first : Tree
   pub second : Tree
   pub stands : Knows pass r (cell first second)
-
--- r is known to be a list with an item at place i
-pub record HasItem (pass : PassView) (r i : ℕ) : Type 0 where
-  pub tree : Tree
-  pub stands : Knows pass r tree
-  pub there : i < list_length tree
-
--- behind the old references stand those of the items of the list, in order
-pub record AddsItems (pass : PassView) (list : ℕ) (old new : List ℕ) : Type 0 where
-  pub items : List ℕ
-  pub added : new ≡ old ++ items
-  pub known : (t : Tree) → Knows pass list t → KnowsAll pass items (tree_items t)
-
--- r is known to be a list of pairs of a leaf and a tree
-pub record IsPairList (pass : PassView) (r : ℕ) : Type 0 where
-  pub tree : Tree
-  pub stands : Knows pass r tree
-  pub pairs : AreLeafPairs tree
-
--- behind the old leaves and references stand those of the pairs of the list, in order
-pub record AddsPairs (pass : PassView) (list : ℕ) (old_leaves new_leaves old new : List ℕ) : Type 0 where
-  pub leaves : List ℕ
-  pub leaves_added : new_leaves ≡ old_leaves ++ leaves
-  pub items : List ℕ
-  pub added : new ≡ old ++ items
-  pub leaves_are : (t : Tree) → Knows pass list t → leaves ≡ pair_leaves t
-  pub known : (t : Tree) → Knows pass list t → KnowsAll pass items (pair_trees t)

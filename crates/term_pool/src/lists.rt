@@ -3,8 +3,9 @@
 ghost use Rattle.std.specs.Prelude.{◌≡◌, ℕ, ◌<◌, ◌^◌, List, All, IfOk, OnOk, OnErr};
 ghost use Rattle.pair_pool.specs.Trees.{Tree, cell};
 ghost use Rattle.pair_pool.specs.Views.{IsPassOf, IsKnown, Knows};
-ghost use Rattle.term_pool.specs.Trees.{list_tree, list_length, list_item};
-ghost use Rattle.term_pool.specs.Views.{KnowsAll, IsKnownCell, HasItem, AddsItems, IsPairList, AddsPairs};
+ghost use Rattle.term_pool.specs.Trees.{list_tree};
+ghost use Rattle.term_pool.specs.TreeLists.{list_length, list_item, HasItem, AddsItems, IsPairList, AddsPairs};
+ghost use Rattle.term_pool.specs.Views.{KnowsAll, IsKnownCell};
 ghost use Rattle.term_pool.specs.Building.{Builds, LacksRoom, Interns, Refuses};
 
 use pair_pool::{Memory, Pass, Pool, PoolFull, Ref};

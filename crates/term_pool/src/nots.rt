@@ -3,7 +3,7 @@
 ghost use Rattle.std.specs.Prelude.{◌≡◌, ◌<◌, ◌^◌, IfSome, IfNone};
 ghost use Rattle.pair_pool.specs.Trees.{Tree};
 ghost use Rattle.pair_pool.specs.Views.{IsPassOf, IsKnown, Knows};
-ghost use Rattle.term_pool.specs.Nots.{not_tree, IsNotOf, IsUnderNots};
+ghost use Rattle.term_pool.specs.NotTrees.{not_tree, IsNotOf, IsUnderNots};
 
 use crate::lists::{NIL, parts};
 use pair_pool::{Pass, Pool, Ref};

@@ -5,8 +5,8 @@ ghost use Rattle.std.specs.HashMap.{get, hash_map_len};
 ghost use Rattle.pair_pool.specs.Trees.{Tree};
 ghost use Rattle.pair_pool.specs.Views.{IsPassOf, IsKnown, Knows};
 ghost use Rattle.term_pool.specs.Building.{Interns, Refuses};
-ghost use Rattle.term_pool.specs.Putting.{Piece, put, IsImageOfPiece, ArePiecesOfLeaves, HasPieceImages, IsImageMemory, IsPuttingReady, image_of_leaf_or_itself, PlacesPiece, LacksRoomForPiece};
-ghost use Rattle.term_pool.specs.PuttingVisits.{joined_image, RemembersImage, IsImageVisit, HasDoneImage};
+ghost use Rattle.term_pool.specs.Putting.{Piece, put, IsImageOfPiece, ArePiecesOfLeaves, HasPieceImages, PlacesPiece, LacksRoomForPiece};
+ghost use Rattle.term_pool.specs.PuttingVisits.{joined_image, RemembersImage, IsImageVisit, HasDoneImage, IsImageMemory, IsPuttingReady, image_of_leaf_or_itself};
 ghost use Rattle.term_pool.specs.Views.{IsKnownCell, KeepsPass};
 ghost use Rattle.term_pool.specs.declared.stop.TermStop.TheVariants as TermStop;
 

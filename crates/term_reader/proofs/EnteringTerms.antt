@@ -23,7 +23,8 @@ use Rattle.term_reader.specs.ShapeFaults.{IsLayer}
 use Rattle.term_names.specs.Making.{PlacesCellsOf}
 use Rattle.problem_text.specs.Names.{Place, meaning_of}
 use Rattle.text_items.specs.Nodes.{IsNode}
-use Rattle.term_reader.specs.Reading.{ReaderStands, IsAt, IsReadTerm, EndsWith, Goes}
+use Rattle.term_reader.specs.Reading.{IsReadTerm, EndsWith}
+use Rattle.term_reader.specs.Turns.{ReaderStands, IsAt, Goes}
 use Rattle.term_reader.specs.Resuming.{Waiting, arguments, bindings, naming, resumed}
 use Rattle.problem_text.specs.TypedTerms.{Typed}
 use Rattle.problem_text.specs.Outcomes.{Outcome, done}
@@ -90,7 +91,7 @@ module _ (s : Table) (v : TermsView) (sc : Script) (terms : List Term) (names : 
 
   pub stands_alike : (r : Reader) (p : Place) → ReaderStands s v r sc p → ReaderStands s v r (alike sc terms names) p
   stands_alike r p h = record {
-    script = record { sorts = h.script.sorts; names = λ name. meant_alike r.known name (known_entry r.known name) (h.script.names name) };
+    script = record { sorts = h.script.sorts; built_in = h.script.built_in; names = λ name. meant_alike r.known name (known_entry r.known name) (h.script.names name) };
     scope = h.scope;
     settings = h.settings;
     low = h.low;

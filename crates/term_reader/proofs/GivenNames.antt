@@ -82,6 +82,27 @@ named_now sc d none =
     ∙ ap (λ o. option_or o (cond (bytes_eq d.name d.name) (Some d) None)) none
     ∙ ap (λ b. cond b (Some d) None) ((bytes_eq-Decides d.name d.name).1 refl)
 
+pub either_false : (a b : Bool) → (a || b) ≡ false → b ≡ false
+either_false true b e = cc
+either_false false b e = e
+
+-- no built-in word is taken where a name that is not taken comes last
+pub no_word_taken : (sc : Script) (name : List ℕ) → is_taken sc name ≡ false → ((other : List ℕ) → is_built_in other ≡ true → is_among sc.taken other ≡ false)
+    → (other : List ℕ) → is_built_in other ≡ true → is_among (sc.taken ++ name ∷ []) other ≡ false
+no_word_taken sc name untaken words other built =
+    list_any-append (bytes_eq other) sc.taken (name ∷ [])
+    ∙ ap (λ b. b || (bytes_eq other name || false)) (words other built)
+    ∙ ap (λ b. b || false) (differs (bytes_eq other name) refl)
+  where
+    clash : (a b : Bool) → (a || b) ≡ false → a ≡ true → ⊥
+    clash true b e h = cc
+    clash false b e h = cc
+
+    differs : (b : Bool) → bytes_eq other name ≡ b → b ≡ false
+    differs false e = refl
+    differs true e =
+        absurd (clash (is_built_in name) (is_among sc.taken name) untaken (subst (λ (n : List ℕ). is_built_in n ≡ true) ((bytes_eq-Decides other name).0 e) built))
+
 taken_now : (sc : Script) (d : Named) → is_among (with_named d sc).taken d.name ≡ true
 taken_now sc d =
     list_any-append (bytes_eq d.name) sc.taken (d.name ∷ [])
@@ -140,9 +161,10 @@ module _ (s : Table) (v : TermsView) (old new : KnownView) (sc : Script) (d : Na
     taken = taken_now sc d;
   }
 
-  named_script : IsScript s v old sc → is_among sc.taken d.name ≡ false → known_entry old d.name ≡ None → IsNamedOf s v held d → IsScript s v new (with_named d sc)
-  named_script is free none held_is = record {
+  named_script : IsScript s v old sc → is_taken sc d.name ≡ false → known_entry old d.name ≡ None → IsNamedOf s v held d → IsScript s v new (with_named d sc)
+  named_script is untaken none held_is = record {
     sorts = is.sorts;
+    built_in = no_word_taken sc d.name untaken is.built_in;
     names = λ other. subst (IsNameMeant s v new (with_named d sc) other) (sym (names.entry other)) (go other (bytes_eq other d.name) refl);
   }
     where
@@ -150,7 +172,7 @@ module _ (s : Table) (v : TermsView) (old new : KnownView) (sc : Script) (d : Na
       entry = KnownEntry.Named (Own (length old.own.named))
 
       here : HasNoEntry sc d.name × (IsFunctionAt s sc d.name ⊎ IsFreeName s sc d.name) → IsNameMeant s v new (with_named d sc) d.name (Some entry)
-      here (nothing, inl f) = let is_taken = f.taken in cc
+      here (nothing, inl f) = let taken = f.taken in let free = either_false (is_built_in d.name) (is_among sc.taken d.name) untaken in cc
       here (nothing, inr f) = meant_now held_is nothing f.no_function
 
       go : (other : List ℕ) (b : Bool) → bytes_eq other d.name ≡ b → IsNameMeant s v new (with_named d sc) other (cond b (Some entry) (known_entry old other))
@@ -158,10 +180,6 @@ module _ (s : Table) (v : TermsView) (old new : KnownView) (sc : Script) (d : Na
       go other true e =
           subst (λ (n : List ℕ). IsNameMeant s v new (with_named d sc) n (Some entry)) (sym ((bytes_eq-Decides other d.name).0 e))
           (here (subst (IsNameMeant s v old sc d.name) none (is.names d.name)))
-
-pub either_false : (a b : Bool) → (a || b) ≡ false → b ≡ false
-either_false true b e = cc
-either_false false b e = e
 
 -- a name that is not taken has no entry
 pub no_entry : (s : Table) (v : TermsView) (k : KnownView) (sc : Script) (name : List ℕ) → IsScript s v k sc → is_taken sc name ≡ false → known_entry k name ≡ None
@@ -198,6 +216,5 @@ pub name_given : (s : Table) (v : TermsView) (old new : KnownView) (sc : Script)
     → (after : Script) × (with_names t (x ∷ []) sc ≡ done t after) × IsScript s v new after
 name_given s v old new sc name x t held same names is untaken held_is =
     let d : Named = record { name = x.name; meant = t } in
-    let free = either_false (is_built_in x.name) (is_among sc.taken x.name) untaken in
     let put : Names old new x.name held = subst (λ (n : List ℕ). Names old new n held) same names in
-    (with_named d sc, ap (one_name t x sc (λ after. done t after)) untaken, named_script s v old new sc d held put is free (no_entry s v old sc x.name is untaken) held_is)
+    (with_named d sc, ap (one_name t x sc (λ after. done t after)) untaken, named_script s v old new sc d held put is untaken (no_entry s v old sc x.name is untaken) held_is)

@@ -4,7 +4,7 @@ use Rattle.sym_table.specs.Table.{Table}
 use Rattle.term_pool.specs.Views.{TermsView}
 use Rattle.term_reader.specs.Frames.{WholeReading}
 use Rattle.term_reader.specs.Leaving.{with_open, Spends, Leaves}
-use Rattle.term_reader.specs.Reading.{HasRead, Goes}
+use Rattle.term_reader.specs.Turns.{HasRead, Goes}
 use Rattle.term_reader.specs.Credits.{node_of, bound_of, effort}
 use Rattle.term_names.specs.declared.faults.ReadFault.{ReadFault}
 use Rattle.term_reader.specs.declared.frames.Frame.{Frame}
@@ -18,7 +18,7 @@ abbrev pub around : Reader → List Frame → Reader
 around r frames = record r { frames = frames }
 
 module _ (source : List ℕ) (nodes : List Node) (s : Table) (v : TermsView) (r : Reader) (c : Value) (n : ℕ) (frame : Frame) (frames : List Frame) (is : r.frames ≡ frame ∷ frames) where
-  same_reader : r ≡ with_open (around r frames) frame
+  pub same_reader : r ≡ with_open (around r frames) frame
   same_reader = ap (around r) is
 
   module _ (t : Table) (w : TermsView) (q : Reader) (result : Result Turn ReadFault) where

@@ -10,7 +10,8 @@ use Rattle.term_names.specs.Known.{KnownView, macro_of}
 use Rattle.term_reader.specs.Layers.{AreTermAttributes}
 use Rattle.term_reader.specs.Leaving.{with_open, Leaves}
 use Rattle.term_reader.specs.Naming.{GivesNames}
-use Rattle.term_reader.specs.Reading.{HasRead, EndsWith, IsReadTerm}
+use Rattle.term_reader.specs.Reading.{EndsWith, IsReadTerm}
+use Rattle.term_reader.specs.Turns.{HasRead}
 use Rattle.term_reader.specs.Resuming.{Waiting, resumed}
 use Rattle.problem_text.specs.TypedTerms.{Typed}
 use Rattle.problem_text.specs.Outcomes.{done}

@@ -1,5 +1,6 @@
 -- An argument of an application was read.
-use Rattle.std.proofs.Common.{◌≡◌, ◌≢◌, ◌∙◌, ◌≤◌, arith, ap, sym, subst, refl, ℕ, List, [], ◌∷◌, ◌++◌, length, take, drop, Option, Result, Ok, Err}
+use Rattle.std.proofs.Common.{◌≡◌, ◌≢◌, ◌∙◌, ◌≤◌, arith, ap, sym, subst, refl, ℕ, List, [], ◌∷◌, ◌++◌, length, take, drop, Option, Result, Ok, Err, true, false}
+use Rattle.std.proofs.lemmas.Bool.{eqb-true, eqb-false, not-true, not-false, false≢true}
 use Rattle.std.proofs.lemmas.List.{take-append-le, length-append}
 use Rattle.sym_table.specs.Table.{Table}
 use Rattle.term_pool.specs.Views.{TermsView, KeepsTerms}
@@ -7,10 +8,11 @@ use Rattle.problem_text.specs.Forms.{Forms, no_forms}
 use Rattle.term_names.specs.Heads.{HeadMeans}
 use Rattle.term_reader.specs.Frames.{WholeReading, AreFrames}
 use Rattle.term_reader.specs.Leaving.{with_open, Spends, Leaves}
+use Rattle.term_reader.specs.OpenApplications.{wants_more}
 use Rattle.term_names.specs.InScope.{AreLow}
 use Rattle.term_names.specs.Making.{IsMade, Makes}
 use Rattle.problem_text.specs.Names.{Meaning, meaning_applied}
-use Rattle.term_reader.specs.Reading.{HasRead, IsAt, Goes}
+use Rattle.term_reader.specs.Turns.{HasRead, IsAt, Goes}
 use Rattle.term_reader.specs.Resuming.{Waiting, arguments, resumed}
 use Rattle.problem_text.specs.TypedTerms.{Typed}
 use Rattle.problem_text.specs.Outcomes.{done}
@@ -26,6 +28,7 @@ use Rattle.term_reader.specs.declared.reader.Reader.{Reader}
 use Rattle.term_reader.specs.declared.reader.Turn.{Turn}
 use Rattle.term_expansion.specs.declared.values.Value.{Value}
 use Rattle.term_reader.proofs.FormSteps.{forms_done, forms_more, forms_ordered, forms_inside}
+use Rattle.term_reader.proofs.InnermostForm.{around, same_reader}
 use Rattle.term_reader.proofs.Limited.{limit_so}
 use Rattle.term_reader.proofs.MoreRead.{low_below, values_pushed}
 use Rattle.problem_text.proofs.Outcomes.{all_at_end}
@@ -134,10 +137,6 @@ module _ (source : List ℕ) (nodes : List Node) (g : WholeReading) (s : Table) 
       let e = arguments_bounds inside in
       record { inside = e.1; few = omega (arith, last); progress = omega (arith, last) }
 
-  pub arguments_go_on_spend : (values : List Value) → n ≤ length nodes
-      → Spends nodes s (with_open r (Frame.Arguments place head from end)) (Turn.Use c n) s (record r { values = values; frames = Frame.Arguments place head from end ∷ r.frames }) (Turn.Read n)
-  arguments_go_on_spend values inside = record { inside = inside; few = omega arith; progress = omega arith }
-
   -- What is done, by the stacks as the code has them.
   pub arguments_fault : n ≡ end → (w : TermsView) → (values : List Value) → values ≡ pushed r c → (fault : ReadFault)
       → ((m : Meaning) (ts : List Typed) → HeadMeans s v r.known head m → AreValues s v (drop from values) ts → Makes s v w (meaning_applied m ts) (Err fault)) → (q : Reader)
@@ -166,9 +165,23 @@ module _ (source : List ℕ) (nodes : List Node) (g : WholeReading) (s : Table) 
     spends = arguments_closed_spend last t kept;
   }
 
-  pub arguments_next : n ≢ end → (values : List Value) → values ≡ pushed r c → (frames : List Frame) → frames ≡ Frame.Arguments place head from end ∷ r.frames
-      → Leaves source nodes g s v (with_open r (Frame.Arguments place head from end)) c n s v (record r { values = values; frames = frames }) (Ok (Turn.Read n))
-  arguments_next more values are frames is = record {
-    goes = nothing_made source nodes g s v _ (Ok (Turn.Read n)) (rw (are, is) (arguments_go_on more));
-    spends = λ inside. rw is (arguments_go_on_spend values inside);
-  }
+-- The next argument is read, and the form stays where it is.
+module _ (source : List ℕ) (nodes : List Node) (g : WholeReading) (s : Table) (v : TermsView) (r : Reader) (c : Value) (n : ℕ) (values : List Value) (are : values ≡ pushed r c) where
+  pub argument_goes_on : (frames : List Frame) → r.frames ≡ frames → wants_more frames n ≡ true → HasRead source nodes g s v r c n
+      → Goes source nodes g s v v (record r { values = values }) (Ok (Turn.Read n))
+  argument_goes_on (Frame.Arguments place head from end ∷ frames) is more h =
+      let same = same_reader source nodes s v r c n (Frame.Arguments place head from end) frames is in
+      nothing_made source nodes g s v _ (Ok (Turn.Read n))
+      (subst (λ (x : Reader). IsAt source nodes g s v (record x { values = values }) n) (sym same)
+      (rw are
+      (arguments_go_on source nodes g s v (around r frames) c n place head from end (subst (λ (x : Reader). HasRead source nodes g s v x c n) same h)
+      (eqb-false n end (not-true _ more)))))
+  argument_goes_on [] is more h = absurd (false≢true more)
+  argument_goes_on (Frame.Bindings place from first name repeat body ∷ frames) is more h = absurd (false≢true more)
+  argument_goes_on (Frame.Body place from first ∷ frames) is more h = absurd (false≢true more)
+  argument_goes_on (Frame.Names end ∷ frames) is more h = absurd (false≢true more)
+
+-- An application that wants no more has had its last argument.
+pub had_last : (frames : List Frame) (n place : ℕ) (head : Head) (from end : ℕ) (others : List Frame) → frames ≡ Frame.Arguments place head from end ∷ others
+    → wants_more frames n ≡ false → n ≡ end
+had_last frames n place head from end others is none = eqb-true n end (not-false _ (rw is at none))

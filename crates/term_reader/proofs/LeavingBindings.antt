@@ -15,7 +15,7 @@ use Rattle.text_items.specs.NameNodes.{IsNameNode}
 use Rattle.term_reader.specs.Layers.{AreBinds}
 use Rattle.term_reader.specs.Leaving.{with_open, Leaves}
 use Rattle.problem_text.specs.Names.{Bound, Place, inside}
-use Rattle.term_reader.specs.Reading.{HasRead, IsAt}
+use Rattle.term_reader.specs.Turns.{HasRead, IsAt}
 use Rattle.term_reader.specs.Resuming.{Waiting, bindings, body_of, bound_to, resumed}
 use Rattle.term_names.specs.Scope.{Scoped}
 use Rattle.problem_text.specs.TypedTerms.{Typed}

@@ -8,7 +8,7 @@ use Rattle.term_names.specs.InScope.{IsScope, AreValuesBound}
 use Rattle.term_reader.specs.Leaving.{with_open, Leaves}
 use Rattle.term_names.specs.Making.{IsMade, Makes}
 use Rattle.problem_text.specs.Names.{Bound, Place, inside, let_term}
-use Rattle.term_reader.specs.Reading.{HasRead}
+use Rattle.term_reader.specs.Turns.{HasRead}
 use Rattle.term_reader.specs.Resuming.{Waiting, resumed}
 use Rattle.term_names.specs.Scope.{Scoped}
 use Rattle.problem_text.specs.TypedTerms.{Typed}

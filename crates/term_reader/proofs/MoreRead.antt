@@ -95,4 +95,4 @@ module _ (s : Table) (v : TermsView) (k : KnownView) (ts : List Term) (lets : Li
   }
 
   pub same_script : IsScript s v k sc → IsScript s v k (with_read ts lets sc)
-  same_script h = record { sorts = h.sorts; names = λ name. same_meant name (known_entry k name) (h.names name) }
+  same_script h = record { sorts = h.sorts; built_in = h.built_in; names = λ name. same_meant name (known_entry k name) (h.names name) }

@@ -10,7 +10,8 @@ use Rattle.term_names.specs.InScope.{IsScope, AreLow}
 use Rattle.term_names.specs.Making.{PlacesCellsOf}
 use Rattle.problem_text.specs.Names.{Place}
 use Rattle.text_items.specs.Nodes.{IsNode}
-use Rattle.term_reader.specs.Reading.{IsAt, HasRead, IsTurn, IsReadTerm, Goes, IsReaderIdle, IsOutcome, ComesToTerm}
+use Rattle.term_reader.specs.Reading.{IsReadTerm, IsReaderIdle, IsOutcome, ComesToTerm}
+use Rattle.term_reader.specs.Turns.{IsAt, HasRead, IsTurn, Goes}
 use Rattle.term_reader.specs.Credits.{node_of, bound_of}
 use Rattle.term_reader.specs.Resuming.{resumed}
 use Rattle.term_names.specs.Scope.{Scoped}

@@ -7,7 +7,8 @@ use Rattle.term_pool.specs.Views.{TermsView}
 use Rattle.term_reader.specs.Frames.{WholeReading, AreFrames}
 use Rattle.term_names.specs.Making.{IsExpected, IsMade, Makes, PlacesCellsOf}
 use Rattle.problem_text.specs.Names.{Place}
-use Rattle.term_reader.specs.Reading.{ReaderStands, HasRead, EndsWith, IsReadTerm, GoesOnReading, Goes}
+use Rattle.term_reader.specs.Reading.{EndsWith, IsReadTerm}
+use Rattle.term_reader.specs.Turns.{ReaderStands, HasRead, GoesOnReading, Goes}
 use Rattle.term_reader.specs.Resuming.{Waiting, resumed}
 use Rattle.problem_text.specs.Limits.{most_height}
 use Rattle.problem_text.specs.TypedTerms.{Typed}

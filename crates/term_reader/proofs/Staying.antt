@@ -20,7 +20,7 @@ use Rattle.term_names.specs.InScope.{IsScope, AreValuesBound}
 use Rattle.term_names.specs.Known.{KnownView, known_entry, macro_of}
 use Rattle.term_names.specs.Making.{IsWantedCell, PlacesCellsOf, LacksCellOf}
 use Rattle.problem_text.specs.Names.{Bound, Place, Meaning}
-use Rattle.term_reader.specs.Reading.{ReaderStands}
+use Rattle.term_reader.specs.Turns.{ReaderStands}
 use Rattle.rule_model.specs.Replacement.{Replacement}
 use Rattle.term_reader.specs.Resuming.{Waiting}
 use Rattle.term_names.specs.Scope.{Scoped}
@@ -352,7 +352,7 @@ module _ (s z : Table) (v w : TermsView) (adds : AddsNoSymbols s z) (terms : Kee
   }
 
   pub script_stays : (k : KnownView) (sc : Script) → IsScript s v k sc → IsScript z w k sc
-  script_stays k sc h = record { sorts = adds.sorts ∙ h.sorts; names = λ name. meant_stays k sc name (known_entry k name) (h.names name) }
+  script_stays k sc h = record { sorts = adds.sorts ∙ h.sorts; built_in = h.built_in; names = λ name. meant_stays k sc name (known_entry k name) (h.names name) }
 
   pub stands_stays : (r : Reader) (sc : Script) (p : Place) → ReaderStands s v r sc p → ReaderStands z w r sc p
   stands_stays r sc p h = record {

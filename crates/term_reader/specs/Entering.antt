@@ -11,7 +11,8 @@ use Rattle.term_names.specs.Known.{KnownView}
 use Rattle.term_reader.specs.ShapeFaults.{IsLayer}
 use Rattle.term_names.specs.Making.{PlacesCellsOf}
 use Rattle.problem_text.specs.Names.{Meaning}
-use Rattle.term_reader.specs.Reading.{IsAt, EndsWith, IsReadTerm}
+use Rattle.term_reader.specs.Reading.{EndsWith, IsReadTerm}
+use Rattle.term_reader.specs.Turns.{IsAt}
 use Rattle.problem_text.specs.TypedTerms.{Typed}
 use Rattle.problem_text.specs.Outcomes.{Outcome, done}
 use Rattle.problem_text.specs.Scripts.{Script, with_term}

@@ -1,4 +1,4 @@
--- Public. The forms that are open, as the code holds them, and what waits for the term that is read now.
+-- Private. The forms that are open, as the code holds them, and what waits for the term that is read now.
 use Rattle.std.specs.Prelude.{◌≡◌, ◌≤◌, ◌<◌, ◌+◌, ℕ, List, [], ◌∷◌, ◌++◌, length, take, drop}
 use Rattle.sym_table.specs.Table.{Table}
 use Rattle.term_pool.specs.Views.{TermsView}

@@ -1,8 +1,8 @@
--- Public. Forms as nodes spell them, and the tops of forms.
+-- Private. Forms as nodes spell them, and the tops of forms.
 use Rattle.std.specs.Prelude.{◌≡◌, ℕ, ◌+◌, ◌<◌, List, true, is_some, IsTrue}
 use Rattle.sexpr.specs.Items.{Item, Items, no_items, item, symbol_name}
 use Rattle.text_items.specs.ItemShapes.{Name}
-use Rattle.problem_text.specs.Forms.{Form, symbol, Forms, form, LetBinds, no_binds, bind, form_of, forms_of, names_after}
+use Rattle.problem_text.specs.Forms.{Form, Forms, LetBinds, no_binds, bind, form_of, forms_of, names_after}
 use Rattle.problem_text.specs.NamedItems.{is_named_item}
 use Rattle.text_items.specs.declared.nodes.Node.{Node}
 use Rattle.text_items.specs.Nodes.{IsNode, AreNodes}

@@ -5,8 +5,10 @@ pub mod Resuming
 pub mod Frames
 pub mod Credits
 pub mod Reading
+pub mod Turns
 pub mod Settling
 pub mod Naming
 pub mod Entering
 pub mod ProblemViews
 pub mod Leaving
+pub mod OpenApplications

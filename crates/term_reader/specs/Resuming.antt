@@ -1,4 +1,4 @@
--- Public. A reading of a term that is under way: what is left to be done once the term that is read now is there.
+-- Private. A reading of a term that is under way: what is left to be done once the term that is read now is there.
 use Rattle.std.specs.Prelude.{ℕ, List, [], ◌∷◌, ◌++◌, Some}
 use Rattle.text_items.specs.ItemShapes.{Name}
 use Rattle.problem_text.specs.Forms.{Form, Forms, LetBinds}

@@ -12,7 +12,7 @@ use Rattle.sexpr.specs.declared.causes.Cause.{Cause}
 use Rattle.sexpr.specs.declared.words.WordKind.{WordKind}
 use Rattle.sexpr.specs.declared.words.WordKind.TheVariants.{BitLiteral, Numeral, Decimal}
 use Rattle.sexpr.specs.declared.causes.Cause.TheVariants.{BadCommand, LeftOut}
-use Rattle.sexpr.specs.Items.{Item, list, item, place_of}
+use Rattle.sexpr.specs.Items.{Item, place_of}
 use Rattle.text_items.specs.Spelling.{is_list_item}
 
 -- The top of the form that begins at node k and ends before node m.

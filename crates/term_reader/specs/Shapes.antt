@@ -1,4 +1,4 @@
--- Public. What is found in lists of attributes and of bindings, and the tops of tokens.
+-- Private. What is found in lists of attributes and of bindings, and the tops of tokens.
 use Rattle.std.specs.Prelude.{◌≡◌, ℕ, ◌+◌, ◌||◌, true, false, List, ◌∷◌}
 use Rattle.sexpr.specs.Items.{Item, list, Items, item}
 use Rattle.text_items.specs.ItemShapes.{Name}

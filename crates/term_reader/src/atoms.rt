@@ -7,7 +7,7 @@ ghost use Rattle.text_items.specs.ItemShapes.{Name};
 ghost use Rattle.problem_text.specs.Forms.{symbol};
 ghost use Rattle.text_items.specs.NameNodes.{BeginsAt, IsNameNode};
 ghost use Rattle.problem_text.specs.Names.{Place, meaning_of};
-ghost use Rattle.term_reader.specs.Reading.{ReaderStands};
+ghost use Rattle.term_reader.specs.Turns.{ReaderStands};
 ghost use Rattle.problem_text.specs.Scripts.{Script};
 ghost use Rattle.term_names.specs.Standing.{AddsNoSymbols};
 ghost use Rattle.problem_text.specs.Terms.{term_from};

@@ -6,7 +6,7 @@ ghost use Rattle.term_pool.specs.Views.{TermsView, KeepsTerms};
 ghost use Rattle.term_reader.specs.Entering.{HasTop};
 ghost use Rattle.term_reader.specs.Leaving.{with_open};
 ghost use Rattle.term_reader.specs.Frames.{WholeReading};
-ghost use Rattle.term_reader.specs.Reading.{IsAt, Goes};
+ghost use Rattle.term_reader.specs.Turns.{IsAt, Goes};
 ghost use Rattle.term_reader.specs.Credits.{node_of, bound_of, effort};
 ghost use Rattle.term_names.specs.Standing.{AddsNoSymbols};
 ghost use Rattle.term_names.specs.declared.faults.ReadFault.TheVariants as fault;

@@ -1,5 +1,6 @@
 //! The stack of the forms that are open.
 ghost use Rattle.std.specs.Prelude.{◌≡◌, [], ◌∷◌, length, OnOk, OnErr, IfSome, IfNone};
+ghost use Rattle.term_reader.specs.OpenApplications as spec;
 
 use crate::frames::Frame;
 use std::alloc::Global;
@@ -35,6 +36,16 @@ impl Frames {
         ensures { result ≡ length self.now }
     {
         self.frames.len()
+    }
+
+    /// Whether the top one is an application that has more arguments behind node `n`.
+    pub fn wants_more(&self, n: usize) -> bool
+        ensures { result ≡ spec.wants_more self.now n }
+    {
+        match self.frames.last() {
+            Some(Frame::Arguments { end, .. }) => n != *end,
+            _ => false,
+        }
     }
 
     /// Puts a form on top. After a refusal the stack is as before.

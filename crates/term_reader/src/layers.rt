@@ -6,6 +6,7 @@ ghost use Rattle.sexpr.specs.Words.{is_symbol, is_numeral};
 ghost use Rattle.problem_text.specs.Forms as spec;
 ghost use Rattle.text_items.specs.ItemShapes as shape;
 ghost use Rattle.problem_text.specs.Forms.{form_of, forms_of, binds_of};
+ghost use Rattle.problem_text.specs.Words.{is_among, left_out_words};
 ghost use Rattle.term_reader.specs.ShapeFaults.{IsLayer};
 ghost use Rattle.text_items.specs.Nodes.{IsNode};
 ghost use Rattle.term_reader.specs.Shapes.{IsApplied};
@@ -16,7 +17,6 @@ ghost use Rattle.text_items.specs.Stepping.{IsItemAt};
 use crate::attributes::annotation_fault;
 use crate::let_shapes::let_fault;
 use sexpr::{Cause, Lexer, Refusal, TokenKind, WordKind, word_kind};
-use term_names::words::is_among;
 use text_items::nodes::Node;
 use text_items::numerals::numeral;
 use text_items::shapes::{is_list, name_at, node_at, second};
@@ -70,7 +70,7 @@ pub(crate) fn layer_at(text: &Lexer<'_>, nodes: &[Node], k: usize) -> Layer
 fn symbol_layer(name: &[u8], place: u64) -> Layer
     ensures { IsSymbolLayer place name.now result (spec.symbol_form (record { place = place; name = name.now })) }
 {
-    if is_among(&LEFT_OUT, name) {
+    if is_left_out(name) {
         faulty(Cause::LeftOut, place)
     } else {
         Layer::Symbol
@@ -164,19 +164,15 @@ fn symbol_list_layer(text: &Lexer<'_>, nodes: &[Node], k: usize, first: usize, n
     requires { (m : ℕ) × (a : IsApplied (source text.now) nodes.now k first m) × (symbol_name a.head ≡ Some name.now) }
     ensures { (m : ℕ) (a : IsApplied (source text.now) nodes.now k first m) → symbol_name a.head ≡ Some name.now → IsLayer (source text.now) nodes.now k result (spec.symbol_list_form a.place (shape.name_at a.head) (item a.arg a.rest) (form_of a.arg) (forms_of a.rest) (binds_of a.arg)) m }
 {
-    if name == b"let".as_slice() {
-        let_layer(text, nodes, k, first)
-    } else if name == b"!".as_slice() {
-        annotation_layer(text, nodes, k, first)
-    } else if is_among(&LEFT_OUT, name) {
-        faulty(Cause::LeftOut, node_at(nodes, k + 1).token.start)
-    } else {
-        let end = node_at(nodes, k).next;
-        Layer::Application {
+    match name {
+        b"let" => let_layer(text, nodes, k, first),
+        b"!" => annotation_layer(text, nodes, k, first),
+        _ if is_left_out(name) => faulty(Cause::LeftOut, node_at(nodes, k + 1).token.start),
+        _ => Layer::Application {
             head: k + 1,
             first,
-            end,
-        }
+            end: node_at(nodes, k).next,
+        },
     }
 }
 
@@ -219,21 +215,29 @@ fn faulty(cause: Cause, at: u64) -> Layer
     Layer::Faulty(Refusal { cause, at })
 }
 
-/// Binders other than let, matching, indexed and qualified names, and the rest of Ints and Reals_Ints.
-static LEFT_OUT: [&[u8]; 15] = [
-    b"forall",
-    b"exists",
-    b"choice",
-    b"lambda",
-    b"match",
-    b"_",
-    b"as",
-    b"div",
-    b"mod",
-    b"abs",
-    b"/",
-    b"to_real",
-    b"to_int",
-    b"is_int",
-    b"divisible",
-];
+/// Whether a symbol of this name is left out: binders other than let, matching, indexed and qualified names, and the rest of
+/// Ints and Reals_Ints.
+///
+/// This is asked of every symbol. So it is a match, which compares a name with words of its own length alone.
+fn is_left_out(name: &[u8]) -> bool
+    ensures { result ≡ is_among left_out_words name.now }
+{
+    matches!(
+        name,
+        b"forall"
+            | b"exists"
+            | b"choice"
+            | b"lambda"
+            | b"match"
+            | b"_"
+            | b"as"
+            | b"div"
+            | b"mod"
+            | b"abs"
+            | b"/"
+            | b"to_real"
+            | b"to_int"
+            | b"is_int"
+            | b"divisible"
+    )
+}

@@ -4,7 +4,7 @@ ghost use Rattle.sexpr.specs.Source.{source};
 ghost use Rattle.term_pool.specs.Views.{KeepsTerms};
 ghost use Rattle.term_reader.specs.Frames.{WholeReading};
 ghost use Rattle.term_reader.specs.Leaving.{with_open, Leaves};
-ghost use Rattle.term_reader.specs.Reading.{HasRead, Goes};
+ghost use Rattle.term_reader.specs.Turns.{HasRead, Goes};
 ghost use Rattle.term_reader.specs.Credits.{node_of, bound_of, effort};
 ghost use Rattle.term_names.specs.Standing.{AddsNoSymbols};
 ghost use Rattle.term_reader.specs.declared.frames.Frame.TheVariants as frame;
@@ -49,6 +49,11 @@ pub(crate) fn leave(
     ensures base { reader.new.known.base ≡ reader.old.known.base }
     ensures keeps { KeepsTerms terms.old terms.new }
 {
+    // An application stays where it is until its last argument is read.
+    if reader.frames.wants_more(n) {
+        reader.values.push(value)?;
+        return Ok(Turn::Read(n));
+    }
     let Some(frame) = reader.frames.pop() else {
         unreachable!()
     };
@@ -58,7 +63,7 @@ pub(crate) fn leave(
             head,
             from,
             end,
-        } => leave_argument(symbols, terms, reader, value, n, place, head, from, end),
+        } => leave_arguments(symbols, terms, reader, value, place, head, from, end),
         Frame::Bindings {
             place,
             from,
@@ -88,46 +93,36 @@ pub(crate) fn leave(
     }
 }
 
-/// An argument of an application was read: the next one is read, or, where none is left, what is applied to them.
-fn leave_argument(
+/// The last argument of an application was read, before node `end`: what is applied to them.
+fn leave_arguments(
     symbols: &Symbols,
     terms: &mut Terms<'_>,
     reader: &mut Reader<'_>,
     value: Value,
-    n: usize,
     place: u64,
     head: Head,
     from: usize,
     end: usize,
 ) -> Result<Turn, ReadFault>
-    requires read { (source : List ℕ) × (nodes : List node.Node) × (g : WholeReading) × HasRead source nodes g symbols.now terms.old (with_open reader.old (frame.Arguments place head from end)) value n }
-    ensures leaves { (source : List ℕ) (nodes : List node.Node) (g : WholeReading) → HasRead source nodes g symbols.now terms.old (with_open reader.old (frame.Arguments place head from end)) value n → Leaves source nodes g symbols.now terms.old (with_open reader.old (frame.Arguments place head from end)) value n symbols.now terms.new reader.new result }
+    requires read { (source : List ℕ) × (nodes : List node.Node) × (g : WholeReading) × HasRead source nodes g symbols.now terms.old (with_open reader.old (frame.Arguments place head from end)) value end }
+    ensures leaves { (source : List ℕ) (nodes : List node.Node) (g : WholeReading) → HasRead source nodes g symbols.now terms.old (with_open reader.old (frame.Arguments place head from end)) value end → Leaves source nodes g symbols.now terms.old (with_open reader.old (frame.Arguments place head from end)) value end symbols.now terms.new reader.new result }
     ensures replaces { reader.new.replaces_lets ≡ reader.old.replaces_lets }
     ensures base { reader.new.known.base ≡ reader.old.known.base }
     ensures keeps { KeepsTerms terms.old terms.new }
 {
     reader.values.push(value)?;
-    if n == end {
-        let made = apply(
-            reader.alloc,
-            symbols,
-            terms,
-            &reader.known,
-            head,
-            &reader.values,
-            from,
-        )?;
-        reader.values.truncate(from);
-        let term = settle(place, made)?;
-        return Ok(Turn::Use(term, end));
-    }
-    reader.frames.push(Frame::Arguments {
-        place,
+    let made = apply(
+        reader.alloc,
+        symbols,
+        terms,
+        &reader.known,
         head,
+        &reader.values,
         from,
-        end,
-    })?;
-    Ok(Turn::Read(n))
+    )?;
+    reader.values.truncate(from);
+    let term = settle(place, made)?;
+    Ok(Turn::Use(term, end))
 }
 
 /// The term of an annotation was read, and gets its names.

@@ -8,7 +8,7 @@ ghost use Rattle.text_items.specs.ItemShapes.{Name};
 ghost use Rattle.term_reader.specs.Frames.{WholeReading};
 ghost use Rattle.text_items.specs.NameNodes.{IsNameNode};
 ghost use Rattle.term_reader.specs.Leaving.{with_open, bindings_frame, Leaves};
-ghost use Rattle.term_reader.specs.Reading.{HasRead};
+ghost use Rattle.term_reader.specs.Turns.{HasRead};
 ghost use Rattle.term_reader.specs.Credits.{bound_of};
 ghost use Rattle.term_names.specs.Standing.{AddsNoSymbols};
 ghost use Rattle.term_names.specs.declared.faults.ReadFault.TheVariants as ReadFault;

@@ -6,17 +6,17 @@ ghost use Rattle.term_reader.specs.ProblemViews.{IsProblemOf};
 ghost use Rattle.problem_text.specs.Scripts.{Script};
 ghost use Rattle.problem_text.specs.Words.{is_among};
 
+use name_set::NameSet;
 use pair_pool::Ref;
 use std::marker::Model;
 use term_names::entries::Entries;
-use term_names::name_numbers::NameNumbers;
 
 /// A problem that was read: its assertions, in their order, and the names that it takes. Contracts see them, and its
 /// macros and named terms, which a [`TermReader`](crate::TermReader) knows.
 #[derive(Drop)]
 pub struct Problem {
     pub entries: Entries,
-    pub functions: NameNumbers,
+    pub functions: NameSet,
     pub assertions: Vec<Ref>,
 }
 
@@ -30,7 +30,7 @@ impl Model for Problem {
 
 impl Problem {
     /// The problem with these macros and named terms, functions and assertions.
-    pub fn new(entries: Entries, functions: NameNumbers, assertions: Vec<Ref>) -> Problem
+    pub fn new(entries: Entries, functions: NameSet, assertions: Vec<Ref>) -> Problem
         ensures { result ≡ record { entries = entries; functions = functions; assertions = assertions.items } }
     {
         Problem {

@@ -9,3 +9,4 @@ pub mod NumeralValues
 pub mod NodeItems
 pub mod ItemLoops
 pub mod KeywordLemmas
+pub mod OnePassLemmas

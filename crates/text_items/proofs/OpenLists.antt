@@ -6,8 +6,8 @@ use Rattle.sexpr.specs.declared.lexing.TokenKind.{TokenKind}
 use Rattle.sexpr.specs.declared.lexing.TokenKind.TheVariants.{Open, Close, Text, Quoted, Word}
 use Rattle.sexpr.specs.Items.{Item, word, quoted, string, list, Items, no_items, item, IsBracket, IsItem, AreItems}
 use Rattle.text_items.specs.declared.nodes.Node.{Node}
-use Rattle.text_items.specs.Nodes.{HasNode, IsTokenNode, IsNode, AreNodes, IsListClosed}
-use Rattle.text_items.specs.Adding.{pushed, IsAdded}
+use Rattle.text_items.specs.Nodes.{HasNode, IsTokenNode, IsNode, AreNodes}
+use Rattle.text_items.specs.Adding.{pushed, IsAdded, IsListClosed}
 use Rattle.text_items.proofs.FirstTokens.{IsThis, is_this, same_front}
 use Rattle.text_items.proofs.NodeRanges.{joined, joined_assoc, joined_none, nodes_order, nodes_more, Kept, nodes_kept, pushed_kept, set_kept}
 

@@ -1,15 +1,20 @@
 -- Private. How nodes are added to those of a text.
-use Rattle.std.specs.Prelude.{◌≡◌, ℕ, ◌+◌, ◌-◌, List, [], ◌∷◌, ◌++◌, length}
+use Rattle.std.specs.Prelude.{◌≡◌, ℕ, ◌+◌, ◌-◌, List, [], ◌∷◌, ◌++◌, length, slice_get, slice_set, Some}
 use Rattle.sexpr.specs.declared.lexing.Token.{Token}
 use Rattle.sexpr.specs.declared.lexing.TokenKind.{TokenKind}
 use Rattle.sexpr.specs.declared.lexing.TokenKind.TheVariants.{Open, Close, Text, Quoted, Word}
-use Rattle.sexpr.specs.Items.{list}
 use Rattle.text_items.specs.declared.nodes.Node.{Node}
-use Rattle.text_items.specs.Nodes.{IsListClosed}
 
 -- The nodes with one more behind them.
 abbrev pub pushed : List Node → Token → ℕ → List Node
 pushed nodes t next = nodes ++ record { token = t; next = next } ∷ []
+
+-- An open list ends before node `end`. Until then its node said how many were open around it.
+pub record IsListClosed (nodes : List Node) (k end : ℕ) (after : List Node) (around : ℕ) : Type 0 where
+  pub node : Node
+  pub here : slice_get nodes k ≡ Some node
+  pub set : after ≡ slice_set nodes k (record { token = node.token; next = end })
+  pub was : node.next ≡ around
 
 -- The nodes after one token more of this kind. The opening bracket of the innermost open list is the last of the
 -- first `inner` nodes, and of the first `now` nodes afterwards: 0 where no list is open.

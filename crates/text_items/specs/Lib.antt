@@ -7,3 +7,4 @@ pub mod Stepping
 pub mod NameNodes
 pub mod Children
 pub mod Keywords
+pub mod OnePass

@@ -1,6 +1,6 @@
 -- Public. The items of a text as a flat list of nodes. A list stands before what is in it, so an item is a range of nodes, and
 -- each node says where the next item after its own begins.
-use Rattle.std.specs.Prelude.{◌≡◌, ℕ, ◌+◌, ◌-◌, ◌<◌, ◌≤◌, List, length, slice_get, slice_set, Some}
+use Rattle.std.specs.Prelude.{◌≡◌, ℕ, ◌+◌, ◌<◌, ◌≤◌, List, length, slice_get, Some}
 use Rattle.sexpr.specs.declared.lexing.TokenKind.{TokenKind}
 use Rattle.sexpr.specs.declared.lexing.TokenKind.TheVariants.{Open, Text, Quoted, Word}
 use Rattle.sexpr.specs.Tokens.{token_text}
@@ -40,10 +40,3 @@ abbrev mutual
   AreNodes source nodes k no_items m = k ≡ m
   AreNodes source nodes k (item first others) m =
       (n : ℕ) × IsNode source nodes k first n × AreNodes source nodes n others m
-
--- An open list ends before node `end`. Until then its node said how many were open around it.
-pub record IsListClosed (nodes : List Node) (k end : ℕ) (after : List Node) (around : ℕ) : Type 0 where
-  pub node : Node
-  pub here : slice_get nodes k ≡ Some node
-  pub set : after ≡ slice_set nodes k (record { token = node.token; next = end })
-  pub was : node.next ≡ around

@@ -8,6 +8,7 @@ ghost use Rattle.text_items.specs.Nodes.{IsNode, AreNodes};
 ghost use Rattle.text_items.specs.Stepping.{IsItemAt, AreItemsFrom};
 
 use crate::nodes::Node;
+use crate::one_pass::is_faultless;
 use crate::shapes::{excess, is_list, node_at, symbol_fault};
 use sexpr::{Lexer, TokenKind};
 
@@ -46,8 +47,9 @@ pub enum Next {
 
 /// The first fault of the attributes that stand from `first` to before `end`, in a list that begins at `place`.
 ///
-/// Costs as much as these items are, for each keyword that is known, and what stands in the lists that have to be lists of
-/// symbols.
+/// Where there is none, mostly one pass over the items tells it, in which each keyword is compared with those that are known.
+/// Else it costs as much as the items are, for each keyword that is known. Both go over what stands in the lists that
+/// have to be lists of symbols.
 pub fn attributes_fault(
     text: &Lexer<'_>,
     nodes: &[Node],
@@ -59,6 +61,9 @@ pub fn attributes_fault(
     requires { AreItemsFrom (source text.now) nodes.now first end }
     ensures { (items : Items) → AreNodes (source text.now) nodes.now first items end → result ≡ shape.attributes_fault (map shape.known_of known.now) place items }
 {
+    if is_faultless(text, nodes, known, first, end) {
+        return None;
+    }
     if is_value(at_end(text, nodes, known, first, end))
         || lacks_keyword(text, nodes, known, first, end)
     {
@@ -102,18 +107,39 @@ fn after_item(text: &Lexer<'_>, nodes: &[Node], known: &[Keyword<'_>], k: usize)
 }
 
 /// What may stand behind a keyword.
-fn after_word(known: &[Keyword<'_>], word: &[u8]) -> Next
+pub(crate) fn after_word(known: &[Keyword<'_>], word: &[u8]) -> Next
     ensures { result ≡ shape.after_known (find (λ k. bytes_eq k.spelling word.now) (map shape.known_of known.now)) }
 {
     match known {
         [] => Next::Anything,
         [keyword, others @ ..] => {
-            if keyword.spelling == word {
+            if is_spelled_so(keyword, word) {
                 Next::Value(keyword.wants)
             } else {
                 after_word(others, word)
             }
         }
+    }
+}
+
+/// Whether a known keyword is spelled like this word.
+// Most keywords differ in their lengths, which are compared here without a call.
+#[inline(always)]
+pub(crate) fn is_spelled_so(keyword: &Keyword<'_>, word: &[u8]) -> bool
+    ensures { result ≡ bytes_eq keyword.now.spelling.now word.now }
+{
+    keyword.spelling.len() == word.len() && are_same(keyword.spelling, word)
+}
+
+/// Whether two words are the same.
+// To go through the few bytes of a keyword takes less time than the comparison of slices, which is made for long ones.
+fn are_same(one: &[u8], other: &[u8]) -> bool
+    ensures { result ≡ bytes_eq one.now other.now }
+{
+    match (one, other) {
+        ([], []) => true,
+        ([a, one @ ..], [b, other @ ..]) => *a == *b && are_same(one, other),
+        _ => false,
     }
 }
 
@@ -156,14 +182,14 @@ fn at_end(text: &Lexer<'_>, nodes: &[Node], known: &[Keyword<'_>], first: usize,
 }
 
 /// Whether a value has to stand next.
-fn is_value(next: Next) -> bool
+pub(crate) fn is_value(next: Next) -> bool
     ensures { result ≡ shape.is_value next }
 {
     matches!(next, Next::Value(_))
 }
 
 /// The first fault of an item, where this may stand.
-fn next_fault(text: &Lexer<'_>, nodes: &[Node], next: Next, k: usize) -> Option<u64>
+pub(crate) fn next_fault(text: &Lexer<'_>, nodes: &[Node], next: Next, k: usize) -> Option<u64>
     requires { IsItemAt (source text.now) nodes.now k }
     ensures { (i : Item) (m : ℕ) → IsNode (source text.now) nodes.now k i m → result ≡ shape.next_fault next i }
 {

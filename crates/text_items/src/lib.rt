@@ -5,8 +5,8 @@
 //! range of nodes, the items of a list are walked without what is in them, and no depth of a text takes stack.
 //!
 //! - `nodes`: reading an item into nodes. `children`: taking the items of a list one by one. `shapes`: what an item is,
-//!   and the first fault of lists of pairs. `keywords`: the first fault of a list of attributes. `numerals`: the values of
-//!   numerals. `refusals`: a cause with its place.
+//!   and the first fault of lists of pairs. `keywords`: the first fault of a list of attributes. `one_pass`: lists of
+//!   attributes that have none. `numerals`: the values of numerals. `refusals`: a cause with its place.
 //! - `item_laws`: where a token stands, an item begins.
 //!
 //! What a contract sees: `specs/Nodes` (`IsNode` and `AreNodes`, which nodes are those of an item and of items),
@@ -20,6 +20,7 @@ pub mod item_laws;
 pub mod keywords;
 pub mod nodes;
 pub mod numerals;
+mod one_pass;
 pub mod refusals;
 pub mod shapes;
 

@@ -42,38 +42,49 @@ pub fn read_item(
     ensures few { OnOk result (length nodes.new.items + first.start ≤ at.position lexer.new) }
 {
     nodes.clear();
-    let mut inner = add(first, 0, nodes)?;
+    let mut inner = add(first.kind, first.start, first.end, 0, nodes)?;
     while inner != 0 {
         let Ok(found) = lexer.next() else {
             unreachable!()
         };
         let Some(token) = found else { unreachable!() };
-        inner = add(token, inner, nodes)?;
+        inner = add(token.kind, token.start, token.end, inner, nodes)?;
     }
     Ok(())
 }
 
-/// Adds a token to the nodes. The opening bracket of the innermost open list is the last of the first `inner` nodes,
-/// and `inner` is 0 where no list is open. What it is after the token comes back.
-fn add(token: Token, inner: usize, nodes: &mut Vec<Node>) -> Result<usize, AllocError>
-    requires some { token.kind ≡ TokenKind.Close → 0 < inner }
+/// Adds a token of this kind, from `start` to `end`, to the nodes. The opening bracket of the innermost open list is the
+/// last of the first `inner` nodes, and `inner` is 0 where no list is open. What it is after the token comes back.
+// A token is put together from its parts: copied whole it would be loaded wider than its kind was stored, for which the
+// processor waits.
+#[inline(always)]
+fn add(
+    kind: TokenKind,
+    start: u64,
+    end: u64,
+    inner: usize,
+    nodes: &mut Vec<Node>,
+) -> Result<usize, AllocError>
+    requires some { kind ≡ TokenKind.Close → 0 < inner }
     requires there { inner ≤ length nodes.old.items }
-    ensures added { IfOk result (λ after. IsAdded nodes.old.items inner token token.kind nodes.new.items after) }
+    ensures added { IfOk result (λ after. IsAdded nodes.old.items inner (record { kind = kind; start = start; end = end }) kind nodes.new.items after) }
 {
     let next = nodes.len() + 1;
-    match token.kind {
+    match kind {
         TokenKind::Open => {
+            let token = Token { kind, start, end };
             nodes.push(Node { token, next: inner })?;
             Ok(next)
         }
         TokenKind::Close => {
-            let end = nodes.len();
+            let place = nodes.len();
             let list = &mut nodes[inner - 1];
             let around = list.next;
-            list.next = end;
+            list.next = place;
             Ok(around)
         }
         TokenKind::Text | TokenKind::Quoted | TokenKind::Word => {
+            let token = Token { kind, start, end };
             nodes.push(Node { token, next })?;
             Ok(inner)
         }

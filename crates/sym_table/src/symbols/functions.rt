@@ -37,7 +37,6 @@ impl Symbols {
             target,
         };
         add_function(
-            self.alloc,
             &mut self.function_names,
             &mut self.functions,
             &mut self.leaves,

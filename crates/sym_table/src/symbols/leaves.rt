@@ -1,5 +1,5 @@
 //! Leaves by their numbers, and the leaves of operators, numerals and variables.
-ghost use Rattle.std.specs.Prelude.{◌≡◌, ◌+◌, ◌<◌, ◌^◌, ◌⊎◌, ◌++◌, [], ◌∷◌, ℕ, pos, ◌≤ℤ◌, length, slice_get, Some, IfOk, OnErr, IsSomeAnd};
+ghost use Rattle.std.specs.Prelude.{◌≡◌, ◌+◌, ◌<◌, ◌^◌, ◌⊎◌, ◌++◌, [], ◌∷◌, ℕ, List, false, pos, ◌≤ℤ◌, length, slice_get, Some, IfOk, OnErr, IsSomeAnd};
 ghost use Rattle.sym_table.specs.Leaf.{operator, numeral, variable, kind_of, name_of, first_leaves};
 ghost use Rattle.sym_table.specs.Table.{IsLeaf, LeafMeets, IsFunctionLeaf, IsFun, FindsOrAdds, Keeps, functions_before};
 
@@ -42,9 +42,19 @@ impl Symbols {
         ensures refused { OnErr result (self.new ≡ self.old) }
         ensures keeps { Keeps self.old self.new }
     {
-        let number = names::find_or_add(self.alloc, &mut self.variable_names, name)?;
+        let number = names::find_or_add(&mut self.variable_names, name)?;
         let place = find_or_add(&mut self.leaves, Symbol::Variable(number, sort))?;
         Ok(FIRST_LEAVES + place as u32)
+    }
+
+    /// Whether a variable may have a leaf here. Where none may, no term over the table has a variable in it.
+    ///
+    /// It may say so where none has one, after a refusal.
+    pub fn may_have_variables(&self) -> bool
+        ensures { result ≡ false → (leaf : ℕ) (name : List ℕ) (sort : Sort) → IsLeaf self.now leaf (variable name sort) → ⊥ }
+    {
+        let _leaves = &self.leaves;
+        self.variable_names.len() > 0
     }
 
     /// The kind of a leaf.
@@ -75,8 +85,8 @@ impl Symbols {
             return first_name(leaf);
         }
         match &keys[(leaf - FIRST_LEAVES) as usize] {
-            Symbol::Function(number) => names::name_at(&self.function_names, *number),
-            Symbol::Variable(number, _) => names::name_at(&self.variable_names, *number),
+            Symbol::Function(number) => self.function_names.name(*number),
+            Symbol::Variable(number, _) => self.variable_names.name(*number),
             Symbol::Numeral(_) => b"",
         }
     }

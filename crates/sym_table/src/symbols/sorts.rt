@@ -25,7 +25,7 @@ impl Symbols {
             return Err(NameFault::Repeated);
         }
         let number = self.sort_names.len() as u32;
-        names::add(self.alloc, &mut self.sort_names, name)?;
+        names::add(&mut self.sort_names, name)?;
         Ok(number)
     }
 
@@ -43,6 +43,6 @@ impl Symbols {
         requires { sort < length self.now.sorts }
         ensures { IsSort self.now sort result.now }
     {
-        names::name_at(&self.sort_names, sort as usize)
+        self.sort_names.name(sort as usize)
     }
 }

@@ -83,4 +83,4 @@ returns-clause-read c n others settings p says session =
     (λ sc at bs zip reads. c.in_ok-enter_variables.ensures _ _ sc at bs (rw c.deref.ensures.value zip) reads)
     (c.in_ok-scope.ensures.written ∙ (ap (λ (xs : List (ℕ × ℕ)). open_anchor c.args.session.now.builder (anchor_with c.named_at-id.result.name.now xs)) c.deref-2.ensures.value ∙ ap (λ x. open_anchor c.args.session.now.builder (anchor_with x c.read_arguments.new.bound.opened.items)) name))
     (c.in_ok-push.ensures.pushed ∙ (ap (λ x. c.args.session.now.ids ++ in_use x Anchor c.in_ok-scope.scope ∷ []) name ∙ ap (λ x. c.args.session.now.ids ++ in_use n.name Anchor x ∷ []) c.in_ok-scope.ensures.number))
-    c.in_ok-push-2.ensures.items refl
+    c.in_ok-push-2.ensures.items refl refl

@@ -55,4 +55,4 @@ returns-clause-read c n i m settings p named node session =
     c.args.symbols.now c.args.session.now session c.formula_at.ensures.symbols.keeps c.formula_at.ensures.keeps
     (c.in_ok-index.ensures.written ∙ ap (λ x. add_assume c.args.session.now.builder x c.in_ok-formula.formula) name)
     (c.in_ok-push.ensures.pushed ∙ (ap (λ x. c.args.session.now.ids ++ in_use x Assume c.in_ok-index.index ∷ []) name ∙ ap (λ x. c.args.session.now.ids ++ in_use n.name Assume x ∷ []) c.in_ok-index.ensures.index))
-    refl refl
+    refl refl refl

@@ -1,13 +1,15 @@
 -- By what the attribute is.
-use Rattle.std.proofs.Common.{sym, ap, subst, refl, ◌∙◌}
+use Rattle.std.proofs.Common.{ℕ, Bool, ◌&&◌, List, sym, ap, subst, refl, ◌∙◌}
+use Rattle.std.specs.List.{AllZip}
 use Rattle.sexpr.specs.Source.{source}
+use Rattle.proof_store.specs.Meaning.{IsPivotOf}
 use Rattle.alethe_commands.specs.CommandNodes.{SaysAttribute}
 use Rattle.alethe_commands.specs.declared.attributes.StepAttribute.{StepAttribute}
-use Rattle.alethe_text.specs.Arguments.{takes_coefficients}
+use Rattle.alethe_text.specs.Arguments.{takes_coefficients, takes_pivots}
 use Rattle.alethe_text.specs.Commands.{Attribute}
 use Rattle.alethe_text.specs.Steps.{attribute_read}
 use Rattle.alethe_reader.proofs.Answering.{same_outcome}
-use Rattle.alethe_reader.proofs.AttributeReading.{rule_answers, premises_answer, discharge_answers, ratios_answer, names_answer}
+use Rattle.alethe_reader.proofs.AttributeReading.{rule_answers, premises_answer, discharge_answers, ratios_answer, pivots_answer, names_answer, parts_stay}
 use Rattle.alethe_reader.proofs.step_attributes.attribute_at.Goals as goal
 
 pub returns-in-Rule-clause-read : goal.returns-in-Rule-clause-read
@@ -55,7 +57,7 @@ returns-then-takes_coefficients-clause-read c a settings at p before says stands
       parts = record {
         premises = ap (λ x. x.items) c.ratios_at.ensures.premises ∙ parts.premises;
         discharged = ap (λ x. x.items) c.ratios_at.ensures.discharged ∙ parts.discharged;
-        pivots = parts.pivots;
+        pivots = subst (λ (ps : List (ℕ × Bool)). AllZip (IsPivotOf c.args.symbols.now c.args.terms.now) ps before.pivots) (sym (ap (λ x. x.items) c.ratios_at.ensures.pivots)) parts.pivots;
         ratios = refl;
       };
       id = refl;
@@ -65,9 +67,21 @@ returns-then-takes_coefficients-clause-read c a settings at p before says stands
       behind = record { reader = stands.reader; scope = refl; anchors = refl };
     }))
 
-pub returns-else-takes_coefficients-clause-read : goal.returns-else-takes_coefficients-clause-read
-returns-else-takes_coefficients-clause-read c a settings at p before says stands same parts =
+pub returns-then-reads_pivots-clause-read : goal.returns-then-reads_pivots-clause-read
+returns-then-reads_pivots-clause-read c a settings at p before says stands same parts =
     let h = subst (λ (x : StepAttribute). SaysAttribute (source c.args.text.now) c.args.nodes.now x a) c.in-Arguments.is says in
-    let takes = ap takes_coefficients same ∙ (sym c.takes_coefficients.ensures ∙ c.if-takes_coefficients.false) in
+    let no_coefficients = ap takes_coefficients same ∙ (sym c.takes_coefficients.ensures ∙ c.if-takes_coefficients.false) in
+    let takes = ap (λ b. b && takes_pivots before.rule) stands.strict ∙ (ap (λ r. c.args.session.now.strict && takes_pivots r) same ∙ (sym c.reads_pivots.ensures ∙ c.if-reads_pivots.true)) in
     same_outcome (ap (λ (x : Attribute). attribute_read settings at x before p) h.1)
-    (names_answer _ _ _ settings at (record c.args.session.now { reader = c.names_at.new.reader }) p before h.0 stands.lax takes _ (c.names_at.ensures.read h.0 settings at.nesting p h.2 stands.reader) parts)
+    (pivots_answer settings at p before h.0 no_coefficients _ _ _ (record c.args.session.now { reader = c.pivots_at.new.reader; parts = record c.args.session.now.parts { pivots = c.pivots_at.new.pivots } }) takes _
+    (c.pivots_at.ensures.read h.0 settings at.nesting p h.2 stands.reader) parts.premises parts.discharged parts.ratios)
+
+pub returns-else-reads_pivots-clause-read : goal.returns-else-reads_pivots-clause-read
+returns-else-reads_pivots-clause-read c a settings at p before says stands same parts =
+    let h = subst (λ (x : StepAttribute). SaysAttribute (source c.args.text.now) c.args.nodes.now x a) c.in-Arguments.is says in
+    let no_coefficients = ap takes_coefficients same ∙ (sym c.takes_coefficients.ensures ∙ c.if-takes_coefficients.false) in
+    let takes = ap (λ b. b && takes_pivots before.rule) stands.strict ∙ (ap (λ r. c.args.session.now.strict && takes_pivots r) same ∙ (sym c.reads_pivots.ensures ∙ c.if-reads_pivots.false)) in
+    same_outcome (ap (λ (x : Attribute). attribute_read settings at x before p) h.1)
+    (names_answer settings at p before h.0 no_coefficients _ _ _ (record c.args.session.now { reader = c.names_at.new.reader }) takes _
+    (c.names_at.ensures.read h.0 settings at.nesting p h.2 stands.reader)
+    (parts_stay _ _ _ _ c.names_at.ensures.symbols.keeps c.names_at.ensures.keeps c.args.session.now.parts before parts))

@@ -36,20 +36,20 @@ attributes-init c =
       spent = omega arith;
       adds = adds_none c.args.symbols.now;
       keeps = keeps_none c.args.terms.now;
-      others = record { builder = refl; ids = refl; anchors = refl; bound = refl; clause = c.clear.ensures.clause };
+      others = record { builder = refl; ids = refl; anchors = refl; bound = refl; strict = refl; clause = c.clear.ensures.clause };
       some = (
         settings,
         at,
         p,
         bare c.args.step.rule,
-        stands_still _ _ settings at _ c.args.session.now session p stands refl refl,
+        stands_still _ _ settings at _ c.args.session.now session p stands refl refl refl,
         refl,
-        c.clear.ensures.parts (bare c.args.step.rule) (record { premises = refl; discharged = refl; pivots = refl; ratios = refl }) (sym c.takes_coefficients.ensures),
+        c.clear.ensures.parts _ _ (bare c.args.step.rule) (record { premises = refl; discharged = refl; pivots = refl; ratios = refl }) (sym c.takes_coefficients.ensures),
       );
       so_far = λ attributes settings at p before are stands same is_bare.
           so_far_first (source c.args.text.now) c.args.nodes.now settings at c.args.step.standing p before c.args.step.first _ c.args.symbols.now c.args.terms.now session attributes are
-          (stands_still _ _ settings at _ c.args.session.now session p stands refl refl)
-          (c.clear.ensures.parts before is_bare (ap takes_coefficients same ∙ sym c.takes_coefficients.ensures));
+          (stands_still _ _ settings at _ c.args.session.now session p stands refl refl refl)
+          (c.clear.ensures.parts _ _ before is_bare (ap takes_coefficients same ∙ sym c.takes_coefficients.ensures));
     }
 
 pub attribute_at-requires-clause-says : goal.attribute_at-requires-clause-says

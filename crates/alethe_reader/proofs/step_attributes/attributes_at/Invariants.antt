@@ -23,7 +23,7 @@ invariant-attributes l = record {
   adds : AddsNoSymbols l.fn.symbols l.symbols;
   keeps : KeepsTerms l.fn.terms l.terms;
   others : KeepsOthers l.fn.session l.session;
-  some : (settings : ProofSettings) × (at : ids.Standing) × (p : ProofState) × (step : Step Term) × StandsAt l.symbols l.terms settings at l.session l.step.standing p × (step.rule ≡ l.step.rule) × AreStepParts l.session.parts step;
+  some : (settings : ProofSettings) × (at : ids.Standing) × (p : ProofState) × (step : Step Term) × StandsAt l.symbols l.terms settings at l.session l.step.standing p × (step.rule ≡ l.step.rule) × AreStepParts l.symbols l.terms l.session.parts step;
   so_far : (attributes : List Attribute) (settings : ProofSettings) (at : ids.Standing) (p : ProofState) (before : Step Term) → AreAttributes (source l.text) l.nodes l.step.first attributes (length l.nodes)
       → StandsAt l.fn.symbols l.fn.terms settings at l.fn.session l.step.standing p → before.rule ≡ l.step.rule → IsBare before
       → AreSoFar (source l.text) l.nodes settings at l.step.standing l.symbols l.fn.terms l.terms l.session p before l.at (length l.nodes) (attributes_read settings at attributes before p);

@@ -55,7 +55,7 @@ attributes_at-requires-clause-stands c =
     let formulas = c.in_ok-formulas_at.ensures.read literals settings stands.here.nesting p here.literals_here
     (c.stand.ensures c.args.symbols.now c.args.terms.now settings c.args.session.now.ids p n.name stands.here session.reader stands.closes) in
     let read = formulas.answer in
-    (settings, stands.here, read.state, stands_there settings n p c.args.session.now c.in_ok-standing.standing stands read.value read.state read.after session.lax)
+    (settings, stands.here, read.state, stands_there settings n p c.args.session.now c.in_ok-standing.standing stands read.value read.state read.after session.strict)
 
 pub attributes_at-requires-clause-room : goal.attributes_at-requires-clause-room
 attributes_at-requires-clause-room c =
@@ -75,7 +75,7 @@ returns-in_err-attributes_at-clause-read c n literals attributes settings p says
     let ruled : c.rule_named-rule.result ≡ rule_named (rule_word attributes) = c.rule_named-rule.ensures ∙ ap rule_named word in
     rw (is.1, is.2) (no_attributes settings n literals attributes p stands.here stands.comes formulas c.attributes_at.ensures.symbols.keeps c.attributes_at.ensures.keeps
     (λ clause q k. c.in_err-attributes_at.ensures.read attributes settings stands.here q (bare_step n.name (rule_word attributes) clause) here.attributes_here
-    (stands_there settings n p c.args.session.now c.in_ok-standing.standing stands clause q k session.lax) (sym ruled) (is_bare n.name (rule_word attributes) clause)))
+    (stands_there settings n p c.args.session.now c.in_ok-standing.standing stands clause q k session.strict) (sym ruled) (is_bare n.name (rule_word attributes) clause)))
 
 pub returns-in_err-attributes_at-clause-few : goal.returns-in_err-attributes_at-clause-few
 returns-in_err-attributes_at-clause-few c =
@@ -99,7 +99,7 @@ add_step-requires-clause-step c =
     let ruled : c.rule_named-rule.result ≡ rule_named (rule_word attributes) = c.rule_named-rule.ensures ∙ ap rule_named word in
     some_step settings n literals attributes p stands.here stands.comes formulas c.attributes_at.ensures.symbols.keeps c.attributes_at.ensures.keeps
     (λ clause q k. c.in_ok-attributes_at.ensures.read attributes settings stands.here q (bare_step n.name (rule_word attributes) clause) here.attributes_here
-    (stands_there settings n p c.args.session.now c.in_ok-standing.standing stands clause q k session.lax) (sym ruled) (is_bare n.name (rule_word attributes) clause))
+    (stands_there settings n p c.args.session.now c.in_ok-standing.standing stands clause q k session.strict) (sym ruled) (is_bare n.name (rule_word attributes) clause))
     (λ clause q k step t read comes. (
       _,
       _,
@@ -122,7 +122,7 @@ returns-in_err-add_step-clause-read c n literals attributes settings p says sess
     let ruled : c.rule_named-rule.result ≡ rule_named (rule_word attributes) = c.rule_named-rule.ensures ∙ ap rule_named word in
     rw (is.1, is.2, c.in_err-add_step.ensures.refused) (no_room settings n literals attributes p stands.here stands.comes formulas c.attributes_at.ensures.symbols.keeps c.attributes_at.ensures.keeps
     (λ clause q k. c.in_ok-attributes_at.ensures.read attributes settings stands.here q (bare_step n.name (rule_word attributes) clause) here.attributes_here
-    (stands_there settings n p c.args.session.now c.in_ok-standing.standing stands clause q k session.lax) (sym ruled) (is_bare n.name (rule_word attributes) clause)))
+    (stands_there settings n p c.args.session.now c.in_ok-standing.standing stands clause q k session.strict) (sym ruled) (is_bare n.name (rule_word attributes) clause)))
 
 pub returns-in_err-add_step-clause-few : goal.returns-in_err-add_step-clause-few
 returns-in_err-add_step-clause-few c =
@@ -145,7 +145,7 @@ returns-clause-read c n literals attributes settings p says session =
     let rule = subst IsSymbolName word (rule_symbol c.requires.says c.rule_word-word.result.now c.rule_word-word.ensures) in
     is_stepped settings n literals attributes p stands.here stands.comes formulas c.attributes_at.ensures.symbols.keeps c.attributes_at.ensures.keeps
     (λ clause q k. c.in_ok-attributes_at.ensures.read attributes settings stands.here q (bare_step n.name (rule_word attributes) clause) here.attributes_here
-    (stands_there settings n p c.args.session.now c.in_ok-standing.standing stands clause q k session.lax) (sym ruled) (is_bare n.name (rule_word attributes) clause))
+    (stands_there settings n p c.args.session.now c.in_ok-standing.standing stands clause q k session.strict) (sym ruled) (is_bare n.name (rule_word attributes) clause))
     c.add_step.new.session (λ clause q k step t read comes. c.in_ok-add_step.ensures.added _ _ settings step t
     (to_add settings n p c.args.session.now c.in_ok-standing.standing stands clause q k session c.formulas_at.ensures.symbols c.attributes_at.ensures.symbols c.formulas_at.ensures.keeps c.attributes_at.ensures.keeps c.attributes_at.ensures.others refl
     attributes rule _ (ap (λ (x : Name). x.name) (c.named_at-id.ensures n here.name_here)) ruled word refl step t read comes))

@@ -2,7 +2,8 @@
 use Rattle.std.proofs.Common.{◌≡◌, sym, ap, ◌∙◌, subst, rules}
 use Rattle.term_model.specs.Sorts.{IsWellSorted}
 use Rattle.rule_model.specs.Arithmetic.{denial}
-use Rattle.linear_lines.specs.Comparisons.{IsNumberComparison, said_by}
+use Rattle.linear_lines.specs.Comparisons.{IsNumberComparison}
+use Rattle.linear_lines.specs.ComparisonReads.{said_by}
 use Rattle.linear_lines.proofs.ComparisonLemmas.{denied_is, under_nots}
 use Rattle.linear_lines.proofs.comparisons.denied.Goals as goal
 

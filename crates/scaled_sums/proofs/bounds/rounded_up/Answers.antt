@@ -4,8 +4,13 @@ use Rattle.std.specs.Int.{w128}
 use Rattle.std.proofs.lemmas.Int.{ints}
 use Rattle.std.specs.Int.{int_rem_euclid}
 use Rattle.rule_model.specs.Arithmetic.{IsRoundedUp}
-use Rattle.scaled_sums.proofs.Wholes.{rounded}
+use Rattle.scaled_sums.proofs.Wholes.{rounded, rounded_by_one}
 use Rattle.scaled_sums.proofs.bounds.rounded_up.Goals as goal
+
+pub returns-then-multiple-eq1 : goal.returns-then-multiple-eq1
+returns-then-multiple-eq1 c =
+    let same : ◌≡◌ {A = ℤ} (to_z w128 (of_z w128 c.args.value)) c.args.value = omega (arith, ints) in
+    subst (IsRoundedUp c.args.multiple c.args.value) (sym same) (rounded_by_one c.args.multiple c.args.value c.if-multiple-eq1.true)
 
 pub returns : goal.returns
 returns c =

@@ -1,9 +1,13 @@
 -- By the rest after division.
-use Rattle.std.proofs.Common.{◌≡◌, ℤ, unsigned_abs, to_z, of_z, ap, ◌∙◌, arith}
+use Rattle.std.proofs.Common.{◌≡◌, ℤ, unsigned_abs, to_z, of_z, refl, ap, ◌∙◌, arith}
 use Rattle.std.specs.Int.{w128}
 use Rattle.std.proofs.lemmas.Int.{ints}
-use Rattle.scaled_sums.proofs.Wholes.{rest_decides}
+use Rattle.scaled_sums.proofs.Wholes.{rest_decides, whole_by_one}
 use Rattle.scaled_sums.proofs.coefficients.is_whole.Goals as goal
+
+pub returns-then-multiple-eq1 : goal.returns-then-multiple-eq1
+returns-then-multiple-eq1 c =
+    (λ e. whole_by_one c.args.multiple c.args.value c.if-multiple-eq1.true, λ h. refl)
 
 pub returns : goal.returns
 returns c =

@@ -1,6 +1,6 @@
 -- What divides the two numbers that are left divides the first two.
 use Rattle.std.proofs.Common.{ℕ}
-use Rattle.scaled_sums.specs.Multiples.{IsGreatestDivisor}
+use Rattle.scaled_sums.specs.Divisors.{IsGreatestDivisor}
 use Rattle.scaled_sums.proofs.multiples.common_divisor.Given as goal
 
 abbrev pub invariant-steps : goal.invariant-steps

@@ -6,7 +6,8 @@ use Rattle.term_model.specs.Terms.{Term}
 use Rattle.term_pool.specs.Reading.{arguments_of}
 use Rattle.term_pool.specs.Views.{RefersTo}
 use Rattle.term_names.specs.Standing.{IsScript}
-use Rattle.term_expansion.specs.Free.{AddsLeaves, AddsOne, AddsUnbound, IsAtMost, CoversFree, AreBodies}
+use Rattle.term_expansion.specs.Free.{AddsLeaves, AddsOne, AddsUnbound}
+use Rattle.term_names.specs.FreeParts.{IsAtMost, CoversFree, AreBodies}
 use Rattle.term_expansion.proofs.LeafLemmas as leaf
 use Rattle.term_names.proofs.Gathering as lemma
 use Rattle.term_names.proofs.free.+gather.Goals as goal

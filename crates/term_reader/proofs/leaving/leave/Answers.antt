@@ -1,30 +1,41 @@
 -- The innermost form is one of four.
-use Rattle.std.proofs.Common.{◌≡◌, ◌∙◌, ◌∷◌, ap, IfOk}
+use Rattle.std.proofs.Common.{◌≡◌, ◌∙◌, ◌∷◌, ap, sym, refl, IfOk}
 use Rattle.sexpr.specs.Source.{source}
 use Rattle.term_reader.specs.Leaving.{Spends}
 use Rattle.term_reader.specs.declared.frames.Frame.{Frame}
 use Rattle.term_reader.specs.declared.frames.Frame.TheVariants as frame
 use Rattle.term_reader.specs.declared.reader.Turn.{Turn}
-use Rattle.term_reader.proofs.InnermostForm.{done_goes, done_spends, spends_inside, spends_few, spends_progress}
+use Rattle.term_reader.proofs.InnermostForm.{Done, done_goes, done_spends, spends_inside, spends_few, spends_progress}
+use Rattle.term_reader.proofs.LeavingArguments.{argument_goes_on, had_last}
 use Rattle.term_reader.proofs.leaving.leave.Goals as goal
 
-argument_top : (c : goal.After-leave_argument) → c.args.reader.now.frames ≡ frame.Arguments c.in-Arguments.place c.in-Arguments.head c.in-Arguments.from c.in-Arguments.end ∷ c.pop.new.self
-argument_top c = c.in-Some.ensures.top ∙ ap (λ (f : Frame). f ∷ c.pop.new.self) c.in-Arguments.is
+pub returns-then-wants_more-clause-goes : goal.returns-then-wants_more-clause-goes
+returns-then-wants_more-clause-goes c = λ g h.
+    argument_goes_on (source c.args.text.now) c.args.nodes.now g c.args.symbols.now c.args.terms.now c.args.reader.now c.args.value c.args.n c.push.new.self c.in_ok-push.ensures.pushed c.args.reader.now.frames refl (sym c.wants_more.ensures ∙ c.if-wants_more.true) h
 
-argument_spends : (c : goal.After-leave_argument) → IfOk c.leave_argument.result (λ (x : Turn). Spends c.args.nodes.now c.args.symbols.now c.args.reader.now (Turn.Use c.args.value c.args.n) c.args.symbols.now c.leave_argument.new.reader x)
-argument_spends c = done_spends (source c.args.text.now) c.args.nodes.now c.args.symbols.now c.args.terms.now c.args.reader.now c.args.value c.args.n (frame.Arguments c.in-Arguments.place c.in-Arguments.head c.in-Arguments.from c.in-Arguments.end) c.pop.new.self (argument_top c) c.args.symbols.now c.leave_argument.new.terms c.leave_argument.new.reader c.leave_argument.result (c.leave_argument.ensures.leaves (source c.args.text.now) c.args.nodes.now) c.requires.read c.requires.inside
+arguments_top : (c : goal.After-leave_arguments) → c.args.reader.now.frames ≡ frame.Arguments c.in-Arguments.place c.in-Arguments.head c.in-Arguments.from c.in-Arguments.end ∷ c.pop.new.self
+arguments_top c = c.in-Some.ensures.top ∙ ap (λ (f : Frame). f ∷ c.pop.new.self) c.in-Arguments.is
+
+last_argument : (c : goal.After-leave_arguments) → c.args.n ≡ c.in-Arguments.end
+last_argument c = had_last _ c.args.n (c.in-Arguments.place) (c.in-Arguments.head) (c.in-Arguments.from) (c.in-Arguments.end) c.pop.new.self (arguments_top c) (sym c.wants_more.ensures ∙ c.if-wants_more.false)
+
+arguments_leave : (c : goal.After-leave_arguments) → Done (source c.args.text.now) c.args.nodes.now c.args.symbols.now c.args.terms.now c.args.reader.now c.args.value c.args.n (frame.Arguments c.in-Arguments.place c.in-Arguments.head c.in-Arguments.from c.in-Arguments.end) c.pop.new.self (arguments_top c) c.args.symbols.now c.leave_arguments.new.terms c.leave_arguments.new.reader c.leave_arguments.result
+arguments_leave c = rw (last_argument c) (c.leave_arguments.ensures.leaves (source c.args.text.now) c.args.nodes.now)
+
+arguments_spends : (c : goal.After-leave_arguments) → IfOk c.leave_arguments.result (λ (x : Turn). Spends c.args.nodes.now c.args.symbols.now c.args.reader.now (Turn.Use c.args.value c.args.n) c.args.symbols.now c.leave_arguments.new.reader x)
+arguments_spends c = done_spends (source c.args.text.now) c.args.nodes.now c.args.symbols.now c.args.terms.now c.args.reader.now c.args.value c.args.n (frame.Arguments c.in-Arguments.place c.in-Arguments.head c.in-Arguments.from c.in-Arguments.end) c.pop.new.self (arguments_top c) c.args.symbols.now c.leave_arguments.new.terms c.leave_arguments.new.reader c.leave_arguments.result (arguments_leave c) c.requires.read c.requires.inside
 
 pub returns-in-Arguments-clause-goes : goal.returns-in-Arguments-clause-goes
-returns-in-Arguments-clause-goes c = done_goes (source c.args.text.now) c.args.nodes.now c.args.symbols.now c.args.terms.now c.args.reader.now c.args.value c.args.n (frame.Arguments c.in-Arguments.place c.in-Arguments.head c.in-Arguments.from c.in-Arguments.end) c.pop.new.self (argument_top c) c.args.symbols.now c.leave_argument.new.terms c.leave_argument.new.reader c.leave_argument.result (c.leave_argument.ensures.leaves (source c.args.text.now) c.args.nodes.now)
+returns-in-Arguments-clause-goes c = done_goes (source c.args.text.now) c.args.nodes.now c.args.symbols.now c.args.terms.now c.args.reader.now c.args.value c.args.n (frame.Arguments c.in-Arguments.place c.in-Arguments.head c.in-Arguments.from c.in-Arguments.end) c.pop.new.self (arguments_top c) c.args.symbols.now c.leave_arguments.new.terms c.leave_arguments.new.reader c.leave_arguments.result (arguments_leave c)
 
 pub returns-in-Arguments-clause-inside : goal.returns-in-Arguments-clause-inside
-returns-in-Arguments-clause-inside c = spends_inside c.args.nodes.now c.args.symbols.now c.args.reader.now (Turn.Use c.args.value c.args.n) c.args.symbols.now c.leave_argument.new.reader c.leave_argument.result (argument_spends c)
+returns-in-Arguments-clause-inside c = spends_inside c.args.nodes.now c.args.symbols.now c.args.reader.now (Turn.Use c.args.value c.args.n) c.args.symbols.now c.leave_arguments.new.reader c.leave_arguments.result (arguments_spends c)
 
 pub returns-in-Arguments-clause-few : goal.returns-in-Arguments-clause-few
-returns-in-Arguments-clause-few c = spends_few c.args.nodes.now c.args.symbols.now c.args.reader.now (Turn.Use c.args.value c.args.n) c.args.symbols.now c.leave_argument.new.reader c.leave_argument.result (argument_spends c)
+returns-in-Arguments-clause-few c = spends_few c.args.nodes.now c.args.symbols.now c.args.reader.now (Turn.Use c.args.value c.args.n) c.args.symbols.now c.leave_arguments.new.reader c.leave_arguments.result (arguments_spends c)
 
 pub returns-in-Arguments-clause-progress : goal.returns-in-Arguments-clause-progress
-returns-in-Arguments-clause-progress c = spends_progress c.args.nodes.now c.args.symbols.now c.args.reader.now (Turn.Use c.args.value c.args.n) c.args.symbols.now c.leave_argument.new.reader c.leave_argument.result (argument_spends c)
+returns-in-Arguments-clause-progress c = spends_progress c.args.nodes.now c.args.symbols.now c.args.reader.now (Turn.Use c.args.value c.args.n) c.args.symbols.now c.leave_arguments.new.reader c.leave_arguments.result (arguments_spends c)
 
 binding_top : (c : goal.After-leave_binding) → c.args.reader.now.frames ≡ frame.Bindings c.in-Bindings.place c.in-Bindings.from c.in-Bindings.leaves c.in-Bindings.name c.in-Bindings.repeat c.in-Bindings.body ∷ c.pop.new.self
 binding_top c = c.in-Some.ensures.top ∙ ap (λ (f : Frame). f ∷ c.pop.new.self) c.in-Bindings.is

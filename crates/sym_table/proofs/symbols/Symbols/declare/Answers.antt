@@ -1,6 +1,6 @@
 -- The name is new, so the function with its name and its key goes last.
 use Rattle.std.proofs.Common.{◌+◌, inr, ap, sym, ◌∙◌}
-use Rattle.sym_table.specs.Names.{Lacks, texts}
+use Rattle.sym_table.specs.Names.{Lacks}
 use Rattle.sym_table.specs.Leaf.{function}
 use Rattle.sym_table.specs.Table.{with_leaf}
 use Rattle.sym_table.proofs.Lists.{true-false}
@@ -17,7 +17,7 @@ pub add_function-requires-clause-lacks_name : goal.add_function-requires-clause-
 add_function-requires-clause-lacks_name c =
     Lacks-undeclared _ _ _ _ _ _ _ c.self.view_is c.self.invariant.0 (λ d. true-false (sym (c.is_taken.ensures.1 (inr d)) ∙ c.if-is_taken.false))
 
-lacks_name : (c : goal.In_ok-add_function) → Lacks (texts c.self.inside.function_names.keys) c.args.name.now
+lacks_name : (c : goal.In_ok-add_function) → Lacks c.self.inside.function_names c.args.name.now
 lacks_name c =
     Lacks-undeclared _ _ _ _ _ _ _ c.self.view_is c.self.invariant.0 (λ d. true-false (sym (c.is_taken.ensures.1 (inr d)) ∙ c.if-is_taken.false))
 
@@ -25,9 +25,9 @@ pub returns-in_err-add_function-clause-keeps : goal.returns-in_err-add_function-
 returns-in_err-add_function-clause-keeps c =
     let e = c.in_err-add_function.ensures in
     let inside = c.self.inside in
-    Keeps-same _ _ (ap (λ ns. table_of ns c.add_function.new.functions.items (texts inside.variable_names.keys) c.add_function.new.keys.keys (texts inside.sort_names.keys)) e.same_names
-    ∙ ap (λ fs. table_of (texts inside.function_names.keys) fs (texts inside.variable_names.keys) c.add_function.new.keys.keys (texts inside.sort_names.keys)) e.same_functions
-    ∙ ap (λ ks. table_of (texts inside.function_names.keys) inside.functions.items (texts inside.variable_names.keys) ks (texts inside.sort_names.keys)) e.same_keys
+    Keeps-same _ _ (ap (λ ns. table_of ns c.add_function.new.functions.items inside.variable_names c.add_function.new.keys.keys inside.sort_names) e.same_names
+    ∙ ap (λ fs. table_of inside.function_names fs inside.variable_names c.add_function.new.keys.keys inside.sort_names) e.same_functions
+    ∙ ap (λ ks. table_of inside.function_names inside.functions.items inside.variable_names ks inside.sort_names) e.same_keys
     ∙ c.self.view_is)
 
 pub invariant_of-self-2 : goal.invariant_of-self-2

@@ -1,6 +1,5 @@
 -- The name and then the key of the variable are placed, so its leaf is found or added.
 use Rattle.std.proofs.Common.{◌∙◌, ap, arith}
-use Rattle.sym_table.specs.Names.{texts}
 use Rattle.sym_table.proofs.Links.{AreLinked-more_variables}
 use Rattle.sym_table.proofs.Laws.{table_of}
 use Rattle.sym_table.proofs.Adds.{FindsOrAdds-variable, AreLinked-variable, few-PlacesItem, place_fits, table_of-more_variables, on_err, Keeps-same, Keeps-FindsOrAdds, IsLeaf-FindsOrAdds}
@@ -16,7 +15,7 @@ invariant_of-self-2 c = (
 
 pub returns-in_err-number-clause-keeps : goal.returns-in_err-number-clause-keeps
 returns-in_err-number-clause-keeps c =
-    Keeps-same _ _ (ap (λ vs. table_of (texts c.self.inside.function_names.keys) c.self.inside.functions.items vs c.self.inside.leaves.keys (texts c.self.inside.sort_names.keys)) c.in_err-number.ensures.err ∙ c.self.view_is)
+    Keeps-same _ _ (ap (λ vs. table_of c.self.inside.function_names c.self.inside.functions.items vs c.self.inside.leaves.keys c.self.inside.sort_names) c.in_err-number.ensures.err ∙ c.self.view_is)
 
 pub returns-in_err-place-clause-refused : goal.returns-in_err-place-clause-refused
 returns-in_err-place-clause-refused c =

@@ -1,18 +1,23 @@
--- The table's look-up is that of the names.
-use Rattle.std.proofs.Common.{ap, ◌∙◌, sym, subst, IfSome}
-use Rattle.term_names.specs.Entries.{EntriesView, lookup, IsThere, AreThere}
-use Rattle.term_names.proofs.NameEntries.{lookup-names_of}
+-- The entry of a name stands at the name's number.
+use Rattle.std.proofs.Common.{◌∙◌, IfSome, ap, sym, subst}
+use Rattle.term_names.specs.Entries.{EntriesView, lookup, IsThere}
+use Rattle.term_names.specs.NameTables.{entries_view}
+use Rattle.term_names.proofs.NameEntries.{lookup_found, lookup_nowhere}
 use Rattle.term_names.proofs.entries.Entries.find.Goals as goal
 
-pub returns-in_err-entry-clause-entry : goal.returns-in_err-entry-clause-entry
-returns-in_err-entry-clause-entry c =
-    c.from_residual.ensures ∙ c.in_err-entry.ensures.value ∙ lookup-names_of c.self.inside.names.entries c.args.name.now ∙ ap (λ (v : EntriesView). lookup v.names c.args.name.now) c.self.view_is
+pub returns-in_err-number-clause-entry : goal.returns-in_err-number-clause-entry
+returns-in_err-number-clause-entry c =
+    c.from_residual.ensures
+    ∙ sym (lookup_nowhere c.self.inside.names c.self.inside.entries.items c.args.name.now (sym c.in_err-number.ensures.number))
+    ∙ ap (λ (v : EntriesView). lookup v.names c.args.name.now) c.self.view_is
 
 pub returns-clause-entry : goal.returns-clause-entry
 returns-clause-entry c =
-    c.in_ok-entry.ensures.value ∙ lookup-names_of c.self.inside.names.entries c.args.name.now ∙ ap (λ (v : EntriesView). lookup v.names c.args.name.now) c.self.view_is
+    sym (lookup_found c.self.inside.names c.self.inside.entries.items c.args.name.now _ _ c.self.invariant.one_each (sym c.in_ok-number.ensures.number) c.index.ensures)
+    ∙ ap (λ (v : EntriesView). lookup v.names c.args.name.now) c.self.view_is
 
 pub returns-clause-there : goal.returns-clause-there
 returns-clause-there c =
-    let found = c.in_ok-entry.ensures.value ∙ lookup-names_of c.self.inside.names.entries c.args.name.now ∙ ap (λ (v : EntriesView). lookup v.names c.args.name.now) c.self.view_is in
-    subst (λ o. IfSome o (IsThere c.args.self.now)) (sym found) (subst AreThere c.self.view_is c.self.invariant c.args.name.now)
+    let found = lookup_found c.self.inside.names c.self.inside.entries.items c.args.name.now _ _ c.self.invariant.one_each (sym c.in_ok-number.ensures.number) c.index.ensures in
+    let view : EntriesView = entries_view c.self.inside.names c.self.inside.entries.items c.self.inside.macros.items c.self.inside.named.items in
+    subst (λ (v : EntriesView). IsThere v c.index.result.now) c.self.view_is (subst (λ o. IfSome o (IsThere view)) found (c.self.invariant.there c.args.name.now))

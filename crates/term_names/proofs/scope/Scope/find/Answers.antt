@@ -9,26 +9,26 @@ pub returns-in_err-number : goal.returns-in_err-number
 returns-in_err-number c =
     c.from_residual.ensures
     ∙ sym (ap (λ vs. option_map (λ (e : Scoped). e.bound) (find (is_named c.args.name.now) vs)) (sym c.self.view_is)
-    ∙ ap (option_map (λ (e : Scoped). e.bound)) (find-no_number c.self.inside.names c.args.name.now (reverse c.self.inside.held.items) c.in_err-number.ensures.apart (sym c.in_err-number.ensures.number) c.self.invariant.outer))
+    ∙ ap (option_map (λ (e : Scoped). e.bound)) (find-no_number c.self.inside.names c.args.name.now (reverse c.self.inside.held.items) c.in_err-number.ensures.once (sym c.in_err-number.ensures.number) c.self.invariant.outer))
 
 pub returns-then-place-eq0 : goal.returns-then-place-eq0
 returns-then-place-eq0 c =
-    let found = find-place _ _ _ _ _ _ c.in_ok-number.ensures.apart (sym c.in_ok-number.ensures.number) c.self.invariant c.index-place.ensures in
+    let found = find-place _ _ _ _ _ _ c.in_ok-number.ensures.once (sym c.in_ok-number.ensures.number) c.self.invariant c.index-place.ensures in
     sym (ap (λ vs. option_map (λ (e : Scoped). e.bound) (find (is_named c.args.name.now) vs)) (sym c.self.view_is)
     ∙ found
     ∙ ap (λ p. option_map (λ (h : Held). h.bound) (place_in c.self.inside.held.items p)) c.if-place-eq0.true)
 
 pub index-requires : goal.index-requires
 index-requires c =
-    let within : c.index-place.result.now ≤ length c.self.inside.held.items = place-within _ _ _ _ _ _ c.in_ok-number.ensures.apart (sym c.in_ok-number.ensures.number) c.self.invariant c.index-place.ensures in
+    let within : c.index-place.result.now ≤ length c.self.inside.held.items = place-within _ _ _ _ _ _ c.in_ok-number.ensures.once (sym c.in_ok-number.ensures.number) c.self.invariant c.index-place.ensures in
     let positive = c.if-place-eq0.false in
     let below : c.index-place.result.now - 1 < length c.self.inside.held.items = omega arith in
     search (rules, below)
 
 pub returns : goal.returns
 returns c =
-    let found = find-place _ _ _ _ _ _ c.in_ok-number.ensures.apart (sym c.in_ok-number.ensures.number) c.self.invariant c.index-place.ensures in
-    let within : c.index-place.result.now ≤ length c.self.inside.held.items = place-within _ _ _ _ _ _ c.in_ok-number.ensures.apart (sym c.in_ok-number.ensures.number) c.self.invariant c.index-place.ensures in
+    let found = find-place _ _ _ _ _ _ c.in_ok-number.ensures.once (sym c.in_ok-number.ensures.number) c.self.invariant c.index-place.ensures in
+    let within : c.index-place.result.now ≤ length c.self.inside.held.items = place-within _ _ _ _ _ _ c.in_ok-number.ensures.once (sym c.in_ok-number.ensures.number) c.self.invariant c.index-place.ensures in
     sym (ap (λ vs. option_map (λ (e : Scoped). e.bound) (find (is_named c.args.name.now) vs)) (sym c.self.view_is)
     ∙ found
     ∙ ap (option_map (λ (h : Held). h.bound)) (place_in-before c.self.inside.held.items c.index-place.result.now c.index.result.now c.if-place-eq0.false within c.index.ensures))

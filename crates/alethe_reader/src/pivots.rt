@@ -1,0 +1,163 @@
+//! The pivots of a resolution in a strict proof, which are its arguments two by two: a term, and behind it its truth value
+//! (Alethe specification, "List of rules": resolution).
+ghost use Rattle.std.specs.Prelude.{◌≡◌, ◌≤◌, ◌^◌, ◌+◌, ◌-◌, ℕ, Bool, List, Option, length, IfOk, IfErr, OnOk};
+ghost use Rattle.sexpr.specs.Items.{Item, Items, item};
+ghost use Rattle.sexpr.specs.Source.{source};
+ghost use Rattle.term_model.specs.Terms.{Var, Term};
+ghost use Rattle.term_pool.specs.Views.{KeepsTerms};
+ghost use Rattle.rule_model.specs.Scopes.{Nesting};
+ghost use Rattle.text_items.specs.Nodes.{IsNode, AreNodes};
+ghost use Rattle.text_items.specs.Stepping.{IsItemAt, AreItemsFrom, AreSomeFrom};
+ghost use Rattle.term_names.specs.Standing.{AddsNoSymbols};
+ghost use Rattle.term_names.specs.declared.faults.ReadFault.TheVariants as fault;
+ghost use Rattle.term_reader.specs.ProblemViews.{IsReaderOf};
+ghost use Rattle.alethe_text.specs.Arguments.{pivots_from, truth_of};
+ghost use Rattle.alethe_text.specs.ProofTerms.{place_in};
+ghost use Rattle.alethe_text.specs.States.{ProofSettings, ProofState};
+ghost use Rattle.alethe_reader.specs.Answers.{AnswersAs};
+ghost use Rattle.alethe_reader.specs.Pivots as spec;
+ghost use Rattle.alethe_reader.specs.Pivots.{EndsPair, IsReadPivot, AreReadPivots, pivot_read, held_pivots, one_pivot, both_lists};
+
+use crate::arguments::{ArgumentNodes, names_at};
+use alethe_commands::is_symbol;
+use pair_pool::Ref;
+use sexpr::Lexer;
+use sym_table::Symbols;
+use term_names::faults::ReadFault;
+use term_pool::Terms;
+use term_reader::TermReader;
+use text_items::nodes::Node;
+use text_items::shapes::{node_at, second};
+
+/// Reads the pivots of a step from its arguments, in place of what `pivots` held. There are none where an argument that should
+/// be a truth value is none, or the last term has none behind it; each term is read all the same, and so is each term that gets
+/// a name behind one.
+///
+/// Refused at the first fault of the first term that has one; and besides for want of memory, and where the pool had no room
+/// for a cell of a term that was read. After a refusal the reader is given up.
+pub(crate) fn pivots_at(
+    text: &Lexer<'_>,
+    nodes: &[Node],
+    arguments: ArgumentNodes,
+    symbols: &mut Symbols,
+    terms: &mut Terms<'_>,
+    reader: &mut TermReader<'_>,
+    pivots: &mut Vec<(Ref, bool)>,
+) -> Result<(), ReadFault>
+    requires items { AreItemsFrom (source text.now) nodes.now arguments.first arguments.end }
+    requires reader { (settings : ProofSettings) × (nesting : Nesting Var Term) × (p : ProofState) × IsReaderOf symbols.old terms.old reader.old p.script (place_in settings nesting) }
+    requires room { length symbols.old.leaves + (length nodes.now - arguments.first) ≤ 2 ^ 30 }
+    ensures read { (items : Items) (settings : ProofSettings) (nesting : Nesting Var Term) (p : ProofState) → AreNodes (source text.now) nodes.now arguments.first items arguments.end → IsReaderOf symbols.old terms.old reader.old p.script (place_in settings nesting) → AnswersAs symbols.new terms.old terms.new (AreReadPivots symbols.new terms.new settings nesting reader.new p pivots.new.items) (pivots_from settings nesting items p) result }
+    // Each leaf that is added has a node of its own.
+    ensures spent { OnOk result (length symbols.new.leaves ≤ length symbols.old.leaves + (arguments.end - arguments.first)) }
+    ensures few { length symbols.new.leaves ≤ length symbols.old.leaves + (length nodes.now - arguments.first) }
+    ensures symbols { AddsNoSymbols symbols.old symbols.new }
+    ensures keeps { KeepsTerms terms.old terms.new }
+{
+    pivots.clear();
+    let mut all = true;
+    let mut k = arguments.first;
+    'pairs: while k != arguments.end {
+        let end = pair_end(nodes, k, arguments.end);
+        let pair = ArgumentNodes { first: k, end };
+        let pivot = pivot_at(text, nodes, pair, symbols, terms, reader)?;
+        all = hold(pivots, all, pivot)?;
+        k = end;
+    }
+    if all {
+        return Ok(());
+    }
+    pivots.clear();
+    Ok(())
+}
+
+/// Where a term with what is to be its truth value ends: of some items from `first` to before `end`, the first two.
+fn pair_end(nodes: &[Node], first: usize, end: usize) -> usize
+    requires { (text : List ℕ) × AreSomeFrom text nodes.now first end }
+    ensures { (text : List ℕ) (i : Item) (others : Items) → AreNodes text nodes.now first (item i others) end → EndsPair text nodes.now first i others result end }
+{
+    match second(nodes, first, end) {
+        Some(truth) => node_at(nodes, truth).next,
+        None => end,
+    }
+}
+
+/// Reads a term, and the terms that get a name in what stands behind it: the pivot, where that is a truth value.
+///
+/// Refused as `pivots_at`.
+fn pivot_at(
+    text: &Lexer<'_>,
+    nodes: &[Node],
+    pair: ArgumentNodes,
+    symbols: &mut Symbols,
+    terms: &mut Terms<'_>,
+    reader: &mut TermReader<'_>,
+) -> Result<Option<(Ref, bool)>, ReadFault>
+    requires items { AreSomeFrom (source text.now) nodes.now pair.first pair.end }
+    requires reader { (settings : ProofSettings) × (nesting : Nesting Var Term) × (p : ProofState) × IsReaderOf symbols.old terms.old reader.old p.script (place_in settings nesting) }
+    requires room { length symbols.old.leaves + (length nodes.now - pair.first) ≤ 2 ^ 30 }
+    ensures read { (i : Item) (truth : Items) (settings : ProofSettings) (nesting : Nesting Var Term) (p : ProofState) → AreNodes (source text.now) nodes.now pair.first (item i truth) pair.end → IsReaderOf symbols.old terms.old reader.old p.script (place_in settings nesting) → AnswersAs symbols.new terms.old terms.new (IsReadPivot symbols.new terms.new settings nesting reader.new p) (pivot_read settings nesting i truth p) result }
+    ensures spent { OnOk result (length symbols.new.leaves ≤ length symbols.old.leaves + (pair.end - pair.first)) }
+    ensures few { length symbols.new.leaves ≤ length symbols.old.leaves + (length nodes.now - pair.first) }
+    ensures symbols { AddsNoSymbols symbols.old symbols.new }
+    ensures keeps { KeepsTerms terms.old terms.new }
+{
+    let value = reader.value_at(text, nodes, pair.first, symbols, terms)?;
+    let behind = ArgumentNodes {
+        first: node_at(nodes, pair.first).next,
+        end: pair.end,
+    };
+    names_at(text, nodes, behind, symbols, terms, reader)?;
+    let truth = truth_among(text, nodes, behind);
+    Ok(with_truth(value.term, truth))
+}
+
+/// The truth value that the first of some items is, where there is one and it is such a value.
+fn truth_among(text: &Lexer<'_>, nodes: &[Node], behind: ArgumentNodes) -> Option<bool>
+    requires { AreItemsFrom (source text.now) nodes.now behind.first behind.end }
+    ensures { (items : Items) → AreNodes (source text.now) nodes.now behind.first items behind.end → result ≡ spec.truth_among items }
+{
+    if behind.first == behind.end {
+        return None;
+    }
+    truth_at(text, nodes, behind.first)
+}
+
+/// The truth value that the item at a node is, where it is one.
+fn truth_at(text: &Lexer<'_>, nodes: &[Node], k: usize) -> Option<bool>
+    requires { IsItemAt (source text.now) nodes.now k }
+    ensures { (i : Item) (m : ℕ) → IsNode (source text.now) nodes.now k i m → result ≡ truth_of i }
+{
+    if is_symbol(text, nodes, b"true", k) {
+        return Some(true);
+    }
+    if is_symbol(text, nodes, b"false", k) {
+        return Some(false);
+    }
+    None
+}
+
+fn with_truth(term: Ref, truth: Option<bool>) -> Option<(Ref, bool)>
+    ensures { result ≡ spec.with_truth term truth }
+{
+    match truth {
+        Some(truth) => Some((term, truth)),
+        None => None,
+    }
+}
+
+/// Holds a pivot behind the others, as long as all are there; answers whether they still are. Refuses want of memory alone.
+fn hold(
+    pivots: &mut Vec<(Ref, bool)>,
+    all: bool,
+    pivot: Option<(Ref, bool)>,
+) -> Result<bool, ReadFault>
+    ensures held { IfOk result (λ still. held_pivots still pivots.new.items ≡ both_lists (held_pivots all pivots.old.items) (one_pivot pivot)) }
+    ensures refused { IfErr result (λ f. f ≡ fault.Memory) }
+{
+    let Some(pivot) = pivot else {
+        return Ok(false);
+    };
+    pivots.push(pivot)?;
+    Ok(all)
+}

@@ -1,0 +1,5 @@
+pub mod Positions
+pub mod PackedNames
+pub mod NewNames
+pub mod KeyLists
+pub mod Texts

@@ -1,0 +1,50 @@
+-- Private. How the leaves of the free variables of a term are gathered from its parts.
+use Rattle.std.specs.Prelude.{◌≡◌, ◌⊎◌, ◌≤◌, ℕ, List, [], ◌∷◌, nat_eq, Some, Contains, Vec}
+use Rattle.std.specs.HashMap.{HashMap, get}
+use Rattle.std.specs.declared.alloc.Global.{Global}
+use Rattle.std.specs.declared.hash.BuildHasherDefault.{BuildHasherDefault}
+use Rattle.std.specs.declared.hash.FoldHasher.{FoldHasher}
+use Rattle.sym_table.specs.Table.{Table, IsLeaf}
+use Rattle.term_model.specs.FreeVariables.{IsFree}
+use Rattle.term_model.specs.Terms.{Var, Term, Bindings, let_in}
+use Rattle.term_pool.specs.Building.{AreBindings}
+use Rattle.term_pool.specs.StandsFor.{variable_leaf}
+use Rattle.term_pool.specs.Views.{TermsView, RefersTo}
+use Rattle.rule_model.specs.Heights.{height}
+use Rattle.term_expansion.specs.Free.{HasVariable, AddsLeaves}
+
+-- the reference stands for a term of at most this height
+pub record IsAtMost (s : Table) (v : TermsView) (most r : ℕ) : Type 0 where
+  pub means : Term
+  pub refers : RefersTo s v r means
+  pub low : height means ≤ most
+
+-- the variable stands free in one of the terms
+abbrev pub IsFreeInAny : Var → List Term → Type 0
+IsFreeInAny x [] = ⊥
+IsFreeInAny x (t ∷ ts) = IsFree x t ⊎ IsFreeInAny x ts
+
+-- leaves and variables in the same order, each leaf that of its variable
+abbrev pub AreLeavesOf : Table → List ℕ → List Var → Type 0
+AreLeavesOf s [] [] = Unit {0}
+AreLeavesOf s [] (x ∷ xs) = ⊥
+AreLeavesOf s (k ∷ ks) [] = ⊥
+AreLeavesOf s (k ∷ ks) (x ∷ xs) = IsLeaf s k (variable_leaf x) × AreLeavesOf s ks xs
+
+-- of a let that the reference stands for, the leaves of the variables that it binds, the references of what it gives them and
+-- that of its body
+abbrev pub ArePartsOfLet : Table → TermsView → ℕ → List ℕ → List ℕ → ℕ → Type 0
+ArePartsOfLet s v r ks rs body =
+    (bs : Bindings) (u : Term) → RefersTo s v r (let_in bs u) → AreBindings s v ks rs bs × RefersTo s v body u
+
+-- the leaves that were found have those of the free variables of each term that was seen
+pub record CoversFree (s : Table) (v : TermsView) (seen found : List ℕ) : Type 0 where
+  pub each : (r : ℕ) → Contains seen r → (t : Term) → RefersTo s v r t → (x : Var) → IsFree x t → HasVariable s found x
+
+-- for some bodies of lets the leaves of their free variables
+abbrev pub Bodies : Type 0
+Bodies = HashMap ℕ (Vec ℕ Global) (BuildHasherDefault FoldHasher)
+
+-- what is kept for a body is right
+pub record AreBodies (s : Table) (v : TermsView) (bodies : Bodies) : Type 0 where
+  pub each : (r : ℕ) (leaves : Vec ℕ Global) → get nat_eq bodies r ≡ Some leaves → (t : Term) → RefersTo s v r t → AddsLeaves s [] leaves.items (λ x. IsFree x t)

@@ -1,0 +1,113 @@
+//! Lists of attributes without a fault, told by one pass over them.
+ghost use Rattle.std.specs.Prelude.{◌≡◌, ◌&&◌, ◌||◌, ℕ, not, List, map, true, bytes_eq, Some, None, IfSome};
+ghost use Rattle.sexpr.specs.Items.{Item, Items, no_items};
+ghost use Rattle.sexpr.specs.Source.{source};
+ghost use Rattle.text_items.specs.Keywords as shape;
+ghost use Rattle.text_items.specs.Nodes.{IsNode, AreNodes};
+ghost use Rattle.text_items.specs.OnePass.{IsMarked, IsPassed, lacks_still};
+ghost use Rattle.text_items.specs.Stepping.{IsItemAt, AreItemsFrom};
+
+use crate::keywords::{Keyword, Next, after_word, is_spelled_so, is_value, keyword_at, next_fault};
+use crate::nodes::Node;
+use crate::shapes::node_at;
+use sexpr::Lexer;
+
+/// Of how many known keywords it is kept whether they stood. Where more are known the pass tells nothing.
+const MOST: usize = 8;
+
+/// Whether one pass shows that the attributes that stand from `first` to before `end` have no fault. Where it is false they
+/// mostly have one.
+pub(crate) fn is_faultless(
+    text: &Lexer<'_>,
+    nodes: &[Node],
+    known: &[Keyword<'_>],
+    first: usize,
+    end: usize,
+) -> bool
+    requires { AreItemsFrom (source text.now) nodes.now first end }
+    ensures { result ≡ true → (items : Items) (place : ℕ) → AreNodes (source text.now) nodes.now first items end → None ≡ shape.attributes_fault (map shape.known_of known.now) place items }
+{
+    let mut stood = [false; MOST];
+    let mut k = first;
+    let mut next = Next::Word;
+    'items: while k != end {
+        if next_fault(text, nodes, next, k).is_some() {
+            return false;
+        }
+        let Some(after) = pass(text, nodes, known, k, &mut stood) else {
+            return false;
+        };
+        next = after;
+        k = node_at(nodes, k).next;
+    }
+    !is_value(next) && !lacks(known, &stood)
+}
+
+/// Passes the item at a node: what may stand behind it, and None where it is a keyword that may not stand again.
+fn pass(
+    text: &Lexer<'_>,
+    nodes: &[Node],
+    known: &[Keyword<'_>],
+    k: usize,
+    stood: &mut [bool],
+) -> Option<Next>
+    requires { IsItemAt (source text.now) nodes.now k }
+    ensures { IfSome result (λ next. (i : Item) (m : ℕ) → IsNode (source text.now) nodes.now k i m → IsPassed (map shape.known_of known.now) (shape.keyword_of i) stood.old next stood.new) }
+{
+    match keyword_at(text, nodes, k) {
+        None => Some(Next::Word),
+        Some(word) => {
+            if mark(known, word, stood) {
+                Some(after_word(known, word))
+            } else {
+                None
+            }
+        }
+    }
+}
+
+/// Marks a keyword as one that stood. False where one that stands once at most stood before; nothing is said of the marks
+/// then.
+fn mark(known: &[Keyword<'_>], word: &[u8], stood: &mut [bool]) -> bool
+    ensures { result ≡ true → IsMarked (map shape.known_of known.now) word.now stood.old stood.new }
+{
+    match known {
+        [] => true,
+        [keyword, others @ ..] => match stood.split_first_mut() {
+            None => false,
+            Some((first, rest)) => mark_one(keyword, word, first) && mark(others, word, rest),
+        },
+    }
+}
+
+/// Marks that a known keyword stood, where this is the keyword. False where it stands once at most and stood before.
+fn mark_one(keyword: &Keyword<'_>, word: &[u8], stood: &mut bool) -> bool
+    ensures kept { stood.new ≡ stood.old || bytes_eq keyword.now.spelling.now word.now }
+    ensures once { result ≡ not (keyword.now.once && stood.old && bytes_eq keyword.now.spelling.now word.now) }
+{
+    if !is_spelled_so(keyword, word) {
+        return true;
+    }
+    let again = keyword.once && *stood;
+    *stood = true;
+    !again
+}
+
+/// Whether a keyword that is needed did not stand.
+fn lacks(known: &[Keyword<'_>], stood: &[bool]) -> bool
+    ensures { result ≡ lacks_still (map shape.known_of known.now) stood.now no_items }
+{
+    match known {
+        [] => false,
+        [keyword, others @ ..] => {
+            let (here, rest) = match stood {
+                [] => (false, stood),
+                [first, rest @ ..] => (*first, rest),
+            };
+            if keyword.needed && !here {
+                return true;
+            }
+            lacks(others, rest)
+        }
+    }
+}
