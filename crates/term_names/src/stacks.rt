@@ -1,5 +1,5 @@
 //! The stack of the values that were read and not yet used.
-ghost use Rattle.std.specs.Prelude.{◌≡◌, ◌<◌, ◌≤◌, [], ◌∷◌, ◌++◌, length, map, take, drop, slice_get, Some, OnOk, OnErr};
+ghost use Rattle.std.specs.Prelude.{◌≡◌, ◌<◌, ◌≤◌, [], ◌∷◌, ◌++◌, length, map, take, drop, slice_get, Some, OnOk, OnErr, is_ok, if◌then◌else◌};
 ghost use Rattle.std.specs.List.{list_all};
 ghost use Rattle.term_names.specs.Stacks as spec;
 ghost use Rattle.term_names.specs.Stacks.{greatest_height};
@@ -13,12 +13,16 @@ use term_model::Sort;
 
 /// A stack of values. Contracts see the list of them, the bottom one first. Their parts stand in lists of their own, so
 /// that the references and the sorts of the top ones can be handed on as slices.
+///
+/// The lists keep their lengths when values are taken away: the values are the first `len` of each. So most pushes are
+/// four stores.
 #[derive(Drop)]
 pub struct Values {
     terms: Vec<Ref>,
     sorts: Vec<Sort>,
     heights: Vec<u32>,
     plain: Vec<bool>,
+    len: usize,
 }
 
 impl Model for Values {
@@ -27,12 +31,12 @@ impl Model for Values {
 
     ghost Value = { List value.Value };
 
-    ghost use Rattle.term_names.specs.StackParts.{values_of, AreParts};
+    ghost use Rattle.term_names.specs.StackParts.{values_in, AreParts, HaveRoom};
 
-    ghost view = { λ s. values_of s.terms.items s.sorts.items s.heights.items s.plain.items };
+    ghost view = { λ s. values_in s.len s.terms.items s.sorts.items s.heights.items s.plain.items };
 
-    ghost invariant = { λ s. AreParts s.terms.items s.sorts.items s.heights.items s.plain.items
-        (values_of s.terms.items s.sorts.items s.heights.items s.plain.items) };
+    ghost invariant = { λ s. AreParts s.len s.terms.items s.sorts.items s.heights.items s.plain.items
+        (values_in s.len s.terms.items s.sorts.items s.heights.items s.plain.items) × HaveRoom s.len s.terms.items s.sorts.items s.heights.items s.plain.items };
 }
 
 impl Values {
@@ -44,6 +48,7 @@ impl Values {
             sorts: Vec::new(alloc),
             heights: Vec::new(alloc),
             plain: Vec::new(alloc),
+            len: 0,
         }
     }
 
@@ -51,7 +56,7 @@ impl Values {
     pub fn len(&self) -> usize
         ensures { result ≡ length self.now }
     {
-        self.terms.len()
+        self.len
     }
 
     /// Puts a value on top. After a refusal the stack is as before.
@@ -59,14 +64,23 @@ impl Values {
         ensures pushed { OnOk result (self.new ≡ self.old ++ value ∷ []) }
         ensures refused { OnErr result (self.new ≡ self.old) }
     {
-        self.terms.reserve(1)?;
-        self.sorts.reserve(1)?;
-        self.heights.reserve(1)?;
-        self.plain.reserve(1)?;
-        self.terms.push(value.term).unwrap();
-        self.sorts.push(value.sort).unwrap();
-        self.heights.push(value.height).unwrap();
-        self.plain.push(value.plain).unwrap();
+        let at = self.len;
+        if at == self.terms.len() {
+            one_more(
+                &mut self.terms,
+                &mut self.sorts,
+                &mut self.heights,
+                &mut self.plain,
+                value,
+            )?;
+            self.len = at + 1;
+            return Ok(());
+        }
+        self.terms[at] = value.term;
+        self.sorts[at] = value.sort;
+        self.heights[at] = value.height;
+        self.plain[at] = value.plain;
+        self.len = at + 1;
         Ok(())
     }
 
@@ -74,10 +88,9 @@ impl Values {
     pub fn truncate(&mut self, n: usize)
         ensures { self.new ≡ take n self.old }
     {
-        self.terms.truncate(n);
-        self.sorts.truncate(n);
-        self.heights.truncate(n);
-        self.plain.truncate(n);
+        if n < self.len {
+            self.len = n;
+        }
     }
 
     /// The value at place `i`, from 0 at the bottom.
@@ -98,7 +111,7 @@ impl Values {
         requires { n ≤ length self.now }
         ensures { result.now ≡ map (λ v. v.term) (drop n self.now) }
     {
-        &self.terms[n..]
+        &self.terms[n..self.len]
     }
 
     /// The sorts of the values from place `n` on.
@@ -106,7 +119,7 @@ impl Values {
         requires { n ≤ length self.now }
         ensures { result.now ≡ map (λ v. v.sort) (drop n self.now) }
     {
-        &self.sorts[n..]
+        &self.sorts[n..self.len]
     }
 
     /// The greatest height of the values from place `n` on, or 0 where there are none.
@@ -114,7 +127,7 @@ impl Values {
         requires { n ≤ length self.now }
         ensures { result ≡ greatest_height (drop n self.now) }
     {
-        greatest(&self.heights[n..])
+        greatest(&self.heights[n..self.len])
     }
 
     /// Whether all values from place `n` on are plain.
@@ -122,8 +135,32 @@ impl Values {
         requires { n ≤ length self.now }
         ensures { result ≡ list_all (λ v. v.plain) (drop n self.now) }
     {
-        all_true(&self.plain[n..])
+        all_true(&self.plain[n..self.len])
     }
+}
+
+/// Makes each list of parts one longer, with the part of a value. After a refusal all are as before.
+fn one_more(
+    terms: &mut Vec<Ref>,
+    sorts: &mut Vec<Sort>,
+    heights: &mut Vec<u32>,
+    plain: &mut Vec<bool>,
+    value: Value,
+) -> Result<(), Memory>
+    ensures terms { terms.new.items ≡ (if is_ok result then terms.old.items ++ value.term ∷ [] else terms.old.items) }
+    ensures sorts { sorts.new.items ≡ (if is_ok result then sorts.old.items ++ value.sort ∷ [] else sorts.old.items) }
+    ensures heights { heights.new.items ≡ (if is_ok result then heights.old.items ++ value.height ∷ [] else heights.old.items) }
+    ensures plain { plain.new.items ≡ (if is_ok result then plain.old.items ++ value.plain ∷ [] else plain.old.items) }
+{
+    terms.reserve(1)?;
+    sorts.reserve(1)?;
+    heights.reserve(1)?;
+    plain.reserve(1)?;
+    terms.push(value.term).unwrap();
+    sorts.push(value.sort).unwrap();
+    heights.push(value.height).unwrap();
+    plain.push(value.plain).unwrap();
+    Ok(())
 }
 
 /// The greatest of some numbers, or 0 where there are none.
