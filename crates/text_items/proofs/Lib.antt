@@ -2,6 +2,7 @@ pub mod FirstTokens
 pub mod TokensOfItems
 pub mod NodeRanges
 pub mod OpenLists
+pub mod Placing
 pub mod ItemsRead
 pub mod NodeSteps
 pub mod ShapeLemmas

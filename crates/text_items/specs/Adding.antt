@@ -1,5 +1,5 @@
 -- Private. How nodes are added to those of a text.
-use Rattle.std.specs.Prelude.{◌≡◌, ℕ, ◌+◌, ◌-◌, List, [], ◌∷◌, ◌++◌, length, slice_get, slice_set, Some}
+use Rattle.std.specs.Prelude.{◌≡◌, ℕ, ◌+◌, ◌-◌, List, [], ◌∷◌, ◌++◌, length, slice_get, slice_set, Option, Some, None}
 use Rattle.sexpr.specs.declared.lexing.Token.{Token}
 use Rattle.sexpr.specs.declared.lexing.TokenKind.{TokenKind}
 use Rattle.sexpr.specs.declared.lexing.TokenKind.TheVariants.{Open, Close, Text, Quoted, Word}
@@ -8,6 +8,15 @@ use Rattle.text_items.specs.declared.nodes.Node.{Node}
 -- The nodes with one more behind them.
 abbrev pub pushed : List Node → Token → ℕ → List Node
 pushed nodes t next = nodes ++ record { token = t; next = next } ∷ []
+
+-- What the node of a token of this kind says of the item after its own, and what the innermost open list is behind it:
+-- its bracket is the last of the first `inner` nodes. None for a closing bracket.
+abbrev pub placed : TokenKind → ℕ → ℕ → Option (ℕ × ℕ)
+placed Open inner behind = Some (inner, behind)
+placed Close inner behind = None
+placed Text inner behind = Some (behind, inner)
+placed Quoted inner behind = Some (behind, inner)
+placed Word inner behind = Some (behind, inner)
 
 -- An open list ends before node `end`. Until then its node said how many were open around it.
 pub record IsListClosed (nodes : List Node) (k end : ℕ) (after : List Node) (around : ℕ) : Type 0 where

@@ -1,13 +1,12 @@
 //! The items of a text as a flat list of nodes.
-ghost use Rattle.std.specs.Prelude.{◌≡◌, ◌+◌, ◌<◌, ◌≤◌, List, length, slice_get, Some, OnOk, IfOk};
+ghost use Rattle.std.specs.Prelude.{◌≡◌, ◌+◌, ◌-◌, ◌<◌, ◌≤◌, List, length, slice_get, Some, OnOk};
 ghost use Rattle.sexpr.specs.Items.{Item};
 ghost use Rattle.sexpr.specs.Source as at;
 ghost use Rattle.sexpr.specs.Tokens.{AreTokens};
 ghost use Rattle.sexpr.specs.declared.lexing.Token.{Token};
-ghost use Rattle.sexpr.specs.declared.lexing.TokenKind.TheVariants as TokenKind;
 ghost use Rattle.text_items.specs.Lexers.{GoesOnWith};
 ghost use Rattle.text_items.specs.Nodes.{IsNode};
-ghost use Rattle.text_items.specs.Adding.{IsAdded};
+ghost use Rattle.text_items.specs.Adding.{placed, IsListClosed};
 
 use sexpr::{Lexer, Token, TokenKind};
 use std::alloc::AllocError;
@@ -42,53 +41,60 @@ pub fn read_item(
     ensures few { OnOk result (length nodes.new.items + first.start ≤ at.position lexer.new) }
 {
     nodes.clear();
-    let mut inner = add(first.kind, first.start, first.end, 0, nodes)?;
+    // The first token begins an item, so it closes no list.
+    let Some((next, after)) = placed(first.kind, 0, 1) else {
+        unreachable!()
+    };
+    nodes.push(Node { token: first, next })?;
+    let mut inner = after;
     while inner != 0 {
         let Ok(found) = lexer.next() else {
             unreachable!()
         };
         let Some(token) = found else { unreachable!() };
-        inner = add(token.kind, token.start, token.end, inner, nodes)?;
+        // A node is put together here from the parts of the token, in place of a call: what a node has between its kind
+        // and the places is then written once for the whole item, and not anew for each token, for which the processor
+        // would wait.
+        let kind = token.kind;
+        let start = token.start;
+        let end = token.end;
+        if let Some((next, after)) = placed(kind, inner, nodes.len() + 1) {
+            let token = Token { kind, start, end };
+            nodes.push(Node { token, next })?;
+            inner = after;
+        } else {
+            inner = close(inner, nodes);
+        }
     }
     Ok(())
 }
 
-/// Adds a token of this kind, from `start` to `end`, to the nodes. The opening bracket of the innermost open list is the
-/// last of the first `inner` nodes, and `inner` is 0 where no list is open. What it is after the token comes back.
-// A token is put together from its parts: copied whole it would be loaded wider than its kind was stored, for which the
-// processor waits.
+/// For a token of this kind that becomes a node: what its node says of the item after its own, and what `inner` is behind it.
+/// None for a closing bracket. The opening bracket of the innermost open list is the last of the first `inner` nodes, and
+/// `inner` is 0 where no list is open. The first `behind` nodes are those up to the token.
 #[inline(always)]
-fn add(
-    kind: TokenKind,
-    start: u64,
-    end: u64,
-    inner: usize,
-    nodes: &mut Vec<Node>,
-) -> Result<usize, AllocError>
-    requires some { kind ≡ TokenKind.Close → 0 < inner }
-    requires there { inner ≤ length nodes.old.items }
-    ensures added { IfOk result (λ after. IsAdded nodes.old.items inner (record { kind = kind; start = start; end = end }) kind nodes.new.items after) }
+fn placed(kind: TokenKind, inner: usize, behind: usize) -> Option<(usize, usize)>
+    ensures { result ≡ placed kind inner behind }
 {
-    let next = nodes.len() + 1;
     match kind {
-        TokenKind::Open => {
-            let token = Token { kind, start, end };
-            nodes.push(Node { token, next: inner })?;
-            Ok(next)
-        }
-        TokenKind::Close => {
-            let place = nodes.len();
-            let list = &mut nodes[inner - 1];
-            let around = list.next;
-            list.next = place;
-            Ok(around)
-        }
-        TokenKind::Text | TokenKind::Quoted | TokenKind::Word => {
-            let token = Token { kind, start, end };
-            nodes.push(Node { token, next })?;
-            Ok(inner)
-        }
+        TokenKind::Open => Some((inner, behind)),
+        TokenKind::Close => None,
+        TokenKind::Text | TokenKind::Quoted | TokenKind::Word => Some((behind, inner)),
     }
+}
+
+/// Closes the innermost open list before the next node. What `inner` is then comes back.
+#[inline(always)]
+fn close(inner: usize, nodes: &mut Vec<Node>) -> usize
+    requires some { 0 < inner }
+    requires there { inner ≤ length nodes.old.items }
+    ensures { IsListClosed nodes.old.items (inner - 1) (length nodes.old.items) nodes.new.items result }
+{
+    let place = nodes.len();
+    let list = &mut nodes[inner - 1];
+    let around = list.next;
+    list.next = place;
+    around
 }
 
 /// The node at this place.
