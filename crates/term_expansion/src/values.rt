@@ -4,11 +4,12 @@ use pair_pool::Ref;
 use term_model::Sort;
 
 /// A term with its sort and its height. Where it is plain, no let stands in it.
+// The two numbers stand side by side, so that they are copied as one.
 #[derive(Clone, Copy)]
 pub struct Value {
     pub term: Ref,
-    pub sort: Sort,
     pub height: u32,
+    pub sort: Sort,
     pub plain: bool,
 }
 
