@@ -1,5 +1,5 @@
 -- Lowest terms of quotients: what is taken out crosswise leaves parts that have nothing in common.
-use Rattle.std.proofs.Common.{◌≡◌, inl, inr, ℕ, zero, suc, ◌+◌, ◌*◌, ◌/◌, ◌%◌, ◌^◌, ◌<◌, ◌≤◌, ◌==◌, ◌∙◌, arith, Bool, true, false, Some, None, refl, sym, ap, subst, if◌then◌else◌}
+use Rattle.std.proofs.Common.{◌≡◌, inl, inr, ℕ, zero, suc, ◌+◌, ◌*◌, ◌/◌, ◌%◌, ◌^◌, ◌<◌, ◌≤◌, ◌==◌, ◌∙◌, arith, Bool, true, false, Some, None, refl, sym, ap, subst, div-one, if◌then◌else◌}
 use Rattle.std.specs.Int.{◌∣◌, IsGcd}
 use Rattle.std.proofs.lemmas.Bool.Decides.{nat_tests}
 use Rattle.std.proofs.lemmas.Nat.{div-add-mod', mod-mul-add, mod_below}
@@ -154,6 +154,10 @@ pub divided_is : (a b g : ℕ) (c : Pair) → IsGcd a b g → c.num ≡ a / g �
 divided_is a b g c is e f =
     let same = same_from_IsGcd a b g (common_divisor a b) is (divisor_is a b) in
     record { num = e ∙ ap (λ n. a / n) same; den = f ∙ ap (λ n. b / n) same }
+
+-- a whole number is in lowest terms
+pub whole_is : (p : Pair) → p.den ≡ 1 → IsFractionPair p (lowest (p.num, p.den))
+whole_is p one = divided_is p.num p.den 1 p (subst (λ b. IsGcd p.num b 1) (sym one) (one-dvd p.num, one-dvd 1, λ d first second. second)) (sym (div-one p.num)) (sym (div-one p.den))
 
 pub divisor_some : (a b g : ℕ) → IsGcd a b g → 0 < b → 0 < g
 divisor_some a b g is some = pos_of_dvd_of_pos is.1 some

@@ -71,6 +71,10 @@ pub(crate) fn lowest(p: Pair) -> Pair
     requires { 0 < p.den }
     ensures { IsFractionPair result (text.lowest (p.num, p.den)) }
 {
+    // As most coefficients are whole, this saves a division of numbers of 128 bits, which is slow.
+    if p.den == 1 {
+        return p;
+    }
     let divisor = common_divisor(p.num, p.den);
     Pair {
         num: p.num / divisor,
