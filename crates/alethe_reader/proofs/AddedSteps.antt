@@ -27,7 +27,8 @@ use Rattle.alethe_reader.specs.declared.stepping.NewStep.{NewStep}
 use Rattle.alethe_reader.specs.AddedSteps.{step_added, AreSeen, IsToAdd}
 use Rattle.alethe_reader.specs.Bound.{AreBound}
 use Rattle.alethe_reader.specs.Ids.{Used, IsUnused}
-use Rattle.alethe_reader.specs.IdsInUse.{in_use, sights_of, ids_in}
+use Rattle.alethe_reader.specs.IdsInUse.{in_use, ids_in}
+use Rattle.alethe_reader.specs.IdSights.{sights_of}
 use Rattle.alethe_reader.specs.Sessions.{StandForNesting, starts, counts, IsWritten, IsProofSession}
 use Rattle.alethe_reader.specs.Standing.{IsAnchorOf, IsClosing}
 use Rattle.alethe_reader.proofs.IdsInUse.{sights_seen, unused_new, ids_step, ids_close}

@@ -39,7 +39,8 @@ use Rattle.alethe_reader.specs.declared.bound.BoundVariables.{BoundVariables}
 use Rattle.alethe_reader.specs.declared.ids.Role.TheVariants.{Anchor}
 use Rattle.alethe_reader.specs.declared.session.OpenAnchor.{OpenAnchor}
 use Rattle.alethe_reader.specs.declared.session.Session.{Session}
-use Rattle.alethe_reader.specs.Answers.{AnswersAs, KeepsRead}
+use Rattle.alethe_reader.specs.Answers.{AnswersAs}
+use Rattle.alethe_reader.specs.KeptReads.{KeepsRead}
 use Rattle.alethe_reader.specs.Ids.{IsUnused}
 use Rattle.alethe_reader.specs.IdsInUse.{in_use, ids_in}
 use Rattle.alethe_reader.specs.Opening.{AreFresh, AreArgumentsRead, entered}

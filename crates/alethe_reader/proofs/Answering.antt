@@ -10,7 +10,8 @@ use Rattle.term_names.specs.Making.{PlacesCellsOf}
 use Rattle.term_names.specs.declared.faults.ReadFault.{ReadFault}
 use Rattle.term_reader.proofs.Staying.{places_none, places_more, places_then, lacks_more}
 use Rattle.alethe_text.specs.States.{ProofState, Reading}
-use Rattle.alethe_reader.specs.Answers.{WasRead, IsAnswerOf, AnswersAs, KeepsRead}
+use Rattle.alethe_reader.specs.Answers.{WasRead, IsAnswerOf, AnswersAs}
+use Rattle.alethe_reader.specs.KeptReads.{KeepsRead}
 
 -- a term that was read is one of the whole
 pub read_on : {A B : Type 0} (o : Outcome ProofState A) (next : A → Reading B) → ((a : A) → KeepsRead (next a)) → (x : Term) → WasRead o x → WasRead (and_then o next) x

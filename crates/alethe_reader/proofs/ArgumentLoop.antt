@@ -22,7 +22,8 @@ use Rattle.alethe_text.specs.Anchors.{bound_names, argument_read, arguments_read
 use Rattle.alethe_text.specs.Commands.{Argument, argument_fault, each_argument_fault, argument_of, arguments_in}
 use Rattle.alethe_text.specs.ProofTerms.{place_in}
 use Rattle.alethe_text.specs.States.{ProofSettings, ProofState, Reading, ◌>>=◌, give}
-use Rattle.alethe_reader.specs.Answers.{WasRead, AnswersAs, KeepsRead}
+use Rattle.alethe_reader.specs.Answers.{WasRead, AnswersAs}
+use Rattle.alethe_reader.specs.KeptReads.{KeepsRead}
 use Rattle.alethe_reader.specs.Bound.{AreBound}
 use Rattle.alethe_reader.specs.Opening.{IsOpening, IsSameScope, IsArgumentRead, AreArgumentsRead}
 use Rattle.alethe_reader.specs.declared.bound.BoundVariables.{BoundVariables}

@@ -20,7 +20,8 @@ use Rattle.alethe_text.specs.States.{ProofSettings, ProofState, Reading, â—Œ>>=â
 use Rattle.alethe_text.specs.Steps.{assume_read}
 use Rattle.alethe_reader.specs.declared.ids.Role.TheVariants.{Assume}
 use Rattle.alethe_reader.specs.declared.session.Session.{Session}
-use Rattle.alethe_reader.specs.Answers.{AnswersAs, KeepsRead}
+use Rattle.alethe_reader.specs.Answers.{AnswersAs}
+use Rattle.alethe_reader.specs.KeptReads.{KeepsRead}
 use Rattle.alethe_reader.specs.IdsInUse.{in_use, ids_in}
 use Rattle.alethe_reader.specs.ReadTerms.{IsReadFormula}
 use Rattle.alethe_reader.specs.Sessions.{IsProofSession, IsWritten, StandsAfter}

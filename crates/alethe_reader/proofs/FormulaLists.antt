@@ -19,9 +19,10 @@ use Rattle.term_reader.specs.ProblemViews.{ReaderView, IsReaderOf}
 use Rattle.term_reader.proofs.Staying.{places_none, places_more, places_then, refers_stays}
 use Rattle.alethe_text.specs.ProofTerms.{place_in, formula_in, formulas_in}
 use Rattle.alethe_text.specs.States.{ProofSettings, ProofState, Reading, ◌>>=◌, give}
-use Rattle.alethe_reader.specs.Answers.{WasRead, IsAnswerOf, AnswersAs, KeepsRead}
+use Rattle.alethe_reader.specs.Answers.{WasRead, IsAnswerOf, AnswersAs}
+use Rattle.alethe_reader.specs.KeptReads.{KeepsRead}
 use Rattle.alethe_reader.specs.ReadTerms.{IsReadFormula, AreReadFormulas}
-use Rattle.alethe_reader.specs.Sessions.{IsBehind}
+use Rattle.alethe_reader.specs.Behind.{IsBehind}
 use Rattle.alethe_reader.proofs.Answering.{read_on, stops}
 use Rattle.alethe_reader.proofs.StillRead.{keeps_give, keeps_then, keeps_formulas}
 

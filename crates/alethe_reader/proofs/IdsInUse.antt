@@ -18,7 +18,8 @@ use Rattle.alethe_reader.specs.declared.ids.Role.TheVariants.{Assume, Step, Anch
 use Rattle.alethe_reader.specs.declared.ids.Found.{Found}
 use Rattle.alethe_reader.specs.Ids.{Used, IsUnused, IsUsedAt}
 use Rattle.alethe_text.specs.Ids.{assumes_seen}
-use Rattle.alethe_reader.specs.IdsInUse.{in_use, own_ids, ids_around, ids_in, sight_of, sights_of, anchor_id_of, anchor_ids_of, sight_at, hidden, hide}
+use Rattle.alethe_reader.specs.IdsInUse.{in_use, own_ids, ids_around, ids_in, sight_at, hidden}
+use Rattle.alethe_reader.specs.IdSights.{sight_of, sights_of, anchor_id_of, anchor_ids_of, hide}
 
 pub sights_append : (us vs : List Used) → sights_of (us ++ vs) ≡ sights_of us ++ sights_of vs
 sights_append [] vs = refl

@@ -32,7 +32,8 @@ use Rattle.term_names.specs.declared.faults.ReadFault.{ReadFault}
 use Rattle.term_reader.proofs.Staying.{places_none, places_then, table_keeps_none}
 use Rattle.alethe_text.specs.Anchors.{bound_names, image_of, script_changed}
 use Rattle.alethe_text.specs.States.{ProofState, ◌>>=◌, give, demand}
-use Rattle.alethe_reader.specs.Answers.{WasRead, AnswersAs, KeepsRead}
+use Rattle.alethe_reader.specs.Answers.{WasRead, AnswersAs}
+use Rattle.alethe_reader.specs.KeptReads.{KeepsRead}
 use Rattle.alethe_reader.specs.Bound.{images_in, BindApart}
 use Rattle.alethe_reader.specs.Opening.{is_wanted, image_read, IsImageRead}
 use Rattle.alethe_reader.specs.NeededImages.{AreNeeded}

@@ -17,7 +17,8 @@ use Rattle.alethe_reader.specs.declared.ids.Found.{Found}
 use Rattle.alethe_reader.specs.declared.ids.Role.{Role}
 use Rattle.alethe_reader.specs.declared.ids.Role.TheVariants.{Assume, Step, Anchor}
 use Rattle.alethe_reader.specs.Ids.{Used, IsUnused, IsUsedAt}
-use Rattle.alethe_reader.specs.IdsInUse.{in_use, ids_in, anchor_id_of, anchor_ids_of, sight_at}
+use Rattle.alethe_reader.specs.IdsInUse.{in_use, ids_in, sight_at}
+use Rattle.alethe_reader.specs.IdSights.{anchor_id_of, anchor_ids_of}
 use Rattle.alethe_reader.specs.Judging.{cause_of}
 use Rattle.alethe_reader.proofs.IdsInUse.{found_seen, unseen, not_open, sights_seen, anchors_open}
 

@@ -23,10 +23,11 @@ use Rattle.term_reader.proofs.Staying.{places_none, places_more, places_then}
 use Rattle.alethe_text.specs.Arguments.{is_naming, named_in, named_among}
 use Rattle.alethe_text.specs.ProofTerms.{place_in, term_in}
 use Rattle.alethe_text.specs.States.{ProofSettings, ProofState, Reading, ◌>>=◌, give}
-use Rattle.alethe_reader.specs.Answers.{WasRead, IsAnswerOf, AnswersAs, KeepsRead}
+use Rattle.alethe_reader.specs.Answers.{WasRead, IsAnswerOf, AnswersAs}
+use Rattle.alethe_reader.specs.KeptReads.{KeepsRead}
 use Rattle.alethe_reader.specs.Arguments.{is_naming_item, AreNamed}
 use Rattle.alethe_reader.specs.ReadTerms.{IsReadValue}
-use Rattle.alethe_reader.specs.Sessions.{IsBehind}
+use Rattle.alethe_reader.specs.Behind.{IsBehind}
 use Rattle.alethe_reader.proofs.Answering.{read_on, stops}
 use Rattle.alethe_reader.proofs.StillRead.{keeps_give, keeps_then, keeps_either, keeps_term}
 use Rattle.alethe_reader.proofs.TermAnswers.{value_answers}

@@ -24,7 +24,8 @@ use Rattle.alethe_text.specs.Arguments.{named_in, named_among, truth_of, with_pi
 use Rattle.alethe_text.specs.Commands.{behind_first}
 use Rattle.alethe_text.specs.ProofTerms.{place_in, term_in}
 use Rattle.alethe_text.specs.States.{ProofSettings, ProofState, Reading, ◌>>=◌, give}
-use Rattle.alethe_reader.specs.Answers.{AnswersAs, KeepsRead}
+use Rattle.alethe_reader.specs.Answers.{AnswersAs}
+use Rattle.alethe_reader.specs.KeptReads.{KeepsRead}
 use Rattle.alethe_reader.specs.Arguments.{AreNamed}
 use Rattle.alethe_reader.specs.Pivots.{first_alone, EndsPair, truth_among, with_truth, pivot_read, one_pivot, both_lists, held_pivots, BothOrNeither, IsReadPivot}
 use Rattle.alethe_reader.specs.ReadTerms.{IsReadValue}

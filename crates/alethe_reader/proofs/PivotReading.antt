@@ -22,9 +22,10 @@ use Rattle.alethe_text.specs.Arguments.{pivots_from}
 use Rattle.alethe_text.specs.Commands.{behind_first}
 use Rattle.alethe_text.specs.ProofTerms.{place_in}
 use Rattle.alethe_text.specs.States.{ProofSettings, ProofState, Reading, ◌>>=◌, give}
-use Rattle.alethe_reader.specs.Answers.{WasRead, IsAnswerOf, AnswersAs, KeepsRead}
+use Rattle.alethe_reader.specs.Answers.{WasRead, IsAnswerOf, AnswersAs}
+use Rattle.alethe_reader.specs.KeptReads.{KeepsRead}
 use Rattle.alethe_reader.specs.Pivots.{first_alone, EndsPair, pivot_read, one_pivot, both_lists, held_pivots, BothOrNeither, IsReadPivot, AreReadPivots}
-use Rattle.alethe_reader.specs.Sessions.{IsBehind}
+use Rattle.alethe_reader.specs.Behind.{IsBehind}
 use Rattle.alethe_reader.proofs.Answering.{read_on, stops}
 use Rattle.alethe_reader.proofs.NamedArguments.{and_then_then, never}
 use Rattle.alethe_reader.proofs.PivotPairs.{others_behind, pair_split, both_assoc, none_before, none_behind}

@@ -33,7 +33,8 @@ use Rattle.alethe_reader.specs.declared.session.StepParts.{StepParts}
 use Rattle.alethe_reader.specs.declared.standing.Standing.{Standing as ReaderStanding}
 use Rattle.alethe_reader.specs.declared.stepping.NewStep.{NewStep}
 use Rattle.alethe_reader.specs.AddedSteps.{IsToAdd}
-use Rattle.alethe_reader.specs.Answers.{AnswersAs, KeepsRead}
+use Rattle.alethe_reader.specs.Answers.{AnswersAs}
+use Rattle.alethe_reader.specs.KeptReads.{KeepsRead}
 use Rattle.alethe_reader.specs.Ids.{Used}
 use Rattle.alethe_reader.specs.Judging.{is_named}
 use Rattle.alethe_reader.specs.ReadTerms.{AreReadFormulas}

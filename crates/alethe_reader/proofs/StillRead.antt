@@ -15,7 +15,7 @@ use Rattle.problem_text.proofs.Growing as growing
 use Rattle.alethe_text.specs.States.{ProofSettings, ProofState, Reading, ◌>>=◌, give, refuse, demand, given, found, seen_in, changed}
 use Rattle.alethe_text.specs.Ids.{indices_of}
 use Rattle.alethe_text.specs.ProofTerms.{place_in, term_in, formula_in, formulas_in}
-use Rattle.alethe_reader.specs.Answers.{KeepsRead}
+use Rattle.alethe_reader.specs.KeptReads.{KeepsRead}
 use Rattle.alethe_reader.proofs.Answering.{read_on}
 
 pub keeps_give : {A : Type 0} (a : A) → KeepsRead (give a)

@@ -16,7 +16,7 @@ use Rattle.alethe_text.specs.Ids.{Standing, id_judged, standing_of}
 use Rattle.alethe_text.specs.ProofTexts.{performed, commands, none_behind, closed_proof}
 use Rattle.alethe_text.specs.States.{ProofSettings}
 use Rattle.alethe_text.specs.Steps.{assume_read, attribute_read, attributes_read, with_step, step_read}
-use Rattle.alethe_reader.specs.Answers.{KeepsRead}
+use Rattle.alethe_reader.specs.KeptReads.{KeepsRead}
 use Rattle.alethe_reader.specs.TextReading.{closing_from, left_from}
 use Rattle.alethe_reader.proofs.StillRead.{keeps_give, keeps_refuse, keeps_given, keeps_demand, keeps_seen, keeps_then, keeps_either, keeps_changed, keeps_term, keeps_formula, keeps_formulas, keeps_indices}
 

@@ -18,7 +18,8 @@ use Rattle.term_reader.specs.ProblemViews.{ReaderView, ReadsValue}
 use Rattle.term_reader.proofs.Staying.{adds_none, keeps_none}
 use Rattle.alethe_text.specs.ProofTerms.{place_in, term_in, formula_in}
 use Rattle.alethe_text.specs.States.{ProofSettings, ProofState, Reading, ◌>>=◌, give, demand}
-use Rattle.alethe_reader.specs.Answers.{AnswersAs, KeepsRead}
+use Rattle.alethe_reader.specs.Answers.{AnswersAs}
+use Rattle.alethe_reader.specs.KeptReads.{KeepsRead}
 use Rattle.alethe_reader.specs.ReadTerms.{IsReadValue, IsReadFormula}
 use Rattle.alethe_reader.proofs.Answering.{stops, goes, answers, refuses}
 use Rattle.alethe_reader.proofs.StillRead.{keeps_then, keeps_demand, keeps_give}

@@ -8,7 +8,7 @@ use Rattle.problem_text.specs.Outcomes.{Outcome, done}
 use Rattle.term_names.specs.Making.{PlacesCellsOf}
 use Rattle.term_names.specs.declared.faults.ReadFault.{ReadFault}
 use Rattle.term_reader.specs.Reading.{EndsWith}
-use Rattle.alethe_text.specs.States.{ProofState, Reading}
+use Rattle.alethe_text.specs.States.{ProofState}
 
 -- a term that was read by the end
 abbrev pub WasRead : {A : Type 0} → Outcome ProofState A → Term → Type 0
@@ -30,7 +30,3 @@ IsAnswerOf s pass After o (Err fault) = EndsWith s pass o.result (WasRead o) fau
 pub record AnswersAs {A T : Type 0} (s : Table) (old new : TermsView) (After : T → A → ProofState → Type 0) (o : Outcome ProofState A) (result : Result T ReadFault) : Type 0 where
   pub answer : IsAnswerOf s new.pass After o result
   pub placed : PlacesCellsOf s old.pass new.pass (WasRead o)
-
--- what was read stays read
-pub record KeepsRead {A : Type 0} (reading : Reading A) : Type 0 where
-  pub keeps : (x : Term) (p : ProofState) → Contains p.script.terms x → WasRead (reading p) x

@@ -1,4 +1,4 @@
--- Public. The terms in the arguments of a step that get a name (Alethe, "The Proof Format").
+-- Private. The terms in the arguments of a step that get a name (Alethe, "The Proof Format").
 use Rattle.std.specs.Prelude.{Bool, false, ⊤}
 use Rattle.sexpr.specs.Items.{Item, word, quoted, string, list}
 use Rattle.sym_table.specs.Table.{Table}
@@ -8,7 +8,7 @@ use Rattle.rule_model.specs.Scopes.{Nesting}
 use Rattle.term_reader.specs.ProblemViews.{ReaderView}
 use Rattle.alethe_text.specs.Arguments.{is_naming}
 use Rattle.alethe_text.specs.States.{ProofSettings, ProofState}
-use Rattle.alethe_reader.specs.Sessions.{IsBehind}
+use Rattle.alethe_reader.specs.Behind.{IsBehind}
 
 -- the item is a term `(! t :named n)`
 abbrev pub is_naming_item : Item → Bool

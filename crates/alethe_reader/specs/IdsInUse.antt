@@ -28,25 +28,6 @@ ids_around (inside around before anchor) =
 abbrev pub ids_in : {V T : Type 0} → Scope V T → List Used
 ids_in scope = ids_around scope.nesting ++ own_ids scope.nesting scope.items
 
--- of some ids those of commands, and those of anchors
-abbrev pub sight_of : Role → Used → List Sight
-sight_of Assume u = sight u.number u.id ∷ []
-sight_of Step u = sight u.number u.id ∷ []
-sight_of Anchor u = []
-
-abbrev pub sights_of : List Used → List Sight
-sights_of [] = []
-sights_of (u ∷ us) = sight_of u.role u ++ sights_of us
-
-abbrev pub anchor_id_of : Role → Used → List (List ℕ)
-anchor_id_of Assume u = []
-anchor_id_of Step u = []
-anchor_id_of Anchor u = u.id ∷ []
-
-abbrev pub anchor_ids_of : List Used → List (List ℕ)
-anchor_ids_of [] = []
-anchor_ids_of (u ∷ us) = anchor_id_of u.role u ++ anchor_ids_of us
-
 -- the command of an id in use, where it is one
 abbrev pub sight_at : Role → ℕ → List ℕ → Option Sight
 sight_at Assume number id = Some (sight number id)
@@ -58,6 +39,3 @@ abbrev pub hidden : Role → Role
 hidden Assume = Assume
 hidden Step = Anchor
 hidden Anchor = Anchor
-
-abbrev pub hide : Used → Used
-hide u = in_use u.id (hidden u.role) u.number

@@ -1,12 +1,15 @@
 pub mod Ids
 pub mod IdsInUse
+pub mod IdSights
 pub mod HeldIds
 pub mod Reading
 pub mod TextReading
 pub mod Bound
 pub mod Opening
 pub mod Sessions
+pub mod Behind
 pub mod Answers
+pub mod KeptReads
 pub mod ReadTerms
 pub mod Judging
 pub mod Reach

@@ -14,7 +14,7 @@ use Rattle.alethe_text.specs.Arguments.{named_among, truth_of}
 use Rattle.alethe_text.specs.Commands.{behind_first}
 use Rattle.alethe_text.specs.ProofTerms.{term_in}
 use Rattle.alethe_text.specs.States.{ProofSettings, ProofState, Reading, ◌>>=◌, give}
-use Rattle.alethe_reader.specs.Sessions.{IsBehind}
+use Rattle.alethe_reader.specs.Behind.{IsBehind}
 
 -- the first of some items, where there is one
 abbrev pub first_alone : Items → Items

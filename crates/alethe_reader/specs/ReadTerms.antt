@@ -1,4 +1,4 @@
--- Public. Terms and formulas of a proof that were read in a scope.
+-- Private. Terms and formulas of a proof that were read in a scope.
 use Rattle.std.specs.Prelude.{◌≤◌, ℕ, List, ⊤}
 use Rattle.sym_table.specs.Table.{Table}
 use Rattle.term_model.specs.Terms.{Var, Term}
@@ -10,7 +10,7 @@ use Rattle.term_expansion.specs.Values.{IsValue}
 use Rattle.term_expansion.specs.declared.values.Value.{Value}
 use Rattle.term_reader.specs.ProblemViews.{ReaderView}
 use Rattle.alethe_text.specs.States.{ProofSettings, ProofState}
-use Rattle.alethe_reader.specs.Sessions.{IsBehind}
+use Rattle.alethe_reader.specs.Behind.{IsBehind}
 
 -- a term was read, with its sort and its height
 pub record IsReadValue (s : Table) (v : TermsView) (settings : ProofSettings) (nesting : Nesting Var Term) (r : ReaderView) (old : ProofState) (c : Value) (t : Typed) (new : ProofState) : Type 0 where

@@ -47,12 +47,6 @@ pub record IsProofSession (s : Table) (v : TermsView) (settings : ProofSettings)
   pub reader : IsReaderOf s v d.reader p.script (place_in settings p.scope.nesting)
   pub written : IsWritten s v d p
 
--- A part of a command was read in a scope: the reader stands for the new script there, and all else of the state is as before.
-pub record IsBehind (s : Table) (v : TermsView) (settings : ProofSettings) (nesting : Nesting Var Term) (r : ReaderView) (old new : ProofState) : Type 0 where
-  pub reader : IsReaderOf s v r new.script (place_in settings nesting)
-  pub scope : new.scope ≡ old.scope
-  pub anchors : new.anchors ≡ old.anchors
-
 -- After a command what was read stands for the new state.
 pub record StandsAfter (s : Table) (v : TermsView) (settings : ProofSettings) (d : Session) (done answer : ⊤) (p : ProofState) : Type 0 where
   pub session : IsProofSession s v settings d p

@@ -22,7 +22,7 @@ use Rattle.alethe_reader.specs.declared.session.Session.{Session}
 use Rattle.alethe_reader.specs.declared.session.StepParts.{StepParts}
 use Rattle.alethe_reader.specs.declared.standing.Standing.{Standing}
 use Rattle.alethe_reader.specs.Reach.{IsReach}
-use Rattle.alethe_reader.specs.Sessions.{IsBehind}
+use Rattle.alethe_reader.specs.Behind.{IsBehind}
 
 -- the parts are those of the step, and its pivots stand for those of it
 pub record AreStepParts (s : Table) (v : TermsView) (d : StepParts) (step : Step Term) : Type 0 where
