@@ -9,6 +9,8 @@ use std::{env, io};
 
 #[cfg(test)]
 mod pool_tests;
+#[cfg(test)]
+mod resolution_tests;
 
 /// The status of want of memory.
 const NO_MEMORY: u8 = 7;
