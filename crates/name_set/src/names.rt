@@ -1,7 +1,7 @@
 //! The names with their numbers.
 ghost use Rattle.std.specs.Prelude.{◌≡◌, ℕ, List, ◌++◌, [], ◌∷◌, ◌<◌, ◌≤◌, length, position, bytes_eq, slice_get, Some, None, IfOk, OnOk, OnErr, if◌then◌else◌};
 ghost use Rattle.name_set.specs.Names.{StandOnce};
-ghost use Rattle.name_set.specs.Keys.{key_of, number_among};
+ghost use Rattle.name_set.specs.Keys.{name_key, longer_number};
 
 use crate::packing::{MOST_PACKED, packed};
 use indexmap::{IndexMap, IndexSet};
@@ -33,13 +33,13 @@ pub struct NameSet {
 
 impl Model for NameSet {
     ghost use Rattle.std.specs.Prelude.{List, ℕ};
-    ghost use Rattle.name_set.specs.Keys.{names_in, AreWithin, IsFound};
+    ghost use Rattle.name_set.specs.Keys.{names_of_spans, AreWithin, AreIndexed};
 
     ghost Value = { List (List ℕ) };
 
-    ghost view = { λ n. names_in n.text.items n.spans.items };
+    ghost view = { λ n. names_of_spans n.text.items n.spans.items };
 
-    ghost invariant = { λ n. IsFound (names_in n.text.items n.spans.items) n.keys.keys n.longer.entries × AreWithin n.text.items n.spans.items };
+    ghost invariant = { λ n. AreIndexed (names_of_spans n.text.items n.spans.items) n.keys.keys n.longer.entries × AreWithin n.text.items n.spans.items };
 }
 
 impl NameSet {
@@ -111,9 +111,9 @@ fn key_for(
     name: &[u8],
     number: usize,
 ) -> Result<u128, AllocError>
-    ensures key { IfOk result (λ key. key ≡ key_of number name.now) }
+    ensures key { IfOk result (λ key. key ≡ name_key number name.now) }
     ensures short { length name.now ≤ 15 → longer.new.entries ≡ longer.old.entries }
-    ensures long { OnOk result (15 < length name.now → (other : List ℕ) → number_among longer.new.entries other ≡ (if bytes_eq other name.now then Some number else number_among longer.old.entries other)) }
+    ensures long { OnOk result (15 < length name.now → (other : List ℕ) → longer_number longer.new.entries other ≡ (if bytes_eq other name.now then Some number else longer_number longer.old.entries other)) }
     ensures refused { OnErr result (longer.new.entries ≡ longer.old.entries) }
 {
     if name.len() <= MOST_PACKED {

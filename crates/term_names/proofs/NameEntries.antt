@@ -9,7 +9,7 @@ use Rattle.indexmap.proofs.ReorderLemmas.{zip_push}
 use Rattle.term_names.specs.declared.entries.Entry.{Entry}
 use Rattle.term_names.specs.declared.entries.Entry.TheVariants.{Reserved, Macro, Named}
 use Rattle.term_names.specs.Entries.{EntriesView, lookup, Puts, IsThere}
-use Rattle.term_names.specs.NameTables.{AreThere, AreNumbers, number_given}
+use Rattle.term_names.specs.NameTables.{AreThere, AreTableNumbers, number_given}
 use Rattle.term_names.proofs.Positions.{next_place, position_cons}
 
 -- the entry of a name with a number stands at that place
@@ -149,15 +149,15 @@ pub length_pushed : {X : Type 0} (xs ys more : List X) (x : X) → more ≡ ys +
 length_pushed xs ys more x e g = ap length (e ∙ ap (λ zs. zs ++ x ∷ []) g) ∙ length_push xs x
 
 -- numbers of names stay that where more names come, and where the references are put in another order
-pub AreNumbers-more : (given : List (ℕ × ℕ)) (m n : ℕ) → m ≤ n → AreNumbers given m → AreNumbers given n
-AreNumbers-more given m n more h r k is = let below = h r k is in omega arith
+pub AreTableNumbers-more : (given : List (ℕ × ℕ)) (m n : ℕ) → m ≤ n → AreTableNumbers given m → AreTableNumbers given n
+AreTableNumbers-more given m n more h r k is = let below = h r k is in omega arith
 
-pub AreNumbers-same : (given other : List (ℕ × ℕ)) (n : ℕ) → ((r : ℕ) → number_given other r ≡ number_given given r) → AreNumbers given n → AreNumbers other n
-AreNumbers-same given other n same h r k is = h r k (sym (same r) ∙ is)
+pub AreTableNumbers-same : (given other : List (ℕ × ℕ)) (n : ℕ) → ((r : ℕ) → number_given other r ≡ number_given given r) → AreTableNumbers given n → AreTableNumbers other n
+AreTableNumbers-same given other n same h r k is = h r k (sym (same r) ∙ is)
 
 -- one more number is kept
-pub AreNumbers-put : (given other : List (ℕ × ℕ)) (r number n : ℕ) → ((q : ℕ) → number_given other q ≡ cond (eqb r q) (Some number) (number_given given q)) → number < n → AreNumbers given n → AreNumbers other n
-AreNumbers-put given other r number n updates below h q k is = go (eqb r q) (sym (updates q) ∙ is)
+pub AreTableNumbers-put : (given other : List (ℕ × ℕ)) (r number n : ℕ) → ((q : ℕ) → number_given other q ≡ cond (eqb r q) (Some number) (number_given given q)) → number < n → AreTableNumbers given n → AreTableNumbers other n
+AreTableNumbers-put given other r number n updates below h q k is = go (eqb r q) (sym (updates q) ∙ is)
   where
     go : (b : Bool) → cond b (Some number) (number_given given q) ≡ Some k → k < n
     go true e = subst (λ j. j < n) (same_Some _ _ e) below

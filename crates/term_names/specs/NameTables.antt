@@ -19,11 +19,11 @@ abbrev pub number_given : List (ℕ × ℕ) → ℕ → Option ℕ
 number_given given r = map.lookup (nat_eq r) given
 
 -- each number that is kept for a reference is that of one of so many names
-abbrev pub AreNumbers : List (ℕ × ℕ) → ℕ → Type 0
-AreNumbers given count = (r n : ℕ) → number_given given r ≡ Some n → n < count
+abbrev pub AreTableNumbers : List (ℕ × ℕ) → ℕ → Type 0
+AreTableNumbers given count = (r n : ℕ) → number_given given r ≡ Some n → n < count
 
 -- each name has an entry, what that is that of is there, and what was given to terms are numbers of names
 pub record IsInStep (names : List (List ℕ)) (entries : List Entry) (macros : List macro.Macro) (named : List named.Named) (given : List (ℕ × ℕ)) : Type 0 where
   pub one_each : length entries ≡ length names
   pub there : AreThere (entries_view names entries macros named)
-  pub numbers : AreNumbers given (length names)
+  pub numbers : AreTableNumbers given (length names)

@@ -36,13 +36,13 @@ fault_still known place stood next items =
     else earlier (misplaced known next items) (repeated_still known stood items)
 
 -- a keyword that may stand, and what may stand behind it
-pub record IsMarked (known : List Known) (name : List ℕ) (stood after : List Bool) : Type 0 where
+pub record IsKeywordMarked (known : List Known) (name : List ℕ) (stood after : List Bool) : Type 0 where
   pub kept : after ≡ marked known name stood
   pub once : is_again known name stood ≡ false
 
 abbrev pub AreMarked : List Known → Option (List ℕ) → List Bool → List Bool → Type 0
 AreMarked known None stood after = after ≡ stood
-AreMarked known (Some name) stood after = IsMarked known name stood after
+AreMarked known (Some name) stood after = IsKeywordMarked known name stood after
 
 -- an item of which this is the keyword is passed
 pub record IsPassed (known : List Known) (word : Option (List ℕ)) (stood : List Bool) (next : Next) (after : List Bool) : Type 0 where

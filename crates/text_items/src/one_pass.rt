@@ -4,7 +4,7 @@ ghost use Rattle.sexpr.specs.Items.{Item, Items, no_items};
 ghost use Rattle.sexpr.specs.Source.{source};
 ghost use Rattle.text_items.specs.Keywords as shape;
 ghost use Rattle.text_items.specs.Nodes.{IsNode, AreNodes};
-ghost use Rattle.text_items.specs.OnePass.{IsMarked, IsPassed, lacks_still};
+ghost use Rattle.text_items.specs.OnePass.{IsKeywordMarked, IsPassed, lacks_still};
 ghost use Rattle.text_items.specs.Stepping.{IsItemAt, AreItemsFrom};
 
 use crate::keywords::{Keyword, Next, after_word, is_spelled_so, is_value, keyword_at, next_fault};
@@ -69,7 +69,7 @@ fn pass(
 /// Marks a keyword as one that stood. False where one that stands once at most stood before; nothing is said of the marks
 /// then.
 fn mark(known: &[Keyword<'_>], word: &[u8], stood: &mut [bool]) -> bool
-    ensures { result ≡ true → IsMarked (map shape.known_of known.now) word.now stood.old stood.new }
+    ensures { result ≡ true → IsKeywordMarked (map shape.known_of known.now) word.now stood.old stood.new }
 {
     match known {
         [] => true,

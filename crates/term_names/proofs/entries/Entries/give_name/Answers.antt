@@ -3,8 +3,8 @@ use Rattle.std.proofs.Common.{◌≡◌, ◌∙◌, ◌+◌, ◌<◌, length, zi
 use Rattle.term_names.specs.declared.entries.Entry.TheVariants as Entry
 use Rattle.std.proofs.lemmas.List.{length_push}
 use Rattle.term_names.specs.Entries.{EntriesView, lookup, Puts}
-use Rattle.term_names.specs.NameTables.{AreNumbers}
-use Rattle.term_names.proofs.NameEntries.{unnumbered, Puts-new, length_put, length_pushed, AreThere-Puts, AreNumbers-more, AreNumbers-same, AreNumbers-put}
+use Rattle.term_names.specs.NameTables.{AreTableNumbers}
+use Rattle.term_names.proofs.NameEntries.{unnumbered, Puts-new, length_put, length_pushed, AreThere-Puts, AreTableNumbers-more, AreTableNumbers-same, AreTableNumbers-put}
 use Rattle.term_names.proofs.entries.Entries.give_name.Goals as goal
 
 pub put_new-requires : goal.put_new-requires
@@ -27,13 +27,13 @@ longer c =
 more_names : (c : goal.After-unwrap-2) → length c.put_new.new.names ≡ length c.self.inside.names + 1
 more_names c = ap length c.in_ok-put_new.ensures.names ∙ length_push _ _
 
-numbers : (c : goal.After-unwrap-2) → AreNumbers c.insert-remembered.new.self.entries (length c.put_new.new.names)
+numbers : (c : goal.After-unwrap-2) → AreTableNumbers c.insert-remembered.new.self.entries (length c.put_new.new.names)
 numbers c =
     let put = rw c.unwrap.ensures at c.insert-remembered.ensures.updates in
     let count : c.len-number.result ≡ length c.self.inside.names = search (rules, c.len-number.ensures) in
     let below : c.len-number.result < length c.put_new.new.names = omega (arith, more_names c, count) in
-    let kept = AreNumbers-same _ _ _ c.reserve-2.ensures.entries.2 c.self.invariant.numbers in
-    AreNumbers-put _ _ _ _ _ put.0 below (AreNumbers-more _ _ _ (omega (arith, more_names c)) kept)
+    let kept = AreTableNumbers-same _ _ _ c.reserve-2.ensures.entries.2 c.self.invariant.numbers in
+    AreTableNumbers-put _ _ _ _ _ put.0 below (AreTableNumbers-more _ _ _ (omega (arith, more_names c)) kept)
 
 pub invariant_of-self-2 : goal.invariant_of-self-2
 invariant_of-self-2 c = record {

@@ -3,7 +3,7 @@ use Rattle.std.proofs.Common.{◌∙◌, length, zip, ap, subst, arith}
 use Rattle.std.proofs.lemmas.List.{length_push}
 use Rattle.term_names.specs.declared.entries.Entry.TheVariants as Entry
 use Rattle.term_names.specs.Entries.{EntriesView, lookup, Puts}
-use Rattle.term_names.proofs.NameEntries.{unnumbered, Puts-new, length_put, AreThere-Puts, AreNumbers-more}
+use Rattle.term_names.proofs.NameEntries.{unnumbered, Puts-new, length_put, AreThere-Puts, AreTableNumbers-more}
 use Rattle.term_names.proofs.entries.Entries.reserve.Goals as goal
 
 pub put_new-requires : goal.put_new-requires
@@ -20,7 +20,7 @@ pub invariant_of-self-2 : goal.invariant_of-self-2
 invariant_of-self-2 c = record {
   one_each = length_put _ _ _ _ _ _ c.self.invariant.one_each c.in_ok-put_new.ensures.names c.in_ok-put_new.ensures.entries;
   there = AreThere-Puts _ _ _ _ (omega arith) (omega arith) c.self.invariant.there (puts c) tt;
-  numbers = AreNumbers-more _ _ _ (let more = ap length c.in_ok-put_new.ensures.names ∙ length_push _ _ in omega (arith, more)) c.self.invariant.numbers;
+  numbers = AreTableNumbers-more _ _ _ (let more = ap length c.in_ok-put_new.ensures.names ∙ length_push _ _ in omega (arith, more)) c.self.invariant.numbers;
 }
 
 pub returns-clause-names : goal.returns-clause-names
