@@ -51,7 +51,7 @@ module _ (xs : List ℕ) (at : ℕ) (within : at < length xs) where
       let h : eqb (get_or xs at 0) 124 ≡ false = grind (arith, nat_tests) in
       rw (drop_more xs at 0 within, e, f, g, h, word) refl
 
-no_word_byte : (b c : ℕ) → is_word_byte c ≡ false → is_word_byte b ≡ true → eqb b c ≡ false
+pub no_word_byte : (b c : ℕ) → is_word_byte c ≡ false → is_word_byte b ≡ true → eqb b c ≡ false
 no_word_byte b c none word = go (eqb b c) refl
   where
     go : (test : Bool) → eqb b c ≡ test → test ≡ false

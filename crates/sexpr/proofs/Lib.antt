@@ -11,3 +11,4 @@ pub mod Respelling
 pub mod Scanning
 pub mod Spelling
 pub mod ReadingBack
+pub mod FineBytes

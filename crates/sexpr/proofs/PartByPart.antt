@@ -16,7 +16,8 @@ use Rattle.sexpr.specs.Form.{IsStrayClose, IsOpenList, IsFormFault, HasForm}
 use Rattle.sexpr.specs.Depths.{depth_after, lists_after, bracket_kind, end_of_read}
 use Rattle.sexpr.proofs.Lexemes.{opens, closes, nothing_left}
 use Rattle.sexpr.proofs.Scanning.{white_goes, comment_begins, blanks_stop, blanks_end_at_end}
-use Rattle.sexpr.proofs.OpenSoFar.{IsOpenAfter, open_after_next, bad_byte_next, stray_next, formed_at_end, open_at_end}
+use Rattle.sexpr.specs.OpenSoFar.{IsOpenAfter}
+use Rattle.sexpr.proofs.OpenSoFar.{open_after_next, bad_byte_next, stray_next, formed_at_end, open_at_end}
 
 -- blanks that end at one place have one token after them
 same_next : (text : List ℕ) (p q : ℕ) → blanks_end false p (drop p text) ≡ blanks_end false q (drop q text) → next_token text p ≡ next_token text q

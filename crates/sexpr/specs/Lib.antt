@@ -4,6 +4,8 @@ pub mod Classes
 pub mod Words
 pub mod Tokens
 pub mod Depths
+pub mod OpenSoFar
+pub mod Blocks
 pub mod Form
 pub mod Grammar
 pub mod Items

@@ -4,6 +4,7 @@ ghost use Rattle.sexpr.specs.declared.causes.Refusal.{Refusal};
 ghost use Rattle.sexpr.specs.Depths.{lists_after, bracket_kind};
 ghost use Rattle.sexpr.specs.Form.{HasForm, IsFormFault};
 
+use crate::blocks::is_formed;
 use crate::bytes::is_white;
 use crate::causes::{Cause, Refusal};
 use crate::lexing::{Token, TokenKind, past_token, token_of};
@@ -48,6 +49,9 @@ pub fn form(bytes: &[u8]) -> Result<(), Refusal>
     ensures ok_where_formed { HasForm bytes.now → result ≡ Ok tt }
     ensures err_where_faulty { (refusal : Refusal) → IsFormFault bytes.now refusal → result ≡ Err refusal }
 {
+    if is_formed(bytes) {
+        return Ok(());
+    }
     first_fault(bytes)
 }
 

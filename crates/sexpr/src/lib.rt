@@ -4,6 +4,7 @@
 //! looked at a bounded number of times.
 #![tactic(auto)]
 
+mod blocks;
 mod brackets;
 mod bytes;
 mod causes;

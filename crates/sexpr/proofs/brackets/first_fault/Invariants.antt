@@ -1,5 +1,5 @@
 use Rattle.std.proofs.Common.{length, ◌-◌, ◌≤◌}
-use Rattle.sexpr.proofs.OpenSoFar.{IsOpenAfter}
+use Rattle.sexpr.specs.OpenSoFar.{IsOpenAfter}
 use Rattle.sexpr.proofs.brackets.first_fault.Given as goal
 
 abbrev pub invariant-loop-place : goal.invariant-loop-place
