@@ -1,3 +1,4 @@
 pub mod Names
 pub mod Packing
+pub mod Hashing
 pub mod Keys

@@ -3,9 +3,11 @@ ghost use Rattle.std.specs.Prelude.{◌≡◌, ℕ, List, ◌++◌, [], ◌∷�
 ghost use Rattle.name_set.specs.Names.{StandOnce};
 ghost use Rattle.name_set.specs.Keys.{name_key, longer_number};
 
+use crate::hashing::NameHasher;
 use crate::packing::{MOST_PACKED, packed};
 use indexmap::{IndexMap, IndexSet};
 use std::alloc::{AllocError, Global};
+use std::hash::BuildHasherDefault;
 use std::marker::Model;
 
 /// Where a name stands in the text of all names.
@@ -26,7 +28,7 @@ pub struct NameSet {
     text: Vec<u8>,
     spans: Vec<Span>,
     /// A key for each name, at the place that is its number.
-    keys: IndexSet<u128>,
+    keys: IndexSet<u128, BuildHasherDefault<NameHasher>>,
     /// The numbers of the longer names.
     longer: IndexMap<Vec<u8>, usize>,
 }
@@ -51,7 +53,7 @@ impl NameSet {
             alloc,
             text: Vec::new(alloc),
             spans: Vec::new(alloc),
-            keys: IndexSet::new(alloc),
+            keys: IndexSet::with_hasher(alloc, BuildHasherDefault::new()),
             longer: IndexMap::new(alloc),
         }
     }

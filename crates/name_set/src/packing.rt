@@ -6,8 +6,9 @@ ghost use Rattle.name_set.specs.Packing.{low_bytes, high_bytes, packed};
 /// The most bytes of a name that is packed.
 pub(crate) const MOST_PACKED: usize = 15;
 
-// The number of a short name. Its low half is read from eight bytes of the name, and its high half from seven and the
-// length: the two readings may overlap, so that no byte is left out and there is no loop.
+// The number of a short name. Its low half is read from eight bytes of the name, of which the highest is the last byte of
+// the name, and its high half from seven and the length: the two readings may overlap, so that no byte is left out and
+// there is no loop.
 pub(crate) fn packed(name: &[u8]) -> u128
     requires { length name.now ≤ 15 }
     ensures { result ≡ packed name.now }
@@ -22,7 +23,7 @@ fn low_half(name: &[u8]) -> u64
     ensures { result ≡ from_le_bytes w64 (low_bytes (length name.now) name.now) }
 {
     if name.len() >= 8 {
-        first_eight(name)
+        last_eight(name)
     } else if name.len() >= 4 {
         first_and_last_four(name)
     } else {
@@ -30,13 +31,22 @@ fn low_half(name: &[u8]) -> u64
     }
 }
 
-// The first eight bytes.
-fn first_eight(name: &[u8]) -> u64
+// The last eight bytes.
+fn last_eight(name: &[u8]) -> u64
     requires { 8 ≤ length name.now }
     ensures { result ≡ from_le_bytes w64 (low_bytes (length name.now) name.now) }
 {
+    let first = name.len() - 8;
+    let later = name.len() - 4;
     u64::from_le_bytes([
-        name[0], name[1], name[2], name[3], name[4], name[5], name[6], name[7],
+        name[first],
+        name[first + 1],
+        name[first + 2],
+        name[first + 3],
+        name[later],
+        name[later + 1],
+        name[later + 2],
+        name[later + 3],
     ])
 }
 
@@ -59,7 +69,7 @@ fn first_and_last_four(name: &[u8]) -> u64
     ])
 }
 
-// The first byte, the middle one and the last one: all bytes of a name of up to three.
+// The first byte, the middle one and, behind zeros, the last one: all bytes of a name of up to three.
 fn first_middle_last(name: &[u8]) -> u64
     requires { length name.now < 4 }
     ensures { result ≡ from_le_bytes w64 (low_bytes (length name.now) name.now) }
@@ -68,7 +78,7 @@ fn first_middle_last(name: &[u8]) -> u64
     if len == 0 {
         return 0;
     }
-    u64::from_le_bytes([name[0], name[len / 2], name[len - 1], 0, 0, 0, 0, 0])
+    u64::from_le_bytes([name[0], name[len / 2], 0, 0, 0, 0, 0, name[len - 1]])
 }
 
 fn high_half(name: &[u8]) -> u64
@@ -79,25 +89,23 @@ fn high_half(name: &[u8]) -> u64
     if len < 8 {
         return u64::from_le_bytes([0, 0, 0, 0, 0, 0, 0, len as u8]);
     }
-    last_seven(name)
+    first_seven(name)
 }
 
-// The last seven bytes and the length.
-fn last_seven(name: &[u8]) -> u64
+// The first seven bytes and the length.
+fn first_seven(name: &[u8]) -> u64
     requires at_least { 8 ≤ length name.now }
     requires at_most { length name.now ≤ 15 }
     ensures { result ≡ from_le_bytes w64 (high_bytes (length name.now) name.now) }
 {
-    let len = name.len();
-    let last = len - 7;
     u64::from_le_bytes([
-        name[last],
-        name[last + 1],
-        name[last + 2],
-        name[last + 3],
-        name[last + 4],
-        name[last + 5],
-        name[last + 6],
-        len as u8,
+        name[0],
+        name[1],
+        name[2],
+        name[3],
+        name[4],
+        name[5],
+        name[6],
+        name.len() as u8,
     ])
 }

@@ -1,5 +1,5 @@
 -- A longer name is put into the table of them.
-use Rattle.std.proofs.Common.{◌≡◌, ap, ◌∙◌, cond, bytes_eq, Some}
+use Rattle.std.proofs.Common.{ap, ◌∙◌, cond, bytes_eq, Some}
 use Rattle.name_set.specs.Keys.{longer_number}
 use Rattle.name_set.proofs.KeyLists.{name_key-short, name_key-longer, longer_number-insert_entry}
 use Rattle.name_set.proofs.names.key_for.Goals as goal

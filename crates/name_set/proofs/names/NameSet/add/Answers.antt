@@ -4,7 +4,7 @@ use Rattle.std.proofs.lemmas.List.{length-map}
 use Rattle.std.specs.List.{slice_range}
 use Rattle.indexmap.specs.IndexSet.{insert_key}
 use Rattle.name_set.specs.declared.names.Span.{Span}
-use Rattle.name_set.specs.Keys.{names_of_spans, name_key, longer_number, AreBytes, AreWithin, AreIndexed}
+use Rattle.name_set.specs.Keys.{names_of_spans, name_key, longer_number, AreBytes, AreIndexed}
 use Rattle.name_set.proofs.KeyLists.{AreIndexed-new_name}
 use Rattle.name_set.proofs.Texts.{names_of_spans-new_name, AreWithin-new_name}
 use Rattle.name_set.proofs.names.NameSet.add.Goals as goal

@@ -1,5 +1,5 @@
 -- The place of the key of a short name is its number.
-use Rattle.std.proofs.Common.{◌≡◌, ◌∙◌, ap, position, bytes_eq, nat_eq, arith}
+use Rattle.std.proofs.Common.{◌∙◌, ap, position, bytes_eq, nat_eq, arith}
 use Rattle.name_set.specs.Packing.{packed}
 use Rattle.name_set.specs.Keys.{names_of_spans, AreBytes}
 use Rattle.name_set.proofs.KeyLists.{position-keys}

@@ -2,7 +2,7 @@
 use Rattle.std.proofs.Common.{◌∙◌, ap, length}
 use Rattle.std.specs.Int.{from_le_bytes, w64}
 use Rattle.name_set.proofs.PackedNames.{low-eight}
-use Rattle.name_set.proofs.packing.first_eight.Goals as goal
+use Rattle.name_set.proofs.packing.last_eight.Goals as goal
 
 pub returns : goal.returns
 returns c = c.from_le_bytes.ensures ∙ ap (from_le_bytes w64) (low-eight (length c.args.name.now) c.args.name.now c.requires)
