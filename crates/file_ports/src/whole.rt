@@ -1,5 +1,5 @@
 // Reading a whole file, and writing a whole text, over any folder and any sink.
-ghost use Rattle.std.specs.Prelude.{◌≡◌, ◌≤◌, ◌↔◌, List, ℕ, length, vec_len, IfOk, OnOk, OnErr, IsErrOf};
+ghost use Rattle.std.specs.Prelude.{◌≡◌, ◌≤◌, ◌↔◌, List, [], ℕ, length, vec_len, IfOk, OnOk, OnErr, IsErrOf};
 ghost use Rattle.std.specs.Io.KnownBytes.{Appends};
 ghost use Rattle.file_ports.specs.Faults.{HasRisen};
 ghost use Rattle.file_ports.specs.Texts.{AreTold, IsLongerThan, AppendsFront};
@@ -13,6 +13,11 @@ pub const MOST_BYTES: usize = 268_435_456;
 
 /// The most bytes that one read asks for: 64 KiB.
 pub const PIECE_BYTES: usize = 65_536;
+
+/// The bytes that a text has room for from the start: 32 MiB.
+// Memory that is asked for in one piece of this size is handed out in large pages, and only as far as it is written: a text
+// that grows up to there from a small piece is moved some ten times, and lies in small pages.
+const FIRST_ROOM: usize = 33_554_432;
 
 /// Why a file was not read whole.
 #[derive(Clone, Copy, Debug, PartialEq, Eq)]
@@ -76,7 +81,7 @@ pub fn read_whole<F: Folder>(alloc: Global, folder: &mut F, path: &str) -> Resul
 {
     let file = folder.open(path)?;
     let mut piece = new_piece(alloc, PIECE_BYTES)?;
-    let mut bytes = Vec::new(alloc);
+    let mut bytes = no_bytes(alloc);
     'pieces: loop {
         let room = PIECE_BYTES.min(MOST_BYTES + 1 - bytes.len());
         let n = add_piece(folder, file, &mut piece[..room], &mut bytes)?;
@@ -111,6 +116,16 @@ fn add_piece<F: Folder>(
     let n = folder.read(file, piece)?;
     bytes.extend_from_slice(&piece[..n])?;
     Ok(n)
+}
+
+// No bytes yet, with room for `FIRST_ROOM` where there is as much memory.
+fn no_bytes(alloc: Global) -> Vec<u8>
+    ensures { result.items ≡ [] }
+{
+    match Vec::with_capacity(alloc, FIRST_ROOM) {
+        Ok(bytes) => bytes,
+        Err(_) => Vec::new(alloc),
+    }
 }
 
 // Room for the bytes of one read.
