@@ -26,6 +26,9 @@ pub struct Found {
     pub number: u32,
 }
 
+/// The most ids that are in use beside another one.
+const MOST_HELD: usize = 4_294_967_295;
+
 /// An id in use, by the number of its name.
 #[derive(Clone, Copy)]
 pub(crate) struct Held {
@@ -42,7 +45,7 @@ pub(crate) struct Held {
 #[derive(Drop)]
 pub struct Ids {
     names: NameSet,
-    latest: Vec<usize>,
+    latest: Vec<u32>,
     held: Vec<Held>,
 }
 
@@ -83,7 +86,7 @@ impl Ids {
         ensures { IsIdFound self.now id.now result }
     {
         let name = self.names.find(id)?;
-        let place = self.latest[name];
+        let place = self.latest[name] as usize;
         if place >= self.held.len() {
             return None;
         }
@@ -104,10 +107,13 @@ impl Ids {
         ensures pushed { OnOk result (self.new ≡ self.old ++ record { id = id.now; role = role; number = number } ∷ []) }
         ensures refused { OnErr result (self.new ≡ self.old) }
     {
-        self.held.reserve(1)?;
         let place = self.held.len();
+        if place > MOST_HELD {
+            return Err(Memory);
+        }
+        self.held.reserve(1)?;
         let name = number_of(&mut self.names, &mut self.latest, id)?;
-        self.latest[name] = place;
+        self.latest[name] = place as u32;
         self.held.push(Held { name, role, number }).unwrap();
         Ok(())
     }
@@ -121,7 +127,7 @@ impl Ids {
 }
 
 /// The number of a name: the one that it has, or a new one.
-fn number_of(names: &mut NameSet, latest: &mut Vec<usize>, name: &[u8]) -> Result<usize, Memory>
+fn number_of(names: &mut NameSet, latest: &mut Vec<u32>, name: &[u8]) -> Result<usize, Memory>
     requires { length names.old ≡ length latest.old.items }
     ensures number { IfOk result (λ k. IsNumbered names.old names.new latest.old.items latest.new.items name.now k) }
     ensures names { OnErr result (names.new ≡ names.old) }

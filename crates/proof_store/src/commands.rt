@@ -43,9 +43,8 @@ struct Columns {
     ratios: Lists<Ratio>,
 }
 
-/// The commands of a proof in file order. A command takes 64 bytes beside its id and the items of its other lists: its row
-/// of 16, and 8 for the end of each of its six lists. Vectors double as they grow, so at most twice that is reserved: of
-/// 1,350,000 commands 100 bytes each.
+/// The commands of a proof in file order. A command takes 40 bytes beside its id and the items of its other lists: its row
+/// of 16, and 4 for the end of each of its six lists. Vectors double as they grow, so at most twice that is reserved.
 #[derive(Drop)]
 pub(crate) struct Commands {
     rows: Vec<Row>,

@@ -1,18 +1,21 @@
 //! Lists of lists, kept end to end.
 
-ghost use Rattle.std.specs.Prelude.{◌≡◌, ◌<◌, ◌≤◌, ◌++◌, [], ◌∷◌, length, take, slice_get, Some, OnOk, OnErr};
+ghost use Rattle.std.specs.Prelude.{◌≡◌, ◌+◌, ◌^◌, ◌<◌, ◌≤◌, ◌++◌, [], ◌∷◌, length, take, slice_get, Some, false, OnOk, OnErr};
 ghost use Rattle.proof_store.specs.Lists.{parts, start_of, AreListEnds};
 
 use pair_pool::Memory;
 use std::alloc::Global;
 use std::marker::Model;
 
+/// The most items of all lists together.
+const MOST_ITEMS: usize = 4_294_967_295;
+
 /// Lists that are only added to: their items stand end to end in one vector, and another has the end of each. A list
-/// takes 8 bytes beside its items, and adding one grows each vector at most once.
+/// takes 4 bytes beside its items, of which there are at most 2^32 - 1 in all, and adding one grows each vector at most once.
 #[derive(Drop)]
 pub(crate) struct Lists<T: Copy + Drop> {
     items: Vec<T>,
-    ends: Vec<usize>,
+    ends: Vec<u32>,
 }
 
 impl<T: Copy + Drop> Model for Lists<T> {
@@ -28,28 +31,28 @@ impl<T: Copy + Drop> Model for Lists<T> {
 
 /// Where the list at place `i` starts.
 #[tactic(auto, using(crate::proofs::Parts::start_before))]
-fn start(ends: &[usize], i: usize) -> usize
+fn start(ends: &[u32], i: usize) -> usize
     requires { i ≤ length ends.now }
     ensures { result ≡ start_of 0 ends.now i }
 {
-    if i == 0 { 0 } else { ends[i - 1] }
+    if i == 0 { 0 } else { ends[i - 1] as usize }
 }
 
 /// The list at place `i`.
 #[tactic(auto, using(crate::proofs::Parts::starts_before_end, crate::proofs::Parts::ends_within, crate::proofs::Parts::parts_get))]
-fn part<'a, T: Copy + Drop>(items: &'a [T], ends: &[usize], i: usize) -> &'a [T]
+fn part<'a, T: Copy + Drop>(items: &'a [T], ends: &[u32], i: usize) -> &'a [T]
     requires there { i < length ends.now }
     requires ends { AreListEnds 0 ends.now (length items.now) }
     ensures { slice_get (parts 0 ends.now items.now) i ≡ Some result.now }
 {
     let start = start(ends, i);
-    let end = ends[i];
+    let end = ends[i] as usize;
     &items[start..end]
 }
 
 /// Takes away the lists from place `i` on.
 #[tactic(auto, using(crate::proofs::Parts::parts_take, crate::proofs::Parts::ends_cut))]
-fn cut<T: Copy + Drop>(items: &mut Vec<T>, ends: &mut Vec<usize>, i: usize)
+fn cut<T: Copy + Drop>(items: &mut Vec<T>, ends: &mut Vec<u32>, i: usize)
     requires ends { AreListEnds 0 ends.old.items (length items.old.items) }
     requires there { i ≤ length ends.old.items }
     ensures ends { AreListEnds 0 ends.new.items (length items.new.items) }
@@ -60,17 +63,27 @@ fn cut<T: Copy + Drop>(items: &mut Vec<T>, ends: &mut Vec<usize>, i: usize)
     items.truncate(end);
 }
 
+/// Whether so many items and more are more than there may be.
+fn are_too_many(len: usize, more: usize) -> bool
+    ensures { result ≡ false → len + more < 2 ^ 32 }
+{
+    len > MOST_ITEMS || more > MOST_ITEMS - len
+}
+
 /// Adds a list at the end.
 #[tactic(auto, using(crate::proofs::Parts::parts_add, crate::proofs::Parts::ends_add))]
-fn add<T: Copy + Drop>(items: &mut Vec<T>, ends: &mut Vec<usize>, list: &[T]) -> Result<(), Memory>
+fn add<T: Copy + Drop>(items: &mut Vec<T>, ends: &mut Vec<u32>, list: &[T]) -> Result<(), Memory>
     requires { AreListEnds 0 ends.old.items (length items.old.items) }
     ensures ends { AreListEnds 0 ends.new.items (length items.new.items) }
     ensures parts { OnOk result (parts 0 ends.new.items items.new.items ≡ parts 0 ends.old.items items.old.items ++ list.now ∷ []) }
     ensures refused { OnErr result (parts 0 ends.new.items items.new.items ≡ parts 0 ends.old.items items.old.items) }
 {
+    if are_too_many(items.len(), list.len()) {
+        return Err(Memory);
+    }
     ends.reserve(1)?;
     items.extend_from_slice(list)?;
-    ends.push(items.len()).unwrap();
+    ends.push(items.len() as u32).unwrap();
     Ok(())
 }
 
