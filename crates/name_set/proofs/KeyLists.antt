@@ -1,7 +1,7 @@
 -- The keys of names, and the numbers of longer ones.
 use Rattle.std.proofs.Common.{◌≡◌, inl, inr, ℕ, ◌+◌, ◌^◌, ◌<◌, ◌≤◌, suc, Bool, true, false, cond, nat_eq, nat_le, List, [], ◌∷◌, ◌++◌, length, position, slice_get, Some, None, Vec, refl, sym, ◌∙◌, ap, subst, arith, if◌then◌else◌}
 use Rattle.std.specs.declared.alloc.Global.{Global}
-use Rattle.std.specs.List.{list_any}
+use Rattle.std.specs.List.{list_any, position_or_len}
 use Rattle.std.specs.Str.{bytes_eq}
 use Rattle.std.proofs.lemmas.Bool.{leb-true, leb-false}
 use Rattle.std.proofs.lemmas.Bool.Decides.{Decides-eqb, nat_tests}
@@ -10,7 +10,7 @@ use Rattle.indexmap.specs.IndexMap.{insert_entry}
 use Rattle.indexmap.specs.IndexSet.{insert_key}
 use Rattle.name_set.specs.Packing.{packed}
 use Rattle.name_set.specs.Keys.{name_key, name_keys_from, longer_number, AreBytes, AreIndexed}
-use Rattle.name_set.proofs.Positions.{next_place, position_cons, list_any-no_place, slice_get-push_cases}
+use Rattle.name_set.proofs.Positions.{next_place, position_cons, list_any-no_place, position-found, position-absent, position_or_len-absent, slice_get-push_cases}
 use Rattle.name_set.proofs.PackedNames.{packed-same, packed-below}
 use Rattle.name_set.proofs.NewNames.{position-new_name, StandOnce-new_name}
 
@@ -51,6 +51,24 @@ position-keys name (x ∷ xs) k bytes all few =
     ∙ ap (λ b. next_place b (position (nat_eq (packed name)) (name_keys_from (k + 1) xs))) (same_key name x k bytes (all 0 x refl) few)
     ∙ ap (next_place (bytes_eq name x)) (position-keys name xs (k + 1) bytes (λ j y e. all (suc j) y e) few)
     ∙ sym (position_cons (bytes_eq name) x xs)
+
+-- each name has a key
+length-name_keys : (names : List (List ℕ)) (k : ℕ) → length (name_keys_from k names) ≡ length names
+length-name_keys [] k = refl
+length-name_keys (x ∷ xs) k = ap suc (length-name_keys xs (k + 1))
+
+-- a short name whose key has a place has that number, and one whose key has none is new
+pub short_name-there : (names : List (List ℕ)) (keys : List ℕ) (longer : List (Vec ℕ Global × ℕ)) (name : List ℕ) → AreIndexed names keys longer → AreBytes name → length name ≤ 15 → list_any (nat_eq (packed name)) keys ≡ true → position (bytes_eq name) names ≡ Some (position_or_len (nat_eq (packed name)) keys)
+short_name-there names keys longer name was bytes few e =
+    sym (position-keys name names 0 bytes was.bytes few) ∙ ap (position (nat_eq (packed name))) (sym was.keys_are) ∙ position-found (nat_eq (packed name)) keys e
+
+pub short_name-new : (names : List (List ℕ)) (keys : List ℕ) (longer : List (Vec ℕ Global × ℕ)) (name : List ℕ) → AreIndexed names keys longer → AreBytes name → length name ≤ 15 → list_any (nat_eq (packed name)) keys ≡ false → position (bytes_eq name) names ≡ None
+short_name-new names keys longer name was bytes few e =
+    sym (position-keys name names 0 bytes was.bytes few) ∙ ap (position (nat_eq (packed name))) (sym was.keys_are) ∙ position-absent (nat_eq (packed name)) keys e
+
+pub short_name-number : (names : List (List ℕ)) (keys : List ℕ) (longer : List (Vec ℕ Global × ℕ)) (name : List ℕ) → AreIndexed names keys longer → list_any (nat_eq (packed name)) keys ≡ false → position_or_len (nat_eq (packed name)) keys ≡ length names
+short_name-number names keys longer name was e =
+    position_or_len-absent (nat_eq (packed name)) keys e ∙ ap length was.keys_are ∙ length-name_keys names 0
 
 -- the key of a new name goes last
 name_keys_from-push : (names : List (List ℕ)) (name : List ℕ) (k : ℕ) → name_keys_from k (names ++ name ∷ []) ≡ name_keys_from k names ++ name_key (k + length names) name ∷ []

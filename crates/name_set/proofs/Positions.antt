@@ -66,6 +66,35 @@ list_any-no_place p (x ∷ xs) e = go (p x) (position p xs) (λ f. list_any-no_p
     go false None rest d f g = rw d (rest f)
     go false (Some j) rest d f g = cc
 
+one_more : (n : ℕ) → suc n ≡ 1 + n
+one_more n = omega arith
+
+-- where one passes, the first that does has its place
+pub position-found : {X : Type 0} (p : X → Bool) (xs : List X) → list_any p xs ≡ true → position p xs ≡ Some (position_or_len p xs)
+position-found p [] e = absurd (cc)
+position-found p (x ∷ xs) e = position_cons p x xs ∙ go (λ h. position-found p xs h) (p x) refl
+  where
+    go : (list_any p xs ≡ true → position p xs ≡ Some (position_or_len p xs)) → (b : Bool) → p x ≡ b → next_place b (position p xs) ≡ Some (position_or_len p (x ∷ xs))
+    go rest true d = rw d refl
+    go rest false d = let later = rw d at e in rw d (ap (option_map suc) (rest later) ∙ ap Some (one_more (position_or_len p xs)))
+
+-- and where none does there is no place
+pub position-absent : {X : Type 0} (p : X → Bool) (xs : List X) → list_any p xs ≡ false → position p xs ≡ None
+position-absent p [] e = refl
+position-absent p (x ∷ xs) e = position_cons p x xs ∙ go (λ h. position-absent p xs h) (p x) refl
+  where
+    go : (list_any p xs ≡ false → position p xs ≡ None) → (b : Bool) → p x ≡ b → next_place b (position p xs) ≡ None
+    go rest true d = let here = rw d at e in absurd (cc)
+    go rest false d = let later = rw d at e in ap (option_map suc) (rest later)
+
+pub position_or_len-absent : {X : Type 0} (p : X → Bool) (xs : List X) → list_any p xs ≡ false → position_or_len p xs ≡ length xs
+position_or_len-absent p [] e = refl
+position_or_len-absent p (x ∷ xs) e = go (λ h. position_or_len-absent p xs h) (p x) refl
+  where
+    go : (list_any p xs ≡ false → position_or_len p xs ≡ length xs) → (b : Bool) → p x ≡ b → position_or_len p (x ∷ xs) ≡ length (x ∷ xs)
+    go rest true d = let here = rw d at e in absurd (cc)
+    go rest false d = let later = rw d at e in rw d (ap (λ n. 1 + n) (rest later) ∙ sym (one_more (length xs)))
+
 -- an item after a push is an old one or the new one
 pub slice_get-push_cases : {X : Type 0} (xs : List X) (y : X) (k : ℕ) (x : X) → slice_get (xs ++ y ∷ []) k ≡ Some x → (slice_get xs k ≡ Some x) ⊎ ((k ≡ length xs) × (y ≡ x))
 slice_get-push_cases [] y zero x e = inr (refl, cc)

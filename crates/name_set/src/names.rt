@@ -96,6 +96,30 @@ impl NameSet {
         Ok(())
     }
 
+    /// The number of the name, which is added with the next number where it is not there. After a refusal nothing has changed.
+    ///
+    /// A short name is searched for once, and not a second time to be put in.
+    pub fn find_or_add(&mut self, name: &[u8]) -> Result<usize, AllocError>
+        ensures there { IfOk result (λ k. (n : ℕ) → position (bytes_eq name.now) self.old ≡ Some n → (k ≡ n) × (self.new ≡ self.old)) }
+        ensures added { IfOk result (λ k. position (bytes_eq name.now) self.old ≡ None → (k ≡ length self.old) × (self.new ≡ self.old ++ name.now ∷ [])) }
+        ensures refused { OnErr result (self.new ≡ self.old) }
+    {
+        if name.len() > MOST_PACKED {
+            return find_or_add_longer(self, name);
+        }
+        let start = self.text.len();
+        self.text.reserve(name.len())?;
+        self.spans.reserve(1)?;
+        let (number, is_new) = self.keys.insert_full(packed(name))?;
+        if is_new {
+            self.text.extend_from_slice(name).unwrap();
+            let end = self.text.len();
+            let span = Span { start, end };
+            self.spans.push(span).unwrap();
+        }
+        Ok(number)
+    }
+
     /// The name of this number.
     pub fn name(&self, number: usize) -> &[u8]
         requires { number < length self.now }
@@ -104,6 +128,20 @@ impl NameSet {
         let span = self.spans[number];
         &self.text[span.start..span.end]
     }
+}
+
+// The number of a name that is not short, which is added where it is not there.
+fn find_or_add_longer(names: &mut NameSet, name: &[u8]) -> Result<usize, AllocError>
+    ensures there { IfOk result (λ k. (n : ℕ) → position (bytes_eq name.now) names.old ≡ Some n → (k ≡ n) × (names.new ≡ names.old)) }
+    ensures added { IfOk result (λ k. position (bytes_eq name.now) names.old ≡ None → (k ≡ length names.old) × (names.new ≡ names.old ++ name.now ∷ [])) }
+    ensures refused { OnErr result (names.new ≡ names.old) }
+{
+    if let Some(number) = names.find(name) {
+        return Ok(number);
+    }
+    let number = names.len();
+    names.add(name)?;
+    Ok(number)
 }
 
 // The key of a name that gets this number. A longer name is put among the longer ones.
