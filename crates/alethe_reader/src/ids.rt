@@ -133,12 +133,10 @@ fn number_of(names: &mut NameSet, latest: &mut Vec<u32>, name: &[u8]) -> Result<
     ensures names { OnErr result (names.new ≡ names.old) }
     ensures latest { OnErr result (latest.new.items ≡ latest.old.items) }
 {
-    if let Some(number) = names.find(name) {
-        return Ok(number);
-    }
-    let number = names.len();
     latest.reserve(1)?;
-    names.add(name)?;
-    latest.push(0).unwrap();
+    let number = names.find_or_add(name)?;
+    if number == latest.len() {
+        latest.push(0).unwrap();
+    }
     Ok(number)
 }
