@@ -25,7 +25,17 @@ pub fn answer(
     let files = files(rt.alloc(), problem, proof)?;
     let mut folder = MemoryFolder::new(files, most, call.failing_reads);
     let mut out = MemorySink::new(WRITE_PIECE, call.failing_writes);
-    let status = carcara(rt, &call.words, &mut folder, &mut out, &OpenGate);
+    answer_over(rt, &call.words, &mut folder, &mut out)
+}
+
+// The answer to the words over this folder and this output.
+fn answer_over(
+    rt: &impl AllocGlobal,
+    words: &[String],
+    folder: &mut MemoryFolder,
+    out: &mut MemorySink,
+) -> Result<Answer, AllocError> {
+    let status = carcara(rt, words, folder, out, &OpenGate);
     let output = Vec::from_slice(rt.alloc(), out.written())?;
     Ok(Answer { status, output })
 }
