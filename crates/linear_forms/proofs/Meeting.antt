@@ -1,5 +1,5 @@
 -- What a visit meets: a leaf among the parts of its item, and nothing else.
-use Rattle.std.proofs.Common.{◌≡◌, ◌≢◌, ◌⊎◌, inl, inr, ℕ, ◌<◌, ◌^◌, length, Option, Some, None, refl, sym, subst, arith}
+use Rattle.std.proofs.Common.{◌≡◌, ◌≢◌, ◌⊎◌, inl, inr, ℕ, ◌<◌, ◌^◌, length, Option, Some, None, refl, sym, subst}
 use Rattle.pair_pool.specs.Trees.{Tree, cell}
 use Rattle.pair_pool.specs.Views.{Knows, IsOneToOne, HasPartsOfTrees}
 use Rattle.sym_table.specs.Leaf.{Leaf}
@@ -12,7 +12,7 @@ use Rattle.linear_forms.specs.declared.graph.Graph.{Graph}
 use Rattle.linear_forms.specs.declared.memory.Item.{Item}
 use Rattle.linear_forms.specs.declared.memory.Item.TheVariants.{Term as TermItem, List as ListItem}
 use Rattle.linear_forms.specs.Entries.{leaf_entry}
-use Rattle.linear_forms.specs.Graphs.{IsItem, IsGraph, AddsEntry, IsMetItem, IsItemBelow, MeetsTerm, MeetsParts, info_at}
+use Rattle.linear_forms.specs.Graphs.{IsItem, IsGraph, AddsEntry, IsItemBelow, MeetsTerm, MeetsParts, info_at}
 use Rattle.linear_forms.specs.Memos.{number_remembered}
 use Rattle.linear_forms.specs.Visits.{HasCellParts, IsListPart}
 use Rattle.linear_forms.proofs.Graphing.{settled_graph, settled_found, settled_met, settled_grows}
@@ -23,24 +23,6 @@ use Rattle.linear_forms.proofs.Walking.{same_item}
 module _ (s : Table) (v : TermsView) where
   pub term_item : (r : ℕ) → IsTerm s v r → IsItem s v (TermItem r)
   term_item r h = record { terms = term h.means no_terms; meant = record { means = h.means; refers = h.refers; alone = refl } }
-
-  -- nothing is met
-  pub term_kept : (graph : Graph) (r : ℕ) (found : Option Found) → IsGraph s v graph → IsMetItem graph (TermItem r) found → MeetsTerm s v graph graph r found
-  term_kept graph r found right met = record {
-    graph = right;
-    met = met;
-    keeps = λ x f h. h;
-    grows = omega arith;
-    others = λ y other. refl;
-  }
-
-  pub parts_kept : (graph : Graph) (x : Item) → IsGraph s v graph → MeetsParts s v graph graph x
-  parts_kept graph x right = record {
-    graph = right;
-    keeps = λ y k e. e;
-    grows = omega arith;
-    below = λ y. inl refl;
-  }
 
   -- a term that is below is met
   pub part_met : (old new : Graph) (x : Item) (r : ℕ) (found : Option Found) → MeetsTerm s v old new r found → IsItemBelow s v x (TermItem r) → MeetsParts s v old new x

@@ -6,7 +6,7 @@ use Rattle.sym_table.specs.Leaf.{Leaf}
 use Rattle.sym_table.specs.Table.{Table, IsTable, LeafMeets}
 use Rattle.term_model.specs.declared.symbols.Op.{Op}
 use Rattle.term_model.specs.Terms.{Term, numeral, operation, Terms, no_terms, term}
-use Rattle.term_pool.specs.Views.{TermsView, RefersTo, IsTerm, IsKnownCell}
+use Rattle.term_pool.specs.Views.{TermsView, RefersTo, IsKnownCell}
 use Rattle.rule_model.specs.Weights.{weight_sum, weight_product}
 use Rattle.linear_forms.specs.declared.entries.Entry.{Entry}
 use Rattle.linear_forms.specs.declared.entries.Found.{Found}
@@ -107,10 +107,6 @@ module _ (s : Table) (v : TermsView) (graph : Graph) (table : IsTable s) (one : 
   first_below list a b ts h inner =
       let p = list_parts s v table one parts list a b ts h inner in
       record { item = record { terms = term p.first no_terms; meant = one_meant a p.first p.one }; less = first_less list a b inner }
-
-  pub first_term : (list a b : ℕ) (ts : Terms) → IsTermList s v list ts → HasCellParts v.pass list a b → IsTerm s v a
-  first_term list a b ts h inner =
-      let p = list_parts s v table one parts list a b ts h inner in record { means = p.first; refers = p.one }
 
   pub deeper : (r list head : ℕ) (y : Item) → HasCellParts v.pass r head list → IsItemBelow s v (ListItem list) y → IsItemBelow s v (TermItem r) y
   deeper r list head y p h = record {
