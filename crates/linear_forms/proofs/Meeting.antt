@@ -75,5 +75,5 @@ module _ (s : Table) (v : TermsView) where
       graph = h.graph;
       keeps = h.keeps;
       grows = h.grows;
-      below = λ y. elim (h.below y) [ | inl same ↦ inl same | inr under ↦ inr (deeper s v old table one parts r list head y cells under) ];
+      below = λ y. elim (h.below y) [ inl same ↦ inl same | inr under ↦ inr (deeper s v old table one parts r list head y cells under) ];
     }

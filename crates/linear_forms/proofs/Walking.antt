@@ -113,12 +113,11 @@ module _ (s : Table) (v : TermsView) where
   }
 
   unmet_kept : (Old New : Item → Type 0) (xs : List Item) (at : Item) → ((x : Item) → New x → Old x ⊎ IsItemBelow s v at x) → Descends (IsItemBelow s v) (xs ++ at ∷ []) → AllByRecursion (λ x. Old x → ⊥) (xs ++ at ∷ []) → AllByRecursion (λ x. New x → ⊥) (xs ++ at ∷ [])
-  unmet_kept Old New [] at more h k = ((λ met. elim (more at met) [ | inl before ↦ k.0 before | inr under ↦ below_never at under ]), tt)
-  unmet_kept Old New (x ∷ xs) at more h k =
-      (
-        λ met. elim (more x met) [ | inl before ↦ k.0 before | inr under ↦ below_never x (below_further x at x (last_of (IsItemBelow s v x) xs at h.0) under) ],
-        unmet_kept Old New xs at more h.1 k.1,
-      )
+  unmet_kept Old New [] at more h k = ((λ met. elim (more at met) [ inl before ↦ k.0 before | inr under ↦ below_never at under ]), tt)
+  unmet_kept Old New (x ∷ xs) at more h k = (
+    λ met. elim (more x met) [ inl before ↦ k.0 before | inr under ↦ below_never x (below_further x at x (last_of (IsItemBelow s v x) xs at h.0) under) ],
+    unmet_kept Old New xs at more h.1 k.1,
+  )
 
   -- more is met below where the walk is
   pub walk_on : (old new : Memo) (root at : Item) (way : List Item) → ((y : Item) → (number_remembered new y ≡ number_remembered old y) ⊎ IsItemBelow s v at y) → IsWalk old root (way ++ at ∷ []) → IsWalk new root (way ++ at ∷ [])
@@ -133,7 +132,7 @@ module _ (s : Table) (v : TermsView) where
   }
     where
       recalled : (x : Item) → IsRecalled new x → IsRecalled old x ⊎ IsItemBelow s v at x
-      recalled x (k, e) = elim (more x) [ | inl same ↦ inl (k, sym same ∙ e) | inr under ↦ inr under ]
+      recalled x (k, e) = elim (more x) [ inl same ↦ inl (k, sym same ∙ e) | inr under ↦ inr under ]
 
   pub walk_end : (memo : Memo) (root at : Item) (way : List Item) → way ≡ [] → IsWalk memo root (way ++ at ∷ []) → at ≡ root
   walk_end memo root at way e h = way_end (IsItemBelow s v) (IsRecalled memo) root at way e h.way

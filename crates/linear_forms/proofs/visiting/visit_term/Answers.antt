@@ -68,9 +68,9 @@ returns-in-Minus-clause-visit c =
     let parts = parts_of _ c.args.r c.cell_parts-head.result.0 c.cell_parts-head.result.1 cell c.cell_parts-head.ensures.first c.cell_parts-head.ensures.second in
     IfOk-weaker c.visit_difference.result _ _
     (λ visit h.
-        minus_visited c.args.symbols.now c.args.terms.now c.visit_difference.new.graph c.count-leaves.ensures.table c.one_to_one.ensures c.parts_of_trees.ensures
-        c.args.r c.cell_parts-head.result.0 c.cell_parts-head.result.1 c.requires.term.means c.requires.term.refers parts visit
-        (rw (c.in-Minus.is, c.number.ensures.number) at c.head_of.ensures) h)
+    minus_visited c.args.symbols.now c.args.terms.now c.visit_difference.new.graph c.count-leaves.ensures.table c.one_to_one.ensures c.parts_of_trees.ensures
+    c.args.r c.cell_parts-head.result.0 c.cell_parts-head.result.1 c.requires.term.means c.requires.term.refers parts visit
+    (rw (c.in-Minus.is, c.number.ensures.number) at c.head_of.ensures) h)
     (rw c.cell_parts-head.ensures.same at c.visit_difference.ensures.visit)
 
 pub returns-in-Minus-clause-graph : goal.returns-in-Minus-clause-graph
@@ -80,8 +80,8 @@ returns-in-Minus-clause-graph c =
     let parts = parts_of _ c.args.r c.cell_parts-head.result.0 c.cell_parts-head.result.1 cell c.cell_parts-head.ensures.first c.cell_parts-head.ensures.second in
     IfOk-weaker c.visit_difference.result _ _
     (λ visit h.
-        parts_deeper c.args.symbols.now c.args.terms.now c.count-leaves.ensures.table c.one_to_one.ensures c.parts_of_trees.ensures
-        c.args.graph.now c.visit_difference.new.graph c.args.r c.cell_parts-head.result.0 c.cell_parts-head.result.1 parts h)
+    parts_deeper c.args.symbols.now c.args.terms.now c.count-leaves.ensures.table c.one_to_one.ensures c.parts_of_trees.ensures
+    c.args.graph.now c.visit_difference.new.graph c.args.r c.cell_parts-head.result.0 c.cell_parts-head.result.1 parts h)
     (rw c.cell_parts-head.ensures.same at c.visit_difference.ensures.graph)
 
 pub returns-in-Times-clause-visit : goal.returns-in-Times-clause-visit
