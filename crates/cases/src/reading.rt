@@ -36,14 +36,40 @@ pub fn reading(alloc: Global, text: &[u8], measured: bool) -> Result<Option<Read
     if text.len() > MOST_BYTES {
         return Ok(None);
     }
-    let mut symbols = Symbols::new(alloc).map_err(|_| anyhow!("want of memory"))?;
     let (pool, pass) = Pool::new(alloc, BITS).map_err(|_| anyhow!("want of memory"))?;
-    let mut terms = Terms::new(&pool, pass);
-    let Some(found) = read(alloc, text, &mut symbols, &mut terms) else {
+    reading_in(alloc, text, measured, &mut Terms::new(&pool, pass))
+}
+
+// The same in an empty pool. The table of symbols is made here, and used in a function of its own, so that it is let go
+// at one place only.
+fn reading_in(
+    alloc: Global,
+    text: &[u8],
+    measured: bool,
+    terms: &mut Terms<'_>,
+) -> Result<Option<Reading>>
+    requires { length text.now ≤ 268435456 }
+{
+    let mut symbols = Symbols::new(alloc).map_err(|_| anyhow!("want of memory"))?;
+    reading_with(alloc, text, measured, &mut symbols, terms)
+}
+
+// The same with a new table of symbols.
+fn reading_with(
+    alloc: Global,
+    text: &[u8],
+    measured: bool,
+    symbols: &mut Symbols,
+    terms: &mut Terms<'_>,
+) -> Result<Option<Reading>>
+    requires short { length text.now ≤ 268435456 }
+    requires new_symbols { IsNewTable symbols.old }
+{
+    let Some(found) = read(alloc, text, symbols, terms) else {
         return Ok(None);
     };
     let last = match found.last {
-        Some(last) if measured => Some(measures(alloc, &mut terms, last)?),
+        Some(last) if measured => Some(measures(alloc, terms, last)?),
         _ => None,
     };
     let assertions = found.assertions;
