@@ -19,11 +19,12 @@ use Rattle.term_pool.specs.declared.stop.TermStop.{TermStop}
 use Rattle.term_pool.specs.declared.stop.TermStop.TheVariants as Stop
 use Rattle.term_pool.specs.Views.{TermsView, RefersTo, ReferToAll, KnowsAll, KeepsPass, KeepsTerms, IsTerm}
 use Rattle.term_expansion.specs.Assigned.{term_of, assigned_all}
-use Rattle.term_expansion.specs.Expanding.{AreVariables, Says, SaysAll, IsSaid, AreSaid, replaced_each, HasPart, HasPartTerms, key_of, Done, HasBecomeBy, AreDone, AreValuesGiven}
+use Rattle.term_expansion.specs.Expanding.{AreVariables, Says, SaysAll, IsSaid, AreSaid, replaced_each, HasPart, HasPartTerms, key_of, Done, HasBecomeBy, AreDone, IsExpansion, AreValuesGiven}
 use Rattle.term_expansion.specs.Free.{AddsLeaves}
 use Rattle.term_expansion.specs.Needs.{IsNeeded, Values, AreValuesOf, HasNeeds}
 use Rattle.rule_model.specs.Replacement.{Replacement, replaced_by, replaced, replaced_bindings}
 use Rattle.term_expansion.specs.declared.assignments.Assigned.{Assigned}
+use Rattle.term_expansion.specs.declared.expanding.Expansion.{Expansion}
 use Rattle.term_expansion.proofs.Images.{same_some}
 use Rattle.term_expansion.proofs.NeedLemmas as need
 use Rattle.term_expansion.proofs.NeedLemmas.{AreGivenTerms, HasGivenTerms, part-trans, refers-grow}
@@ -67,6 +68,9 @@ said_moved s v w a r e h = subst (λ (x : TermsView). IsSaid s x a r) (sym e) h
 
 pub are_done_moved : (s : Table) (v w : TermsView) (done : Done) → w ≡ v → AreDone s v done → AreDone s w done
 are_done_moved s v w done e h = subst (λ (x : TermsView). AreDone s x done) (sym e) h
+
+pub expansion_moved : (s : Table) (v w : TermsView) (e : Expansion) → w ≡ v → IsExpansion s v e → IsExpansion s w e
+expansion_moved s v w e f h = subst (λ (x : TermsView). IsExpansion s x e) (sym f) h
 
 pub if_fills_moved : (o : Result ℕ TermStop) (s : Table) (v w z : TermsView) (a : List Assigned) (r : ℕ) → w ≡ v → IfErr o (λ e. e ≡ Stop.PoolFull → FillsOne s w z a r) → IfErr o (λ e. e ≡ Stop.PoolFull → FillsOne s v z a r)
 if_fills_moved o s v w z a r e h = subst (λ (x : TermsView). IfErr o (λ e. e ≡ Stop.PoolFull → FillsOne s x z a r)) e h

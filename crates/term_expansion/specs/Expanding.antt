@@ -14,9 +14,10 @@ use Rattle.term_pool.specs.Trees.{IsPartOf}
 use Rattle.term_pool.specs.Views.{TermsView, RefersTo, ReferToAll}
 use Rattle.term_expansion.specs.Assigned.{term_of}
 use Rattle.term_expansion.specs.Free.{HasVariable}
-use Rattle.term_expansion.specs.Needs.{IsNeeded, value_of}
+use Rattle.term_expansion.specs.Needs.{IsNeeded, value_of, AreNeeds}
 use Rattle.rule_model.specs.Replacement.{Replacement, replaced_by, replaced}
 use Rattle.term_expansion.specs.declared.assignments.Assigned.{Assigned}
+use Rattle.term_expansion.specs.declared.expanding.Expansion.{Expansion}
 
 -- only variables have something put in for them
 abbrev pub AreVariables : Table → List Assigned → Type 0
@@ -88,6 +89,11 @@ pub record HasBecomeBy (s : Table) (v : TermsView) (key : List ℕ) (i : ℕ) : 
 
 pub record AreDone (s : Table) (v : TermsView) (done : Done) : Type 0 where
   pub each : (key : Vec ℕ Global) (i : ℕ) → get (λ x y. pointwise nat_eq x.items y.items) done key ≡ Some i → HasBecomeBy s v key.items i
+
+-- what is kept while a term is expanded is right
+pub record IsExpansion (s : Table) (v : TermsView) (e : Expansion) : Type 0 where
+  pub needs : AreNeeds s v e.needs.leaves
+  pub done : AreDone s v e.done
 
 -- of the variables with these leaves those that are given values, and the values
 abbrev pub AreGiven : List ℕ → List ℕ → List ℕ → List ℕ → List ℕ → Type 0
