@@ -1,5 +1,5 @@
 -- The parts of the terms of a pool: references of terms, lists of them, applications and lets.
-use Rattle.std.proofs.Common.{◌≡◌, ◌≢◌, ℕ, ◌<◌, ◌≤◌, ◌^◌, zero, suc, refl, sym, ap, subst, arith, List, [], ◌∷◌, map, length, get_or}
+use Rattle.std.proofs.Common.{◌≡◌, ◌≢◌, ℕ, ◌<◌, ◌≤◌, ◌^◌, refl, ap, subst, arith, List, ◌∷◌, map, length}
 use Rattle.std.proofs.lemmas.Option.{slice_get_within}
 use Rattle.sym_table.specs.Leaf.{Leaf}
 use Rattle.sym_table.specs.Table.{Table, IsLeaf}

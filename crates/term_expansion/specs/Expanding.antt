@@ -9,6 +9,7 @@ use Rattle.std.specs.declared.hash.FoldHasher.{FoldHasher}
 use Rattle.pair_pool.specs.Trees.{Tree}
 use Rattle.sym_table.specs.Table.{Table, IsLeaf}
 use Rattle.term_model.specs.Terms.{Var, Term}
+use Rattle.term_pool.specs.Building.{PlacesOnlyIn, IsFullIn}
 use Rattle.term_pool.specs.StandsFor.{variable_leaf, StandsFor}
 use Rattle.term_pool.specs.Trees.{IsPartOf}
 use Rattle.term_pool.specs.Views.{TermsView, RefersTo, ReferToAll}
@@ -62,6 +63,28 @@ pub record HasPart (s : Table) (whole : Tree) (t : Term) : Type 0 where
 
 abbrev pub HasPartTerms : Table → Tree → List Term → Type 0
 HasPartTerms s whole ts = AllByRecursion (HasPart s whole) ts
+
+-- the new pass has what the term of the reference becomes, and has it by the reference i
+abbrev pub ExpandsOne : Table → TermsView → TermsView → List Assigned → ℕ → ℕ → Type 0
+ExpandsOne s v w a r i = (t : Term) (q : Replacement) → RefersTo s v r t → Says s v a q t → RefersTo s w i (replaced q t)
+
+-- what the new pass placed and the old one had not, are cells of each tree that has what the term becomes
+abbrev pub PlacesOne : Table → TermsView → TermsView → List Assigned → ℕ → Type 0
+PlacesOne s v w a r = (t : Term) (q : Replacement) (whole : Tree) → RefersTo s v r t → Says s v a q t → HasPart s whole (replaced q t) → PlacesOnlyIn v.pass w.pass whole
+
+-- the new pass has seen all places occupied by other cells than one of such a tree
+abbrev pub FillsOne : Table → TermsView → TermsView → List Assigned → ℕ → Type 0
+FillsOne s v w a r = (t : Term) (q : Replacement) (whole : Tree) → RefersTo s v r t → Says s v a q t → HasPart s whole (replaced q t) → IsFullIn w.pass whole
+
+-- the same for what each of the terms becomes, in order
+abbrev pub ExpandsAll : Table → TermsView → TermsView → List Assigned → List ℕ → List ℕ → Type 0
+ExpandsAll s v w a rs is = (ts : List Term) (q : Replacement) → ReferToAll s v rs ts → SaysAll s v a q ts → ReferToAll s w is (replaced_each q ts)
+
+abbrev pub PlacesAll : Table → TermsView → TermsView → List Assigned → List ℕ → Type 0
+PlacesAll s v w a rs = (ts : List Term) (q : Replacement) (whole : Tree) → ReferToAll s v rs ts → SaysAll s v a q ts → HasPartTerms s whole (replaced_each q ts) → PlacesOnlyIn v.pass w.pass whole
+
+abbrev pub FillsAll : Table → TermsView → TermsView → List Assigned → List ℕ → Type 0
+FillsAll s v w a rs = (ts : List Term) (q : Replacement) (whole : Tree) → ReferToAll s v rs ts → SaysAll s v a q ts → HasPartTerms s whole (replaced_each q ts) → IsFullIn w.pass whole
 
 -- a reference, and what is put in for the variables with these leaves
 abbrev pub pairs_of : List Assigned → List ℕ → List ℕ

@@ -4,16 +4,14 @@
 //! variables just what their bodies need. What a cell has become is remembered by it and by what is put in for the
 //! variables that it needs, so a cell is gone through once for each distinct term that it becomes.
 ghost use Rattle.std.specs.Prelude.{◌≡◌, ◌≤◌, ◌^◌, ℕ, List, All, IfOk, IfErr, OnOk, length};
-ghost use Rattle.pair_pool.specs.Trees.{Tree};
 ghost use Rattle.sym_table.specs.Table.{Table};
 ghost use Rattle.term_model.specs.Terms.{Var, Term, variable};
-ghost use Rattle.term_pool.specs.Building.{IsAppliedLeaf, PlacesOnlyIn, IsFullIn};
+ghost use Rattle.term_pool.specs.Building.{IsAppliedLeaf};
 ghost use Rattle.term_pool.specs.Reading.{arguments_of, IsLet};
-ghost use Rattle.term_pool.specs.Views.{TermsView, RefersTo, ReferToAll, KeepsTerms};
+ghost use Rattle.term_pool.specs.Views.{TermsView, RefersTo, KeepsTerms};
 ghost use Rattle.term_pool.specs.declared.stop.TermStop.TheVariants as TermStop;
-ghost use Rattle.term_expansion.specs.Expanding.{Says, SaysAll, IsSaid, AreSaid, replaced_each, HasPart, HasPartTerms, key_of, IsExpansion, AreValuesGiven};
+ghost use Rattle.term_expansion.specs.Expanding.{IsSaid, AreSaid, ExpandsOne, PlacesOne, FillsOne, ExpandsAll, PlacesAll, FillsAll, key_of, IsExpansion, AreValuesGiven};
 ghost use Rattle.term_expansion.specs.Needs.{IsAtMost, AreValuesOf};
-ghost use Rattle.rule_model.specs.Replacement.{Replacement, replaced};
 
 use crate::assignments::{Assignments, assign, number_at, take_back, term_at};
 use crate::needs::{KnownNeeds, needs_of, values_by_leaves};
@@ -99,9 +97,9 @@ pub(crate) fn expand(
     requires low { IsAtMost symbols.now terms.old most r }
     requires said { IsSaid symbols.now terms.old expansion.old.assignments r }
     requires expansion { IsExpansion symbols.now terms.old expansion.old }
-    ensures value { IfOk result (λ i. (t : Term) (q : Replacement) → RefersTo symbols.now terms.old r t → Says symbols.now terms.old expansion.old.assignments q t → RefersTo symbols.now terms.new i (replaced q t)) }
-    ensures placed { (t : Term) (q : Replacement) (whole : Tree) → RefersTo symbols.now terms.old r t → Says symbols.now terms.old expansion.old.assignments q t → HasPart symbols.now whole (replaced q t) → PlacesOnlyIn terms.old.pass terms.new.pass whole }
-    ensures full { IfErr result (λ e. e ≡ TermStop.PoolFull → (t : Term) (q : Replacement) (whole : Tree) → RefersTo symbols.now terms.old r t → Says symbols.now terms.old expansion.old.assignments q t → HasPart symbols.now whole (replaced q t) → IsFullIn terms.new.pass whole) }
+    ensures value { IfOk result (λ i. ExpandsOne symbols.now terms.old terms.new expansion.old.assignments r i) }
+    ensures placed { PlacesOne symbols.now terms.old terms.new expansion.old.assignments r }
+    ensures full { IfErr result (λ e. e ≡ TermStop.PoolFull → FillsOne symbols.now terms.old terms.new expansion.old.assignments r) }
     ensures assignments { OnOk result (expansion.new.assignments ≡ expansion.old.assignments) }
     ensures expansion { OnOk result (IsExpansion symbols.now terms.new expansion.new) }
     ensures keeps { KeepsTerms terms.old terms.new }
@@ -137,9 +135,9 @@ fn expand_anew(
     requires low { IsAtMost symbols.now terms.old most r }
     requires said { IsSaid symbols.now terms.old expansion.old.assignments r }
     requires expansion { IsExpansion symbols.now terms.old expansion.old }
-    ensures value { IfOk result (λ i. (t : Term) (q : Replacement) → RefersTo symbols.now terms.old r t → Says symbols.now terms.old expansion.old.assignments q t → RefersTo symbols.now terms.new i (replaced q t)) }
-    ensures placed { (t : Term) (q : Replacement) (whole : Tree) → RefersTo symbols.now terms.old r t → Says symbols.now terms.old expansion.old.assignments q t → HasPart symbols.now whole (replaced q t) → PlacesOnlyIn terms.old.pass terms.new.pass whole }
-    ensures full { IfErr result (λ e. e ≡ TermStop.PoolFull → (t : Term) (q : Replacement) (whole : Tree) → RefersTo symbols.now terms.old r t → Says symbols.now terms.old expansion.old.assignments q t → HasPart symbols.now whole (replaced q t) → IsFullIn terms.new.pass whole) }
+    ensures value { IfOk result (λ i. ExpandsOne symbols.now terms.old terms.new expansion.old.assignments r i) }
+    ensures placed { PlacesOne symbols.now terms.old terms.new expansion.old.assignments r }
+    ensures full { IfErr result (λ e. e ≡ TermStop.PoolFull → FillsOne symbols.now terms.old terms.new expansion.old.assignments r) }
     ensures assignments { OnOk result (expansion.new.assignments ≡ expansion.old.assignments) }
     ensures expansion { OnOk result (IsExpansion symbols.now terms.new expansion.new) }
     ensures keeps { KeepsTerms terms.old terms.new }
@@ -166,9 +164,9 @@ fn expand_application(
     requires low { IsAtMost symbols.now terms.old most r }
     requires said { IsSaid symbols.now terms.old expansion.old.assignments r }
     requires expansion { IsExpansion symbols.now terms.old expansion.old }
-    ensures value { IfOk result (λ i. (t : Term) (q : Replacement) → RefersTo symbols.now terms.old r t → Says symbols.now terms.old expansion.old.assignments q t → RefersTo symbols.now terms.new i (replaced q t)) }
-    ensures placed { (t : Term) (q : Replacement) (whole : Tree) → RefersTo symbols.now terms.old r t → Says symbols.now terms.old expansion.old.assignments q t → HasPart symbols.now whole (replaced q t) → PlacesOnlyIn terms.old.pass terms.new.pass whole }
-    ensures full { IfErr result (λ e. e ≡ TermStop.PoolFull → (t : Term) (q : Replacement) (whole : Tree) → RefersTo symbols.now terms.old r t → Says symbols.now terms.old expansion.old.assignments q t → HasPart symbols.now whole (replaced q t) → IsFullIn terms.new.pass whole) }
+    ensures value { IfOk result (λ i. ExpandsOne symbols.now terms.old terms.new expansion.old.assignments r i) }
+    ensures placed { PlacesOne symbols.now terms.old terms.new expansion.old.assignments r }
+    ensures full { IfErr result (λ e. e ≡ TermStop.PoolFull → FillsOne symbols.now terms.old terms.new expansion.old.assignments r) }
     ensures assignments { OnOk result (expansion.new.assignments ≡ expansion.old.assignments) }
     ensures expansion { OnOk result (IsExpansion symbols.now terms.new expansion.new) }
     ensures keeps { KeepsTerms terms.old terms.new }
@@ -195,9 +193,9 @@ fn expand_let(
     requires low { IsAtMost symbols.now terms.old most r }
     requires said { IsSaid symbols.now terms.old expansion.old.assignments r }
     requires expansion { IsExpansion symbols.now terms.old expansion.old }
-    ensures value { IfOk result (λ i. (t : Term) (q : Replacement) → RefersTo symbols.now terms.old r t → Says symbols.now terms.old expansion.old.assignments q t → RefersTo symbols.now terms.new i (replaced q t)) }
-    ensures placed { (t : Term) (q : Replacement) (whole : Tree) → RefersTo symbols.now terms.old r t → Says symbols.now terms.old expansion.old.assignments q t → HasPart symbols.now whole (replaced q t) → PlacesOnlyIn terms.old.pass terms.new.pass whole }
-    ensures full { IfErr result (λ e. e ≡ TermStop.PoolFull → (t : Term) (q : Replacement) (whole : Tree) → RefersTo symbols.now terms.old r t → Says symbols.now terms.old expansion.old.assignments q t → HasPart symbols.now whole (replaced q t) → IsFullIn terms.new.pass whole) }
+    ensures value { IfOk result (λ i. ExpandsOne symbols.now terms.old terms.new expansion.old.assignments r i) }
+    ensures placed { PlacesOne symbols.now terms.old terms.new expansion.old.assignments r }
+    ensures full { IfErr result (λ e. e ≡ TermStop.PoolFull → FillsOne symbols.now terms.old terms.new expansion.old.assignments r) }
     ensures assignments { OnOk result (expansion.new.assignments ≡ expansion.old.assignments) }
     ensures expansion { OnOk result (IsExpansion symbols.now terms.new expansion.new) }
     ensures keeps { KeepsTerms terms.old terms.new }
@@ -230,9 +228,9 @@ fn expand_all(
     requires low { All (IsAtMost symbols.now terms.old most) list.now }
     requires said { AreSaid symbols.now terms.old expansion.old.assignments list.now }
     requires expansion { IsExpansion symbols.now terms.old expansion.old }
-    ensures value { IfOk result (λ all. (ts : List Term) (q : Replacement) → ReferToAll symbols.now terms.old list.now ts → SaysAll symbols.now terms.old expansion.old.assignments q ts → ReferToAll symbols.now terms.new all.items (replaced_each q ts)) }
-    ensures placed { (ts : List Term) (q : Replacement) (whole : Tree) → ReferToAll symbols.now terms.old list.now ts → SaysAll symbols.now terms.old expansion.old.assignments q ts → HasPartTerms symbols.now whole (replaced_each q ts) → PlacesOnlyIn terms.old.pass terms.new.pass whole }
-    ensures full { IfErr result (λ e. e ≡ TermStop.PoolFull → (ts : List Term) (q : Replacement) (whole : Tree) → ReferToAll symbols.now terms.old list.now ts → SaysAll symbols.now terms.old expansion.old.assignments q ts → HasPartTerms symbols.now whole (replaced_each q ts) → IsFullIn terms.new.pass whole) }
+    ensures value { IfOk result (λ all. ExpandsAll symbols.now terms.old terms.new expansion.old.assignments list.now all.items) }
+    ensures placed { PlacesAll symbols.now terms.old terms.new expansion.old.assignments list.now }
+    ensures full { IfErr result (λ e. e ≡ TermStop.PoolFull → FillsAll symbols.now terms.old terms.new expansion.old.assignments list.now) }
     ensures one_each { IfOk result (λ all. length all.items ≡ length list.now) }
     ensures assignments { OnOk result (expansion.new.assignments ≡ expansion.old.assignments) }
     ensures expansion { OnOk result (IsExpansion symbols.now terms.new expansion.new) }

@@ -5,7 +5,7 @@ use Rattle.std.proofs.lemmas.Result.{err_from_is_err_and}
 use Rattle.term_model.specs.Terms.{Term}
 use Rattle.term_pool.specs.Reading.{arguments_of}
 use Rattle.term_pool.specs.Views.{RefersTo, TermsView, KeepsTerms}
-use Rattle.term_expansion.specs.Expanding.{IsSaid}
+use Rattle.term_expansion.specs.Expanding.{IsSaid, ExpandsAll, ExpandsOne, FillsOne, PlacesOne}
 use Rattle.term_expansion.specs.Needs.{AreNeeds}
 use Rattle.term_expansion.specs.declared.assignments.Assigned.{Assigned}
 use Rattle.term_expansion.proofs.AssignedLists.{assigned_same, outside_is_left, outside_within}
@@ -221,7 +221,7 @@ expand_application-app-requires-clause-args t c =
     let said = c.requires.said in
     let refer = arguments_refer s v c.args.r c.args.head list c.requires.head c.in_ok-list.ensures.arguments in
     lemma.arguments_known s v a c.args.r c.args.head list c.requires.head refer z c.deref-2.result.now c.deref-2.result.now _ refl
-    (lemma.arguments_expanded s v a c.args.r c.args.head list c.requires.head refer z c.deref-2.result.now (subst (λ (is : List ℕ). lemma.ExpandsAll c.args.symbols.now c.args.terms.now c.expand_all.new.terms c.args.expansion.now.assignments c.in_ok-list.list.items is) (sym c.deref-2.ensures.value)
+    (lemma.arguments_expanded s v a c.args.r c.args.head list c.requires.head refer z c.deref-2.result.now (subst (λ (is : List ℕ). ExpandsAll c.args.symbols.now c.args.terms.now c.expand_all.new.terms c.args.expansion.now.assignments c.in_ok-list.list.items is) (sym c.deref-2.ensures.value)
     (lemma.all_expand_moved c.args.symbols.now c.args.terms.now c.arguments_of.new.terms c.expand_all.new.terms c.args.expansion.now.assignments c.in_ok-list.list.items c.deref.result.now c.in_ok-arguments.arguments.items c.arguments_of.ensures.same c.deref.ensures.value c.in_ok-arguments.ensures.value)) said.means said.puts said.refers said.says)
 
 pub expand_application-returns-in_err-app-clause-placed : goal.expand_application-returns-in_err-app-clause-placed
@@ -233,7 +233,7 @@ expand_application-returns-in_err-app-clause-placed t c =
     let w = c.expand_all.new.terms in
     let z = c.app.new.self in
     lemma.application_placed s v a c.args.r c.args.head list c.requires.head (arguments_refer s v c.args.r c.args.head list c.requires.head c.in_ok-list.ensures.arguments)
-    c.count-leaves.ensures.table c.trees_are_built_of_parts.ensures.application c.trees_of_terms.ensures.one_tree c.requires.no_variable w z c.deref-2.result.now (subst (λ (is : List ℕ). lemma.ExpandsAll c.args.symbols.now c.args.terms.now c.expand_all.new.terms c.args.expansion.now.assignments c.in_ok-list.list.items is) (sym c.deref-2.ensures.value)
+    c.count-leaves.ensures.table c.trees_are_built_of_parts.ensures.application c.trees_of_terms.ensures.one_tree c.requires.no_variable w z c.deref-2.result.now (subst (λ (is : List ℕ). ExpandsAll c.args.symbols.now c.args.terms.now c.expand_all.new.terms c.args.expansion.now.assignments c.in_ok-list.list.items is) (sym c.deref-2.ensures.value)
     (lemma.all_expand_moved c.args.symbols.now c.args.terms.now c.arguments_of.new.terms c.expand_all.new.terms c.args.expansion.now.assignments c.in_ok-list.list.items c.deref.result.now c.in_ok-arguments.arguments.items c.arguments_of.ensures.same c.deref.ensures.value c.in_ok-arguments.ensures.value)) c.app.ensures.keeps
     (lemma.all_placed_moved s v c.arguments_of.new.terms w a list c.deref.result.now c.arguments_of.ensures.same c.deref.ensures.value c.in_ok-arguments.ensures.placed)
     (λ ts known. (c.in_err-app.ensures.full ts known).placed)
@@ -249,7 +249,7 @@ expand_application-returns-in_err-app-clause-full t c =
     let e = err_from_is_err_and c.from_residual-in_err-app.result c.from_residual-in_err-app.ensures.1 in
     rw (e.1, e.2) (λ full.
     lemma.application_full s v a c.args.r c.args.head list c.requires.head (arguments_refer s v c.args.r c.args.head list c.requires.head c.in_ok-list.ensures.arguments)
-    c.count-leaves.ensures.table c.trees_are_built_of_parts.ensures.application c.trees_of_terms.ensures.one_tree c.requires.no_variable w z c.deref-2.result.now (subst (λ (is : List ℕ). lemma.ExpandsAll c.args.symbols.now c.args.terms.now c.expand_all.new.terms c.args.expansion.now.assignments c.in_ok-list.list.items is) (sym c.deref-2.ensures.value)
+    c.count-leaves.ensures.table c.trees_are_built_of_parts.ensures.application c.trees_of_terms.ensures.one_tree c.requires.no_variable w z c.deref-2.result.now (subst (λ (is : List ℕ). ExpandsAll c.args.symbols.now c.args.terms.now c.expand_all.new.terms c.args.expansion.now.assignments c.in_ok-list.list.items is) (sym c.deref-2.ensures.value)
     (lemma.all_expand_moved c.args.symbols.now c.args.terms.now c.arguments_of.new.terms c.expand_all.new.terms c.args.expansion.now.assignments c.in_ok-list.list.items c.deref.result.now c.in_ok-arguments.arguments.items c.arguments_of.ensures.same c.deref.ensures.value c.in_ok-arguments.ensures.value))
     (λ ts known. (c.in_err-app.ensures.full ts known).full))
 
@@ -262,7 +262,7 @@ expand_application-returns-clause-value t c =
     let w = c.expand_all.new.terms in
     let z = c.app.new.self in
     lemma.application_is s v a c.args.r c.args.head list c.requires.head (arguments_refer s v c.args.r c.args.head list c.requires.head c.in_ok-list.ensures.arguments)
-    c.count-leaves.ensures.table c.trees_are_built_of_parts.ensures.application c.trees_of_terms.ensures.one_tree c.requires.no_variable w z c.deref-2.result.now (subst (λ (is : List ℕ). lemma.ExpandsAll c.args.symbols.now c.args.terms.now c.expand_all.new.terms c.args.expansion.now.assignments c.in_ok-list.list.items is) (sym c.deref-2.ensures.value)
+    c.count-leaves.ensures.table c.trees_are_built_of_parts.ensures.application c.trees_of_terms.ensures.one_tree c.requires.no_variable w z c.deref-2.result.now (subst (λ (is : List ℕ). ExpandsAll c.args.symbols.now c.args.terms.now c.expand_all.new.terms c.args.expansion.now.assignments c.in_ok-list.list.items is) (sym c.deref-2.ensures.value)
     (lemma.all_expand_moved c.args.symbols.now c.args.terms.now c.arguments_of.new.terms c.expand_all.new.terms c.args.expansion.now.assignments c.in_ok-list.list.items c.deref.result.now c.in_ok-arguments.arguments.items c.arguments_of.ensures.same c.deref.ensures.value c.in_ok-arguments.ensures.value)) c.in_ok-app.field-0
     (λ ts u refer is. c.in_ok-app.ensures.term s ts u refer is)
 
@@ -275,7 +275,7 @@ expand_application-returns-clause-placed t c =
     let w = c.expand_all.new.terms in
     let z = c.app.new.self in
     lemma.application_placed s v a c.args.r c.args.head list c.requires.head (arguments_refer s v c.args.r c.args.head list c.requires.head c.in_ok-list.ensures.arguments)
-    c.count-leaves.ensures.table c.trees_are_built_of_parts.ensures.application c.trees_of_terms.ensures.one_tree c.requires.no_variable w z c.deref-2.result.now (subst (λ (is : List ℕ). lemma.ExpandsAll c.args.symbols.now c.args.terms.now c.expand_all.new.terms c.args.expansion.now.assignments c.in_ok-list.list.items is) (sym c.deref-2.ensures.value)
+    c.count-leaves.ensures.table c.trees_are_built_of_parts.ensures.application c.trees_of_terms.ensures.one_tree c.requires.no_variable w z c.deref-2.result.now (subst (λ (is : List ℕ). ExpandsAll c.args.symbols.now c.args.terms.now c.expand_all.new.terms c.args.expansion.now.assignments c.in_ok-list.list.items is) (sym c.deref-2.ensures.value)
     (lemma.all_expand_moved c.args.symbols.now c.args.terms.now c.arguments_of.new.terms c.expand_all.new.terms c.args.expansion.now.assignments c.in_ok-list.list.items c.deref.result.now c.in_ok-arguments.arguments.items c.arguments_of.ensures.same c.deref.ensures.value c.in_ok-arguments.ensures.value)) c.app.ensures.keeps
     (lemma.all_placed_moved s v c.arguments_of.new.terms w a list c.deref.result.now c.arguments_of.ensures.same c.deref.ensures.value c.in_ok-arguments.ensures.placed)
     (λ ts known. (c.in_ok-app.ensures.built ts known).placed)
@@ -403,7 +403,7 @@ expand_let-returns-in_err-body-clause-placed t c =
     c.count-leaves.ensures.table c.let_parts.ensures.same c.needs_of.ensures.same (c.equal_exactly_where_terms_are.ensures c.args.symbols.now c.count-leaves.ensures.table) c.requires.is_let c.in_ok-parts.ensures.bindings c.in_ok-parts.ensures.body c.in_ok-inside.ensures.leaves
     c.deref.ensures.value c.deref-2.ensures.value c.deref-3.ensures.value c.in_ok-values.ensures c.in_ok-given.ensures.given) z (subst (λ (x : TermsView). KeepsTerms x c.expand_all.new.terms) (c.needs_of.ensures.same ∙ c.let_parts.ensures.same) c.expand_all.ensures.keeps) c.in_ok-list.list.items (lemma.all_expand_moved c.args.symbols.now c.args.terms.now c.needs_of.new.terms c.expand_all.new.terms c.args.expansion.now.assignments c.in_ok-given.given.values.items c.deref-4.result.now c.in_ok-list.list.items (c.needs_of.ensures.same ∙ c.let_parts.ensures.same) c.deref-4.ensures.value c.in_ok-list.ensures.value) y c.expand.ensures.keeps
     (lemma.all_placed_moved s v c.needs_of.new.terms z a g.values.items c.deref-4.result.now (c.needs_of.ensures.same ∙ c.let_parts.ensures.same) c.deref-4.ensures.value c.in_ok-list.ensures.placed)
-    (subst (λ (b : List Assigned). lemma.PlacesOne s z y b c.in_ok-parts.parts.body) (c.in_ok-assign.ensures ∙ assigned_same c.deref-5.result.now c.in_ok-given.given.variables.items c.deref-6.result.now c.in_ok-list.list.items c.expand_all.new.expansion.assignments c.args.expansion.now.assignments c.deref-5.ensures.value c.deref-6.ensures.value c.in_ok-list.ensures.assignments) c.in_err-body.ensures.placed)
+    (subst (λ (b : List Assigned). PlacesOne s z y b c.in_ok-parts.parts.body) (c.in_ok-assign.ensures ∙ assigned_same c.deref-5.result.now c.in_ok-given.given.variables.items c.deref-6.result.now c.in_ok-list.list.items c.expand_all.new.expansion.assignments c.args.expansion.now.assignments c.deref-5.ensures.value c.deref-6.ensures.value c.in_ok-list.ensures.assignments) c.in_err-body.ensures.placed)
 
 pub expand_let-returns-in_err-body-clause-full : goal.expand_let-returns-in_err-body-clause-full
 expand_let-returns-in_err-body-clause-full t c =
@@ -418,7 +418,7 @@ expand_let-returns-in_err-body-clause-full t c =
     lemma.let_full s v a c.args.r c.in_ok-parts.parts.body g.variables.items g.values.items c.count-leaves.ensures.table (lemma.let_work_from c.args.symbols.now c.args.terms.now c.let_parts.new.terms c.needs_of.new.terms c.args.r c.in_ok-parts.parts.body c.in_ok-parts.parts.variables.items c.in_ok-parts.parts.values.items c.deref.result.now c.deref-2.result.now c.in_ok-inside.inside.items c.deref-3.result.now c.in_ok-given.given.variables.items c.in_ok-given.given.values.items c.in_ok-values.values
     c.count-leaves.ensures.table c.let_parts.ensures.same c.needs_of.ensures.same (c.equal_exactly_where_terms_are.ensures c.args.symbols.now c.count-leaves.ensures.table) c.requires.is_let c.in_ok-parts.ensures.bindings c.in_ok-parts.ensures.body c.in_ok-inside.ensures.leaves
     c.deref.ensures.value c.deref-2.ensures.value c.deref-3.ensures.value c.in_ok-values.ensures c.in_ok-given.ensures.given) z (subst (λ (x : TermsView). KeepsTerms x c.expand_all.new.terms) (c.needs_of.ensures.same ∙ c.let_parts.ensures.same) c.expand_all.ensures.keeps) c.in_ok-list.list.items (lemma.all_expand_moved c.args.symbols.now c.args.terms.now c.needs_of.new.terms c.expand_all.new.terms c.args.expansion.now.assignments c.in_ok-given.given.values.items c.deref-4.result.now c.in_ok-list.list.items (c.needs_of.ensures.same ∙ c.let_parts.ensures.same) c.deref-4.ensures.value c.in_ok-list.ensures.value) y
-    (subst (λ (b : List Assigned). lemma.FillsOne s z y b c.in_ok-parts.parts.body) (c.in_ok-assign.ensures ∙ assigned_same c.deref-5.result.now c.in_ok-given.given.variables.items c.deref-6.result.now c.in_ok-list.list.items c.expand_all.new.expansion.assignments c.args.expansion.now.assignments c.deref-5.ensures.value c.deref-6.ensures.value c.in_ok-list.ensures.assignments) (c.in_err-body.ensures.full full)))
+    (subst (λ (b : List Assigned). FillsOne s z y b c.in_ok-parts.parts.body) (c.in_ok-assign.ensures ∙ assigned_same c.deref-5.result.now c.in_ok-given.given.variables.items c.deref-6.result.now c.in_ok-list.list.items c.expand_all.new.expansion.assignments c.args.expansion.now.assignments c.deref-5.ensures.value c.deref-6.ensures.value c.in_ok-list.ensures.assignments) (c.in_err-body.ensures.full full)))
 
 pub expand_let-take_back-requires : goal.expand_let-take_back-requires
 expand_let-take_back-requires t c =
@@ -436,7 +436,7 @@ expand_let-returns-in_err-take_back-clause-placed t c =
     c.count-leaves.ensures.table c.let_parts.ensures.same c.needs_of.ensures.same (c.equal_exactly_where_terms_are.ensures c.args.symbols.now c.count-leaves.ensures.table) c.requires.is_let c.in_ok-parts.ensures.bindings c.in_ok-parts.ensures.body c.in_ok-inside.ensures.leaves
     c.deref.ensures.value c.deref-2.ensures.value c.deref-3.ensures.value c.in_ok-values.ensures c.in_ok-given.ensures.given) z (subst (λ (x : TermsView). KeepsTerms x c.expand_all.new.terms) (c.needs_of.ensures.same ∙ c.let_parts.ensures.same) c.expand_all.ensures.keeps) c.in_ok-list.list.items (lemma.all_expand_moved c.args.symbols.now c.args.terms.now c.needs_of.new.terms c.expand_all.new.terms c.args.expansion.now.assignments c.in_ok-given.given.values.items c.deref-4.result.now c.in_ok-list.list.items (c.needs_of.ensures.same ∙ c.let_parts.ensures.same) c.deref-4.ensures.value c.in_ok-list.ensures.value) y c.expand.ensures.keeps
     (lemma.all_placed_moved s v c.needs_of.new.terms z a g.values.items c.deref-4.result.now (c.needs_of.ensures.same ∙ c.let_parts.ensures.same) c.deref-4.ensures.value c.in_ok-list.ensures.placed)
-    (subst (λ (b : List Assigned). lemma.PlacesOne s z y b c.in_ok-parts.parts.body) (c.in_ok-assign.ensures ∙ assigned_same c.deref-5.result.now c.in_ok-given.given.variables.items c.deref-6.result.now c.in_ok-list.list.items c.expand_all.new.expansion.assignments c.args.expansion.now.assignments c.deref-5.ensures.value c.deref-6.ensures.value c.in_ok-list.ensures.assignments) c.in_ok-body.ensures.placed)
+    (subst (λ (b : List Assigned). PlacesOne s z y b c.in_ok-parts.parts.body) (c.in_ok-assign.ensures ∙ assigned_same c.deref-5.result.now c.in_ok-given.given.variables.items c.deref-6.result.now c.in_ok-list.list.items c.expand_all.new.expansion.assignments c.args.expansion.now.assignments c.deref-5.ensures.value c.deref-6.ensures.value c.in_ok-list.ensures.assignments) c.in_ok-body.ensures.placed)
 
 pub expand_let-returns-clause-value : goal.expand_let-returns-clause-value
 expand_let-returns-clause-value t c =
@@ -449,7 +449,7 @@ expand_let-returns-clause-value t c =
     lemma.let_expanded s v a c.args.r c.in_ok-parts.parts.body g.variables.items g.values.items c.count-leaves.ensures.table (lemma.let_work_from c.args.symbols.now c.args.terms.now c.let_parts.new.terms c.needs_of.new.terms c.args.r c.in_ok-parts.parts.body c.in_ok-parts.parts.variables.items c.in_ok-parts.parts.values.items c.deref.result.now c.deref-2.result.now c.in_ok-inside.inside.items c.deref-3.result.now c.in_ok-given.given.variables.items c.in_ok-given.given.values.items c.in_ok-values.values
     c.count-leaves.ensures.table c.let_parts.ensures.same c.needs_of.ensures.same (c.equal_exactly_where_terms_are.ensures c.args.symbols.now c.count-leaves.ensures.table) c.requires.is_let c.in_ok-parts.ensures.bindings c.in_ok-parts.ensures.body c.in_ok-inside.ensures.leaves
     c.deref.ensures.value c.deref-2.ensures.value c.deref-3.ensures.value c.in_ok-values.ensures c.in_ok-given.ensures.given) z (subst (λ (x : TermsView). KeepsTerms x c.expand_all.new.terms) (c.needs_of.ensures.same ∙ c.let_parts.ensures.same) c.expand_all.ensures.keeps) c.in_ok-list.list.items (lemma.all_expand_moved c.args.symbols.now c.args.terms.now c.needs_of.new.terms c.expand_all.new.terms c.args.expansion.now.assignments c.in_ok-given.given.values.items c.deref-4.result.now c.in_ok-list.list.items (c.needs_of.ensures.same ∙ c.let_parts.ensures.same) c.deref-4.ensures.value c.in_ok-list.ensures.value) y c.in_ok-body.body
-    (subst (λ (b : List Assigned). lemma.ExpandsOne s z y b c.in_ok-parts.parts.body c.in_ok-body.body) (c.in_ok-assign.ensures ∙ assigned_same c.deref-5.result.now c.in_ok-given.given.variables.items c.deref-6.result.now c.in_ok-list.list.items c.expand_all.new.expansion.assignments c.args.expansion.now.assignments c.deref-5.ensures.value c.deref-6.ensures.value c.in_ok-list.ensures.assignments) c.in_ok-body.ensures.value)
+    (subst (λ (b : List Assigned). ExpandsOne s z y b c.in_ok-parts.parts.body c.in_ok-body.body) (c.in_ok-assign.ensures ∙ assigned_same c.deref-5.result.now c.in_ok-given.given.variables.items c.deref-6.result.now c.in_ok-list.list.items c.expand_all.new.expansion.assignments c.args.expansion.now.assignments c.deref-5.ensures.value c.deref-6.ensures.value c.in_ok-list.ensures.assignments) c.in_ok-body.ensures.value)
 
 pub expand_let-returns-clause-placed : goal.expand_let-returns-clause-placed
 expand_let-returns-clause-placed t c =
@@ -463,7 +463,7 @@ expand_let-returns-clause-placed t c =
     c.count-leaves.ensures.table c.let_parts.ensures.same c.needs_of.ensures.same (c.equal_exactly_where_terms_are.ensures c.args.symbols.now c.count-leaves.ensures.table) c.requires.is_let c.in_ok-parts.ensures.bindings c.in_ok-parts.ensures.body c.in_ok-inside.ensures.leaves
     c.deref.ensures.value c.deref-2.ensures.value c.deref-3.ensures.value c.in_ok-values.ensures c.in_ok-given.ensures.given) z (subst (λ (x : TermsView). KeepsTerms x c.expand_all.new.terms) (c.needs_of.ensures.same ∙ c.let_parts.ensures.same) c.expand_all.ensures.keeps) c.in_ok-list.list.items (lemma.all_expand_moved c.args.symbols.now c.args.terms.now c.needs_of.new.terms c.expand_all.new.terms c.args.expansion.now.assignments c.in_ok-given.given.values.items c.deref-4.result.now c.in_ok-list.list.items (c.needs_of.ensures.same ∙ c.let_parts.ensures.same) c.deref-4.ensures.value c.in_ok-list.ensures.value) y c.expand.ensures.keeps
     (lemma.all_placed_moved s v c.needs_of.new.terms z a g.values.items c.deref-4.result.now (c.needs_of.ensures.same ∙ c.let_parts.ensures.same) c.deref-4.ensures.value c.in_ok-list.ensures.placed)
-    (subst (λ (b : List Assigned). lemma.PlacesOne s z y b c.in_ok-parts.parts.body) (c.in_ok-assign.ensures ∙ assigned_same c.deref-5.result.now c.in_ok-given.given.variables.items c.deref-6.result.now c.in_ok-list.list.items c.expand_all.new.expansion.assignments c.args.expansion.now.assignments c.deref-5.ensures.value c.deref-6.ensures.value c.in_ok-list.ensures.assignments) c.in_ok-body.ensures.placed)
+    (subst (λ (b : List Assigned). PlacesOne s z y b c.in_ok-parts.parts.body) (c.in_ok-assign.ensures ∙ assigned_same c.deref-5.result.now c.in_ok-given.given.variables.items c.deref-6.result.now c.in_ok-list.list.items c.expand_all.new.expansion.assignments c.args.expansion.now.assignments c.deref-5.ensures.value c.deref-6.ensures.value c.in_ok-list.ensures.assignments) c.in_ok-body.ensures.placed)
 
 pub expand_let-returns-clause-assignments : goal.expand_let-returns-clause-assignments
 expand_let-returns-clause-assignments t c =
