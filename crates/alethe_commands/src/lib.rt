@@ -17,6 +17,7 @@ pub mod attributes;
 pub mod command_shapes;
 pub mod commands;
 pub mod names;
+mod usual;
 
 pub use arguments::{AnchorArgument, argument_at, next_argument};
 pub use attributes::{StepAttribute, next_attribute, rule_word};
