@@ -6,8 +6,8 @@
 //! copied, and no nesting of a text takes stack.
 //!
 //! - `commands`: assumes, steps and anchors. `attributes`: the rule of a step, its premises, arguments and what it discharges.
-//!   `arguments`: the arguments of an anchor. `names`: names in a list. `command_shapes`: what an item is, and the faults of
-//!   shape.
+//!   `usual`: the attributes that most steps have. `arguments`: the arguments of an anchor. `names`: names in a list.
+//!   `command_shapes`: what an item is, and the faults of shape.
 //!
 //! What a contract sees: `specs/CommandNodes`, which nodes say which command, attribute, argument or names.
 #![tactic(auto)]

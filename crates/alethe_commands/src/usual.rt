@@ -61,12 +61,7 @@ fn is_rule(word: AttributeWord) -> bool
 }
 
 /// What the keyword at node `k` asks for, where the item at node `value` is what has to stand behind it.
-fn attribute_word(
-    text: &Lexer<'_>,
-    nodes: &[Node],
-    k: usize,
-    value: usize,
-) -> Option<AttributeWord>
+fn attribute_word(text: &Lexer<'_>, nodes: &[Node], k: usize, value: usize) -> Option<AttributeWord>
     requires keyword { IsItemAt (source text.now) nodes.now k }
     requires value { IsItemAt (source text.now) nodes.now value }
     ensures { IfSome result (λ w. (i : Item) (m : ℕ) (v : Item) (n : ℕ) → IsNode (source text.now) nodes.now k i m → IsNode (source text.now) nodes.now value v n → spec.IsAttribute w i v) }
