@@ -36,7 +36,10 @@ pub fn run(alloc: Global, case: &str, count: &str) -> Result<u64, Stop> {
         return Err(Stop::BadWords);
     }
     let mut symbols = Symbols::new(alloc)?;
-    sum_of_case(&mut symbols, case, count)
+    let sum = sum_of_case(&mut symbols, case, count);
+    // A table is let go by a call: let go in parts, at the end of a scope, it is dear to prove.
+    drop(symbols);
+    sum
 }
 
 // The sum of a case, over a table that has no declarations yet.
