@@ -40,8 +40,7 @@ pub fn reading(alloc: Global, text: &[u8], measured: bool) -> Result<Option<Read
     reading_in(alloc, text, measured, &mut Terms::new(&pool, pass))
 }
 
-// The same in an empty pool. The table of symbols is made here, and used in a function of its own, so that it is let go
-// at one place only.
+// The same in an empty pool.
 fn reading_in(
     alloc: Global,
     text: &[u8],
@@ -51,7 +50,10 @@ fn reading_in(
     requires { length text.now ≤ 268435456 }
 {
     let mut symbols = Symbols::new(alloc).map_err(|_| anyhow!("want of memory"))?;
-    reading_with(alloc, text, measured, &mut symbols, terms)
+    let found = reading_with(alloc, text, measured, &mut symbols, terms);
+    // What owns much is let go by a call: let go in parts, at the end of a scope, it is dear to prove.
+    drop(symbols);
+    found
 }
 
 // The same with a new table of symbols.
@@ -99,6 +101,7 @@ fn read(alloc: Global, text: &[u8], symbols: &mut Symbols, terms: &mut Terms<'_>
     };
     let assertions = problem.count();
     let last = last_of(&problem);
+    drop(problem);
     Some(Found { assertions, last })
 }
 
