@@ -18,6 +18,7 @@ use Rattle.alethe_commands.specs.declared.attributes.AttributeWord.{AttributeWor
 use Rattle.alethe_commands.specs.declared.attributes.StepAttribute.{StepAttribute}
 use Rattle.alethe_commands.specs.CommandNodes.{AreNameNodes, AreAttributes, SaysAttribute, LiesWithin}
 use Rattle.alethe_commands.specs.CommandShapes.{attribute_word, attribute_nodes, HasValue}
+use Rattle.alethe_commands.specs.UsualAttributes.{wants}
 use Rattle.alethe_commands.proofs.CommandsByNodes.{choice, or_none, unless_so}
 
 -- the attribute of a word and its value
@@ -37,13 +38,6 @@ by_word i v =
     (choice (attributes_said v) (is_spelled (codes ":premises") i) _ _ _ _ refl
     (choice (attributes_said v) (is_spelled (codes ":args") i) _ _ _ _ refl
     (choice (attributes_said v) (is_spelled (codes ":discharge") i) _ _ _ _ refl refl)))
-
--- what stands behind a word
-abbrev wants : AttributeWord → Wanted
-wants AttributeWord.Rule = Wanted.Name
-wants AttributeWord.Premises = Wanted.Names
-wants AttributeWord.Arguments = Wanted.AnyList
-wants AttributeWord.Discharge = Wanted.Names
 
 abbrev after_word : Option AttributeWord → Next
 after_word None = Next.Anything
@@ -93,7 +87,7 @@ list_plain (quoted p w) e = refl
 list_plain (string p w) e = refl
 list_plain (list p items) e = refl
 
-value_plain : (w : AttributeWord) (v : Item) → wanted_fault (wants w) v ≡ None → keyword_of v ≡ None
+pub value_plain : (w : AttributeWord) (v : Item) → wanted_fault (wants w) v ≡ None → keyword_of v ≡ None
 value_plain AttributeWord.Rule v e = symbol_plain v e
 value_plain AttributeWord.Premises v e = names_plain v e
 value_plain AttributeWord.Arguments v e = list_plain v e

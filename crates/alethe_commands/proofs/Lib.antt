@@ -4,3 +4,4 @@ mod AttributesByNodes
 mod ArgumentsByNodes
 mod NamesByNodes
 mod RulesByNodes
+mod UsualAttributes

@@ -1,2 +1,3 @@
 pub mod CommandNodes
 pub mod CommandShapes
+pub mod UsualAttributes

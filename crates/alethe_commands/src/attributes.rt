@@ -10,6 +10,7 @@ ghost use Rattle.alethe_text.specs.Steps as steps;
 ghost use Rattle.alethe_commands.specs.CommandNodes.{AreAttributes, HasFirstAttribute, LiesWithin};
 ghost use Rattle.alethe_commands.specs.CommandShapes as spec;
 
+use crate::usual::are_usual;
 use sexpr::Lexer;
 use text_items::keywords::{Keyword, Wanted, attributes_fault, keyword_at};
 use text_items::nodes::Node;
@@ -27,7 +28,7 @@ pub enum StepAttribute {
 
 /// What an attribute's keyword asks for.
 #[derive(Clone, Copy)]
-enum AttributeWord {
+pub(crate) enum AttributeWord {
     Rule,
     Premises,
     Arguments,
@@ -84,6 +85,9 @@ pub(crate) fn step_attributes_fault(
     requires { AreItemsFrom (source text.now) nodes.now first end }
     ensures { (items : Items) → AreNodes (source text.now) nodes.now first items end → result ≡ keywords.attributes_fault shape.step_keywords place items }
 {
+    if are_usual(text, nodes, first, end) {
+        return None;
+    }
     attributes_fault(text, nodes, &STEP_KEYWORDS, place, first, end)
 }
 
@@ -173,7 +177,7 @@ fn attribute_from(text: &Lexer<'_>, nodes: &[Node], k: usize, end: usize) -> Opt
 }
 
 /// What the item at a node asks for, where it is the keyword of an attribute that has an effect.
-fn word_at(text: &Lexer<'_>, nodes: &[Node], k: usize) -> Option<AttributeWord>
+pub(crate) fn word_at(text: &Lexer<'_>, nodes: &[Node], k: usize) -> Option<AttributeWord>
     requires { IsItemAt (source text.now) nodes.now k }
     ensures { (i : Item) (m : ℕ) → IsNode (source text.now) nodes.now k i m → result ≡ spec.attribute_word (keywords.keyword_of i) }
 {

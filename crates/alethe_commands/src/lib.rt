@@ -6,8 +6,8 @@
 //! copied, and no nesting of a text takes stack.
 //!
 //! - `commands`: assumes, steps and anchors. `attributes`: the rule of a step, its premises, arguments and what it discharges.
-//!   `arguments`: the arguments of an anchor. `names`: names in a list. `command_shapes`: what an item is, and the faults of
-//!   shape.
+//!   `usual`: the attributes that most steps have. `arguments`: the arguments of an anchor. `names`: names in a list.
+//!   `command_shapes`: what an item is, and the faults of shape.
 //!
 //! What a contract sees: `specs/CommandNodes`, which nodes say which command, attribute, argument or names.
 #![tactic(auto)]
@@ -17,6 +17,7 @@ pub mod attributes;
 pub mod command_shapes;
 pub mod commands;
 pub mod names;
+mod usual;
 
 pub use arguments::{AnchorArgument, argument_at, next_argument};
 pub use attributes::{StepAttribute, next_attribute, rule_word};

@@ -259,9 +259,5 @@ module _ (text : List ℕ) (settings : ProofSettings) (before : Script) (form : 
           go (Err fault) h = tt
 
 -- a fault that is handed on
-pub same_fault : {A : Type 0} (result : Result A ReadFault) (f g : ReadFault) → (x : ReadFault) × (result ≡ Err x) × (x ≡ f) → result ≡ Err g → f ≡ g
-same_fault result f g (x, is, same) e = cc
-
--- where a fault is handed on nothing was read
-pub nothing_read : {A : Type 0} (result : Result A ReadFault) (P : A → Type 0) (f : ReadFault) → (x : ReadFault) × (result ≡ Err x) × (x ≡ f) → IfOk result P
-nothing_read result P f (x, is, same) = subst (λ r. IfOk r P) (sym is) tt
+pub same_fault : {A : Type 0} (result : Result A ReadFault) (f g : ReadFault) → result ≡ Err f → result ≡ Err g → f ≡ g
+same_fault result f g is e = cc

@@ -1,5 +1,6 @@
 -- Private. A proof's text that is being read, from command to command.
-use Rattle.std.specs.Prelude.{◌≡◌, ◌≤◌, ◌+◌, ◌-◌, ℕ, Bool, true, false, List, length, Result, Ok, Err, ⊤}
+use Rattle.std.specs.Prelude.{◌≡◌, ◌≤◌, ◌+◌, ◌-◌, ℕ, Bool, true, false, List, [], length, Option, None, Result, Ok, Err, ⊤}
+use Rattle.sexpr.specs.declared.causes.Refusal.{Refusal}
 use Rattle.sexpr.specs.Items.{Items, no_items}
 use Rattle.sym_table.specs.Table.{Table}
 use Rattle.term_model.specs.Terms.{Var, Term}
@@ -62,6 +63,11 @@ AreAllRead source s v settings d at whole (Err fault) = EndsWith s v.pass whole.
 pub record ReadsProof (source : List ℕ) (s : Table) (old new : TermsView) (settings : ProofSettings) (d : Session) (at : ℕ) (whole : Outcome ProofState (Proof Var Term)) (result : Result Unit ReadFault) : Type 0 where
   pub outcome : AreAllRead source s new settings d at whole result
   pub placed : PlacesCellsOf s old.pass new.pass (WasRead whole)
+
+-- Nothing stands behind the commands and no anchor is open, or the reading is refused for what stands there.
+abbrev pub IsEndJudged : Session → Items → Outcome ProofState (Proof Var Term) → Result Unit Refusal → Type 0
+IsEndJudged d behind whole (Ok _) = (excess behind ≡ None) × (d.anchors.items ≡ [])
+IsEndJudged d behind whole (Err r) = whole.result ≡ Err r
 
 -- The proof that was read, or the fault of what stands behind the commands, or of an anchor that is open.
 abbrev pub IsFinished : Table → TermsView → ProofState → Outcome ProofState (Proof Var Term) → Result (Proof ℕ ℕ) ReadFault → Type 0

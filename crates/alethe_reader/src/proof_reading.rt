@@ -15,7 +15,7 @@ ghost use Rattle.alethe_text.specs.States.{ProofSettings, ProofState, unread};
 ghost use Rattle.alethe_items.specs.TextItems.{HasCommandItems};
 ghost use Rattle.alethe_reader.specs.Reading.{IsCountedOfProof, IsProofOf};
 ghost use Rattle.alethe_reader.specs.Sessions.{IsProofSession};
-ghost use Rattle.alethe_reader.specs.TextReading.{NoneLeft, IsFinished, IsBehindCommands, closing_from};
+ghost use Rattle.alethe_reader.specs.TextReading.{IsEndJudged, IsFinished, IsBehindCommands, closing_from};
 
 use crate::bound::BoundVariables;
 use crate::ids::Ids;
@@ -24,8 +24,9 @@ use crate::text_reading::read_commands;
 use alethe_items::{enter_list, excess, skip_answer};
 use alethe_text::laws::proof_texts_have_one_reading;
 use proof_store::{Proof, ProofBuilder};
-use sexpr::{Cause, Lexer, form, tokens_are_spelled};
+use sexpr::{Cause, Lexer, Refusal, form, tokens_are_spelled};
 use std::alloc::Global;
+use std::mem::replace;
 use sym_table::Symbols;
 use term_names::faults::ReadFault;
 use term_pool::Terms;
@@ -56,17 +57,29 @@ fn new_session<'a>(alloc: Global, problem: &'a Problem, flags: Flags) -> Session
 }
 
 /// The proof that was read, where nothing stands behind the list of its commands and no anchor is open.
-fn finish(lexer: Lexer<'_>, session: Session<'_>) -> Result<Proof, ReadFault>
-    requires { (s : Table) × (v : TermsView) × (settings : ProofSettings) × (p : ProofState) × (behind : Items) × HasCommandItems (at.source lexer) false (at.position lexer) behind no_items × IsProofSession s v settings session p }
-    ensures { (s : Table) (v : TermsView) (settings : ProofSettings) (p : ProofState) (behind : Items) → HasCommandItems (at.source lexer.entry) false (at.position lexer.entry) behind no_items → IsProofSession s v settings session.entry p → IsFinished s v p (closing_from settings behind tt p) result }
+///
+/// The builder is taken out of the session.
+fn finish(alloc: Global, lexer: Lexer<'_>, session: &mut Session<'_>) -> Result<Proof, ReadFault>
+    requires { (s : Table) × (v : TermsView) × (settings : ProofSettings) × (p : ProofState) × (behind : Items) × HasCommandItems (at.source lexer) false (at.position lexer) behind no_items × IsProofSession s v settings session.old p }
+    ensures { (s : Table) (v : TermsView) (settings : ProofSettings) (p : ProofState) (behind : Items) → HasCommandItems (at.source lexer.entry) false (at.position lexer.entry) behind no_items → IsProofSession s v settings session.old p → IsFinished s v p (closing_from settings behind tt p) result }
+{
+    judge_end(lexer, session)?;
+    let builder = replace(&mut session.builder, ProofBuilder::new(alloc));
+    Ok(builder.finish()?)
+}
+
+/// Judges the end of a proof: refused where something stands behind the list of its commands, or an anchor is open.
+fn judge_end(lexer: Lexer<'_>, session: &Session<'_>) -> Result<(), Refusal>
+    requires { (behind : Items) × HasCommandItems (at.source lexer) false (at.position lexer) behind no_items }
+    ensures { (s : Table) (v : TermsView) (settings : ProofSettings) (p : ProofState) (behind : Items) → HasCommandItems (at.source lexer.entry) false (at.position lexer.entry) behind no_items → IsProofSession s v settings session.now p → IsEndJudged session.now behind (closing_from settings behind tt p) result }
 {
     if let Some(place) = excess(lexer) {
-        return Err(ReadFault::Text(refused(Cause::BadCommand, place)));
+        return Err(refused(Cause::BadCommand, place));
     }
     if let Some(outermost) = session.anchors.first() {
-        return Err(ReadFault::Text(refused(Cause::BadAnchor, outermost.place)));
+        return Err(refused(Cause::BadAnchor, outermost.place));
     }
-    Ok(session.builder.finish()?)
+    Ok(())
 }
 
 /// Reads the text of a proof behind a problem: what it stands for, or its first fault.
@@ -108,13 +121,24 @@ pub fn read_proof(
     let in_list = enter_list(&mut lexer);
     let mut nodes = Vec::new(alloc);
     let mut session = new_session(alloc, problem, flags);
-    read_commands(
+    let read = read_commands(
         &mut lexer,
         in_list,
         &mut nodes,
         symbols,
         terms,
         &mut session,
-    )?;
-    finish(lexer, session)
+    );
+    // The session is given up by a call of its own: given up in parts, at the end of a scope, it is very dear to prove.
+    match read {
+        Ok(()) => {
+            let proof = finish(alloc, lexer, &mut session);
+            drop(session);
+            proof
+        }
+        Err(fault) => {
+            drop(session);
+            Err(fault)
+        }
+    }
 }

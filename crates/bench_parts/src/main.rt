@@ -13,82 +13,108 @@ mod tokens;
 
 use anyhow::{Result, bail};
 use std::env;
+use std::fmt::{Debug, Display};
+use std::rt::{Clock, Files};
 
 fn main(rt: HostRuntime) -> Result<()> {
     let words: Vec<String> = env::args(&rt)?.skip(1).collect(rt.alloc())?;
-    match words.as_slice() {
-        [topic, case, bits, count] if topic.as_str() == "pool" => {
-            pool_line(&rt, case.as_str(), bits.as_str(), count.as_str())
-        }
-        [topic, case, bits, count] if topic.as_str() == "terms" => {
-            terms_line(&rt, case.as_str(), bits.as_str(), count.as_str())
-        }
-        [topic, case, bits, count] if topic.as_str() == "substitution" => {
-            substitution_line(&rt, case.as_str(), bits.as_str(), count.as_str())
-        }
-        [topic, case, count] if topic.as_str() == "symbols" => {
-            symbols_line(&rt, case.as_str(), count.as_str())
-        }
-        [topic, count] if topic.as_str() == "commands" => {
-            commands_line(&rt, count.parse::<u32>()?)
-        }
-        [topic, path] if topic.as_str() == "tokens" => tokens::run(&rt, path.as_str(), false),
-        [topic, path, _time] if topic.as_str() == "tokens" => {
-            tokens::run(&rt, path.as_str(), true)
-        }
-        [topic, case, count] if topic.as_str() == "propagation" => {
-            propagation::run(&rt, case.as_str(), count.parse::<u32>()?, false)
-        }
-        [topic, case, count, _time] if topic.as_str() == "propagation" => {
-            propagation::run(&rt, case.as_str(), count.parse::<u32>()?, true)
-        }
-        _ => bail!(
-            "usage: bench_parts (pool | terms | substitution | commands | symbols | tokens | propagation) .."
-        ),
+    run(&rt, words.as_slice())
+}
+
+// The topic of the first word. The words are borrowed here: each of the many ways out of a function that owns them would
+// be a proof of letting them go.
+fn run(rt: &HostRuntime, words: &[String]) -> Result<()> {
+    let [topic, rest @ ..] = words else {
+        return usage();
+    };
+    match topic.as_str() {
+        "pool" => pool_line(rt, rest),
+        "terms" => terms_line(rt, rest),
+        "substitution" => substitution_line(rt, rest),
+        "symbols" => symbols_line(rt, rest),
+        "commands" => commands_line(rt, rest),
+        "tokens" => tokens_lines(rt, rest),
+        "propagation" => propagation_lines(rt, rest),
+        _ => usage(),
     }
 }
 
-fn pool_line(rt: &(impl Print + AllocGlobal), case: &str, bits: &str, count: &str) -> Result<()> {
-    match pool::run(rt.alloc(), case, bits, count) {
-        Ok(sum) => println!(rt; "pool {case} {bits} {count}: {sum}")?,
-        Err(stop) => println!(rt; "pool {case} {bits} {count}: {stop:?}")?,
-    }
-    Ok(())
+fn usage() -> Result<()> {
+    bail!(
+        "usage: bench_parts (pool | terms | substitution | commands | symbols | tokens | propagation) .."
+    )
 }
 
-fn terms_line(rt: &(impl Print + AllocGlobal), case: &str, bits: &str, count: &str) -> Result<()> {
-    match terms::run(rt.alloc(), case, bits, count) {
-        Ok(sum) => println!(rt; "terms {case} {bits} {count}: {sum}")?,
-        Err(stop) => println!(rt; "terms {case} {bits} {count}: {stop:?}")?,
+fn tokens_lines(rt: &(impl Files + Clock + Print + AllocGlobal), words: &[String]) -> Result<()> {
+    match words {
+        [path] => tokens::run(rt, path.as_str(), false),
+        [path, _time] => tokens::run(rt, path.as_str(), true),
+        _ => usage(),
     }
-    Ok(())
 }
 
-fn substitution_line(
-    rt: &(impl Print + AllocGlobal),
-    case: &str,
-    bits: &str,
-    count: &str,
+fn propagation_lines(rt: &(impl Clock + Print + AllocGlobal), words: &[String]) -> Result<()> {
+    match words {
+        [case, count] => propagation::run(rt, case.as_str(), count.parse::<u32>()?, false),
+        [case, count, _time] => propagation::run(rt, case.as_str(), count.parse::<u32>()?, true),
+        _ => usage(),
+    }
+}
+
+fn pool_line(rt: &(impl Print + AllocGlobal), words: &[String]) -> Result<()> {
+    let [case, bits, count] = words else {
+        return usage();
+    };
+    let found = pool::run(rt.alloc(), case.as_str(), bits.as_str(), count.as_str());
+    print_found(rt, &format_args!("pool {case} {bits} {count}"), &found)
+}
+
+fn terms_line(rt: &(impl Print + AllocGlobal), words: &[String]) -> Result<()> {
+    let [case, bits, count] = words else {
+        return usage();
+    };
+    let found = terms::run(rt.alloc(), case.as_str(), bits.as_str(), count.as_str());
+    print_found(rt, &format_args!("terms {case} {bits} {count}"), &found)
+}
+
+fn substitution_line(rt: &(impl Print + AllocGlobal), words: &[String]) -> Result<()> {
+    let [case, bits, count] = words else {
+        return usage();
+    };
+    let found = substitution::run(rt.alloc(), case.as_str(), bits.as_str(), count.as_str());
+    print_found(
+        rt,
+        &format_args!("substitution {case} {bits} {count}"),
+        &found,
+    )
+}
+
+fn symbols_line(rt: &(impl Print + AllocGlobal), words: &[String]) -> Result<()> {
+    let [case, count] = words else {
+        return usage();
+    };
+    let found = symbols::run(rt.alloc(), case.as_str(), count.as_str());
+    print_found(rt, &format_args!("symbols {case} {count}"), &found)
+}
+
+fn commands_line(rt: &(impl Print + AllocGlobal), words: &[String]) -> Result<()> {
+    let [count] = words else {
+        return usage();
+    };
+    let count = count.parse::<u32>()?;
+    let found = commands::run(rt.alloc(), count);
+    print_found(rt, &format_args!("commands {count}"), &found)
+}
+
+// Prints what a case was, and what it has come to.
+fn print_found(
+    rt: &impl Print,
+    case: &impl Display,
+    found: &std::result::Result<impl Display, impl Debug>,
 ) -> Result<()> {
-    match substitution::run(rt.alloc(), case, bits, count) {
-        Ok(sum) => println!(rt; "substitution {case} {bits} {count}: {sum}")?,
-        Err(stop) => println!(rt; "substitution {case} {bits} {count}: {stop:?}")?,
-    }
-    Ok(())
-}
-
-fn symbols_line(rt: &(impl Print + AllocGlobal), case: &str, count: &str) -> Result<()> {
-    match symbols::run(rt.alloc(), case, count) {
-        Ok(sum) => println!(rt; "symbols {case} {count}: {sum}")?,
-        Err(stop) => println!(rt; "symbols {case} {count}: {stop:?}")?,
-    }
-    Ok(())
-}
-
-fn commands_line(rt: &(impl Print + AllocGlobal), count: u32) -> Result<()> {
-    match commands::run(rt.alloc(), count) {
-        Ok(commands) => println!(rt; "commands {count}: {commands}")?,
-        Err(stop) => println!(rt; "commands {count}: {stop:?}")?,
+    match found {
+        Ok(found) => println!(rt; "{case}: {found}")?,
+        Err(stop) => println!(rt; "{case}: {stop:?}")?,
     }
     Ok(())
 }

@@ -34,17 +34,24 @@ pub fn run(alloc: Global, case: &str, bits: &str, count: &str) -> Result<u64, St
         return Err(Stop::BadWords);
     }
     let (pool, mut pass) = Pool::new(alloc, bits)?;
+    sum_of_case(&pool, &mut pass, case, count)
+}
+
+// The sum of a case, in a pool with nothing in it.
+fn sum_of_case(pool: &Pool, pass: &mut Pass, case: &str, count: u32) -> Result<u64, Stop>
+    requires { IsPassOf pool.now pass.old }
+{
     match case {
         "none" => Ok(0),
-        "pairs" => Ok(pairs(&pool, &mut pass, count)?),
+        "pairs" => Ok(pairs(pool, pass, count)?),
         "finds" => {
-            let first = pairs(&pool, &mut pass, count)?;
-            Ok(first.wrapping_add(pairs(&pool, &mut pass, count)?))
+            let first = pairs(pool, pass, count)?;
+            Ok(first.wrapping_add(pairs(pool, pass, count)?))
         }
-        "chain" => Ok(chain(&pool, &mut pass, count)?.number() as u64),
+        "chain" => Ok(chain(pool, pass, count)?.number() as u64),
         "parts" => {
-            let last = chain(&pool, &mut pass, count)?;
-            Ok(walk(&pool, &mut pass, last, count))
+            let last = chain(pool, pass, count)?;
+            Ok(walk(pool, pass, last, count))
         }
         _ => Err(Stop::BadWords),
     }

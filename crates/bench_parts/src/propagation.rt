@@ -158,14 +158,25 @@ pub fn run<R: AllocGlobal + Clock + Print>(
     timed: bool,
 ) -> Result<()> {
     let problems = problems_of(rt.alloc(), case, count)?;
+    run_on(rt, &problems, case, count, timed)
+}
+
+// The same of problems that are made.
+fn run_on<R: AllocGlobal + Clock + Print>(
+    rt: &R,
+    problems: &[Problem],
+    case: &str,
+    count: u32,
+    timed: bool,
+) -> Result<()> {
     let calls = if case == "small" { count } else { 1 };
-    let found = solve_all(rt.alloc(), &problems, calls)?;
+    let found = solve_all(rt.alloc(), problems, calls)?;
     println!(rt; "{case} {count}: {found} of {calls} follow")?;
     if timed {
         let mut least = u128::MAX;
         for _ in 0..RUNS {
             let start = Instant::now(rt)?;
-            solve_all(rt.alloc(), &problems, calls)?;
+            solve_all(rt.alloc(), problems, calls)?;
             least = least.min(start.elapsed(rt)?.as_nanos());
         }
         println!(rt; "{least} ns")?;

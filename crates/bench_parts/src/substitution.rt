@@ -35,8 +35,22 @@ pub fn run(alloc: Global, case: &str, bits: &str, count: &str) -> Result<u64, St
 // The answer of a case in an empty pool.
 fn answer(alloc: Global, terms: &mut Terms, case: &str, count: u32) -> Result<u64, Stop> {
     let mut symbols = Symbols::new(alloc)?;
-    let leaves = leaves_of(&mut symbols)?;
-    answer_of_case(alloc, &symbols, terms, leaves, case, count)
+    let found = answer_with(alloc, &mut symbols, terms, case, count);
+    // A table is let go by a call: let go in parts, at the end of a scope, it is dear to prove.
+    drop(symbols);
+    found
+}
+
+// The answer of a case with a new table of symbols, into which the leaves are put.
+fn answer_with(
+    alloc: Global,
+    symbols: &mut Symbols,
+    terms: &mut Terms,
+    case: &str,
+    count: u32,
+) -> Result<u64, Stop> {
+    let leaves = leaves_of(symbols)?;
+    answer_of_case(alloc, symbols, terms, leaves, case, count)
 }
 
 // The answer of a case, over the term of so many applications.

@@ -36,12 +36,20 @@ pub fn run(alloc: Global, case: &str, count: &str) -> Result<u64, Stop> {
         return Err(Stop::BadWords);
     }
     let mut symbols = Symbols::new(alloc)?;
+    let sum = sum_of_case(&mut symbols, case, count);
+    // A table is let go by a call: let go in parts, at the end of a scope, it is dear to prove.
+    drop(symbols);
+    sum
+}
+
+// The sum of a case, over a table that has no declarations yet.
+fn sum_of_case(symbols: &mut Symbols, case: &str, count: u32) -> Result<u64, Stop> {
     match case {
         "none" => Ok(0),
-        "declare" => declare(&mut symbols, count),
+        "declare" => declare(symbols, count),
         "find" => {
-            let sum = declare(&mut symbols, count)?;
-            Ok(sum.wrapping_add(find(&symbols, count)))
+            let sum = declare(symbols, count)?;
+            Ok(sum.wrapping_add(find(symbols, count)))
         }
         _ => Err(Stop::BadWords),
     }

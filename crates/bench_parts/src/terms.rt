@@ -82,10 +82,28 @@ pub fn run(alloc: Global, case: &str, bits: &str, count: &str) -> Result<u64, St
         return Err(Stop::BadWords);
     }
     let (pool, pass) = Pool::new(alloc, bits)?;
-    let mut terms = Terms::new(&pool, pass);
+    sum_in(alloc, &mut Terms::new(&pool, pass), case, count)
+}
+
+// The sum of a case in an empty pool.
+fn sum_in(alloc: Global, terms: &mut Terms, case: &str, count: u32) -> Result<u64, Stop> {
     let mut symbols = Symbols::new(alloc)?;
-    let heads = declare_functions(&mut symbols)?;
-    sum_of_case(alloc, &symbols, &mut terms, heads, case, count)
+    let sum = sum_with(alloc, &mut symbols, terms, case, count);
+    // A table is let go by a call: let go in parts, at the end of a scope, it is dear to prove.
+    drop(symbols);
+    sum
+}
+
+// The sum of a case with a new table of symbols, in which the functions are declared.
+fn sum_with(
+    alloc: Global,
+    symbols: &mut Symbols,
+    terms: &mut Terms,
+    case: &str,
+    count: u32,
+) -> Result<u64, Stop> {
+    let heads = declare_functions(symbols)?;
+    sum_of_case(alloc, symbols, terms, heads, case, count)
 }
 
 // The sum of a case, over the constant that stands first.

@@ -7,8 +7,13 @@ use std::time::Instant;
 
 pub fn run(rt: &(impl Files + Clock + Print + AllocGlobal), path: &str, timed: bool) -> Result<()> {
     let text = fs::read(rt, path)?;
+    run_on(rt, &text, timed)
+}
+
+// The same of a text that was read.
+fn run_on(rt: &(impl Clock + Print), text: &[u8], timed: bool) -> Result<()> {
     let begin = Instant::now(rt)?;
-    match form(&text) {
+    match form(text) {
         Ok(()) => println!(rt; "form: ok")?,
         Err(refusal) => {
             let cause = cause_text(refusal.cause);
@@ -18,7 +23,7 @@ pub fn run(rt: &(impl Files + Clock + Print + AllocGlobal), path: &str, timed: b
     }
     let judged = begin.elapsed(rt)?;
     let begin = Instant::now(rt)?;
-    let count = token_count(&text);
+    let count = token_count(text);
     println!(rt; "tokens: {count}")?;
     let counted = begin.elapsed(rt)?;
     if timed {

@@ -62,10 +62,14 @@ fn answer_behind(
     let Ok(proof) = read_proof(alloc, text, FLAGS, problem, symbols, terms) else {
         return None;
     };
-    if i >= proof.count() {
-        return None;
-    }
-    propagate(alloc, &proof, i, symbols, terms).ok()
+    let found = if i < proof.count() {
+        propagate(alloc, &proof, i, symbols, terms).ok()
+    } else {
+        None
+    };
+    // What owns much is let go by a call: let go in parts, at the end of a scope, it is dear to prove.
+    drop(proof);
+    found
 }
 
 // The same with a new table of symbols, for the texts of a problem and of a proof.
@@ -84,7 +88,9 @@ fn answer_with(
     let Ok(read) = read_problem(alloc, problem, FLAGS, symbols, terms) else {
         return None;
     };
-    answer_behind(alloc, proof, i, &read, symbols, terms)
+    let found = answer_behind(alloc, proof, i, &read, symbols, terms);
+    drop(read);
+    found
 }
 
 // What `propagate` answers for the command at an index of the proof, in a pool with ample room.
@@ -92,14 +98,29 @@ fn answer(alloc: Global, i: u32) -> Option<Option<Trail>> {
     if PROBLEM.len() > 268_435_456 || PROOF.len() > 268_435_456 {
         return None;
     }
-    let Ok(mut symbols) = Symbols::new(alloc) else {
-        return None;
-    };
     let Ok((pool, pass)) = Pool::new(alloc, BITS) else {
         return None;
     };
-    let mut terms = Terms::new(&pool, pass);
-    answer_with(alloc, PROBLEM, PROOF, i, &mut symbols, &mut terms)
+    answer_in(alloc, PROBLEM, PROOF, i, &mut Terms::new(&pool, pass))
+}
+
+// The same in an empty pool.
+fn answer_in(
+    alloc: Global,
+    problem: &[u8],
+    proof: &[u8],
+    i: u32,
+    terms: &mut Terms<'_>,
+) -> Option<Option<Trail>>
+    requires problem { length problem.now ≤ 268435456 }
+    requires proof { length proof.now ≤ 268435456 }
+{
+    let Ok(mut symbols) = Symbols::new(alloc) else {
+        return None;
+    };
+    let found = answer_with(alloc, problem, proof, i, &mut symbols, terms);
+    drop(symbols);
+    found
 }
 
 // With `q` false, either `p` is the only literal of `c` that is not false, and then all of `b` is false, or `(not p)` is that

@@ -23,9 +23,29 @@ pub fn answer(
 ) -> Result<Answer, AllocError> {
     let most = piece_bytes(is_long(&problem) || is_long(&proof));
     let files = files(rt.alloc(), problem, proof)?;
-    let mut folder = MemoryFolder::new(files, most, call.failing_reads);
-    let mut out = MemorySink::new(WRITE_PIECE, call.failing_writes);
-    let status = carcara(rt, &call.words, &mut folder, &mut out, &OpenGate);
+    let Call {
+        words,
+        failing_reads,
+        failing_writes,
+    } = call;
+    let mut folder = MemoryFolder::new(files, most, failing_reads);
+    let mut out = MemorySink::new(WRITE_PIECE, failing_writes);
+    let found = answer_over(rt, &words, &mut folder, &mut out);
+    // What owns much is let go by a call: let go in parts, at the end of a scope, it is dear to prove.
+    drop(out);
+    drop(folder);
+    drop(words);
+    found
+}
+
+// The answer to the words, over a folder and an output.
+fn answer_over(
+    rt: &impl AllocGlobal,
+    words: &[String],
+    folder: &mut MemoryFolder,
+    out: &mut MemorySink,
+) -> Result<Answer, AllocError> {
+    let status = carcara(rt, words, folder, out, &OpenGate);
     let output = Vec::from_slice(rt.alloc(), out.written())?;
     Ok(Answer { status, output })
 }
@@ -47,11 +67,20 @@ fn files(
     proof: Option<Vec<u8>>,
 ) -> Result<Vec<(String, Vec<u8>)>, AllocError> {
     let mut files = Vec::new(alloc);
-    if let Some(text) = problem {
-        files.push((String::from_str(alloc, "PROBLEM")?, text))?;
-    }
-    if let Some(text) = proof {
-        files.push((String::from_str(alloc, "PROOF")?, text))?;
-    }
+    add_file(alloc, &mut files, "PROBLEM", problem)?;
+    add_file(alloc, &mut files, "PROOF", proof)?;
     Ok(files)
+}
+
+// Adds the file at a path, where there is one.
+fn add_file(
+    alloc: Global,
+    files: &mut Vec<(String, Vec<u8>)>,
+    path: &str,
+    text: Option<Vec<u8>>,
+) -> Result<(), AllocError> {
+    if let Some(text) = text {
+        files.push((String::from_str(alloc, path)?, text))?;
+    }
+    Ok(())
 }

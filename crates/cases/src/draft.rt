@@ -63,58 +63,55 @@ impl Draft {
     /// The case, where it has all parts of what it asks: words, a status and an output, or a problem and how many
     /// assertions it has, or both.
     pub fn finished(self, alloc: Global) -> Result<Case, Fault> {
-        let Draft {
-            name,
-            problem,
-            proof,
-            words,
-            failing_reads,
-            failing_writes,
-            status,
-            output,
-            assertions,
-            measures,
-        } = self;
-        let read = reading_of(assertions, measures)?;
-        if read.is_some() && problem.is_none() {
-            return Err(Fault::PartAbsent);
+        if self.is_whole() {
+            Ok(self.into_case(alloc))
+        } else {
+            Err(Fault::PartAbsent)
         }
-        let called = match words {
-            Some(words) => {
-                let call = Call {
-                    words,
-                    failing_reads: failing_reads.unwrap_or(Vec::new(alloc)),
-                    failing_writes: failing_writes.unwrap_or(Vec::new(alloc)),
-                };
-                let wanted = answer_of(status, output)?;
-                Some(Called { call, wanted })
-            }
-            None if read.is_none() || status.is_some() || output.is_some() => {
-                return Err(Fault::PartAbsent);
-            }
-            None => None,
+    }
+
+    // Whether something is asked, and no part of what is asked is absent.
+    fn is_whole(&self) -> bool {
+        let reads = self.assertions.is_some();
+        let is_reading_whole = if reads {
+            self.problem.is_some()
+        } else {
+            self.measures.is_none()
         };
-        Ok(Case {
-            name,
-            problem,
-            proof,
+        let is_call_whole = if self.words.is_some() {
+            self.status.is_some() && self.output.is_some()
+        } else {
+            reads && self.status.is_none() && self.output.is_none()
+        };
+        is_reading_whole && is_call_whole
+    }
+
+    // The case of the parts.
+    fn into_case(self, alloc: Global) -> Case {
+        let last = self.measures;
+        let read = self
+            .assertions
+            .map(|assertions| Reading { assertions, last });
+        let failing_reads = self.failing_reads.unwrap_or(Vec::new(alloc));
+        let failing_writes = self.failing_writes.unwrap_or(Vec::new(alloc));
+        let called = match (self.words, self.status, self.output) {
+            (Some(words), Some(status), Some(output)) => Some(Called {
+                call: Call {
+                    words,
+                    failing_reads,
+                    failing_writes,
+                },
+                wanted: Answer { status, output },
+            }),
+            _ => None,
+        };
+        Case {
+            name: self.name,
+            problem: self.problem,
+            proof: self.proof,
             called,
             read,
-        })
-    }
-}
-
-fn answer_of(status: Option<u8>, output: Option<Vec<u8>>) -> Result<Answer, Fault> {
-    let status = status.ok_or(Fault::PartAbsent)?;
-    let output = output.ok_or(Fault::PartAbsent)?;
-    Ok(Answer { status, output })
-}
-
-fn reading_of(assertions: Option<usize>, last: Option<Measures>) -> Result<Option<Reading>, Fault> {
-    match assertions {
-        Some(assertions) => Ok(Some(Reading { assertions, last })),
-        None if last.is_some() => Err(Fault::PartAbsent),
-        None => Ok(None),
+        }
     }
 }
 

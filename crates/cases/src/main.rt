@@ -23,10 +23,16 @@ use std::env;
 
 fn main(rt: HostRuntime) -> Result<()> {
     let paths: Vec<String> = env::args(&rt)?.skip(1).collect(rt.alloc())?;
+    run(&rt, &paths)
+}
+
+// Runs the cases of all files. The paths are borrowed here: each way out of a function that owns them would be a proof of
+// letting them go.
+fn run(rt: &HostRuntime, paths: &[String]) -> Result<()> {
     let mut passed: usize = 0;
     let mut all: usize = 0;
-    for path in &paths {
-        let count = file::run(&rt, path.as_str())?;
+    for path in paths {
+        let count = file::run(rt, path.as_str())?;
         passed = passed.saturating_add(count.passed);
         all = all.saturating_add(count.all);
     }

@@ -56,17 +56,25 @@ impl Reader {
                 draft.add_field(self.alloc, field)?;
                 Ok(None)
             }
-            Line::Text(name) => {
-                let ended = self.end()?;
-                self.section = Section::Named(String::from_str(self.alloc, name)?);
-                Ok(ended)
-            }
-            Line::Case(name) => {
-                let ended = self.end()?;
-                self.draft = Some(Draft::new(String::from_str(self.alloc, name)?));
-                Ok(ended)
-            }
+            Line::Text(name) => self.begin_text(name),
+            Line::Case(name) => self.begin_case(name),
         }
+    }
+
+    // Begins a text with a name, and answers the case that ends before it.
+    fn begin_text(&mut self, name: &str) -> Result<Option<Case>, Fault> {
+        let name = String::from_str(self.alloc, name)?;
+        let ended = self.end()?;
+        self.section = Section::Named(name);
+        Ok(ended)
+    }
+
+    // Begins a case, and answers the one that ends before it.
+    fn begin_case(&mut self, name: &str) -> Result<Option<Case>, Fault> {
+        let name = String::from_str(self.alloc, name)?;
+        let ended = self.end()?;
+        self.draft = Some(Draft::new(name));
+        Ok(ended)
     }
 
     /// The case that ends here.

@@ -36,14 +36,42 @@ pub fn reading(alloc: Global, text: &[u8], measured: bool) -> Result<Option<Read
     if text.len() > MOST_BYTES {
         return Ok(None);
     }
-    let mut symbols = Symbols::new(alloc).map_err(|_| anyhow!("want of memory"))?;
     let (pool, pass) = Pool::new(alloc, BITS).map_err(|_| anyhow!("want of memory"))?;
-    let mut terms = Terms::new(&pool, pass);
-    let Some(found) = read(alloc, text, &mut symbols, &mut terms) else {
+    reading_in(alloc, text, measured, &mut Terms::new(&pool, pass))
+}
+
+// The same in an empty pool.
+fn reading_in(
+    alloc: Global,
+    text: &[u8],
+    measured: bool,
+    terms: &mut Terms<'_>,
+) -> Result<Option<Reading>>
+    requires { length text.now ≤ 268435456 }
+{
+    let mut symbols = Symbols::new(alloc).map_err(|_| anyhow!("want of memory"))?;
+    let found = reading_with(alloc, text, measured, &mut symbols, terms);
+    // What owns much is let go by a call: let go in parts, at the end of a scope, it is dear to prove.
+    drop(symbols);
+    found
+}
+
+// The same with a new table of symbols.
+fn reading_with(
+    alloc: Global,
+    text: &[u8],
+    measured: bool,
+    symbols: &mut Symbols,
+    terms: &mut Terms<'_>,
+) -> Result<Option<Reading>>
+    requires short { length text.now ≤ 268435456 }
+    requires new_symbols { IsNewTable symbols.old }
+{
+    let Some(found) = read(alloc, text, symbols, terms) else {
         return Ok(None);
     };
     let last = match found.last {
-        Some(last) if measured => Some(measures(alloc, &mut terms, last)?),
+        Some(last) if measured => Some(measures(alloc, terms, last)?),
         _ => None,
     };
     let assertions = found.assertions;
@@ -73,6 +101,7 @@ fn read(alloc: Global, text: &[u8], symbols: &mut Symbols, terms: &mut Terms<'_>
     };
     let assertions = problem.count();
     let last = last_of(&problem);
+    drop(problem);
     Some(Found { assertions, last })
 }
 

@@ -1,5 +1,5 @@
 -- What a walk remembers is right for the next one.
-use Rattle.std.proofs.Common.{◌≡◌, ◌<◌, ◌≤◌, ◌^◌, ℕ, List, [], ◌∷◌, length, Option, Some, None, nat_eq, arith, refl, sym, ◌∙◌, subst}
+use Rattle.std.proofs.Common.{◌≡◌, ◌<◌, ◌≤◌, ◌^◌, ℕ, List, [], length, Option, Some, None, nat_eq, arith, refl, sym, ◌∙◌, subst}
 use Rattle.std.specs.HashMap.{get}
 use Rattle.pair_pool.specs.Trees.{Tree}
 use Rattle.pair_pool.specs.Views.{PassView, Knows, IsOneToOne, HasPartsOfTrees}
@@ -9,7 +9,7 @@ use Rattle.contexts.specs.declared.places.Place.{Place}
 use Rattle.contexts.specs.declared.places.Place.TheVariants.{Term}
 use Rattle.contexts.specs.Becoming.{becomes, Images, IsImageAt, AreImages, HasImages, Look, look_of}
 use Rattle.contexts.specs.Layers.{shadowed}
-use Rattle.contexts.specs.Places.{Lists, IsMemory, IsReady, IsWalked, becomes_there, leaf_there}
+use Rattle.contexts.specs.Places.{Lists, IsMemory, IsReady, IsWalked, leaf_there}
 use Rattle.contexts.specs.Remembering.{remembered, RemembersNoMore}
 use Rattle.contexts.proofs.Visiting.{looked, unseen_high}
 use Rattle.contexts.proofs.Walking.{images_later}

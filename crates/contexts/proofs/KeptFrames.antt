@@ -1,6 +1,5 @@
 -- A substitution stays right, as it goes on in its last frame, enters one and leaves one.
 use Rattle.std.proofs.Common.{◌≡◌, ◌≢◌, ◌⊎◌, inl, inr, ℕ, List, [], ◌∷◌, ◌++◌, Option, Some, None, IsSome, is_some, Result, Ok, Err, OnErr, is_ok, Bool, true, false, eqb, nat_eq, if◌then◌else◌, refl, sym, ◌∙◌, ap, subst}
-use Rattle.std.specs.HashMap.{get}
 use Rattle.std.proofs.lemmas.Bool.Decides.{eqb_tells}
 use Rattle.pair_pool.specs.Trees.{Tree, leaf}
 use Rattle.term_pool.specs.Views.{TermsView, KeepsTerms}

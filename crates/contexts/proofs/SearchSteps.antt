@@ -1,5 +1,5 @@
 -- The search for a leaf that stands free: what is left to be looked at has it, where the whole has it.
-use Rattle.std.proofs.Common.{◌≡◌, ℕ, suc, ◌<◌, ◌^◌, ◌⊎◌, inl, inr, List, [], ◌∷◌, ◌++◌, Bool, true, false, IsTrue, sym, ◌∙◌, ap, subst, Contains, arith, append_assoc}
+use Rattle.std.proofs.Common.{◌≡◌, ℕ, suc, ◌<◌, ◌^◌, ◌⊎◌, inl, inr, List, [], ◌∷◌, ◌++◌, Bool, IsTrue, sym, ◌∙◌, ap, subst, Contains, arith, append_assoc}
 use Rattle.std.proofs.lemmas.List.Elements.{Contains-append_left, Contains-append_right, Contains-append_cases, Contains-push, Contains-push_cases}
 use Rattle.pair_pool.specs.Trees.{Tree, leaf, cell}
 use Rattle.pair_pool.specs.Views.{PassView, Knows, IsOneToOne, HasPartsOfTrees}
@@ -8,7 +8,7 @@ use Rattle.term_pool.specs.Trees.{depth}
 use Rattle.term_pool.specs.Views.{IsKnownCell}
 use Rattle.contexts.specs.Shapes.{HasShape, HasLetShape, IsShaped, IsLetRest, IsBindingList}
 use Rattle.contexts.specs.FreeLeaves.{IsFreeLeaf, IsFreeInLet, BindsLeaf}
-use Rattle.contexts.specs.Searching.{IsFine, HasFree, ArePartsOf, LeavesParts, LeavesLet, LeavesValues, IsMet}
+use Rattle.contexts.specs.Searching.{IsFine, HasFree, ArePartsOf, LeavesParts, LeavesLet, LeavesValues}
 use Rattle.contexts.proofs.References.{leaf_of, head_other, head_of_let, from_true, from_false, either_true, either_false}
 use Rattle.contexts.proofs.LeavingValues.{free_among}
 
@@ -70,22 +70,22 @@ module _ (p : PassView) (one : IsOneToOne p) (k r : ℕ) (seen rest : List ℕ) 
       dropped (λ n t known g less. absurd (differs (subst (IsFreeLeaf k) (leaf_of p one parts q t known low) g)))
 
   -- a cell that was met
-  pub search_skips : (new : List ℕ) → IsMet seen new q false → IsSearch p k r new rest
-  search_skips new met = subst (λ (z : List ℕ). IsSearch p k r z rest) (sym met.1) (dropped again)
+  pub search_skips : (new : List ℕ) → Contains seen q → new ≡ seen → IsSearch p k r new rest
+  search_skips new met same = subst (λ (z : List ℕ). IsSearch p k r z rest) (sym same) (dropped again)
     where
       again : (n : ℕ) (t : Tree) → Knows p q t → IsFreeLeaf k t → depth t < n → HasFree p k rest n
       again n t known g less =
           free_among p k rest rest (depth t) n (λ c i. i) (omega arith)
-          (without (depth t) (λ u known' g' less'. absurd (let e = ap depth (one.one_tree q u t known' known) in omega arith)) (h.closed q t met.0 known g))
+          (without (depth t) (λ u known' g' less'. absurd (let e = ap depth (one.one_tree q u t known' known) in omega arith)) (h.closed q t met known g))
 
-  -- a cell that is met now
-  pub search_opens : (new left : List ℕ) → IsMet seen new q true → LeavesParts p k q rest left → IsSearch p k r new left
-  search_opens new left met leaves = record {
+  -- a cell that is opened now
+  pub search_opens : (new left : List ℕ) → ((x : ℕ) → Contains new x → Contains seen x ⊎ (q ≡ x)) → LeavesParts p k q rest left → IsSearch p k r new left
+  search_opens new left only leaves = record {
     root = h.root;
     root_known = h.root_known;
     fine = λ x i. fine x (subst (λ (z : List ℕ). Contains z x) leaves.added i);
     lasting = λ g. wider (suc (depth h.root)) (h.lasting g);
-    closed = λ x t i known g. elim (Contains-push_cases seen q x (subst (λ (z : List ℕ). Contains z x) met.1 i)) [ inl before ↦ wider (depth t) (h.closed x t before known g) | inr same ↦ here t (subst (λ y. Knows p y t) (sym same) known) g ];
+    closed = λ x t i known g. elim (only x i) [ inl before ↦ wider (depth t) (h.closed x t before known g) | inr same ↦ here t (subst (λ y. Knows p y t) (sym same) known) g ];
   }
     where
       f : IsFine p k (IsFreeLeaf k h.root) q

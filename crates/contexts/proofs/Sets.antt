@@ -5,22 +5,23 @@ use Rattle.std.specs.Cmp.{nat_eq_equiv}
 use Rattle.std.proofs.lemmas.Bool.{eqb-true}
 use Rattle.std.proofs.lemmas.Map.Views.{list_any-from_Contains, Contains-from_any}
 use Rattle.indexmap.specs.IndexSet.{insert_key}
-use Rattle.contexts.specs.Searching.{IsMet}
+use Rattle.contexts.specs.Searching.{IsMet, IsNoted}
+use Rattle.contexts.specs.declared.met.Met.{Met}
 
 pub has-test : (ks : List ℕ) (k : ℕ) → (list_any (nat_eq k) ks ≡ true) ↔ Contains ks k
 has-test ks k = (λ e. Contains-from_any (λ x y f. eqb-true x y f) k ks e, λ h. list_any-from_Contains nat_eq_equiv k ks h)
 
-pub met_is : (old new : List ℕ) (k r : ℕ) (b : Bool) → k ≡ r → b ≡ not (list_any (nat_eq k) old) → new ≡ insert_key nat_eq old k → IsMet old new r b
-met_is old new k r b e f g = subst (λ q. IsMet old new q b) e (go (list_any (nat_eq k) old) refl f g)
+pub noted_is : (old new : List ℕ) (k r : ℕ) (b : Bool) → k ≡ r → b ≡ not (list_any (nat_eq k) old) → new ≡ insert_key nat_eq old k → IsNoted old new r b
+noted_is old new k r b e f g = subst (λ q. IsNoted old new q b) e (go (list_any (nat_eq k) old) refl f g)
   where
-    go : (t : Bool) → list_any (nat_eq k) old ≡ t → b ≡ not t → new ≡ cond t old (old ++ k ∷ []) → IsMet old new k b
-    go true h f g = subst (IsMet old new k) (sym f) ((has-test old k).0 h, g)
-    go false h f g = subst (IsMet old new k) (sym f) (λ c. absurd (let i = (has-test old k).1 c in cc), g)
+    go : (t : Bool) → list_any (nat_eq k) old ≡ t → b ≡ not t → new ≡ cond t old (old ++ k ∷ []) → IsNoted old new k b
+    go true h f g = subst (IsNoted old new k) (sym f) ((has-test old k).0 h, g)
+    go false h f g = subst (IsNoted old new k) (sym f) (λ c. absurd (let i = (has-test old k).1 c in cc), g)
 
-pub met_true : (old new : List ℕ) (r : ℕ) (b : Bool) → IsMet old new r b → b ≡ true → IsMet old new r true
+pub met_true : (old new : Met) (r : ℕ) (b : Bool) → IsMet old new r b → b ≡ true → IsMet old new r true
 met_true old new r b h e = subst (IsMet old new r) e h
 
-pub met_false : (old new : List ℕ) (r : ℕ) (b : Bool) → IsMet old new r b → b ≡ false → IsMet old new r false
+pub met_false : (old new : Met) (r : ℕ) (b : Bool) → IsMet old new r b → b ≡ false → IsMet old new r false
 met_false old new r b h e = subst (IsMet old new r) e h
 
 -- a vector that nothing was taken from was empty

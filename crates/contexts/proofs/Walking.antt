@@ -13,12 +13,11 @@ use Rattle.contexts.specs.declared.places.Place.{Place}
 use Rattle.contexts.specs.declared.places.Place.TheVariants.{Term, Bindings}
 use Rattle.contexts.specs.Becoming.{becomes, let_becomes, Images, IsImageAt, AreImages, HasImages}
 use Rattle.contexts.specs.Layers.{shadowed, KeepsLayers}
-use Rattle.contexts.specs.Places.{Lists, layer_of, HasPlaceShape, becomes_there, IsSpot, HasBecome, IsMemory, IsUnder, PlacesImage, LacksRoomForImage, IsReady, image_of_leaf}
+use Rattle.contexts.specs.Places.{Lists, layer_of, HasPlaceShape, becomes_there, IsSpot, HasBecome, IsMemory, IsUnder, PlacesImage, LacksRoomForImage, IsReady}
 use Rattle.contexts.specs.Remembering.{reference_of, remembered, Remembers}
 use Rattle.contexts.specs.Shapes.{IsShaped}
 use Rattle.contexts.proofs.CellBuilding.{part-refl, part-trans, placed-larger, placed-trans, placed-none, full-larger}
-use Rattle.contexts.proofs.References.{leaf_of}
-use Rattle.contexts.proofs.Visiting.{lists_same, image_known, split}
+use Rattle.contexts.proofs.Visiting.{lists_same, split}
 
 -- what is known stays known
 pub images_later : (p q : PassView) → KeepsPass p q → (images : Images) (f : ℕ → Tree) → AreImages p images f → AreImages q images f

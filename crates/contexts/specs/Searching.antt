@@ -1,9 +1,10 @@
 -- Private. What a search for a leaf that stands free leaves to be looked at.
-use Rattle.std.specs.Prelude.{◌≡◌, ◌<◌, ◌↔◌, ℕ, Bool, true, false, IsTrue, List, [], ◌∷◌, ◌++◌, Contains}
+use Rattle.std.specs.Prelude.{◌≡◌, ◌<◌, ◌↔◌, ◌⊎◌, ◌+◌, ◌-◌, ◌^◌, length, ℕ, Bool, true, false, IsTrue, List, [], ◌∷◌, ◌++◌, Contains}
 use Rattle.pair_pool.specs.Trees.{Tree}
 use Rattle.pair_pool.specs.Views.{PassView, Knows}
 use Rattle.term_pool.specs.Trees.{depth}
 use Rattle.contexts.specs.Shapes.{HasShape, HasLetShape, HasListShape}
+use Rattle.contexts.specs.declared.met.Met.{Met}
 use Rattle.contexts.specs.FreeLeaves.{IsFreeLeaf, IsFreeInLet, IsFreeInValues, BindsLeaf}
 
 -- the reference has the shape of a term, and where leaf k stands free in it, P
@@ -47,6 +48,17 @@ pub record LeavesLet (pass : PassView) (k r : ℕ) (old new : List ℕ) : Type 0
   pub are : (t : Tree) → Knows pass r t → HasLetShape t → ArePartsOf pass k (IsFreeInLet k t) (depth t) parts
 
 -- r was not in the list and stands at its end now, or it was there and the list is as before
-abbrev pub IsMet : List ℕ → List ℕ → ℕ → Bool → Type 0
-IsMet old new r true = (¬ Contains old r) × (new ≡ old ++ r ∷ [])
-IsMet old new r false = Contains old r × (new ≡ old)
+abbrev pub IsNoted : List ℕ → List ℕ → ℕ → Bool → Type 0
+IsNoted old new r true = (¬ Contains old r) × (new ≡ old ++ r ∷ [])
+IsNoted old new r false = Contains old r × (new ≡ old)
+
+-- more cells than these are not opened
+abbrev pub openings_left : Met → ℕ
+openings_left met = met.unmarked + (2 ^ 64 - length met.cells.keys)
+
+-- what is remembered now was before, or is r; or r was remembered and nothing has changed
+abbrev pub IsMet : Met → Met → ℕ → Bool → Type 0
+IsMet old new r true =
+    ((x : ℕ) → Contains new.cells.keys x → Contains old.cells.keys x ⊎ (r ≡ x)) × (openings_left new < openings_left old)
+IsMet old new r false =
+    Contains old.cells.keys r × (new.cells.keys ≡ old.cells.keys) × (openings_left new ≡ openings_left old)

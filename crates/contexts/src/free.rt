@@ -1,6 +1,6 @@
-//! Whether a variable stands free in a term: a search that meets each cell once.
+//! Whether a variable stands free in a term: a search over its cells.
 
-ghost use Rattle.std.specs.Prelude.{◌≡◌, ◌↔◌, ◌⊎◌, ◌<◌, ◌^◌, ℕ, IfOk, OnOk, IsTrue, length};
+ghost use Rattle.std.specs.Prelude.{◌≡◌, ◌↔◌, ◌⊎◌, IfOk, OnOk, IsTrue};
 ghost use Rattle.pair_pool.specs.Trees.{Tree};
 ghost use Rattle.pair_pool.specs.Views.{Knows};
 ghost use Rattle.sym_table.specs.Table.{IsLeaf, IsTable};
@@ -9,21 +9,24 @@ ghost use Rattle.term_model.specs.Terms.{Var, Term};
 ghost use Rattle.term_pool.specs.StandsFor.{variable_leaf};
 ghost use Rattle.term_pool.specs.Views.{IsKnownCell, IsTerm, RefersTo};
 ghost use Rattle.contexts.specs.FreeLeaves.{IsFreeLeaf};
-ghost use Rattle.contexts.specs.Searching.{IsMet, LeavesLet, LeavesParts, LeavesValues};
+ghost use Rattle.contexts.specs.Searching.{LeavesLet, LeavesParts, LeavesValues};
 ghost use Rattle.contexts.specs.Shapes.{IsBindingList, IsLetRest, IsShaped};
 
 use crate::leaves::LET;
-use indexmap::IndexSet;
+use crate::met::Met;
 use pair_pool::{Memory, Ref};
 use std::alloc::Global;
 use sym_table::Symbols;
 use term_pool::Terms;
 
+// For so many cells there is room from the start. Most searches need no more.
+const ROOM: usize = 16;
+
 /// Whether a variable, by its leaf, stands free in a term (SMT-LIB 2.6, on binders): outside each let that binds it.
 /// Of a leaf that is no variable's it says nothing.
 ///
-/// Meets each distinct cell of the term at most once, and takes memory for each that it meets. It places no cell. Refuses
-/// want of memory alone.
+/// Opens each distinct cell of the term at most once, but for the first few that it opens, and takes memory for each. It
+/// places no cell. Refuses want of memory alone.
 pub fn free_in(
     alloc: Global,
     symbols: &Symbols,
@@ -52,8 +55,8 @@ pub(crate) fn stands_free(
 {
     terms.one_to_one();
     terms.parts_of_trees();
-    let mut seen = IndexSet::new(alloc);
-    let mut left = Vec::new(alloc);
+    let mut met = Met::new(alloc);
+    let mut left = Vec::with_capacity(alloc, ROOM)?;
     left.push(r)?;
     'cells: while let Some(at) = left.pop() {
         if at.is_leaf() {
@@ -62,21 +65,11 @@ pub(crate) fn stands_free(
             }
             continue;
         }
-        if meet(&mut seen, at)? {
+        if met.meet(at)? {
             leave_parts(terms, leaf, at, &mut left)?;
         }
     }
     Ok(false)
-}
-
-/// Meets a cell, and says whether it is met for the first time.
-fn meet(seen: &mut IndexSet<u32>, r: Ref) -> Result<bool, Memory>
-    ensures met { IfOk result (λ new. IsMet seen.old.keys seen.new.keys r new) }
-    ensures few { length seen.old.keys < 2 ^ 64 }
-{
-    let _count = seen.len();
-    let new = seen.insert(r.number())?;
-    Ok(new)
 }
 
 /// Whether the leaf was bound or this variable is it.

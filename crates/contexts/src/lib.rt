@@ -11,6 +11,7 @@ mod kept;
 mod layers;
 mod leaves;
 mod memo;
+mod met;
 mod places;
 mod putting;
 mod substitution;

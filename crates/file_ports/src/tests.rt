@@ -10,11 +10,26 @@ const TEXT: &[u8; 43] = b"the quick brown fox jumps over the lazy dog";
 // The file of the test of real files, in the folder that the test runs in.
 const PATH: &str = "file_ports_test.txt";
 
-fn two_files(alloc: Global) -> Result<Vec<(String, Vec<u8>)>, AllocError> {
+// What owns much is let go by calls of `drop` in these tests: let go in parts, at the end of a scope, it is dear to prove.
+
+// A folder of two files, whose reads give at most 7 bytes, and of which the call with this number fails.
+fn two_files(alloc: Global, failing: u64) -> Result<MemoryFolder, AllocError> {
     let mut files = Vec::new(alloc);
-    files.push((String::from_str(alloc, "a")?, TEXT.to_vec(alloc)?))?;
-    files.push((String::from_str(alloc, "empty")?, Vec::new(alloc)))?;
-    Ok(files)
+    add_file(alloc, &mut files, "a", TEXT)?;
+    add_file(alloc, &mut files, "empty", b"")?;
+    let failing = vec![in alloc; failing]?;
+    Ok(MemoryFolder::new(files, 7, failing))
+}
+
+fn add_file(
+    alloc: Global,
+    files: &mut Vec<(String, Vec<u8>)>,
+    path: &str,
+    text: &[u8],
+) -> Result<(), AllocError> {
+    let path = String::from_str(alloc, path)?;
+    files.push((path, text.to_vec(alloc)?))?;
+    Ok(())
 }
 
 fn expect_whole<F: Folder>(
@@ -45,9 +60,9 @@ fn a_file_in_memory_is_read_whole(rt: HostRuntime) -> Result<(), Fail> {
         ("a", 8, Err(ReadStop::Fault)),
     ];
     for (path, failing, expected) in cases {
-        let failing = vec![in alloc; failing]?;
-        let mut folder = MemoryFolder::new(two_files(alloc)?, 7, failing);
+        let mut folder = two_files(alloc, failing)?;
         expect_whole(&rt, &mut folder, path, expected);
+        drop(folder);
     }
     Ok(())
 }
@@ -64,6 +79,7 @@ fn a_steady_folder_starts_anew(rt: HostRuntime) -> Result<(), Fail> {
         };
         expect_whole(&rt, &mut folder, path, Ok(expected));
     }
+    drop(folder);
     Ok(())
 }
 
@@ -84,6 +100,7 @@ fn a_text_is_written_whole(rt: HostRuntime) -> Result<(), Fail> {
         let mut sink = MemorySink::new(16, vec![in alloc; failing]?);
         assert_eq!(rt; write_whole(&mut sink, TEXT), expected, "{failing}");
         assert_eq!(rt; sink.written(), written, "{failing}");
+        drop(sink);
     }
     Ok(())
 }
@@ -97,6 +114,8 @@ fn a_real_file_is_read_whole(rt: HostRuntime) -> Result<(), Fail> {
     expect_whole(&rt, &mut folder, "no such file", Err(ReadStop::Fault));
     // A directory is opened, and not read.
     expect_whole(&rt, &mut folder, ".", Err(ReadStop::Fault));
+    drop(folder);
+    drop(long);
     fs::remove_file(&rt, PATH)?;
     Ok(())
 }

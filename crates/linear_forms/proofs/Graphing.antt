@@ -16,7 +16,7 @@ use Rattle.linear_forms.specs.declared.nodes.Factors.TheVariants.{Constants, Sin
 use Rattle.linear_forms.specs.declared.nodes.Info.{Info}
 use Rattle.linear_forms.specs.declared.visiting.Visit.TheVariants as Visit
 use Rattle.linear_forms.specs.Factors.{IsAbove}
-use Rattle.linear_forms.specs.Graphs.{AreSome, IsItemMeant, IsItem, IsNode, AreFactors, IsInfo, IsEntry, no_info, info_at, IsGraphAt, IsGraph, AddsEntry, KeepsNumbers, IsVisitOfItem}
+use Rattle.linear_forms.specs.Graphs.{AreSome, IsItemMeant, IsItem, IsNode, AreFactors, IsInfo, IsEntry, no_info, info_at, IsGraphAt, IsGraph, AddsEntry, KeepsNumbers, IsMetItem, KeepsMet, IsVisitOfItem}
 use Rattle.linear_forms.specs.Memos.{IsForgotten, number_remembered}
 use Rattle.linear_forms.specs.Sweeps.{node_at}
 use Rattle.linear_forms.proofs.Walking.{same_item}
@@ -186,6 +186,15 @@ module _ (s : Table) (v : TermsView) (old new : Graph) (x : Item) (entry : Entry
 
   pub settled_keeps : KeepsNumbers old new
   settled_keeps = keeps
+
+  pub settled_found : IsMetItem new x (Some (record { number = own; info = entry.info }))
+  settled_found = (settles.noted.here, sym info_last)
+
+  pub settled_met : KeepsMet old new
+  settled_met y f h = (keeps y f.number h.0, h.1 ∙ sym (info_before f.number (graph.right.there y f.number h.0)))
+
+  pub settled_grows : length old.nodes.items ≤ length new.nodes.items
+  settled_grows = omega (arith, long)
 
   own_cases : (k r : ℕ) → node_at new.nodes.items k ≡ Opaque r → (k < own) ⊎ (k ≡ own)
   own_cases k r e = go (compare k (length new.nodes.items))

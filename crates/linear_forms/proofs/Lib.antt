@@ -7,5 +7,6 @@ mod Meaning
 mod Visited
 mod Walking
 mod Graphing
+mod Meeting
 mod Forming
 mod Remembering

@@ -18,11 +18,11 @@ use Rattle.linear_forms.specs.declared.nodes.Factors.{Factors}
 use Rattle.linear_forms.specs.declared.nodes.Factors.TheVariants.{Constants, Single, Many}
 use Rattle.linear_forms.specs.declared.visiting.Visit.{Visit}
 use Rattle.linear_forms.specs.Entries.{leaf_entry, head_of, opaque_entry, sum_entry, product_entry, constant_entry}
-use Rattle.linear_forms.specs.Graphs.{AreSome, IsTermList, IsItemMeant, AreFactors, IsInfo, IsEntry, info_at, IsGraphAt, IsGraph, HasInfos, IsMetItem, IsItemBelow, IsVisitOfItem}
+use Rattle.linear_forms.specs.Graphs.{AreSome, IsTermList, IsItemMeant, IsItem, AreFactors, IsInfo, IsEntry, info_at, IsGraphAt, IsGraph, HasInfos, IsMetItem, IsItemBelow, IsVisitOfItem}
 use Rattle.linear_forms.specs.Infos.{limit_weight, size_of}
 use Rattle.linear_forms.specs.Visits.{HasCellParts, IsListPart, IsListVisit, IsWholeVisit, HasNumeralLeaf, IsDifferenceVisit, AreJoinable}
 use Rattle.linear_forms.proofs.Entering.{IsMet, constant_right, opaque_right, sum_right, negated_right, difference_right, product_right, single_right, pair_right, negated_constant}
-use Rattle.linear_forms.proofs.Meaning.{meant_one, list_parts, list_is_cell, plus_cell, minus_cell, times_cell, other_cell, leaf_right, leaf_there, is_numeral, no_numeral, head_there}
+use Rattle.linear_forms.proofs.Meaning.{meant_one, list_parts, plus_cell, minus_cell, times_cell, other_cell, leaf_right, leaf_there, is_numeral, no_numeral, head_there}
 use Rattle.linear_forms.proofs.Passing.{times_le}
 use Rattle.linear_forms.proofs.Weighing.{sum_positive, product_positive, below_min}
 
@@ -103,7 +103,12 @@ module _ (s : Table) (v : TermsView) (graph : Graph) (table : IsTable s) (one : 
         | inr e ↦ subst (IsItemBelow s v (ListItem list)) (sym e.0) (record { item = record { terms = p.rest; meant = p.more e.1 }; less = second_less list part.first part.rest part.parts })
       ]
 
-  deeper : (r list head : ℕ) (y : Item) → HasCellParts v.pass r head list → IsItemBelow s v (ListItem list) y → IsItemBelow s v (TermItem r) y
+  pub first_below : (list a b : ℕ) (ts : Terms) → IsTermList s v list ts → HasCellParts v.pass list a b → IsItemBelow s v (ListItem list) (TermItem a)
+  first_below list a b ts h inner =
+      let p = list_parts s v table one parts list a b ts h inner in
+      record { item = record { terms = term p.first no_terms; meant = one_meant a p.first p.one }; less = first_less list a b inner }
+
+  pub deeper : (r list head : ℕ) (y : Item) → HasCellParts v.pass r head list → IsItemBelow s v (ListItem list) y → IsItemBelow s v (TermItem r) y
   deeper r list head y p h = record {
     item = h.item;
     less = λ x z known part.
@@ -204,10 +209,10 @@ module _ (s : Table) (v : TermsView) (graph : Graph) (table : IsTable s) (one : 
         (found_met at (TermItem more.first) (term p.first no_terms) f right more.one (one_meant more.first p.first p.one))
         (found_met at (ListItem more.rest) p.rest g right more.others rest))
 
-    pub minus_list : LeafMeets s head (λ (l : Leaf). Head.Minus ≡ head_of l) → IsKnownCell v.pass list
+    pub minus_list : LeafMeets s head (λ (l : Leaf). Head.Minus ≡ head_of l) → IsItem s v (ListItem list)
     minus_list meets =
         let o = minus_cell s v table one parts r head list t refers cells meets in
-        list_is_cell s v table one parts list o.arguments o.list
+        record { terms = o.arguments; meant = o.list }
 
     pub minus_numeral : LeafMeets s head (λ (l : Leaf). Head.Minus ≡ head_of l) → HasNumeralLeaf s v.pass list
     minus_numeral meets a b inner low =

@@ -1,12 +1,13 @@
 -- The walk that numbers terms: the items on the way, and what has been met.
 use Rattle.std.proofs.Common.{◌≡◌, ◌≢◌, ◌⊎◌, inl, inr, ℕ, Bool, true, false, List, [], ◌∷◌, ◌++◌, Option, Some, None, refl, sym, ap, ◌∙◌, Decides, arith}
 use Rattle.std.proofs.lemmas.Bool.Decides.{Decides-eqb}
+use Rattle.std.specs.List.{AllByRecursion}
 use Rattle.pair_pool.specs.Trees.{Tree}
 use Rattle.pair_pool.specs.Views.{Knows}
 use Rattle.sym_table.specs.Table.{Table}
 use Rattle.term_model.specs.Terms.{Terms}
 use Rattle.term_pool.specs.Views.{TermsView}
-use Rattle.term_pool.proofs.Ways.{IsWay, way_start, way_unmet, way_here, way_end, way_down, way_up}
+use Rattle.term_pool.proofs.Ways.{IsWay, Descends, way_start, way_unmet, way_here, way_end, way_down, way_up}
 use Rattle.linear_forms.specs.contracts.memory.ItemPartialEq.TheImpl as items
 use Rattle.linear_forms.specs.declared.memory.Item.{Item}
 use Rattle.linear_forms.specs.declared.memory.Memo.{Memo}
@@ -50,6 +51,10 @@ met_more old new at k h x (n, e) = go (same_item x at)
     go : (x ≡ at) ⊎ (x ≢ at) → ((m : ℕ) × (number_remembered old x ≡ Some m)) ⊎ (x ≡ at)
     go (inl same) = inr same
     go (inr other) = inl (n, sym (h.others x other) ∙ e)
+
+last_of : (P : Item → Type 0) (xs : List Item) (at : Item) → AllByRecursion P (xs ++ at ∷ []) → P at
+last_of P [] at h = h.0
+last_of P (x ∷ xs) at h = last_of P xs at h.1
 
 module _ (s : Table) (v : TermsView) where
   -- an item has a tree
@@ -106,6 +111,28 @@ module _ (s : Table) (v : TermsView) where
     root_item = h.root_item;
     way = way_up (IsItemBelow s v) below_never (IsRecalled old) (IsRecalled new) root above at way (met_more old new at k more) h.way;
   }
+
+  unmet_kept : (Old New : Item → Type 0) (xs : List Item) (at : Item) → ((x : Item) → New x → Old x ⊎ IsItemBelow s v at x) → Descends (IsItemBelow s v) (xs ++ at ∷ []) → AllByRecursion (λ x. Old x → ⊥) (xs ++ at ∷ []) → AllByRecursion (λ x. New x → ⊥) (xs ++ at ∷ [])
+  unmet_kept Old New [] at more h k = ((λ met. elim (more at met) [ inl before ↦ k.0 before | inr under ↦ below_never at under ]), tt)
+  unmet_kept Old New (x ∷ xs) at more h k = (
+    λ met. elim (more x met) [ inl before ↦ k.0 before | inr under ↦ below_never x (below_further x at x (last_of (IsItemBelow s v x) xs at h.0) under) ],
+    unmet_kept Old New xs at more h.1 k.1,
+  )
+
+  -- more is met below where the walk is
+  pub walk_on : (old new : Memo) (root at : Item) (way : List Item) → ((y : Item) → (number_remembered new y ≡ number_remembered old y) ⊎ IsItemBelow s v at y) → IsWalk old root (way ++ at ∷ []) → IsWalk new root (way ++ at ∷ [])
+  unfolding IsRecalled
+  walk_on old new root at way more h = record {
+    root_item = h.root_item;
+    way = record {
+      descends = h.way.descends;
+      unmet = unmet_kept (IsRecalled old) (IsRecalled new) way at recalled h.way.descends h.way.unmet;
+      starts = h.way.starts;
+    };
+  }
+    where
+      recalled : (x : Item) → IsRecalled new x → IsRecalled old x ⊎ IsItemBelow s v at x
+      recalled x (k, e) = elim (more x) [ inl same ↦ inl (k, sym same ∙ e) | inr under ↦ inr under ]
 
   pub walk_end : (memo : Memo) (root at : Item) (way : List Item) → way ≡ [] → IsWalk memo root (way ++ at ∷ []) → at ≡ root
   walk_end memo root at way e h = way_end (IsItemBelow s v) (IsRecalled memo) root at way e h.way

@@ -1,5 +1,5 @@
 -- Private. Terms and lists of terms as numbered nodes: what has been met, and what is known of it.
-use Rattle.std.specs.Prelude.{◌≡◌, ◌⊎◌, ℕ, ℤ, ◌+◌, ◌*◌, ◌<◌, ◌≤◌, ◌^◌, ◌+ℤ◌, ◌*ℤ◌, min, unsigned_abs, [], ◌∷◌, ◌++◌, length, slice_index_or, Option, Some, None}
+use Rattle.std.specs.Prelude.{◌≡◌, ◌≢◌, ◌⊎◌, ℕ, ℤ, ◌+◌, ◌*◌, ◌<◌, ◌≤◌, ◌^◌, ◌+ℤ◌, ◌*ℤ◌, min, unsigned_abs, [], ◌∷◌, ◌++◌, length, slice_index_or, Option, Some, None}
 use Rattle.pair_pool.specs.Trees.{Tree}
 use Rattle.pair_pool.specs.Views.{Knows}
 use Rattle.sym_table.specs.Table.{Table}
@@ -20,7 +20,6 @@ use Rattle.linear_forms.specs.declared.nodes.Factors.TheVariants.{Constants, Sin
 use Rattle.linear_forms.specs.declared.nodes.Info.{Info}
 use Rattle.linear_forms.specs.declared.entries.Entry.{Entry}
 use Rattle.linear_forms.specs.declared.entries.Found.{Found}
-use Rattle.linear_forms.specs.declared.graph.Both.{Both}
 use Rattle.linear_forms.specs.declared.visiting.Visit.{Visit}
 use Rattle.linear_forms.specs.Factors.{IsAbove}
 use Rattle.linear_forms.specs.Infos.{limit_weight}
@@ -140,14 +139,10 @@ pub record IsGraph (s : Table) (v : TermsView) (graph : Graph) : Type 0 where
 abbrev pub HasInfos : Graph → Type 0
 HasInfos graph = (x : Item) (k : ℕ) → number_remembered graph.memo x ≡ Some k → k < length graph.infos.items
 
--- what has been met of an item, and of two
+-- what has been met of an item
 abbrev pub IsMetItem : Graph → Item → Option Found → Type 0
 IsMetItem graph x None = number_remembered graph.memo x ≡ None
 IsMetItem graph x (Some f) = (number_remembered graph.memo x ≡ Some f.number) × (f.info ≡ info_at graph f.number)
-
-abbrev pub AreBothFound : Graph → Item → Item → Both → Type 0
-AreBothFound graph x y (Both.Part z) = ((z ≡ x) ⊎ (z ≡ y)) × (number_remembered graph.memo z ≡ None)
-AreBothFound graph x y (Both.Found f g) = IsMetItem graph x (Some f) × IsMetItem graph y (Some g)
 
 -- one entry more
 pub record AddsEntry (old new : Graph) (x : Item) (entry : Entry) : Type 0 where
@@ -159,10 +154,29 @@ pub record AddsEntry (old new : Graph) (x : Item) (entry : Entry) : Type 0 where
 abbrev pub KeepsNumbers : Graph → Graph → Type 0
 KeepsNumbers old new = (x : Item) (k : ℕ) → number_remembered old.memo x ≡ Some k → number_remembered new.memo x ≡ Some k
 
+-- what has been met stays so
+abbrev pub KeepsMet : Graph → Graph → Type 0
+KeepsMet old new = (x : Item) (f : Found) → IsMetItem old x (Some f) → IsMetItem new x (Some f)
+
+-- a term has been met, or it is no leaf; and of others nothing is met that was not
+pub record MeetsTerm (s : Table) (v : TermsView) (old new : Graph) (r : ℕ) (found : Option Found) : Type 0 where
+  pub graph : IsGraph s v new
+  pub met : IsMetItem new (TermItem r) found
+  pub keeps : KeepsMet old new
+  pub grows : length old.nodes.items ≤ length new.nodes.items
+  pub others : (y : Item) → y ≢ TermItem r → number_remembered new.memo y ≡ number_remembered old.memo y
+
 -- y is an item, less deep than x
 pub record IsItemBelow (s : Table) (v : TermsView) (x y : Item) : Type 0 where
   pub item : IsItem s v y
   pub less : (a b : Tree) → Knows v.pass (item_reference x) a → Knows v.pass (item_reference y) b → depth b < depth a
+
+-- nothing but parts of x is met that was not
+pub record MeetsParts (s : Table) (v : TermsView) (old new : Graph) (x : Item) : Type 0 where
+  pub graph : IsGraph s v new
+  pub keeps : KeepsNumbers old new
+  pub grows : length old.nodes.items ≤ length new.nodes.items
+  pub below : (y : Item) → (number_remembered new.memo y ≡ number_remembered old.memo y) ⊎ IsItemBelow s v x y
 
 -- a visit has found a part that has not been met, or the entry of the item
 abbrev pub IsVisitOfItem : Table → TermsView → Graph → Item → Visit → Type 0

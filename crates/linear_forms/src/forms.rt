@@ -10,6 +10,7 @@ ghost use Rattle.linear_forms.specs.Roots.{IsRootNumber, IsRootPair, IsExpanded,
 
 use crate::graph::Graph;
 use crate::infos::{LIMIT, capped_sum};
+use crate::memory::Item;
 use crate::nodes::Coefficient;
 use crate::sweep::sweep;
 use pair_pool::{Memory, Ref};
@@ -53,6 +54,7 @@ pub enum OneForm {
 pub struct LinearForms {
     alloc: Global,
     graph: Graph,
+    way: Vec<Item>,
     factors: Vec<i128>,
     found: Vec<Coefficient>,
 }
@@ -129,6 +131,7 @@ impl LinearForms {
         LinearForms {
             alloc,
             graph: Graph::new(alloc),
+            way: Vec::new(alloc),
             factors: Vec::new(alloc),
             found: Vec::new(alloc),
         }
@@ -141,7 +144,7 @@ impl LinearForms {
         ensures same { terms.new ≡ terms.old }
     {
         self.graph.clear(self.alloc);
-        self.graph.number(self.alloc, symbols, terms, r)
+        self.graph.number(symbols, terms, &mut self.way, r)
     }
 
     /// The nodes of two terms.
@@ -158,7 +161,7 @@ impl LinearForms {
         ensures same { terms.new ≡ terms.old }
     {
         let first = self.root(symbols, terms, one)?;
-        let second = self.graph.number(self.alloc, symbols, terms, other)?;
+        let second = self.graph.number(symbols, terms, &mut self.way, other)?;
         Ok(Pair { first, second })
     }
 

@@ -3,11 +3,11 @@
 ghost use Rattle.std.specs.Prelude.{◌≡◌, None, OnOk, IfOk, length};
 ghost use Rattle.sym_table.specs.Table.{Table};
 ghost use Rattle.term_pool.specs.Views.{TermsView, IsTerm};
-ghost use Rattle.linear_forms.specs.Graphs.{IsGraph, HasInfos, IsMetItem, AreBothFound, AddsEntry, KeepsNumbers, IsRemembered};
+ghost use Rattle.linear_forms.specs.Graphs.{IsGraph, HasInfos, IsMetItem, AddsEntry, KeepsNumbers, MeetsTerm, IsRemembered};
 ghost use Rattle.linear_forms.specs.Memos.{number_remembered};
 ghost use Rattle.linear_forms.specs.declared.memory.Item.TheVariants as Item;
 
-use crate::entries::{Entry, Found};
+use crate::entries::{Entry, Found, leaf_entry};
 use crate::memory::{Item, Memo};
 use crate::nodes::{Info, Node};
 use crate::visiting::{Visit, visit_item};
@@ -15,15 +15,6 @@ use pair_pool::{Memory, Ref};
 use std::alloc::Global;
 use sym_table::Symbols;
 use term_pool::Terms;
-
-/// What has been met of two items.
-#[derive(Clone, Copy)]
-pub(crate) enum Both {
-    /// One of them has not been met.
-    Part(Item),
-    /// Both have.
-    Found(Found, Found),
-}
 
 /// What has been met.
 #[derive(Drop)]
@@ -66,20 +57,6 @@ impl Graph {
         })
     }
 
-    /// What has been met of two items, or the first of them that has not been.
-    pub(crate) fn find_both(&self, one: Item, other: Item) -> Both
-        requires { HasInfos self.now }
-        ensures { AreBothFound self.now one other result }
-    {
-        let Some(first) = self.find(&one) else {
-            return Both::Part(one);
-        };
-        let Some(second) = self.find(&other) else {
-            return Both::Part(other);
-        };
-        Both::Found(first, second)
-    }
-
     /// How many nodes there are.
     pub(crate) fn count(&self) -> usize
         ensures { result ≡ length self.now.nodes.items }
@@ -88,6 +65,7 @@ impl Graph {
     }
 
     /// Gives an item the next number.
+    #[inline(always)]
     fn settle(&mut self, item: &Item, entry: Entry) -> Result<(), Memory>
         requires { number_remembered self.old.memo item.now ≡ None }
         ensures { OnOk result (AddsEntry self.old self.new item.now entry) }
@@ -98,13 +76,42 @@ impl Graph {
         Ok(())
     }
 
-    /// The number of a term. Each term below it that counts in its form gets one, the parts before the whole. The items on the
-    /// way down to where the walk is stand in a list, so the walk takes no stack.
-    pub(crate) fn number(
+    /// What has been met of a term. A leaf that has not been met gets its number here, so that no walk goes down to it.
+    #[inline(always)]
+    pub(crate) fn meet(
         &mut self,
-        alloc: Global,
         symbols: &Symbols,
         terms: &mut Terms<'_>,
+        r: Ref,
+    ) -> Result<Option<Found>, Memory>
+        requires term { IsTerm symbols.now terms.old r }
+        requires graph { IsGraph symbols.now terms.old self.old }
+        ensures met { IfOk result (λ found. MeetsTerm symbols.now terms.old self.old self.new r found) }
+        ensures same { terms.new ≡ terms.old }
+    {
+        let _leaves = symbols.count();
+        terms.one_to_one();
+        terms.parts_of_trees();
+        if let Some(found) = self.find(&Item::Term(r)) {
+            return Ok(Some(found));
+        }
+        if !r.is_leaf() {
+            return Ok(None);
+        }
+        let number = self.count();
+        let entry = leaf_entry(symbols, r, number);
+        let info = entry.info;
+        self.settle(&Item::Term(r), entry)?;
+        Ok(Some(Found { number, info }))
+    }
+
+    /// The number of a term. Each term below it that counts in its form gets one, the parts before the whole. The items on the
+    /// way down to where the walk is stand in the list `way`, so the walk takes no stack.
+    pub(crate) fn number(
+        &mut self,
+        symbols: &Symbols,
+        terms: &mut Terms<'_>,
+        way: &mut Vec<Item>,
         r: Ref,
     ) -> Result<usize, Memory>
         requires term { IsTerm symbols.now terms.old r }
@@ -120,9 +127,9 @@ impl Graph {
         }
         let _leaves = symbols.count();
         terms.one_to_one();
-        let mut way = Vec::new(alloc);
+        way.clear();
         'items: loop {
-            match visit_item(symbols, terms, self, &at) {
+            match visit_item(symbols, terms, self, &at)? {
                 Visit::Part(part) => {
                     way.push(at)?;
                     at = part;

@@ -98,6 +98,7 @@ impl Memo {
     }
 
     /// Remembers the number of an item.
+    #[inline(always)]
     pub(crate) fn note(&mut self, item: &Item, number: usize) -> Result<(), Memory>
         requires { number_remembered self.old item.now ≡ None }
         ensures { OnOk result (RemembersItem self.old self.new item.now number) }

@@ -1,10 +1,10 @@
 //! A visit of a term or of a list of terms: its entry, where its parts have theirs.
 
-ghost use Rattle.std.specs.Prelude.{◌≡◌, ℕ, ◌≤◌, ◌<◌, ◌^◌, length};
+ghost use Rattle.std.specs.Prelude.{◌≡◌, ℕ, ◌≤◌, ◌<◌, ◌^◌, length, OnOk, IfOk};
 ghost use Rattle.pair_pool.specs.Views.{IsKnown};
 ghost use Rattle.term_pool.specs.Views.{IsTerm, IsKnownCell};
-ghost use Rattle.linear_forms.specs.Graphs.{IsGraph, HasInfos, IsItem, IsVisitOfItem};
-ghost use Rattle.linear_forms.specs.Visits.{IsListVisited, IsListVisit, IsWholeVisit, IsDifferenceVisit, HasNumeralLeaf, IsNumeralLeaf, AreJoinable};
+ghost use Rattle.linear_forms.specs.Graphs.{IsGraph, HasInfos, IsItem, MeetsParts, IsVisitOfItem};
+ghost use Rattle.linear_forms.specs.Visits.{IsListVisited, IsListVisit, IsWholeVisit, IsDifferenceVisit, HasNumeralLeaf, IsNumeralLeaf};
 ghost use Rattle.linear_forms.specs.Entries as spec;
 ghost use Rattle.linear_forms.specs.declared.entries.Found.{Found};
 ghost use Rattle.linear_forms.specs.declared.memory.Item.TheVariants as Item;
@@ -13,9 +13,9 @@ use crate::entries::{
     Entry, Found, Head, difference_entry, head_of, leaf_entry, leaf_numeral, negated_entry,
     negated_numeral, opaque_entry, pair_entry, product_entry, single_entry, sum_entry,
 };
-use crate::graph::{Both, Graph};
+use crate::graph::Graph;
 use crate::memory::Item;
-use pair_pool::Ref;
+use pair_pool::{Memory, Ref};
 use sym_table::Symbols;
 use term_pool::Terms;
 
@@ -39,42 +39,62 @@ pub(crate) enum Listed {
     More(Found, Found),
 }
 
-/// Looks at a list.
-fn look_list(terms: &mut Terms<'_>, graph: &Graph, list: Ref) -> Listed
-    requires cell { IsKnownCell terms.old.pass list }
-    requires infos { HasInfos graph.now }
-    ensures listed { IsListVisited terms.old.pass graph.now list result }
+/// Looks at a list. What is behind its first term is looked at first, so that on the way back all of it is at hand.
+#[inline(always)]
+fn look_list(
+    symbols: &Symbols,
+    terms: &mut Terms<'_>,
+    graph: &mut Graph,
+    list: Ref,
+) -> Result<Listed, Memory>
+    requires list { IsItem symbols.now terms.old (Item.List list) }
+    requires graph { IsGraph symbols.now terms.old graph.old }
+    ensures listed { IfOk result (λ listed. IsListVisited terms.old.pass graph.new list listed) }
+    ensures graph { OnOk result (MeetsParts symbols.now terms.old graph.old graph.new (Item.List list)) }
     ensures same { terms.new ≡ terms.old }
 {
+    let _leaves = symbols.count();
+    terms.one_to_one();
+    terms.parts_of_trees();
     let (first, rest) = terms.cell_parts(list);
     if rest.is_leaf() {
-        return match graph.find(&Item::Term(first)) {
-            None => Listed::Part(Item::Term(first)),
-            Some(found) => Listed::One(first, found),
+        return match graph.meet(symbols, terms, first)? {
+            None => Ok(Listed::Part(Item::Term(first))),
+            Some(found) => Ok(Listed::One(first, found)),
         };
     }
-    match graph.find_both(Item::Term(first), Item::List(rest)) {
-        Both::Part(part) => Listed::Part(part),
-        Both::Found(one, others) => Listed::More(one, others),
+    let Some(others) = graph.find(&Item::List(rest)) else {
+        return Ok(Listed::Part(Item::List(rest)));
+    };
+    match graph.meet(symbols, terms, first)? {
+        None => Ok(Listed::Part(Item::Term(first))),
+        Some(one) => Ok(Listed::More(one, others)),
     }
 }
 
 /// A visit of a list of terms.
-fn visit_list(terms: &mut Terms<'_>, graph: &Graph, list: Ref) -> Visit
-    requires cell { IsKnownCell terms.old.pass list }
-    requires infos { HasInfos graph.now }
-    requires joinable { AreJoinable graph.now }
-    ensures visit { IsListVisit terms.old.pass graph.now list result }
+#[inline(always)]
+fn visit_list(
+    symbols: &Symbols,
+    terms: &mut Terms<'_>,
+    graph: &mut Graph,
+    list: Ref,
+) -> Result<Visit, Memory>
+    requires list { IsItem symbols.now terms.old (Item.List list) }
+    requires graph { IsGraph symbols.now terms.old graph.old }
+    ensures visit { IfOk result (λ visit. IsListVisit terms.old.pass graph.new list visit) }
+    ensures graph { OnOk result (MeetsParts symbols.now terms.old graph.old graph.new (Item.List list)) }
     ensures same { terms.new ≡ terms.old }
 {
-    match look_list(terms, graph, list) {
-        Listed::Part(part) => Visit::Part(part),
-        Listed::One(_, term) => Visit::Done(single_entry(term)),
-        Listed::More(first, rest) => Visit::Done(pair_entry(first, rest)),
+    match look_list(symbols, terms, graph, list)? {
+        Listed::Part(part) => Ok(Visit::Part(part)),
+        Listed::One(_, term) => Ok(Visit::Done(single_entry(term))),
+        Listed::More(first, rest) => Ok(Visit::Done(pair_entry(first, rest))),
     }
 }
 
 /// A visit of a sum, by its list.
+#[inline(always)]
 fn visit_sum(graph: &Graph, list: Ref) -> Visit
     requires { HasInfos graph.now }
     ensures { IsWholeVisit graph.now list (λ (f : Found) (own : ℕ). spec.sum_entry f own) result }
@@ -86,6 +106,7 @@ fn visit_sum(graph: &Graph, list: Ref) -> Visit
 }
 
 /// A visit of a product, by its list.
+#[inline(always)]
 fn visit_product(graph: &Graph, r: Ref, list: Ref) -> Visit
     requires { HasInfos graph.now }
     ensures { IsWholeVisit graph.now list (λ (f : Found) (own : ℕ). spec.product_entry r f.info.factors f.info.product own) result }
@@ -108,56 +129,74 @@ fn numeral(symbols: &Symbols, r: Ref) -> Option<i128>
 }
 
 /// A visit of a difference or a negation, by its list.
-fn visit_difference(symbols: &Symbols, terms: &mut Terms<'_>, graph: &Graph, list: Ref) -> Visit
-    requires cell { IsKnownCell terms.old.pass list }
+#[inline(always)]
+fn visit_difference(
+    symbols: &Symbols,
+    terms: &mut Terms<'_>,
+    graph: &mut Graph,
+    list: Ref,
+) -> Result<Visit, Memory>
+    requires list { IsItem symbols.now terms.old (Item.List list) }
     requires leaf { HasNumeralLeaf symbols.now terms.old.pass list }
-    requires infos { HasInfos graph.now }
-    ensures visit { IsDifferenceVisit symbols.now terms.old.pass graph.now list result }
+    requires graph { IsGraph symbols.now terms.old graph.old }
+    ensures visit { IfOk result (λ visit. IsDifferenceVisit symbols.now terms.old.pass graph.new list visit) }
+    ensures graph { OnOk result (MeetsParts symbols.now terms.old graph.old graph.new (Item.List list)) }
     ensures same { terms.new ≡ terms.old }
 {
     let _leaves = symbols.count();
-    match look_list(terms, graph, list) {
-        Listed::Part(part) => Visit::Part(part),
+    match look_list(symbols, terms, graph, list)? {
+        Listed::Part(part) => Ok(Visit::Part(part)),
         Listed::One(first, term) => match numeral(symbols, first) {
-            Some(n) => Visit::Done(negated_numeral(n)),
-            None => Visit::Done(negated_entry(term, graph.count())),
+            Some(n) => Ok(Visit::Done(negated_numeral(n))),
+            None => Ok(Visit::Done(negated_entry(term, graph.count()))),
         },
-        Listed::More(first, rest) => Visit::Done(difference_entry(first, rest, graph.count())),
+        Listed::More(first, rest) => {
+            Ok(Visit::Done(difference_entry(first, rest, graph.count())))
+        }
     }
 }
 
 /// A visit of a term.
-fn visit_term(symbols: &Symbols, terms: &mut Terms<'_>, graph: &Graph, r: Ref) -> Visit
+#[inline(always)]
+fn visit_term(
+    symbols: &Symbols,
+    terms: &mut Terms<'_>,
+    graph: &mut Graph,
+    r: Ref,
+) -> Result<Visit, Memory>
     requires term { IsTerm symbols.now terms.old r }
-    requires graph { IsGraph symbols.now terms.old graph.now }
-    ensures visit { IsVisitOfItem symbols.now terms.old graph.now (Item.Term r) result }
+    requires graph { IsGraph symbols.now terms.old graph.old }
+    ensures visit { IfOk result (λ visit. IsVisitOfItem symbols.now terms.old graph.new (Item.Term r) visit) }
+    ensures graph { OnOk result (MeetsParts symbols.now terms.old graph.old graph.new (Item.Term r)) }
     ensures same { terms.new ≡ terms.old }
 {
     let _leaves = symbols.count();
     terms.one_to_one();
     terms.parts_of_trees();
     if r.is_leaf() {
-        return Visit::Done(leaf_entry(symbols, r, graph.count()));
+        return Ok(Visit::Done(leaf_entry(symbols, r, graph.count())));
     }
     let (head, list) = terms.cell_parts(r);
     match head_of(symbols, head.number()) {
-        Head::Plus => visit_sum(graph, list),
+        Head::Plus => Ok(visit_sum(graph, list)),
         Head::Minus => visit_difference(symbols, terms, graph, list),
-        Head::Times => visit_product(graph, r, list),
-        Head::Other => Visit::Done(opaque_entry(r, graph.count())),
+        Head::Times => Ok(visit_product(graph, r, list)),
+        Head::Other => Ok(Visit::Done(opaque_entry(r, graph.count()))),
     }
 }
 
 /// A visit of an item.
+#[inline(always)]
 pub(crate) fn visit_item(
     symbols: &Symbols,
     terms: &mut Terms<'_>,
-    graph: &Graph,
+    graph: &mut Graph,
     item: &Item,
-) -> Visit
+) -> Result<Visit, Memory>
     requires item { IsItem symbols.now terms.old item.now }
-    requires graph { IsGraph symbols.now terms.old graph.now }
-    ensures visit { IsVisitOfItem symbols.now terms.old graph.now item.now result }
+    requires graph { IsGraph symbols.now terms.old graph.old }
+    ensures visit { IfOk result (λ visit. IsVisitOfItem symbols.now terms.old graph.new item.now visit) }
+    ensures graph { OnOk result (MeetsParts symbols.now terms.old graph.old graph.new item.now) }
     ensures same { terms.new ≡ terms.old }
 {
     let _leaves = symbols.count();
@@ -165,6 +204,6 @@ pub(crate) fn visit_item(
     terms.parts_of_trees();
     match item {
         Item::Term(r) => visit_term(symbols, terms, graph, *r),
-        Item::List(r) => visit_list(terms, graph, *r),
+        Item::List(r) => visit_list(symbols, terms, graph, *r),
     }
 }

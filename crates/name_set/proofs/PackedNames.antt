@@ -1,5 +1,5 @@
 -- Two short names that are packed into one number are one name.
-use Rattle.std.proofs.Common.{◌≡◌, ◌⊎◌, inl, inr, ℕ, ◌+◌, ◌*◌, ◌-◌, ◌/◌, ◌^◌, ◌<◌, ◌≤◌, zero, suc, Bool, true, false, nat_le, List, [], ◌∷◌, length, get_or, drop, refl, sym, ◌∙◌, ap, subst, arith, if◌then◌else◌}
+use Rattle.std.proofs.Common.{◌≡◌, ◌⊎◌, inl, inr, ℕ, ◌+◌, ◌*◌, ◌-◌, ◌/◌, ◌%◌, ◌^◌, ◌<◌, ◌≤◌, zero, suc, Bool, true, false, nat_le, List, [], ◌∷◌, length, get_or, drop, refl, sym, ◌∙◌, ap, subst, arith, if◌then◌else◌}
 use Rattle.std.specs.Int.{from_le_bytes, to_le_bytes, w64}
 use Rattle.std.proofs.lemmas.Nat.{le_bytes_8}
 use Rattle.std.proofs.lemmas.List.{ext_get_or}
@@ -193,6 +193,11 @@ low-nothing (x ∷ name) e = absurd (omega arith)
 pub high-seven : (n : ℕ) (name : List ℕ) → 8 ≤ n → first_seven n name ≡ high_bytes n name
 unfolding high_bytes
 high-seven n name h = let many : nat_le 8 n ≡ true = grind (arith, nat_tests) in rw many refl
+
+-- the first eight bytes, of which the last makes room for the length
+pub seven_and_length : (n : ℕ) (name : List ℕ) → AreBytes name → from_le_bytes w64 (four_from name 0 (four_from name 4 [])) % 2 ^ 56 + n * 2 ^ 56 ≡ from_le_bytes w64 (first_seven n name)
+seven_and_length n name h =
+    omega (arith, h.byte 0, h.byte 1, h.byte 2, h.byte 3, h.byte 4, h.byte 5, h.byte 6, h.byte 7)
 
 pub high-short : (n : ℕ) (name : List ℕ) → n < 8 → ◌≡◌ {A = List ℕ} (0 ∷ 0 ∷ 0 ∷ 0 ∷ 0 ∷ 0 ∷ 0 ∷ n ∷ []) (high_bytes n name)
 unfolding high_bytes

@@ -73,6 +73,16 @@ impl NameSet {
         if name.len() <= MOST_PACKED {
             return self.keys.get_index_of(&packed(name));
         }
+        self.find_longer(name)
+    }
+
+    // The number of a name that is not packed. It is kept out of `find`, which would otherwise save registers for it even
+    // where a name is short.
+    #[inline(never)]
+    fn find_longer(&self, name: &[u8]) -> Option<usize>
+        requires { 15 < length name.now }
+        ensures { result ≡ position (bytes_eq name.now) self.now }
+    {
         let number = self.longer.get(name)?;
         Some(*number)
     }

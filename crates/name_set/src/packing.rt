@@ -92,20 +92,18 @@ fn high_half(name: &[u8]) -> u64
     first_seven(name)
 }
 
-// The first seven bytes and the length.
+// The first seven bytes and the length, which takes the place of the eighth byte. So eight bytes are read that stand in a
+// row, in fewer steps than seven bytes one by one.
 fn first_seven(name: &[u8]) -> u64
     requires at_least { 8 ≤ length name.now }
     requires at_most { length name.now ≤ 15 }
     ensures { result ≡ from_le_bytes w64 (high_bytes (length name.now) name.now) }
 {
-    u64::from_le_bytes([
-        name[0],
-        name[1],
-        name[2],
-        name[3],
-        name[4],
-        name[5],
-        name[6],
-        name.len() as u8,
-    ])
+    let first_eight = u64::from_le_bytes([
+        name[0], name[1], name[2], name[3], name[4], name[5], name[6], name[7],
+    ]);
+    first_eight % LENGTH_PLACE + name.len() as u64 * LENGTH_PLACE
 }
+
+/// What the highest byte of a half counts.
+const LENGTH_PLACE: u64 = 1 << 56;

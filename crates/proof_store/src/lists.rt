@@ -4,7 +4,7 @@ ghost use Rattle.std.specs.Prelude.{◌≡◌, ◌+◌, ◌^◌, ◌<◌, ◌≤
 ghost use Rattle.proof_store.specs.Lists.{parts, start_of, AreListEnds};
 
 use pair_pool::Memory;
-use std::alloc::Global;
+use std::alloc::{AllocError, Global};
 use std::marker::Model;
 
 /// The most items of all lists together.
@@ -70,6 +70,18 @@ fn are_too_many(len: usize, more: usize) -> bool
     len > MOST_ITEMS || more > MOST_ITEMS - len
 }
 
+/// Puts items at the end. Many lists of a command are empty, for which nothing is copied.
+fn extend<T: Copy + Drop>(items: &mut Vec<T>, list: &[T]) -> Result<(), AllocError>
+    ensures extended { OnOk result (items.new.items ≡ items.old.items ++ list.now) }
+    ensures len { OnOk result (length items.new.items ≡ length items.old.items + length list.now) }
+    ensures refused { OnErr result (items.new.items ≡ items.old.items) }
+{
+    match list {
+        [] => Ok(()),
+        _ => items.extend_from_slice(list),
+    }
+}
+
 /// Adds a list at the end.
 #[tactic(auto, using(crate::proofs::Parts::parts_add, crate::proofs::Parts::ends_add))]
 fn add<T: Copy + Drop>(items: &mut Vec<T>, ends: &mut Vec<u32>, list: &[T]) -> Result<(), Memory>
@@ -82,7 +94,7 @@ fn add<T: Copy + Drop>(items: &mut Vec<T>, ends: &mut Vec<u32>, list: &[T]) -> R
         return Err(Memory);
     }
     ends.reserve(1)?;
-    items.extend_from_slice(list)?;
+    extend(items, list)?;
     ends.push(items.len() as u32).unwrap();
     Ok(())
 }

@@ -14,3 +14,4 @@ pub mod TogetherLemmas
 pub mod PredicateLemmas
 pub mod StepLemmas
 pub mod CheckAnswers
+pub mod StrictLemmas

@@ -8,7 +8,7 @@ use Rattle.rule_model.proofs.Lists.{contains_none, contains_cases, contains_head
 use Rattle.indexmap.specs.IndexSet.{insert_key}
 use Rattle.rules_congruence.specs.declared.links.Link.{Link}
 use Rattle.rules_congruence.specs.Links.{link, link_rank, AreSmall, IsFirstFrom}
-use Rattle.rules_congruence.specs.Pairs.{IsPath}
+use Rattle.rules_congruence.specs.Pairs.{AreEnds, IsPath}
 use Rattle.rules_congruence.specs.Ways.{IsNear, Inserts, AddsEnds, IsWayReached, HasEndsTo}
 
 -- a list from a place on
@@ -255,3 +255,11 @@ connected_by near other each _ _ (further x w y step more) = further x w y (each
 pub connected_both : {X : Type 0} (near other : X → X → Type 0) → ((a b : X) → near a b ↔ other a b) → (x y : X) → IsConnected near x y ↔ IsConnected other x y
 connected_both near other each x y =
     (connected_by near other (λ a b. (each a b).0) x y, connected_by other near (λ a b. (each a b).1) x y)
+
+-- a path in order is a way
+pub path_connects : (pairs : List (ℕ × ℕ)) (x y : ℕ) → IsPath pairs x y → IsConnected (AreEnds {X = ℕ} pairs) x y
+path_connects [] x y same = subst (λ z. IsConnected (AreEnds {X = ℕ} []) x z) same (here x)
+path_connects (p ∷ ps) x y h =
+    further x p.1 y
+    (inl (subst (λ z. Contains (p ∷ ps) (z, p.1)) h.0 (contains_head p ps)))
+    (connected_by (AreEnds ps) (AreEnds (p ∷ ps)) (λ a b e. elim e [ inl one ↦ inl (contains_later p (a, b) ps one) | inr one ↦ inr (contains_later p (b, a) ps one) ]) p.1 y (path_connects ps p.1 y h.1))

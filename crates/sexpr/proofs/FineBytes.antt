@@ -15,25 +15,13 @@ use Rattle.sexpr.specs.Tokens.{blanks_end, token, token_at, word_token}
 use Rattle.sexpr.specs.Depths.{bracket_kind, end_of_read, lists_after}
 use Rattle.sexpr.specs.Form.{HasForm}
 use Rattle.sexpr.specs.Blocks.{is_common, is_fine, AreFine, count_of, rest_of_word, IsFormedTo, IsFormedSoFar}
-use Rattle.sexpr.proofs.ByteTable.{white_is_no_word}
-use Rattle.sexpr.proofs.Lexemes.{no_word_byte, word_at_its_byte}
+use Rattle.sexpr.proofs.Lexemes.{no_word_byte, word_is_no_white, word_is_no_semicolon, word_at_its_byte}
 use Rattle.sexpr.proofs.PartByPart.{open_after_white, open_after_comment, open_after_bracket, open_after_atom, formed_here}
 
--- a byte of a word is no white space, no bracket and no semicolon
-word_is_no_white : (b : ℕ) → is_word_byte b ≡ true → is_white b ≡ false
-word_is_no_white b word = go (is_white b) refl
-  where
-    go : (test : Bool) → is_white b ≡ test → test ≡ false
-    go true white = let none = white_is_no_word b white in absurd (cc)
-    go false white = refl
-
+-- a byte of a word is no bracket
 word_is_no_bracket : (b : ℕ) → is_word_byte b ≡ true → None ≡ bracket_kind b
 unfolding is_word_byte is_mark
 word_is_no_bracket b word = rw (no_word_byte b 40 refl word, no_word_byte b 41 refl word) refl
-
-word_is_no_semicolon : (b : ℕ) → is_word_byte b ≡ true → b ≢ 59
-unfolding is_word_byte is_mark
-word_is_no_semicolon b word same = let other = no_word_byte b 59 refl word in absurd (grind (arith, nat_tests))
 
 -- a word that begins with no digit is no broken number
 no_number : (n x : ℕ) (xs : List ℕ) → is_ascii_digit x ≡ false → (starts_with_digit (take (suc n) (x ∷ xs)) && not (is_number (take (suc n) (x ∷ xs)))) ≡ false
@@ -48,6 +36,13 @@ unfolding is_word_byte is_mark
 common_is_word b small common =
     let all = agree_below_at (λ x. not (is_common x) || is_word_byte x) (λ _. true) 256 b refl small in
     rw common at all
+
+-- of the fine bytes those of words are common
+fine_word : (b : ℕ) → b < 256 → is_fine b ≡ true → is_common b ≡ is_word_byte b
+unfolding is_word_byte is_mark
+fine_word b small fine =
+    let all = agree_below_at (λ x. is_fine x && is_common x) (λ x. is_fine x && is_word_byte x) 256 b refl small in
+    rw fine at all
 
 -- the part of a text that begins at a byte
 module _ (bytes : List ℕ) (place : ℕ) (within : place < length bytes) where
@@ -253,8 +248,11 @@ module _ (bytes : List ℕ) (small : (k : ℕ) → get_or bytes k 0 < 256) (at :
       let here : at + k + 1 ≡ at + suc k = omega arith in
       subst (λ p. IsFormedSoFar bytes p (is_common (get_or bytes (at + k) 0)) after) here next
 
-  pub formed_block : IsFormedSoFar bytes (at + 16) (is_common (get_or bytes (at + 15) 0)) (d - count_of 41 bytes at 16 + count_of 40 bytes at 16)
-  formed_block = formed_at 16 (omega arith) (d - count_of 41 bytes at 16 + count_of 40 bytes at 16) (omega arith)
+  pub formed_block : IsFormedSoFar bytes (at + 16) (is_word_byte (get_or bytes (at + 15) 0)) (d - count_of 41 bytes at 16 + count_of 40 bytes at 16)
+  formed_block =
+      subst (λ word. IsFormedSoFar bytes (at + 16) word (d - count_of 41 bytes at 16 + count_of 40 bytes at 16))
+      (fine_word (get_or bytes (at + 15) 0) (small (at + 15)) (fine 15 (omega arith)).fine)
+      (formed_at 16 (omega arith) (d - count_of 41 bytes at 16 + count_of 40 bytes at 16) (omega arith))
 
 -- a place in a word lies within the text, and so does the end of the word
 pub rest_within : (bytes : List ℕ) (place : ℕ) (inside : Bool) → place ≤ length bytes → place + rest_of_word inside bytes place ≤ length bytes

@@ -2,8 +2,9 @@
 use Rattle.std.proofs.Common.{◌≡◌, ◌≢◌, ◌⊎◌, inl, inr, ℕ, ◌+◌, ◌<◌, ◌≤◌, Bool, true, false, not, eqb, List, [], ◌∷◌, length, get_or, drop, Some, None, refl, sym, ap, ◌∙◌, arith}
 use Rattle.std.proofs.lemmas.Bool.Decides.{nat_tests}
 use Rattle.std.proofs.lemmas.List.{drop_more, drop_all}
-use Rattle.sexpr.specs.Characters.{is_white, ends_comment}
+use Rattle.sexpr.specs.Characters.{is_white, ends_comment, is_word_byte}
 use Rattle.sexpr.specs.Tokens.{blanks_end, string_end}
+use Rattle.sexpr.proofs.Lexemes.{word_is_no_white, word_is_no_semicolon}
 
 pub comment_step : (b at : ℕ) (rest : List ℕ) (ends : Bool) → ends_comment b ≡ ends → blanks_end true at (b ∷ rest) ≡ blanks_end (not ends) (at + 1) rest
 unfolding blanks_end
@@ -103,3 +104,7 @@ string_stops_at_end xs at within past quote =
 pub string_open : (xs : List ℕ) (at : ℕ) → length xs ≤ at → string_end at (drop at xs) ≡ None
 unfolding string_end
 string_open xs at past = rw (drop_all at xs past) refl
+
+-- no byte of a word is white space or begins a comment
+pub blanks_stop_at_word : (xs : List ℕ) (at : ℕ) → at < length xs → is_word_byte (get_or xs at 0) ≡ true → blanks_end false at (drop at xs) ≡ at
+blanks_stop_at_word xs at within word = blanks_stop xs at within (word_is_no_white _ word) (word_is_no_semicolon _ word)

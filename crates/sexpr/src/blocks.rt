@@ -4,11 +4,12 @@
 //! asked of all of them at once, without a branch a byte, and so is how many lists they open and close.
 ghost use Rattle.std.specs.Prelude.{◌≡◌, ◌+◌, ◌≤◌, ◌&&◌, not, length, slice_index, IsTrue, IfSome};
 ghost use Rattle.std.specs.Char.{is_ascii_digit};
+ghost use Rattle.sexpr.specs.Characters.{is_word_byte};
 ghost use Rattle.sexpr.specs.Form.{HasForm};
 ghost use Rattle.sexpr.specs.Blocks as spec;
 ghost use Rattle.sexpr.specs.Blocks.{AreFine, count_of, IsFormedTo, IsFormedSoFar};
 
-use crate::bytes::is_white;
+use crate::bytes::{is_white, is_word_byte};
 use crate::lexing::past_token;
 use crate::scan::{comment_end, word_end};
 
@@ -125,14 +126,13 @@ fn begins_number(inside: bool, byte: u8) -> bool
 fn past_block(bytes: &[u8], from: Formed, inside: bool) -> Option<usize>
     requires within { from.place + 17 ≤ length bytes.now }
     requires formed { IsFormedSoFar bytes.now from.place inside from.depth }
-    ensures { IfSome result (λ depth. IsFormedSoFar bytes.now (from.place + 16) (spec.is_common (slice_index bytes.now (from.place + 15))) depth) }
+    ensures { IfSome result (λ depth. IsFormedSoFar bytes.now (from.place + 16) (is_word_byte (slice_index bytes.now (from.place + 15))) depth) }
 {
-    if begins_number(inside, bytes[from.place]) {
-        return None;
-    }
     let closed = count_of(b')', bytes, from.place);
-    if closed <= from.depth && are_fine(bytes, from.place) {
-        Some(from.depth - closed + count_of(b'(', bytes, from.place))
+    let opened = count_of(b'(', bytes, from.place);
+    let fine = are_fine(bytes, from.place);
+    if fine && closed <= from.depth && !begins_number(inside, bytes[from.place]) {
+        Some(from.depth - closed + opened)
     } else {
         None
     }
@@ -148,7 +148,7 @@ pub(crate) fn is_formed(bytes: &[u8]) -> bool
     while place < bytes.len() {
         if bytes.len() - place > BLOCK {
             if let Some(after) = past_block(bytes, Formed { place, depth }, inside) {
-                inside = is_common(bytes[place + 15]);
+                inside = is_word_byte(bytes[place + 15]);
                 depth = after;
                 place += BLOCK;
                 continue;

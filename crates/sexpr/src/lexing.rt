@@ -1,5 +1,5 @@
 //! The lexer: the tokens of a text, one by one.
-ghost use Rattle.std.specs.Prelude.{◌≡◌, ◌+◌, ◌≤◌, ◌<◌, length, drop, take_while, slice_index, not, ◌&&◌, IsTrue, IfOk, IfErr, IfSome};
+ghost use Rattle.std.specs.Prelude.{◌≡◌, ◌+◌, ◌≤◌, ◌<◌, length, drop, take_while, slice_index, slice_range, not, ◌&&◌, IsTrue, IfOk, IfErr, IfSome};
 ghost use Rattle.std.specs.List.{prefix_len};
 ghost use Rattle.sexpr.specs.Characters.{is_between_bars, is_word_byte};
 ghost use Rattle.sexpr.specs.Depths.{end_of_read};
@@ -10,7 +10,7 @@ ghost use Rattle.sexpr.specs.Tokens.{next_token, place_after, token_text, IsSpan
 use crate::bytes::is_word_byte;
 use crate::causes::{Cause, Refusal};
 use crate::numbers::is_number;
-use crate::scan::{bars_end, blanks_end, string_end, word_end};
+use crate::scan::{bars_end, string_end, token_start, word_end};
 
 /// What a token is.
 #[derive(Clone, Copy, Debug, PartialEq, Eq)]
@@ -58,7 +58,7 @@ impl<'a> Lexer<'a> {
     ///
     /// White space and comments before the token are skipped. A byte that no token can have there is refused
     /// as a bad byte at its place; the lexer then stays where it is, so the same refusal comes again.
-    #[tactic(auto, unfolding(crate::specs::Tokens::next_token))]
+    #[tactic(auto, using(crate::proofs::Lexemes::nothing_left), unfolding(crate::specs::Tokens::next_token))]
     #[inline(always)]
     pub fn next(&mut self) -> Result<Option<Token>, Refusal>
         ensures exact { result ≡ next_token (source self.old) (position self.old) }
@@ -69,7 +69,9 @@ impl<'a> Lexer<'a> {
         ensures cause { IfErr result (λ refusal. refusal.cause ≡ Cause.BadByte) }
         ensures place { IfErr result (λ refusal. refusal.at < length (source self.old)) }
     {
-        let start = blanks_end(self.bytes, self.place);
+        let Some(start) = token_start(self.bytes, self.place) else {
+            return Ok(None);
+        };
         let found = token_at(self.bytes, start)?;
         if let Some(token) = found {
             self.place = token.end as usize;
@@ -106,31 +108,27 @@ pub(crate) fn token_of(kind: TokenKind, start: usize, end: usize) -> Token
     }
 }
 
-/// The token that begins at `at`, and None at the end of the text.
-#[tactic(auto, using(crate::proofs::Lexemes::nothing_left, crate::proofs::Lexemes::opens, crate::proofs::Lexemes::closes, crate::proofs::Lexemes::string_begins, crate::proofs::Lexemes::bars_begin, crate::proofs::Lexemes::word_begins, crate::proofs::Lexemes::no_token))]
+/// The token that begins at `at`. A byte of a word is asked for first, since most tokens are words.
+#[tactic(auto, using(crate::proofs::Lexemes::opens, crate::proofs::Lexemes::closes, crate::proofs::Lexemes::string_begins, crate::proofs::Lexemes::bars_begin, crate::proofs::Lexemes::word_at_its_byte, crate::proofs::Lexemes::no_token))]
 #[inline(always)]
 fn token_at(bytes: &[u8], at: usize) -> Result<Option<Token>, Refusal>
-    requires { at ≤ length bytes.now }
+    requires { at < length bytes.now }
     ensures value { result ≡ spec.token_at at (drop at bytes.now) }
     ensures span { IfOk result (λ found. IfSome found (IsSpanFrom at (length bytes.now))) }
     ensures cause { IfErr result (λ refusal. refusal.cause ≡ Cause.BadByte) }
     ensures place { IfErr result (λ refusal. refusal.at < length bytes.now) }
 {
-    if at == bytes.len() {
-        return Ok(None);
-    }
     match bytes[at] {
+        byte if is_word_byte(byte) => word_at(bytes, at),
         b'(' => Ok(Some(token_of(TokenKind::Open, at, at + 1))),
         b')' => Ok(Some(token_of(TokenKind::Close, at, at + 1))),
         b'"' => string_at(bytes, at),
         b'|' => quoted_at(bytes, at),
-        byte if is_word_byte(byte) => word_at(bytes, at),
         _ => Err(bad_byte(at)),
     }
 }
 
-/// The place after the token that begins at `at`. A word is looked for first, since most tokens are words.
-#[tactic(auto, using(crate::proofs::Lexemes::word_at_its_byte))]
+/// The place after the token that begins at `at`.
 #[inline(always)]
 pub(crate) fn past_token(bytes: &[u8], at: usize) -> Result<usize, Refusal>
     requires { at < length bytes.now }
@@ -138,12 +136,7 @@ pub(crate) fn past_token(bytes: &[u8], at: usize) -> Result<usize, Refusal>
     ensures after { IfOk result (λ end. (at < end) × (end ≤ length bytes.now)) }
     ensures cause { IfErr result (λ refusal. refusal.cause ≡ Cause.BadByte) }
 {
-    let found = if is_word_byte(bytes[at]) {
-        word_at(bytes, at)
-    } else {
-        token_at(bytes, at)
-    };
-    match found {
+    match token_at(bytes, at) {
         Ok(Some(token)) => Ok(token.end as usize),
         Ok(None) => Ok(bytes.len()),
         Err(refusal) => Err(refusal),
@@ -193,21 +186,21 @@ fn word_at(bytes: &[u8], at: usize) -> Result<Option<Token>, Refusal>
     ensures cause { IfErr result (λ refusal. refusal.cause ≡ Cause.BadByte) }
     ensures place { IfErr result (λ refusal. refusal.at < length bytes.now) }
 {
-    let end = word_end(bytes, at);
-    if is_broken_number(&bytes[at..end]) {
+    let end = word_end(bytes, at + 1);
+    if is_broken_number(bytes, at, end) {
         Err(bad_byte(at))
     } else {
         Ok(Some(token_of(TokenKind::Word, at, end)))
     }
 }
 
-/// The word begins with a digit and is no number.
+/// The word between these places begins with a digit and is no number.
+#[tactic(auto, using(crate::proofs::Lexemes::begins_with_digit))]
 #[inline(always)]
-fn is_broken_number(word: &[u8]) -> bool
-    ensures { result ≡ (starts_with_digit word.now && not (is_number word.now)) }
+fn is_broken_number(bytes: &[u8], start: usize, end: usize) -> bool
+    requires some { start < end }
+    requires within { end ≤ length bytes.now }
+    ensures { let word = slice_range bytes.now start end in result ≡ (starts_with_digit word && not (is_number word)) }
 {
-    match word.first() {
-        Some(byte) => byte.is_ascii_digit() && !is_number(word),
-        None => false,
-    }
+    bytes[start].is_ascii_digit() && !is_number(&bytes[start..end])
 }

@@ -1,5 +1,5 @@
 //! Where the parts of a text end.
-ghost use Rattle.std.specs.Prelude.{◌≡◌, ◌+◌, ◌≤◌, ◌<◌, length, drop, true, false, IfSome};
+ghost use Rattle.std.specs.Prelude.{◌≡◌, ◌+◌, ◌≤◌, ◌<◌, length, drop, true, false, IfSome, IfNone};
 ghost use Rattle.std.specs.List.{prefix_len};
 ghost use Rattle.sexpr.specs.Tokens as spec;
 ghost use Rattle.sexpr.specs.Characters as characters;
@@ -22,26 +22,30 @@ pub(crate) fn comment_end(bytes: &[u8], at: usize) -> usize
     place
 }
 
-/// The place after the white space and the comments that stand from `at` on.
-#[tactic(auto, using(crate::proofs::Scanning::white_goes, crate::proofs::Scanning::comment_begins, crate::proofs::Scanning::blanks_stop, crate::proofs::Scanning::blanks_end_at_end))]
-pub(crate) fn blanks_end(bytes: &[u8], at: usize) -> usize
+/// The place of the first byte of the token that comes next from `at` on, behind white space and comments. None where no token
+/// is left. A byte of a word is asked for first, since most tokens are words.
+#[tactic(auto, using(crate::proofs::Scanning::white_goes, crate::proofs::Scanning::comment_begins, crate::proofs::Scanning::blanks_stop, crate::proofs::Scanning::blanks_stop_at_word, crate::proofs::Scanning::blanks_end_at_end))]
+#[inline(always)]
+pub(crate) fn token_start(bytes: &[u8], at: usize) -> Option<usize>
     requires { at ≤ length bytes.now }
-    ensures after { at ≤ result }
-    ensures within { result ≤ length bytes.now }
-    ensures value { result ≡ spec.blanks_end false at (drop at bytes.now) }
+    ensures start { IfSome result (λ start. start ≡ spec.blanks_end false at (drop at bytes.now)) }
+    ensures within { IfSome result (λ start. (at ≤ start) × (start < length bytes.now)) }
+    ensures none { IfNone result (length bytes.now ≡ spec.blanks_end false at (drop at bytes.now)) }
 {
     let mut place = at;
     while place < bytes.len() {
         let byte = bytes[place];
-        if is_white(byte) {
+        if is_word_byte(byte) {
+            return Some(place);
+        } else if is_white(byte) {
             place += 1;
         } else if byte == b';' {
             place = comment_end(bytes, place + 1);
         } else {
-            break;
+            return Some(place);
         }
     }
-    place
+    None
 }
 
 /// The place after the quote that ends a string, where `at` is the place after its opening quote.
@@ -78,8 +82,35 @@ pub(crate) fn bars_end(bytes: &[u8], at: usize) -> usize
     place
 }
 
-/// The place after the word that begins at `at`.
+/// The place of the first byte from `at` on that is no byte of a word, or the end. The bytes are asked by fours, so that the
+/// end of the text is asked for once for four of them.
 pub(crate) fn word_end(bytes: &[u8], at: usize) -> usize
+    requires { at ≤ length bytes.now }
+    ensures after { at ≤ result }
+    ensures within { result ≤ length bytes.now }
+    ensures value { result ≡ at + prefix_len characters.is_word_byte (drop at bytes.now) }
+{
+    let mut place = at;
+    while bytes.len() - place >= 4 {
+        if !is_word_byte(bytes[place]) {
+            return place;
+        }
+        if !is_word_byte(bytes[place + 1]) {
+            return place + 1;
+        }
+        if !is_word_byte(bytes[place + 2]) {
+            return place + 2;
+        }
+        if !is_word_byte(bytes[place + 3]) {
+            return place + 3;
+        }
+        place += 4;
+    }
+    last_word_end(bytes, place)
+}
+
+/// The same byte by byte.
+fn last_word_end(bytes: &[u8], at: usize) -> usize
     requires { at ≤ length bytes.now }
     ensures after { at ≤ result }
     ensures within { result ≤ length bytes.now }

@@ -85,8 +85,8 @@ module _ (text : List ℕ) (replaces : Bool) (form : HasForm text) (s : Table) (
       record { script = sc; stands = stands_for text replaces form.0 sc form.1 is; session = session }
 
 -- a fault that is handed on
-pub same_fault : {A : Type 0} (result : Result A ReadFault) (f g : ReadFault) → (x : ReadFault) × (result ≡ Err x) × (x ≡ f) → result ≡ Err g → f ≡ g
-same_fault result f g (x, is, same) e = cc
+pub same_fault : {A : Type 0} (result : Result A ReadFault) (f g : ReadFault) → result ≡ Err f → result ≡ Err g → f ≡ g
+same_fault result f g is e = cc
 
 -- each assertion is known
 pub assertion_known : (s : Table) (v : TermsView) (rs : List ℕ) (ts : List Term) → ReferToAll s v rs ts → (k d : ℕ) → k < length rs → IsKnown v.pass (get_or rs k d)

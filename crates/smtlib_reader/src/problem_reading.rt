@@ -18,6 +18,7 @@ use name_set::NameSet;
 use problem_text::laws::texts_have_one_reading;
 use sexpr::{Lexer, form};
 use std::alloc::Global;
+use std::mem::replace;
 use sym_table::Symbols;
 use term_names::faults::ReadFault;
 use term_names::known::Known;
@@ -54,13 +55,14 @@ fn new_session(alloc: Global, replaces_lets: bool) -> Session<'static>
     }
 }
 
-/// The problem that was read.
-fn problem_of(session: Session<'_>) -> Problem
-    ensures { (s : Table) (v : TermsView) (sc : Script) → IsSession s v session.entry sc → session.entry.reader.known.base ≡ no_entries → IsProblemOf s v result sc }
+/// The problem that was read, which is taken out of the session.
+fn problem_of(alloc: Global, session: &mut Session<'_>) -> Problem
+    ensures { (s : Table) (v : TermsView) (sc : Script) → IsSession s v session.old sc → session.old.reader.known.base ≡ no_entries → IsProblemOf s v result sc }
 {
-    let reader = session.reader;
-    let known = reader.known;
-    Problem::new(known.into_own(), session.functions, session.assertions)
+    let known = replace(&mut session.reader.known, Known::new(alloc, None));
+    let functions = replace(&mut session.functions, NameSet::new(alloc));
+    let assertions = replace(&mut session.assertions, Vec::new(alloc));
+    Problem::new(known.into_own(), functions, assertions)
 }
 
 /// Reads the text of a problem: what it stands for, or its first fault.
@@ -100,6 +102,17 @@ pub fn read_problem(
     let mut lexer = Lexer::new(bytes);
     let mut nodes = Vec::new(alloc);
     let mut session = new_session(alloc, flags.expand_lets);
-    read_commands(&mut lexer, &mut nodes, symbols, terms, &mut session)?;
-    Ok(problem_of(session))
+    let read = read_commands(&mut lexer, &mut nodes, symbols, terms, &mut session);
+    // The session is given up by a call of its own: given up in parts, at the end of a scope, it is very dear to prove.
+    match read {
+        Ok(()) => {
+            let problem = problem_of(alloc, &mut session);
+            drop(session);
+            Ok(problem)
+        }
+        Err(fault) => {
+            drop(session);
+            Err(fault)
+        }
+    }
 }

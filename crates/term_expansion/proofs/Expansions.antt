@@ -19,34 +19,16 @@ use Rattle.term_pool.specs.declared.stop.TermStop.{TermStop}
 use Rattle.term_pool.specs.declared.stop.TermStop.TheVariants as Stop
 use Rattle.term_pool.specs.Views.{TermsView, RefersTo, ReferToAll, KnowsAll, KeepsPass, KeepsTerms, IsTerm}
 use Rattle.term_expansion.specs.Assigned.{term_of, assigned_all}
-use Rattle.term_expansion.specs.Expanding.{AreVariables, Says, SaysAll, IsSaid, AreSaid, replaced_each, HasPart, HasPartTerms, key_of, Done, HasBecomeBy, AreDone, AreValuesGiven}
+use Rattle.term_expansion.specs.Expanding.{AreVariables, Says, SaysAll, IsSaid, AreSaid, replaced_each, HasPart, HasPartTerms, key_of, Done, HasBecomeBy, AreDone, IsExpansion, AreValuesGiven, ExpandsOne, PlacesOne, FillsOne, ExpandsAll, PlacesAll, FillsAll}
 use Rattle.term_expansion.specs.Free.{AddsLeaves}
 use Rattle.term_expansion.specs.Needs.{IsNeeded, Values, AreValuesOf, HasNeeds}
 use Rattle.rule_model.specs.Replacement.{Replacement, replaced_by, replaced, replaced_bindings}
 use Rattle.term_expansion.specs.declared.assignments.Assigned.{Assigned}
+use Rattle.term_expansion.specs.declared.expanding.Expansion.{Expansion}
 use Rattle.term_expansion.proofs.Images.{same_some}
 use Rattle.term_expansion.proofs.NeedLemmas as need
 use Rattle.term_expansion.proofs.NeedLemmas.{AreGivenTerms, HasGivenTerms, part-trans, refers-grow}
 use Rattle.term_expansion.proofs.TermParts.{becomes_application, no_let, let_is}
-
--- what a call that expands one term, or several, has shown
-abbrev pub ExpandsOne : Table → TermsView → TermsView → List Assigned → ℕ → ℕ → Type 0
-ExpandsOne s v w a r i = (t : Term) (q : Replacement) → RefersTo s v r t → Says s v a q t → RefersTo s w i (replaced q t)
-
-abbrev pub PlacesOne : Table → TermsView → TermsView → List Assigned → ℕ → Type 0
-PlacesOne s v w a r = (t : Term) (q : Replacement) (whole : Tree) → RefersTo s v r t → Says s v a q t → HasPart s whole (replaced q t) → PlacesOnlyIn v.pass w.pass whole
-
-abbrev pub FillsOne : Table → TermsView → TermsView → List Assigned → ℕ → Type 0
-FillsOne s v w a r = (t : Term) (q : Replacement) (whole : Tree) → RefersTo s v r t → Says s v a q t → HasPart s whole (replaced q t) → IsFullIn w.pass whole
-
-abbrev pub ExpandsAll : Table → TermsView → TermsView → List Assigned → List ℕ → List ℕ → Type 0
-ExpandsAll s v w a rs is = (ts : List Term) (q : Replacement) → ReferToAll s v rs ts → SaysAll s v a q ts → ReferToAll s w is (replaced_each q ts)
-
-abbrev pub PlacesAll : Table → TermsView → TermsView → List Assigned → List ℕ → Type 0
-PlacesAll s v w a rs = (ts : List Term) (q : Replacement) (whole : Tree) → ReferToAll s v rs ts → SaysAll s v a q ts → HasPartTerms s whole (replaced_each q ts) → PlacesOnlyIn v.pass w.pass whole
-
-abbrev pub FillsAll : Table → TermsView → TermsView → List Assigned → List ℕ → Type 0
-FillsAll s v w a rs = (ts : List Term) (q : Replacement) (whole : Tree) → ReferToAll s v rs ts → SaysAll s v a q ts → HasPartTerms s whole (replaced_each q ts) → IsFullIn w.pass whole
 
 -- the law that references are equal exactly where terms are
 abbrev pub AreOne : Table → TermsView → Type 0
@@ -67,6 +49,9 @@ said_moved s v w a r e h = subst (λ (x : TermsView). IsSaid s x a r) (sym e) h
 
 pub are_done_moved : (s : Table) (v w : TermsView) (done : Done) → w ≡ v → AreDone s v done → AreDone s w done
 are_done_moved s v w done e h = subst (λ (x : TermsView). AreDone s x done) (sym e) h
+
+pub expansion_moved : (s : Table) (v w : TermsView) (e : Expansion) → w ≡ v → IsExpansion s v e → IsExpansion s w e
+expansion_moved s v w e f h = subst (λ (x : TermsView). IsExpansion s x e) (sym f) h
 
 pub if_fills_moved : (o : Result ℕ TermStop) (s : Table) (v w z : TermsView) (a : List Assigned) (r : ℕ) → w ≡ v → IfErr o (λ e. e ≡ Stop.PoolFull → FillsOne s w z a r) → IfErr o (λ e. e ≡ Stop.PoolFull → FillsOne s v z a r)
 if_fills_moved o s v w z a r e h = subst (λ (x : TermsView). IfErr o (λ e. e ≡ Stop.PoolFull → FillsOne s x z a r)) e h

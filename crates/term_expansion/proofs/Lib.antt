@@ -2,6 +2,7 @@ pub mod Images
 pub mod SetLemmas
 pub mod LeafLemmas
 pub mod TermParts
+pub mod Heights
 pub mod Needing
 pub mod SameTerms
 pub mod AssignedLists

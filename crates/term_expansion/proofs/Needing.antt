@@ -123,11 +123,6 @@ given s v table k r (j ∷ ks) (q ∷ rs) (binding z t bs) y h leaf e =
           back = λ x p. elim p [ inl here ↦ absurd (apart here.0) | inr later ↦ g.back x later.1 ];
         }
 
-pub given-term : (s : Table) (v : TermsView) → IsTable s → (k r : ℕ) (ks rs : List ℕ) (bs : Bindings) (y : Var) → AreBindings s v ks rs bs → IsLeaf s k (variable_leaf y) → value_of k ks rs ≡ Some r → IsTerm s v r
-given-term s v table k r ks rs bs y h leaf e =
-    let g = given s v table k r ks rs bs y h leaf e in
-    record { means = g.means; refers = g.refers }
-
 pub given-adds : (s : Table) (v : TermsView) → IsTable s → (k r : ℕ) (ks rs a b : List ℕ) (bs : Bindings) (y : Var) → AreBindings s v ks rs bs → IsLeaf s k (variable_leaf y) → value_of k ks rs ≡ Some r → ((t : Term) → RefersTo s v r t → AddsLeaves s a b (λ x. IsNeeded x t)) → AddsLeaves s a b (λ x. IsNeededFor x bs y)
 given-adds s v table k r ks rs a b bs y h leaf e adds =
     let g = given s v table k r ks rs bs y h leaf e in

@@ -7,7 +7,7 @@ use Rattle.sym_table.specs.Table.{Table}
 use Rattle.term_model.specs.Terms.{Var, var_eq, Term, numeral, variable, operation, call, let_in, Terms, no_terms, term, Bindings, no_bindings, binding}
 use Rattle.term_pool.specs.StandsFor.{function_leaf, StandsFor, StandsForApplication, StandsForList, StandsForBindings}
 use Rattle.term_pool.specs.Views.{TermsView, RefersTo}
-use Rattle.term_expansion.specs.Expanding.{Says, SaysWhole, IsSaid, HasPart}
+use Rattle.term_expansion.specs.Expanding.{Says, SaysWhole, IsSaid, HasPart, PlacesOne, FillsOne}
 use Rattle.rule_model.specs.Heights.{height}
 use Rattle.term_expansion.specs.Images.{PlacesTerm, LacksRoomFor}
 use Rattle.rule_model.specs.Replacement.{Replacement, replaced_by, replaced, replaced_all, replaced_bindings}
@@ -16,7 +16,6 @@ use Rattle.term_expansion.specs.Values.{IsValue, IsReplacement}
 use Rattle.term_expansion.specs.declared.assignments.Assigned.{Assigned}
 use Rattle.term_expansion.specs.declared.values.Bound.{Bound}
 use Rattle.term_expansion.specs.declared.values.Value.{Value}
-use Rattle.term_expansion.proofs.Expansions.{PlacesOne, FillsOne}
 use Rattle.term_expansion.proofs.NeedLemmas.{part-refl}
 use Rattle.rule_model.proofs.Replacing.{AreLetFree, replaced-let_free}
 

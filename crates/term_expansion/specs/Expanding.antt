@@ -9,14 +9,16 @@ use Rattle.std.specs.declared.hash.FoldHasher.{FoldHasher}
 use Rattle.pair_pool.specs.Trees.{Tree}
 use Rattle.sym_table.specs.Table.{Table, IsLeaf}
 use Rattle.term_model.specs.Terms.{Var, Term}
+use Rattle.term_pool.specs.Building.{PlacesOnlyIn, IsFullIn}
 use Rattle.term_pool.specs.StandsFor.{variable_leaf, StandsFor}
 use Rattle.term_pool.specs.Trees.{IsPartOf}
 use Rattle.term_pool.specs.Views.{TermsView, RefersTo, ReferToAll}
 use Rattle.term_expansion.specs.Assigned.{term_of}
 use Rattle.term_expansion.specs.Free.{HasVariable}
-use Rattle.term_expansion.specs.Needs.{IsNeeded, value_of}
+use Rattle.term_expansion.specs.Needs.{IsNeeded, value_of, AreNeeds}
 use Rattle.rule_model.specs.Replacement.{Replacement, replaced_by, replaced}
 use Rattle.term_expansion.specs.declared.assignments.Assigned.{Assigned}
+use Rattle.term_expansion.specs.declared.expanding.Expansion.{Expansion}
 
 -- only variables have something put in for them
 abbrev pub AreVariables : Table → List Assigned → Type 0
@@ -62,6 +64,28 @@ pub record HasPart (s : Table) (whole : Tree) (t : Term) : Type 0 where
 abbrev pub HasPartTerms : Table → Tree → List Term → Type 0
 HasPartTerms s whole ts = AllByRecursion (HasPart s whole) ts
 
+-- the new pass has what the term of the reference becomes, and has it by the reference i
+abbrev pub ExpandsOne : Table → TermsView → TermsView → List Assigned → ℕ → ℕ → Type 0
+ExpandsOne s v w a r i = (t : Term) (q : Replacement) → RefersTo s v r t → Says s v a q t → RefersTo s w i (replaced q t)
+
+-- what the new pass placed and the old one had not, are cells of each tree that has what the term becomes
+abbrev pub PlacesOne : Table → TermsView → TermsView → List Assigned → ℕ → Type 0
+PlacesOne s v w a r = (t : Term) (q : Replacement) (whole : Tree) → RefersTo s v r t → Says s v a q t → HasPart s whole (replaced q t) → PlacesOnlyIn v.pass w.pass whole
+
+-- the new pass has seen all places occupied by other cells than one of such a tree
+abbrev pub FillsOne : Table → TermsView → TermsView → List Assigned → ℕ → Type 0
+FillsOne s v w a r = (t : Term) (q : Replacement) (whole : Tree) → RefersTo s v r t → Says s v a q t → HasPart s whole (replaced q t) → IsFullIn w.pass whole
+
+-- the same for what each of the terms becomes, in order
+abbrev pub ExpandsAll : Table → TermsView → TermsView → List Assigned → List ℕ → List ℕ → Type 0
+ExpandsAll s v w a rs is = (ts : List Term) (q : Replacement) → ReferToAll s v rs ts → SaysAll s v a q ts → ReferToAll s w is (replaced_each q ts)
+
+abbrev pub PlacesAll : Table → TermsView → TermsView → List Assigned → List ℕ → Type 0
+PlacesAll s v w a rs = (ts : List Term) (q : Replacement) (whole : Tree) → ReferToAll s v rs ts → SaysAll s v a q ts → HasPartTerms s whole (replaced_each q ts) → PlacesOnlyIn v.pass w.pass whole
+
+abbrev pub FillsAll : Table → TermsView → TermsView → List Assigned → List ℕ → Type 0
+FillsAll s v w a rs = (ts : List Term) (q : Replacement) (whole : Tree) → ReferToAll s v rs ts → SaysAll s v a q ts → HasPartTerms s whole (replaced_each q ts) → IsFullIn w.pass whole
+
 -- a reference, and what is put in for the variables with these leaves
 abbrev pub pairs_of : List Assigned → List ℕ → List ℕ
 pairs_of assigned [] = []
@@ -88,6 +112,11 @@ pub record HasBecomeBy (s : Table) (v : TermsView) (key : List ℕ) (i : ℕ) : 
 
 pub record AreDone (s : Table) (v : TermsView) (done : Done) : Type 0 where
   pub each : (key : Vec ℕ Global) (i : ℕ) → get (λ x y. pointwise nat_eq x.items y.items) done key ≡ Some i → HasBecomeBy s v key.items i
+
+-- what is kept while a term is expanded is right
+pub record IsExpansion (s : Table) (v : TermsView) (e : Expansion) : Type 0 where
+  pub needs : AreNeeds s v e.needs.leaves
+  pub done : AreDone s v e.done
 
 -- of the variables with these leaves those that are given values, and the values
 abbrev pub AreGiven : List ℕ → List ℕ → List ℕ → List ℕ → List ℕ → Type 0

@@ -3,25 +3,49 @@
 //! What becomes of a cell is placed at once. So only what the answer has may be gone through: of what lets give
 //! variables just what their bodies need. What a cell has become is remembered by it and by what is put in for the
 //! variables that it needs, so a cell is gone through once for each distinct term that it becomes.
-ghost use Rattle.std.specs.Prelude.{◌≡◌, ◌≤◌, ◌^◌, ℕ, List, IfOk, IfErr, OnOk, length};
-ghost use Rattle.pair_pool.specs.Trees.{Tree};
+ghost use Rattle.std.specs.Prelude.{◌≡◌, ◌≤◌, ◌^◌, ℕ, List, All, IfOk, IfErr, OnOk, length};
+ghost use Rattle.sym_table.specs.Table.{Table};
 ghost use Rattle.term_model.specs.Terms.{Var, Term, variable};
-ghost use Rattle.term_pool.specs.Building.{IsAppliedLeaf, PlacesOnlyIn, IsFullIn};
+ghost use Rattle.term_pool.specs.Building.{IsAppliedLeaf};
 ghost use Rattle.term_pool.specs.Reading.{arguments_of, IsLet};
-ghost use Rattle.term_pool.specs.Views.{RefersTo, ReferToAll, KeepsTerms};
+ghost use Rattle.term_pool.specs.Views.{TermsView, RefersTo, KeepsTerms};
 ghost use Rattle.term_pool.specs.declared.stop.TermStop.TheVariants as TermStop;
-ghost use Rattle.term_expansion.specs.Expanding.{Says, SaysAll, IsSaid, AreSaid, replaced_each, HasPart, HasPartTerms, key_of, AreDone, AreValuesGiven};
-ghost use Rattle.term_expansion.specs.Needs.{AreValuesOf, AreNeeds};
-ghost use Rattle.rule_model.specs.Replacement.{Replacement, replaced};
+ghost use Rattle.term_expansion.specs.Expanding.{IsSaid, AreSaid, ExpandsOne, PlacesOne, FillsOne, ExpandsAll, PlacesAll, FillsAll, key_of, IsExpansion, AreValuesGiven};
+ghost use Rattle.term_expansion.specs.Needs.{IsAtMost, AreValuesOf};
 
 use crate::assignments::{Assignments, assign, number_at, take_back, term_at};
-use crate::needs::{needs_of, values_by_leaves};
+use crate::needs::{KnownNeeds, needs_of, values_by_leaves};
 use crate::term_parts;
 use pair_pool::{Memory, Ref};
 use std::alloc::Global;
 use std::collections::HashMap;
 use sym_table::Symbols;
 use term_pool::{TermStop, Terms, references_stay, trees_are_built_of_parts, trees_of_terms};
+
+/// What was found so far while a term is expanded, and what is put in for variables at the place that it has come to.
+#[derive(Drop)]
+pub(crate) struct Expansion {
+    alloc: Global,
+    needs: KnownNeeds,
+    assignments: Assignments,
+    /// What terms have become, by them and by what was put in for the variables that they need.
+    done: HashMap<Vec<u32>, Ref>,
+}
+
+impl Expansion {
+    /// Nothing is found yet.
+    pub(crate) fn new(alloc: Global, assignments: Assignments) -> Expansion
+        ensures expansion { (s : Table) (v : TermsView) → IsExpansion s v result }
+        ensures assignments { result.assignments ≡ assignments }
+    {
+        Expansion {
+            alloc,
+            needs: KnownNeeds::new(alloc),
+            assignments,
+            done: HashMap::new(alloc),
+        }
+    }
+}
 
 /// A term, and what is put in for the variables with these leaves.
 fn key(alloc: Global, assignments: &Assignments, r: Ref, leaves: &[u32]) -> Result<Vec<u32>, Memory>
@@ -61,132 +85,97 @@ fn given(alloc: Global, values: &HashMap<u32, Ref>, leaves: &[u32]) -> Result<Gi
     Ok(given)
 }
 
-/// What a term becomes. `levels` is at least the height of the term: where it is not, this is refused as for want of
-/// memory.
+/// What a term becomes, which is no higher than `most`.
 #[cycle(expanding)]
 pub(crate) fn expand(
-    alloc: Global,
     symbols: &Symbols,
     terms: &mut Terms<'_>,
-    needs: &mut HashMap<u32, Vec<u32>>,
-    assignments: &mut Assignments,
-    done: &mut HashMap<Vec<u32>, Ref>,
-    levels: u32,
+    expansion: &mut Expansion,
+    most: u32,
     r: Ref,
 ) -> Result<Ref, TermStop>
-    requires said { IsSaid symbols.now terms.old assignments.old r }
-    requires needs { AreNeeds symbols.now terms.old needs.old }
-    requires done { AreDone symbols.now terms.old done.old }
-    ensures value { IfOk result (λ i. (t : Term) (q : Replacement) → RefersTo symbols.now terms.old r t → Says symbols.now terms.old assignments.old q t → RefersTo symbols.now terms.new i (replaced q t)) }
-    ensures placed { (t : Term) (q : Replacement) (whole : Tree) → RefersTo symbols.now terms.old r t → Says symbols.now terms.old assignments.old q t → HasPart symbols.now whole (replaced q t) → PlacesOnlyIn terms.old.pass terms.new.pass whole }
-    ensures full { IfErr result (λ e. e ≡ TermStop.PoolFull → (t : Term) (q : Replacement) (whole : Tree) → RefersTo symbols.now terms.old r t → Says symbols.now terms.old assignments.old q t → HasPart symbols.now whole (replaced q t) → IsFullIn terms.new.pass whole) }
-    ensures assignments { OnOk result (assignments.new ≡ assignments.old) }
-    ensures needs { OnOk result (AreNeeds symbols.now terms.new needs.new) }
-    ensures done { OnOk result (AreDone symbols.now terms.new done.new) }
+    requires low { IsAtMost symbols.now terms.old most r }
+    requires said { IsSaid symbols.now terms.old expansion.old.assignments r }
+    requires expansion { IsExpansion symbols.now terms.old expansion.old }
+    ensures value { IfOk result (λ i. ExpandsOne symbols.now terms.old terms.new expansion.old.assignments r i) }
+    ensures placed { PlacesOne symbols.now terms.old terms.new expansion.old.assignments r }
+    ensures full { IfErr result (λ e. e ≡ TermStop.PoolFull → FillsOne symbols.now terms.old terms.new expansion.old.assignments r) }
+    ensures assignments { OnOk result (expansion.new.assignments ≡ expansion.old.assignments) }
+    ensures expansion { OnOk result (IsExpansion symbols.now terms.new expansion.new) }
     ensures keeps { KeepsTerms terms.old terms.new }
 {
     let _leaves = symbols.count();
     if r.is_leaf() {
         terms.one_to_one();
         let _leaf = Ref::leaf(r.number());
-        return Ok(term_at(assignments, r));
+        return Ok(term_at(&expansion.assignments, r));
     }
-    let leaves = needs_of(alloc, symbols, terms, needs, levels, r)?;
-    let key = key(alloc, assignments, r, &leaves)?;
+    let leaves = needs_of(symbols, terms, &mut expansion.needs, most, r)?;
+    let key = key(expansion.alloc, &expansion.assignments, r, &leaves)?;
     terms.equal_exactly_where_terms_are();
-    if let Some(term) = done.get(&key) {
+    if let Some(term) = expansion.done.get(&key) {
         return Ok(*term);
     }
-    let term = expand_anew(alloc, symbols, terms, needs, assignments, done, levels, r)?;
+    let term = expand_anew(symbols, terms, expansion, most, r)?;
     references_stay();
-    let _ = done.insert(key, term)?;
+    let _ = expansion.done.insert(key, term)?;
     Ok(term)
 }
 
 /// What a cell becomes, by what stands at its top.
 #[cycle(expanding)]
 fn expand_anew(
-    alloc: Global,
     symbols: &Symbols,
     terms: &mut Terms<'_>,
-    needs: &mut HashMap<u32, Vec<u32>>,
-    assignments: &mut Assignments,
-    done: &mut HashMap<Vec<u32>, Ref>,
-    levels: u32,
+    expansion: &mut Expansion,
+    most: u32,
     r: Ref,
 ) -> Result<Ref, TermStop>
     requires cell { 2 ^ 30 ≤ r }
-    requires said { IsSaid symbols.now terms.old assignments.old r }
-    requires needs { AreNeeds symbols.now terms.old needs.old }
-    requires done { AreDone symbols.now terms.old done.old }
-    ensures value { IfOk result (λ i. (t : Term) (q : Replacement) → RefersTo symbols.now terms.old r t → Says symbols.now terms.old assignments.old q t → RefersTo symbols.now terms.new i (replaced q t)) }
-    ensures placed { (t : Term) (q : Replacement) (whole : Tree) → RefersTo symbols.now terms.old r t → Says symbols.now terms.old assignments.old q t → HasPart symbols.now whole (replaced q t) → PlacesOnlyIn terms.old.pass terms.new.pass whole }
-    ensures full { IfErr result (λ e. e ≡ TermStop.PoolFull → (t : Term) (q : Replacement) (whole : Tree) → RefersTo symbols.now terms.old r t → Says symbols.now terms.old assignments.old q t → HasPart symbols.now whole (replaced q t) → IsFullIn terms.new.pass whole) }
-    ensures assignments { OnOk result (assignments.new ≡ assignments.old) }
-    ensures needs { OnOk result (AreNeeds symbols.now terms.new needs.new) }
-    ensures done { OnOk result (AreDone symbols.now terms.new done.new) }
+    requires low { IsAtMost symbols.now terms.old most r }
+    requires said { IsSaid symbols.now terms.old expansion.old.assignments r }
+    requires expansion { IsExpansion symbols.now terms.old expansion.old }
+    ensures value { IfOk result (λ i. ExpandsOne symbols.now terms.old terms.new expansion.old.assignments r i) }
+    ensures placed { PlacesOne symbols.now terms.old terms.new expansion.old.assignments r }
+    ensures full { IfErr result (λ e. e ≡ TermStop.PoolFull → FillsOne symbols.now terms.old terms.new expansion.old.assignments r) }
+    ensures assignments { OnOk result (expansion.new.assignments ≡ expansion.old.assignments) }
+    ensures expansion { OnOk result (IsExpansion symbols.now terms.new expansion.new) }
     ensures keeps { KeepsTerms terms.old terms.new }
 {
     let _leaves = symbols.count();
-    let Some(below) = levels.checked_sub(1) else {
-        return Err(TermStop::Memory);
-    };
     match term_parts::head_of(terms, r) {
-        Some(head) => expand_application(
-            alloc,
-            symbols,
-            terms,
-            needs,
-            assignments,
-            done,
-            below,
-            r,
-            head,
-        ),
-        None => expand_let(alloc, symbols, terms, needs, assignments, done, below, r),
+        Some(head) => expand_application(symbols, terms, expansion, most, r, head),
+        None => expand_let(symbols, terms, expansion, most, r),
     }
 }
 
 /// What an application becomes, whose head has this leaf.
 #[cycle(expanding)]
 fn expand_application(
-    alloc: Global,
     symbols: &Symbols,
     terms: &mut Terms<'_>,
-    needs: &mut HashMap<u32, Vec<u32>>,
-    assignments: &mut Assignments,
-    done: &mut HashMap<Vec<u32>, Ref>,
-    levels: u32,
+    expansion: &mut Expansion,
+    most: u32,
     r: Ref,
     head: u32,
 ) -> Result<Ref, TermStop>
     requires no_variable { (x : Var) → RefersTo symbols.now terms.old r (variable x) → ⊥ }
     requires head { (t : Term) → RefersTo symbols.now terms.old r t → IsAppliedLeaf symbols.now head (arguments_of t) t }
-    requires said { IsSaid symbols.now terms.old assignments.old r }
-    requires needs { AreNeeds symbols.now terms.old needs.old }
-    requires done { AreDone symbols.now terms.old done.old }
-    ensures value { IfOk result (λ i. (t : Term) (q : Replacement) → RefersTo symbols.now terms.old r t → Says symbols.now terms.old assignments.old q t → RefersTo symbols.now terms.new i (replaced q t)) }
-    ensures placed { (t : Term) (q : Replacement) (whole : Tree) → RefersTo symbols.now terms.old r t → Says symbols.now terms.old assignments.old q t → HasPart symbols.now whole (replaced q t) → PlacesOnlyIn terms.old.pass terms.new.pass whole }
-    ensures full { IfErr result (λ e. e ≡ TermStop.PoolFull → (t : Term) (q : Replacement) (whole : Tree) → RefersTo symbols.now terms.old r t → Says symbols.now terms.old assignments.old q t → HasPart symbols.now whole (replaced q t) → IsFullIn terms.new.pass whole) }
-    ensures assignments { OnOk result (assignments.new ≡ assignments.old) }
-    ensures needs { OnOk result (AreNeeds symbols.now terms.new needs.new) }
-    ensures done { OnOk result (AreDone symbols.now terms.new done.new) }
+    requires low { IsAtMost symbols.now terms.old most r }
+    requires said { IsSaid symbols.now terms.old expansion.old.assignments r }
+    requires expansion { IsExpansion symbols.now terms.old expansion.old }
+    ensures value { IfOk result (λ i. ExpandsOne symbols.now terms.old terms.new expansion.old.assignments r i) }
+    ensures placed { PlacesOne symbols.now terms.old terms.new expansion.old.assignments r }
+    ensures full { IfErr result (λ e. e ≡ TermStop.PoolFull → FillsOne symbols.now terms.old terms.new expansion.old.assignments r) }
+    ensures assignments { OnOk result (expansion.new.assignments ≡ expansion.old.assignments) }
+    ensures expansion { OnOk result (IsExpansion symbols.now terms.new expansion.new) }
     ensures keeps { KeepsTerms terms.old terms.new }
 {
     let _leaves = symbols.count();
     trees_are_built_of_parts();
     trees_of_terms();
-    let list = term_parts::arguments_of(alloc, terms, r)?;
-    let arguments = expand_all(
-        alloc,
-        symbols,
-        terms,
-        needs,
-        assignments,
-        done,
-        levels,
-        &list,
-    )?;
+    let list = term_parts::arguments_of(expansion.alloc, terms, r)?;
+    let arguments = expand_all(symbols, terms, expansion, most - 1, &list)?;
     references_stay();
     Ok(terms.app(head, &arguments)?)
 }
@@ -194,88 +183,63 @@ fn expand_application(
 /// What a let becomes: its body, with what its values become put in for the variables that the body needs.
 #[cycle(expanding)]
 fn expand_let(
-    alloc: Global,
     symbols: &Symbols,
     terms: &mut Terms<'_>,
-    needs: &mut HashMap<u32, Vec<u32>>,
-    assignments: &mut Assignments,
-    done: &mut HashMap<Vec<u32>, Ref>,
-    levels: u32,
+    expansion: &mut Expansion,
+    most: u32,
     r: Ref,
 ) -> Result<Ref, TermStop>
     requires is_let { (t : Term) → RefersTo symbols.now terms.old r t → IsLet t }
-    requires said { IsSaid symbols.now terms.old assignments.old r }
-    requires needs { AreNeeds symbols.now terms.old needs.old }
-    requires done { AreDone symbols.now terms.old done.old }
-    ensures value { IfOk result (λ i. (t : Term) (q : Replacement) → RefersTo symbols.now terms.old r t → Says symbols.now terms.old assignments.old q t → RefersTo symbols.now terms.new i (replaced q t)) }
-    ensures placed { (t : Term) (q : Replacement) (whole : Tree) → RefersTo symbols.now terms.old r t → Says symbols.now terms.old assignments.old q t → HasPart symbols.now whole (replaced q t) → PlacesOnlyIn terms.old.pass terms.new.pass whole }
-    ensures full { IfErr result (λ e. e ≡ TermStop.PoolFull → (t : Term) (q : Replacement) (whole : Tree) → RefersTo symbols.now terms.old r t → Says symbols.now terms.old assignments.old q t → HasPart symbols.now whole (replaced q t) → IsFullIn terms.new.pass whole) }
-    ensures assignments { OnOk result (assignments.new ≡ assignments.old) }
-    ensures needs { OnOk result (AreNeeds symbols.now terms.new needs.new) }
-    ensures done { OnOk result (AreDone symbols.now terms.new done.new) }
+    requires low { IsAtMost symbols.now terms.old most r }
+    requires said { IsSaid symbols.now terms.old expansion.old.assignments r }
+    requires expansion { IsExpansion symbols.now terms.old expansion.old }
+    ensures value { IfOk result (λ i. ExpandsOne symbols.now terms.old terms.new expansion.old.assignments r i) }
+    ensures placed { PlacesOne symbols.now terms.old terms.new expansion.old.assignments r }
+    ensures full { IfErr result (λ e. e ≡ TermStop.PoolFull → FillsOne symbols.now terms.old terms.new expansion.old.assignments r) }
+    ensures assignments { OnOk result (expansion.new.assignments ≡ expansion.old.assignments) }
+    ensures expansion { OnOk result (IsExpansion symbols.now terms.new expansion.new) }
     ensures keeps { KeepsTerms terms.old terms.new }
 {
     let _leaves = symbols.count();
-    let parts = term_parts::let_parts(alloc, terms, r)?;
-    let inside = needs_of(alloc, symbols, terms, needs, levels, parts.body)?;
+    let below = most - 1;
+    let parts = term_parts::let_parts(expansion.alloc, terms, r)?;
+    let inside = needs_of(symbols, terms, &mut expansion.needs, below, parts.body)?;
     terms.equal_exactly_where_terms_are();
-    let values = values_by_leaves(alloc, &parts.variables, &parts.values)?;
-    let given = given(alloc, &values, &inside)?;
-    let list = expand_all(
-        alloc,
-        symbols,
-        terms,
-        needs,
-        assignments,
-        done,
-        levels,
-        &given.values,
-    )?;
-    let outside = assignments.len();
-    assign(assignments, &given.variables, &list)?;
+    let values = values_by_leaves(expansion.alloc, &parts.variables, &parts.values)?;
+    let given = given(expansion.alloc, &values, &inside)?;
+    let list = expand_all(symbols, terms, expansion, below, &given.values)?;
+    let outside = expansion.assignments.len();
+    assign(&mut expansion.assignments, &given.variables, &list)?;
     references_stay();
-    let body = expand(
-        alloc,
-        symbols,
-        terms,
-        needs,
-        assignments,
-        done,
-        levels,
-        parts.body,
-    )?;
-    take_back(assignments, outside)?;
+    let body = expand(symbols, terms, expansion, below, parts.body)?;
+    take_back(&mut expansion.assignments, outside)?;
     Ok(body)
 }
 
 /// What terms become, in order.
 #[cycle(expanding)]
 fn expand_all(
-    alloc: Global,
     symbols: &Symbols,
     terms: &mut Terms<'_>,
-    needs: &mut HashMap<u32, Vec<u32>>,
-    assignments: &mut Assignments,
-    done: &mut HashMap<Vec<u32>, Ref>,
-    levels: u32,
+    expansion: &mut Expansion,
+    most: u32,
     list: &[Ref],
 ) -> Result<Vec<Ref>, TermStop>
-    requires said { AreSaid symbols.now terms.old assignments.old list.now }
-    requires needs { AreNeeds symbols.now terms.old needs.old }
-    requires done { AreDone symbols.now terms.old done.old }
-    ensures value { IfOk result (λ all. (ts : List Term) (q : Replacement) → ReferToAll symbols.now terms.old list.now ts → SaysAll symbols.now terms.old assignments.old q ts → ReferToAll symbols.now terms.new all.items (replaced_each q ts)) }
-    ensures placed { (ts : List Term) (q : Replacement) (whole : Tree) → ReferToAll symbols.now terms.old list.now ts → SaysAll symbols.now terms.old assignments.old q ts → HasPartTerms symbols.now whole (replaced_each q ts) → PlacesOnlyIn terms.old.pass terms.new.pass whole }
-    ensures full { IfErr result (λ e. e ≡ TermStop.PoolFull → (ts : List Term) (q : Replacement) (whole : Tree) → ReferToAll symbols.now terms.old list.now ts → SaysAll symbols.now terms.old assignments.old q ts → HasPartTerms symbols.now whole (replaced_each q ts) → IsFullIn terms.new.pass whole) }
+    requires low { All (IsAtMost symbols.now terms.old most) list.now }
+    requires said { AreSaid symbols.now terms.old expansion.old.assignments list.now }
+    requires expansion { IsExpansion symbols.now terms.old expansion.old }
+    ensures value { IfOk result (λ all. ExpandsAll symbols.now terms.old terms.new expansion.old.assignments list.now all.items) }
+    ensures placed { PlacesAll symbols.now terms.old terms.new expansion.old.assignments list.now }
+    ensures full { IfErr result (λ e. e ≡ TermStop.PoolFull → FillsAll symbols.now terms.old terms.new expansion.old.assignments list.now) }
     ensures one_each { IfOk result (λ all. length all.items ≡ length list.now) }
-    ensures assignments { OnOk result (assignments.new ≡ assignments.old) }
-    ensures needs { OnOk result (AreNeeds symbols.now terms.new needs.new) }
-    ensures done { OnOk result (AreDone symbols.now terms.new done.new) }
+    ensures assignments { OnOk result (expansion.new.assignments ≡ expansion.old.assignments) }
+    ensures expansion { OnOk result (IsExpansion symbols.now terms.new expansion.new) }
     ensures keeps { KeepsTerms terms.old terms.new }
 {
     references_stay();
-    let mut all = Vec::new(alloc);
+    let mut all = Vec::new(expansion.alloc);
     'terms: for r in list {
-        let term = expand(alloc, symbols, terms, needs, assignments, done, levels, *r)?;
+        let term = expand(symbols, terms, expansion, most, *r)?;
         all.push(term)?;
     }
     Ok(all)

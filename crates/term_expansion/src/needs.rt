@@ -1,24 +1,40 @@
 //! The variables that a term needs: those that stand in it once its lets are replaced. What a let gives a variable that
 //! its body does not need is not gone through.
-ghost use Rattle.std.specs.Prelude.{◌≡◌, List, length, IfOk, OnOk};
-ghost use Rattle.sym_table.specs.Table.{IsLeaf};
-ghost use Rattle.term_model.specs.Terms.{Var, Term, Bindings};
-ghost use Rattle.term_pool.specs.Building.{AreBindings};
+ghost use Rattle.std.specs.Prelude.{◌≡◌, List, All, length, IfOk, OnOk};
+ghost use Rattle.sym_table.specs.Table.{Table};
+ghost use Rattle.term_model.specs.Terms.{Term};
 ghost use Rattle.term_pool.specs.Reading.{IsLet};
-ghost use Rattle.term_pool.specs.StandsFor.{variable_leaf};
-ghost use Rattle.term_pool.specs.Views.{RefersTo, IsTerm, ReferToAll};
+ghost use Rattle.term_pool.specs.Views.{TermsView, RefersTo, ReferToAll};
 ghost use Rattle.term_expansion.specs.Free.{AddsLeaves};
-ghost use Rattle.term_expansion.specs.Needs.{IsNeeded, IsNeededFor, IsNeededInAny, AreTerms, AreValuesOf, HasNeeds, AreNeeds};
+ghost use Rattle.term_expansion.specs.Needs.{IsAtMost, IsNeeded, IsNeededInAny, AreValuesOf, HasNeeds, AreNeeds};
 
 use crate::leaf_sets::{add, add_all};
 use crate::term_parts;
-use crate::term_parts::{LetParts, is_variable};
+use crate::term_parts::is_variable;
 use indexmap::IndexSet;
 use pair_pool::{Memory, Ref};
 use std::alloc::Global;
 use std::collections::HashMap;
 use sym_table::Symbols;
 use term_pool::Terms;
+
+/// For the terms that were gone through, told by their references, the leaves of the variables that they need.
+#[derive(Drop)]
+pub(crate) struct KnownNeeds {
+    alloc: Global,
+    leaves: HashMap<u32, Vec<u32>>,
+}
+
+impl KnownNeeds {
+    pub(crate) fn new(alloc: Global) -> KnownNeeds
+        ensures { (s : Table) (v : TermsView) → AreNeeds s v result.leaves }
+    {
+        KnownNeeds {
+            alloc,
+            leaves: HashMap::new(alloc),
+        }
+    }
+}
 
 /// What the variables with these leaves are given, by the leaves. Of two variables with one leaf the first counts, so
 /// the list is gone through from its end.
@@ -39,177 +55,139 @@ pub(crate) fn values_by_leaves(
     Ok(by_leaves)
 }
 
-/// The leaves of the variables that a term needs. `needs` has those of some terms, and gets those of this one and of
-/// what it was gone through for. `levels` is at least the height of the term: where it is not, this is refused as for
-/// want of memory.
+/// The leaves of the variables that a term needs, which is no higher than `most`. What is found of it and of what it was
+/// gone through for is kept.
 ///
 /// Goes through each distinct cell once, and takes time and memory for each leaf of each.
 #[cycle(needing)]
 pub(crate) fn needs_of(
-    alloc: Global,
     symbols: &Symbols,
     terms: &mut Terms<'_>,
-    needs: &mut HashMap<u32, Vec<u32>>,
-    levels: u32,
+    needs: &mut KnownNeeds,
+    most: u32,
     r: Ref,
 ) -> Result<Vec<u32>, Memory>
-    requires term { IsTerm symbols.now terms.old r }
-    requires needs { AreNeeds symbols.now terms.old needs.old }
+    requires low { IsAtMost symbols.now terms.old most r }
+    requires needs { AreNeeds symbols.now terms.old needs.old.leaves }
     ensures leaves { IfOk result (λ leaves. HasNeeds symbols.now terms.old r leaves.items) }
-    ensures needs { OnOk result (AreNeeds symbols.now terms.old needs.new) }
+    ensures needs { OnOk result (AreNeeds symbols.now terms.old needs.new.leaves) }
     ensures same { terms.new ≡ terms.old }
 {
-    if let Some(leaves) = needs.get(&r.number()) {
-        let leaves = Vec::from_slice(alloc, leaves)?;
+    if let Some(leaves) = needs.leaves.get(&r.number()) {
+        let leaves = Vec::from_slice(needs.alloc, leaves)?;
         return Ok(leaves);
     }
-    let mut found = IndexSet::new(alloc);
-    needs_anew(alloc, symbols, terms, needs, levels, r, &mut found)?;
-    let kept = Vec::from_slice(alloc, found.as_slice())?;
-    let _ = needs.insert(r.number(), kept)?;
-    let leaves = Vec::from_slice(alloc, found.as_slice())?;
+    let mut found = IndexSet::new(needs.alloc);
+    needs_anew(symbols, terms, needs, most, r, &mut found)?;
+    let kept = Vec::from_slice(needs.alloc, found.as_slice())?;
+    let _ = needs.leaves.insert(r.number(), kept)?;
+    let leaves = Vec::from_slice(needs.alloc, found.as_slice())?;
     Ok(leaves)
 }
 
 /// Adds the leaves of the variables that a term needs, by what stands at its top.
 #[cycle(needing)]
 fn needs_anew(
-    alloc: Global,
     symbols: &Symbols,
     terms: &mut Terms<'_>,
-    needs: &mut HashMap<u32, Vec<u32>>,
-    levels: u32,
+    needs: &mut KnownNeeds,
+    most: u32,
     r: Ref,
     found: &mut IndexSet<u32>,
 ) -> Result<(), Memory>
-    requires term { IsTerm symbols.now terms.old r }
-    requires needs { AreNeeds symbols.now terms.old needs.old }
+    requires low { IsAtMost symbols.now terms.old most r }
+    requires needs { AreNeeds symbols.now terms.old needs.old.leaves }
     ensures adds { OnOk result ((t : Term) → RefersTo symbols.now terms.old r t → AddsLeaves symbols.now found.old.keys found.new.keys (λ x. IsNeeded x t)) }
-    ensures needs { OnOk result (AreNeeds symbols.now terms.old needs.new) }
+    ensures needs { OnOk result (AreNeeds symbols.now terms.old needs.new.leaves) }
     ensures same { terms.new ≡ terms.old }
 {
     let _leaves = symbols.count();
     let Some(head) = term_parts::head_of(terms, r) else {
-        let Some(below) = levels.checked_sub(1) else {
-            return Err(Memory);
-        };
-        return needs_of_let(alloc, symbols, terms, needs, below, r, found);
+        return needs_of_let(symbols, terms, needs, most, r, found);
     };
     if is_variable(symbols, head) {
         return add(found, head);
     }
-    let Some(below) = levels.checked_sub(1) else {
-        return Err(Memory);
-    };
-    let list = term_parts::arguments_of(alloc, terms, r)?;
-    needs_of_all(alloc, symbols, terms, needs, below, &list, found)
+    let list = term_parts::arguments_of(needs.alloc, terms, r)?;
+    needs_of_all(symbols, terms, needs, most - 1, &list, found)
 }
 
 /// Adds the leaves of the variables that a term needs.
 #[cycle(needing)]
 fn add_needs_of(
-    alloc: Global,
     symbols: &Symbols,
     terms: &mut Terms<'_>,
-    needs: &mut HashMap<u32, Vec<u32>>,
-    levels: u32,
+    needs: &mut KnownNeeds,
+    most: u32,
     r: Ref,
     found: &mut IndexSet<u32>,
 ) -> Result<(), Memory>
-    requires term { IsTerm symbols.now terms.old r }
-    requires needs { AreNeeds symbols.now terms.old needs.old }
+    requires low { IsAtMost symbols.now terms.old most r }
+    requires needs { AreNeeds symbols.now terms.old needs.old.leaves }
     ensures adds { OnOk result ((t : Term) → RefersTo symbols.now terms.old r t → AddsLeaves symbols.now found.old.keys found.new.keys (λ x. IsNeeded x t)) }
-    ensures needs { OnOk result (AreNeeds symbols.now terms.old needs.new) }
+    ensures needs { OnOk result (AreNeeds symbols.now terms.old needs.new.leaves) }
     ensures same { terms.new ≡ terms.old }
 {
     let _leaves = symbols.count();
     terms.equal_exactly_where_terms_are();
-    let leaves = needs_of(alloc, symbols, terms, needs, levels, r)?;
+    let leaves = needs_of(symbols, terms, needs, most, r)?;
     add_all(&leaves, found)
 }
 
 /// Adds the leaves of the variables that these terms need.
 #[cycle(needing)]
 fn needs_of_all(
-    alloc: Global,
     symbols: &Symbols,
     terms: &mut Terms<'_>,
-    needs: &mut HashMap<u32, Vec<u32>>,
-    levels: u32,
+    needs: &mut KnownNeeds,
+    most: u32,
     list: &[Ref],
     found: &mut IndexSet<u32>,
 ) -> Result<(), Memory>
-    requires terms { AreTerms symbols.now terms.old list.now }
-    requires needs { AreNeeds symbols.now terms.old needs.old }
+    requires low { All (IsAtMost symbols.now terms.old most) list.now }
+    requires needs { AreNeeds symbols.now terms.old needs.old.leaves }
     ensures adds { OnOk result ((ts : List Term) → ReferToAll symbols.now terms.old list.now ts → AddsLeaves symbols.now found.old.keys found.new.keys (λ x. IsNeededInAny x ts)) }
-    ensures needs { OnOk result (AreNeeds symbols.now terms.old needs.new) }
+    ensures needs { OnOk result (AreNeeds symbols.now terms.old needs.new.leaves) }
     ensures same { terms.new ≡ terms.old }
 {
     let mut at = list.len();
     'terms: while at > 0 {
         at -= 1;
-        add_needs_of(alloc, symbols, terms, needs, levels, list[at], found)?;
+        add_needs_of(symbols, terms, needs, most, list[at], found)?;
     }
     Ok(())
 }
 
 /// Adds the leaves of the variables that a let needs: for each that its body needs those of what the let gives it, or
-/// the variable itself.
+/// the variable itself where the let does not bind it.
 #[cycle(needing)]
 fn needs_of_let(
-    alloc: Global,
     symbols: &Symbols,
     terms: &mut Terms<'_>,
-    needs: &mut HashMap<u32, Vec<u32>>,
-    levels: u32,
+    needs: &mut KnownNeeds,
+    most: u32,
     r: Ref,
     found: &mut IndexSet<u32>,
 ) -> Result<(), Memory>
-    requires term { IsTerm symbols.now terms.old r }
+    requires low { IsAtMost symbols.now terms.old most r }
     requires is_let { (t : Term) → RefersTo symbols.now terms.old r t → IsLet t }
-    requires needs { AreNeeds symbols.now terms.old needs.old }
+    requires needs { AreNeeds symbols.now terms.old needs.old.leaves }
     ensures adds { OnOk result ((t : Term) → RefersTo symbols.now terms.old r t → AddsLeaves symbols.now found.old.keys found.new.keys (λ x. IsNeeded x t)) }
-    ensures needs { OnOk result (AreNeeds symbols.now terms.old needs.new) }
+    ensures needs { OnOk result (AreNeeds symbols.now terms.old needs.new.leaves) }
     ensures same { terms.new ≡ terms.old }
 {
     let _leaves = symbols.count();
+    let below = most - 1;
     terms.equal_exactly_where_terms_are();
-    let parts = term_parts::let_parts(alloc, terms, r)?;
-    let inside = needs_of(alloc, symbols, terms, needs, levels, parts.body)?;
-    let values = values_by_leaves(alloc, &parts.variables, &parts.values)?;
+    let parts = term_parts::let_parts(needs.alloc, terms, r)?;
+    let inside = needs_of(symbols, terms, needs, below, parts.body)?;
+    let values = values_by_leaves(needs.alloc, &parts.variables, &parts.values)?;
     'leaves: for k in &inside {
-        needs_of_bound(
-            alloc, symbols, terms, needs, levels, &parts, &values, *k, found,
-        )?;
+        if let Some(value) = values.get(k) {
+            add_needs_of(symbols, terms, needs, below, *value, found)?;
+            continue;
+        }
+        add(found, *k)?;
     }
     Ok(())
-}
-
-/// Adds the leaves of the variables that what a let gives the variable with this leaf needs. Of a variable that it does
-/// not bind, adds the leaf itself.
-#[cycle(needing)]
-fn needs_of_bound(
-    alloc: Global,
-    symbols: &Symbols,
-    terms: &mut Terms<'_>,
-    needs: &mut HashMap<u32, Vec<u32>>,
-    levels: u32,
-    parts: &LetParts,
-    values: &HashMap<u32, Ref>,
-    k: u32,
-    found: &mut IndexSet<u32>,
-) -> Result<(), Memory>
-    requires bindings { (bs : Bindings) × AreBindings symbols.now terms.old parts.now.variables.items parts.now.values.items bs }
-    requires values { AreValuesOf values.now parts.now.variables.items parts.now.values.items }
-    requires variable { (y : Var) × IsLeaf symbols.now k (variable_leaf y) }
-    requires needs { AreNeeds symbols.now terms.old needs.old }
-    ensures adds { OnOk result ((bs : Bindings) (y : Var) → AreBindings symbols.now terms.old parts.now.variables.items parts.now.values.items bs → IsLeaf symbols.now k (variable_leaf y) → AddsLeaves symbols.now found.old.keys found.new.keys (λ x. IsNeededFor x bs y)) }
-    ensures needs { OnOk result (AreNeeds symbols.now terms.old needs.new) }
-    ensures same { terms.new ≡ terms.old }
-{
-    let _leaves = symbols.count();
-    match values.get(&k) {
-        Some(value) => add_needs_of(alloc, symbols, terms, needs, levels, *value, found),
-        None => add(found, k),
-    }
 }

@@ -4,20 +4,19 @@ ghost use Rattle.std.specs.Prelude.{◌≡◌, ◌≤◌, ◌^◌, length, IfOk,
 ghost use Rattle.std.specs.List.{list_all};
 ghost use Rattle.sym_table.specs.Table.{Table, IsTable};
 ghost use Rattle.term_pool.specs.Views.{TermsView, KeepsTerms};
-ghost use Rattle.term_expansion.specs.Expanding.{SaysWhole};
+ghost use Rattle.term_expansion.specs.Expanding.{IsExpansion, SaysWhole};
 ghost use Rattle.term_expansion.specs.Images.{IsSomeReplacement, IsSomeValue, PlacesTerm, LacksRoomFor};
 ghost use Rattle.rule_model.specs.Replacement.{Replacement, replaced};
 ghost use Rattle.problem_text.specs.TypedTerms.{Typed};
 ghost use Rattle.term_expansion.specs.Values.{IsValue, IsReplacement};
 
 use crate::assignments::Assignments;
-use crate::expanding::expand;
+use crate::expanding::{Expansion, expand};
 use crate::substitution::put_in_plain;
 use crate::term_parts::height_of;
 use crate::values::{Bound, Value};
 use pair_pool::Memory;
 use std::alloc::Global;
-use std::collections::HashMap;
 use sym_table::Symbols;
 use term_pool::{TermStop, Terms};
 
@@ -58,9 +57,11 @@ pub fn put_in(
     put_in_expanded(alloc, symbols, terms, replacement, what)
 }
 
-/// What a replacement puts in. Of two terms for one variable the first counts, so the list is gone through from its end.
-fn begin(alloc: Global, replacement: &[Bound]) -> Result<Assignments, Memory>
-    ensures { IfOk result (λ a. (s : Table) (v : TermsView) (q : Replacement) → IsTable s → length s.leaves ≤ 2 ^ 30 → IsReplacement s v replacement.now q → SaysWhole s v a q) }
+/// An expansion that puts in what a replacement does, and has gone through nothing yet. Of two terms for one variable the
+/// first counts, so the list is gone through from its end.
+fn begin(alloc: Global, replacement: &[Bound]) -> Result<Expansion, Memory>
+    ensures expansion { IfOk result (λ e. (s : Table) (v : TermsView) → IsExpansion s v e) }
+    ensures says { IfOk result (λ e. (s : Table) (v : TermsView) (q : Replacement) → IsTable s → length s.leaves ≤ 2 ^ 30 → IsReplacement s v replacement.now q → SaysWhole s v e.assignments q) }
 {
     let mut assignments = Assignments::new(alloc);
     let mut at = replacement.len();
@@ -69,7 +70,7 @@ fn begin(alloc: Global, replacement: &[Bound]) -> Result<Assignments, Memory>
         let bound = &replacement[at];
         assignments.push(bound.variable, bound.value.term)?;
     }
-    Ok(assignments)
+    Ok(Expansion::new(alloc, assignments))
 }
 
 /// The same, where the term has a let.
@@ -88,19 +89,8 @@ fn put_in_expanded(
     ensures keeps { KeepsTerms terms.old terms.new }
 {
     let _leaves = symbols.count();
-    let mut assignments = begin(alloc, replacement)?;
-    let mut needs = HashMap::new(alloc);
-    let mut done = HashMap::new(alloc);
-    let term = expand(
-        alloc,
-        symbols,
-        terms,
-        &mut needs,
-        &mut assignments,
-        &mut done,
-        what.height,
-        what.term,
-    )?;
+    let mut expansion = begin(alloc, replacement)?;
+    let term = expand(symbols, terms, &mut expansion, what.height, what.term)?;
     let height = height_of(alloc, terms, term)?;
     Ok(Value {
         term,

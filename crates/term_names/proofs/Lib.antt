@@ -16,6 +16,7 @@ pub mod NamedUses
 pub mod FoundAlone
 pub mod LetBinding
 pub mod MadeTerms
+mod Marks
 pub mod ValueLists
 pub mod LetClosing
 pub mod SortLists

@@ -43,6 +43,8 @@ pub enum Found {
 /// Operators are asked for first, since nothing that a problem declares or names has the name of one. Costs one look-up
 /// among the variables, for other names one in each further table, and for a named term one for each of its free
 /// variables.
+// A part of its callers, which ask it for each symbol of a text.
+#[inline(always)]
 pub fn find(symbols: &Symbols, known: &Known<'_>, scope: &Scope, name: &[u8]) -> Found
     ensures { (v : TermsView) (sc : Script) (p : Place) → IsScript symbols.now v known.now sc → IsScope symbols.now v scope.now p.scope → IsFoundMeaning symbols.now v known.now p result (meaning_of p sc name.now) }
 {

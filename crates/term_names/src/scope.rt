@@ -2,6 +2,7 @@
 ghost use Rattle.std.specs.Prelude.{◌≡◌, ◌<◌, [], ◌∷◌, length, bytes_eq, find, option_map, IfOk, OnOk, OnErr};
 ghost use Rattle.term_names.specs.Scope.{Scoped};
 ghost use Rattle.term_names.specs.NameNumbers.{IsNumbered};
+ghost use Rattle.term_names.specs.Held as spec;
 
 use name_set::NameSet;
 use std::alloc::Global;
@@ -23,12 +24,15 @@ pub(crate) struct Held {
 /// A name keeps its number when its variables go out of scope. `innermost` has for each name where its innermost
 /// variable stands, counted from 1, or 0 where there is none. So a look-up takes the time of one hash, and so does a
 /// new variable, however many there are. Where no variable is in scope, which is so in most of a text, a look-up takes
-/// no hash.
+/// no hash; nor does one of a name whose mark no variable's name ever had, which is so of most symbols inside a let or an
+/// anchor.
 #[derive(Drop)]
 pub struct Scope {
     names: NameSet,
     innermost: Vec<usize>,
     held: Vec<Held>,
+    /// Whether a variable whose name has this mark was ever put in scope.
+    marks: [bool; 256],
 }
 
 impl Model for Scope {
@@ -38,11 +42,11 @@ impl Model for Scope {
 
     ghost Value = { List Scoped };
 
-    ghost use Rattle.term_names.specs.Held.{scoped, IsHeldLinked};
+    ghost use Rattle.term_names.specs.Held.{scoped, IsHeldLinked, AreMarked};
 
     ghost view = { λ s. scoped s.names (reverse s.held.items) };
 
-    ghost invariant = { λ s. IsHeldLinked s.names s.innermost.items (reverse s.held.items) };
+    ghost invariant = { λ s. IsHeldLinked s.names s.innermost.items (reverse s.held.items) × AreMarked s.names s.marks };
 }
 
 impl Scope {
@@ -53,6 +57,7 @@ impl Scope {
             names: NameSet::new(alloc),
             innermost: Vec::new(alloc),
             held: Vec::new(alloc),
+            marks: [false; 256],
         }
     }
 
@@ -70,6 +75,9 @@ impl Scope {
         if self.held.is_empty() {
             return None;
         }
+        if !self.marks[mark_of(name)] {
+            return None;
+        }
         let number = self.names.find(name)?;
         let place = self.innermost[number];
         if place == 0 {
@@ -84,7 +92,9 @@ impl Scope {
         ensures refused { OnErr result (self.new ≡ self.old) }
     {
         self.held.reserve(1)?;
+        let mark = mark_of(name);
         let name = number_of(&mut self.names, &mut self.innermost, name)?;
+        self.marks[mark] = true;
         let outer = self.innermost[name];
         self.held.push(Held { bound, name, outer }).unwrap();
         self.innermost[name] = self.held.len();
@@ -116,4 +126,16 @@ fn number_of(names: &mut NameSet, innermost: &mut Vec<usize>, name: &[u8]) -> Re
     names.add(name)?;
     innermost.push(0).unwrap();
     Ok(number)
+}
+
+// The mark of a name: a number by its first byte and its length, which mostly tell a variable's name from those of operators
+// and functions. Where two names have one mark, one hash more is taken and nothing else changes.
+fn mark_of(name: &[u8]) -> usize
+    ensures mark { result ≡ spec.mark_of name.now }
+    ensures bound { result < 256 }
+{
+    match name {
+        [] => 0,
+        [first, ..] => (*first as usize + name.len() % 8 * 32) % 256,
+    }
 }

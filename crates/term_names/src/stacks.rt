@@ -60,6 +60,7 @@ impl Values {
     }
 
     /// Puts a value on top. After a refusal the stack is as before.
+    #[inline(always)]
     pub fn push(&mut self, value: Value) -> Result<(), Memory>
         ensures pushed { OnOk result (self.new ≡ self.old ++ value ∷ []) }
         ensures refused { OnErr result (self.new ≡ self.old) }

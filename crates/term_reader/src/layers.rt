@@ -218,7 +218,8 @@ fn faulty(cause: Cause, at: u64) -> Layer
 /// Whether a symbol of this name is left out: binders other than let, matching, indexed and qualified names, and the rest of
 /// Ints and Reals_Ints.
 ///
-/// This is asked of every symbol. So it is a match, which compares a name with words of its own length alone.
+/// This is asked of every symbol. So it is a match, which compares a name with words of its own length alone, and no call.
+#[inline(always)]
 fn is_left_out(name: &[u8]) -> bool
     ensures { result ≡ is_among left_out_words name.now }
 {

@@ -107,7 +107,7 @@ fn after_item(text: &Lexer<'_>, nodes: &[Node], known: &[Keyword<'_>], k: usize)
 }
 
 /// What may stand behind a keyword.
-pub(crate) fn after_word(known: &[Keyword<'_>], word: &[u8]) -> Next
+fn after_word(known: &[Keyword<'_>], word: &[u8]) -> Next
     ensures { result ≡ shape.after_known (find (λ k. bytes_eq k.spelling word.now) (map shape.known_of known.now)) }
 {
     match known {

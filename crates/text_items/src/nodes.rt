@@ -47,8 +47,11 @@ pub fn read_item(
     };
     nodes.push(Node { token: first, next })?;
     let mut inner = after;
+    // The lexer is copied while the item is read: what it holds stays in registers, where behind the reference it would be
+    // loaded and stored anew for each token.
+    let mut reading = *lexer;
     while inner != 0 {
-        let Ok(found) = lexer.next() else {
+        let Ok(found) = reading.next() else {
             unreachable!()
         };
         let Some(token) = found else { unreachable!() };
@@ -66,6 +69,7 @@ pub fn read_item(
             inner = close(inner, nodes);
         }
     }
+    *lexer = reading;
     Ok(())
 }
 

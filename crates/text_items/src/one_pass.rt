@@ -1,5 +1,5 @@
 //! Lists of attributes without a fault, told by one pass over them.
-ghost use Rattle.std.specs.Prelude.{◌≡◌, ◌&&◌, ◌||◌, ℕ, not, List, map, true, bytes_eq, Some, None, IfSome};
+ghost use Rattle.std.specs.Prelude.{◌≡◌, ◌&&◌, ◌||◌, ℕ, not, List, map, find, true, bytes_eq, is_some, Some, None, IfSome};
 ghost use Rattle.sexpr.specs.Items.{Item, Items, no_items};
 ghost use Rattle.sexpr.specs.Source.{source};
 ghost use Rattle.text_items.specs.Keywords as shape;
@@ -7,7 +7,7 @@ ghost use Rattle.text_items.specs.Nodes.{IsNode, AreNodes};
 ghost use Rattle.text_items.specs.OnePass.{IsKeywordMarked, IsPassed, lacks_still};
 ghost use Rattle.text_items.specs.Stepping.{IsItemAt, AreItemsFrom};
 
-use crate::keywords::{Keyword, Next, after_word, is_spelled_so, is_value, keyword_at, next_fault};
+use crate::keywords::{Keyword, Next, is_spelled_so, is_value, keyword_at, next_fault};
 use crate::nodes::Node;
 use crate::shapes::node_at;
 use sexpr::Lexer;
@@ -56,13 +56,32 @@ fn pass(
 {
     match keyword_at(text, nodes, k) {
         None => Some(Next::Word),
-        Some(word) => {
-            if mark(known, word, stood) {
-                Some(after_word(known, word))
-            } else {
-                None
-            }
-        }
+        Some(word) => pass_word(known, word, stood),
+    }
+}
+
+/// Marks a keyword as one that stood: what may stand behind it, and None where it stands once at most and stood before. Nothing
+/// is said of the marks then.
+fn pass_word(known: &[Keyword<'_>], word: &[u8], stood: &mut [bool]) -> Option<Next>
+    ensures next { IfSome result (λ next. next ≡ shape.after_known (find (λ k. bytes_eq k.spelling word.now) (map shape.known_of known.now))) }
+    ensures marked { IfSome result (λ _. IsKeywordMarked (map shape.known_of known.now) word.now stood.old stood.new) }
+{
+    match known {
+        [] => Some(Next::Anything),
+        [keyword, others @ ..] => match stood.split_first_mut() {
+            None => None,
+            Some((first, rest)) => match mark_one(keyword, word, first) {
+                None => None,
+                Some(false) => pass_word(others, word, rest),
+                Some(true) => {
+                    if mark(others, word, rest) {
+                        Some(Next::Value(keyword.wants))
+                    } else {
+                        None
+                    }
+                }
+            },
+        },
     }
 }
 
@@ -75,22 +94,26 @@ fn mark(known: &[Keyword<'_>], word: &[u8], stood: &mut [bool]) -> bool
         [] => true,
         [keyword, others @ ..] => match stood.split_first_mut() {
             None => false,
-            Some((first, rest)) => mark_one(keyword, word, first) && mark(others, word, rest),
+            Some((first, rest)) => {
+                mark_one(keyword, word, first).is_some() && mark(others, word, rest)
+            }
         },
     }
 }
 
-/// Marks that a known keyword stood, where this is the keyword. False where it stands once at most and stood before.
-fn mark_one(keyword: &Keyword<'_>, word: &[u8], stood: &mut bool) -> bool
+/// Whether a known keyword is this one, which it marks as one that stood then. None where it stands once at most and stood
+/// before.
+fn mark_one(keyword: &Keyword<'_>, word: &[u8], stood: &mut bool) -> Option<bool>
     ensures kept { stood.new ≡ stood.old || bytes_eq keyword.now.spelling.now word.now }
-    ensures once { result ≡ not (keyword.now.once && stood.old && bytes_eq keyword.now.spelling.now word.now) }
+    ensures spelled { IfSome result (λ is. is ≡ bytes_eq keyword.now.spelling.now word.now) }
+    ensures once { is_some result ≡ not (keyword.now.once && stood.old && bytes_eq keyword.now.spelling.now word.now) }
 {
     if !is_spelled_so(keyword, word) {
-        return true;
+        return Some(false);
     }
     let again = keyword.once && *stood;
     *stood = true;
-    !again
+    if again { None } else { Some(true) }
 }
 
 /// Whether a keyword that is needed did not stand.

@@ -1,6 +1,6 @@
 -- A set that gets a number stays the same, or has it last.
-use Rattle.contexts.proofs.Sets.{met_is}
+use Rattle.contexts.proofs.Sets.{noted_is}
 use Rattle.alethe_reader.proofs.needed_images.meet.Goals as goal
 
 pub returns-clause-met : goal.returns-clause-met
-returns-clause-met c = met_is _ _ _ _ _ c.number.ensures.number c.in_ok-new.ensures.added c.in_ok-new.ensures.keys
+returns-clause-met c = noted_is _ _ _ _ _ c.number.ensures.number c.in_ok-new.ensures.added c.in_ok-new.ensures.keys

@@ -1,29 +1,30 @@
--- What stands behind the commands, then an anchor that is open, then the proof.
-use Rattle.std.proofs.Common.{◌∙◌, sym, ap, slice_get}
+-- The end is judged, and the proof that is written then is the one that was read.
+use Rattle.std.proofs.Common.{◌∙◌, ℕ, sym, ap}
 use Rattle.std.proofs.lemmas.Result.{err_from_is_err_and}
-use Rattle.alethe_reader.proofs.ReadProofs.{first_there, none_there, item_behind, anchor_open, none_open, proof_finished}
+use Rattle.rule_model.specs.Scopes.{Scope}
+use Rattle.alethe_reader.proofs.ReadProofs.{none_open, proof_finished}
 use Rattle.alethe_reader.proofs.proof_reading.finish.Goals as goal
 
-pub returns-in-Some : goal.returns-in-Some
-returns-in-Some c s v settings p behind here session =
-    rw c.refused.ensures (item_behind s v settings c.args.session p behind session c.in-Some.place (c.in-Some.ensures behind here))
+pub judge_end-requires : goal.judge_end-requires
+judge_end-requires c = let (s, v, settings, p, behind, here, session) = c.requires in (behind, here)
 
-pub returns-in-Some-first : goal.returns-in-Some-first
-returns-in-Some-first c s v settings p behind here session =
-    let (others, is) = first_there c.args.session.anchors.items c.in-Some-first.outermost.now (sym (c.in-Some-first.ensures.value ∙ ap (λ xs. slice_get xs 0) c.deref.ensures.value)) in
-    rw c.refused-in-Some-first.ensures (anchor_open s v settings c.args.session p behind session (c.in_default.ensures behind here) c.in-Some-first.outermost.now others is)
+pub returns-in_err-judge_end : goal.returns-in_err-judge_end
+returns-in_err-judge_end c s v settings p behind here session =
+    let e = err_from_is_err_and c.from_residual.result c.from_residual.ensures.1 in
+    rw (e.1, e.2) (c.in_err-judge_end.ensures s v settings p behind here session)
 
 pub finish-requires : goal.finish-requires
 finish-requires c =
     let (s, v, settings, p, behind, here, session) = c.requires in
-    none_open s v settings c.args.session p behind session (none_there c.args.session.anchors.items (sym (c.in_default-first.ensures.value ∙ ap (λ xs. slice_get xs 0) c.deref.ensures.value)))
+    let (none, closed) = c.in_ok-judge_end.ensures s v settings p behind here session in
+    rw c.replace-builder.ensures.value (none_open s v settings c.args.session.now p behind session closed)
 
 pub returns-in_err-finish : goal.returns-in_err-finish
 returns-in_err-finish c s v settings p behind here session =
-    let e = err_from_is_err_and c.from_residual.result c.from_residual.ensures.1 in rw (e.1, e.2) tt
+    let e = err_from_is_err_and c.from_residual-in_err-finish.result c.from_residual-in_err-finish.ensures.1 in rw (e.1, e.2) tt
 
 pub returns : goal.returns
 returns c s v settings p behind here session =
-    proof_finished s v settings c.args.session p behind session (c.in_default.ensures behind here)
-    (none_there c.args.session.anchors.items (sym (c.in_default-first.ensures.value ∙ ap (λ xs. slice_get xs 0) c.deref.ensures.value)))
-    c.in_ok-finish.field-0 c.in_ok-finish.ensures
+    let (none, closed) = c.in_ok-judge_end.ensures s v settings p behind here session in
+    proof_finished s v settings c.args.session.now p behind session (sym none) closed
+    c.in_ok-finish.field-0 (c.in_ok-finish.ensures ∙ ap (λ (scope : Scope ℕ ℕ). scope.items) c.replace-builder.ensures.value)

@@ -6,7 +6,7 @@ use Rattle.contexts.proofs.free.stands_free.Goals as goal
 
 pub cells-init : goal.cells-init
 cells-init c =
-    (refl, search_start _ _ _ _ _ c.new-seen.ensures.empty (c.in_ok-push.ensures.items ∙ ap (λ u. u ++ c.args.r ∷ []) c.new-left.ensures.items) c.requires)
+    (refl, search_start _ _ _ _ _ c.new-met.ensures (c.in_ok-push.ensures.items ∙ ap (λ u. u ++ c.args.r ∷ []) c.in_ok-left.ensures.items) c.requires)
 
 pub returns-then-number-leaf-clause-exact : goal.returns-then-number-leaf-clause-exact
 returns-then-number-leaf-clause-exact c =
@@ -29,19 +29,19 @@ pub leave_parts-requires-clause-shaped : goal.leave_parts-requires-clause-shaped
 leave_parts-requires-clause-shaped c =
     rw c.cells.invariant.0 (looked_at _ _ _ _ _ _ (rw c.in-Some.ensures.items at c.cells.invariant.1))
 
-pub cells-preserved-in-Continue-branch-3 : goal.cells-preserved-in-Continue-branch-3
-cells-preserved-in-Continue-branch-3 c = (
+pub cells-preserved-in-Continue-branch-4 : goal.cells-preserved-in-Continue-branch-4
+cells-preserved-in-Continue-branch-4 c = (
   c.leave_parts.ensures.same ∙ c.cells.invariant.0,
   search_opens _ c.one_to_one.ensures _ _ _ _ _ (rw c.in-Some.ensures.items at c.cells.invariant.1) _ _
-      (met_true _ _ _ _ c.in_ok-meet.ensures.met c.if-branch.true) (rw c.cells.invariant.0 at c.in_ok-leave_parts.ensures.parts),
+      (met_true c.cells.met c.meet.new.self _ _ c.in_ok-meet.ensures c.if-branch.true).0 (rw c.cells.invariant.0 at c.in_ok-leave_parts.ensures.parts),
 )
 
 pub cells-preserved : goal.cells-preserved
-cells-preserved c = (
-  c.cells.invariant.0,
-  search_skips _ c.one_to_one.ensures _ _ _ _ _ (rw c.in-Some.ensures.items at c.cells.invariant.1) _
-      (met_false _ _ _ _ c.in_ok-meet.ensures.met c.if-branch.false),
-)
+cells-preserved c =
+    let met = met_false c.cells.met c.meet.new.self _ _ c.in_ok-meet.ensures c.if-branch.false in (
+      c.cells.invariant.0,
+      search_skips _ c.one_to_one.ensures _ _ _ _ _ (rw c.in-Some.ensures.items at c.cells.invariant.1) _ met.0 met.1,
+    )
 
 pub returns-clause-exact : goal.returns-clause-exact
 returns-clause-exact c =

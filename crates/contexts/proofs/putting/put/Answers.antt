@@ -1,4 +1,4 @@
-use Rattle.std.proofs.Common.{◌∙◌, ◌<◌, ◌≤◌, ◌^◌, arith}
+use Rattle.std.proofs.Common.{◌∙◌, ◌≤◌, ◌^◌, arith}
 use Rattle.pair_pool.specs.Views.{Knows}
 use Rattle.term_pool.specs.Building.{PlacesOnlyIn, IsFullIn}
 use Rattle.contexts.specs.declared.places.Place.TheVariants.{Term}

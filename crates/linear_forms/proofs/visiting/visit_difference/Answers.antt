@@ -5,7 +5,7 @@ use Rattle.linear_forms.proofs.visiting.visit_difference.Goals as goal
 
 pub numeral-requires : goal.numeral-requires
 numeral-requires c =
-    let h = c.in-One.ensures.listed in λ low. c.requires.leaf c.in-One.first h.rest h.parts low
+    let h = rw c.in-One.is at c.in_ok-part.ensures.listed in λ low. c.requires.leaf c.in-One.first h.rest h.parts low
 
 pub negated_numeral-requires : goal.negated_numeral-requires
 negated_numeral-requires c =

@@ -1,6 +1,8 @@
 use Rattle.std.proofs.Common.{◌<◌, ◌≤◌, ◌^◌, arith}
+use Rattle.std.proofs.lemmas.Result.{IfOk-weaker}
 use Rattle.term_pool.proofs.ReadingLemmas.{reference_cell}
 use Rattle.linear_forms.proofs.Meaning.{leaf_there}
+use Rattle.linear_forms.proofs.Meeting.{parts_deeper}
 use Rattle.linear_forms.proofs.Visited.{parts_of, leaf_visited, plus_visited, minus_visited, times_visited, other_visited, minus_list, minus_numeral, head_known}
 use Rattle.linear_forms.proofs.visiting.visit_term.Goals as goal
 
@@ -30,8 +32,8 @@ head_of-requires c =
     (head_known c.args.symbols.now c.args.terms.now c.args.graph.now c.count-leaves.ensures.table c.one_to_one.ensures c.parts_of_trees.ensures
     c.args.r c.cell_parts-head.result.0 c.cell_parts-head.result.1 c.requires.term.means c.requires.term.refers parts)
 
-pub visit_difference-requires-clause-cell : goal.visit_difference-requires-clause-cell
-visit_difference-requires-clause-cell c =
+pub visit_difference-requires-clause-list : goal.visit_difference-requires-clause-list
+visit_difference-requires-clause-list c =
     let above : 2 ^ 30 ≤ c.args.r = grind arith in
     let cell = reference_cell _ _ c.parts_of_trees.ensures above (record { tree = c.requires.term.refers.tree; stands = c.requires.term.refers.known }) in
     let parts = parts_of _ c.args.r c.cell_parts-head.result.0 c.cell_parts-head.result.1 cell c.cell_parts-head.ensures.first c.cell_parts-head.ensures.second in
@@ -64,9 +66,23 @@ returns-in-Minus-clause-visit c =
     let above : 2 ^ 30 ≤ c.args.r = grind arith in
     let cell = reference_cell _ _ c.parts_of_trees.ensures above (record { tree = c.requires.term.refers.tree; stands = c.requires.term.refers.known }) in
     let parts = parts_of _ c.args.r c.cell_parts-head.result.0 c.cell_parts-head.result.1 cell c.cell_parts-head.ensures.first c.cell_parts-head.ensures.second in
-    minus_visited c.args.symbols.now c.args.terms.now c.args.graph.now c.count-leaves.ensures.table c.one_to_one.ensures c.parts_of_trees.ensures
-    c.args.r c.cell_parts-head.result.0 c.cell_parts-head.result.1 c.requires.term.means c.requires.term.refers parts c.visit_difference.result
-    (rw (c.in-Minus.is, c.number.ensures.number) at c.head_of.ensures) (rw c.cell_parts-head.ensures.same at c.visit_difference.ensures.visit)
+    IfOk-weaker c.visit_difference.result _ _
+    (λ visit h.
+    minus_visited c.args.symbols.now c.args.terms.now c.visit_difference.new.graph c.count-leaves.ensures.table c.one_to_one.ensures c.parts_of_trees.ensures
+    c.args.r c.cell_parts-head.result.0 c.cell_parts-head.result.1 c.requires.term.means c.requires.term.refers parts visit
+    (rw (c.in-Minus.is, c.number.ensures.number) at c.head_of.ensures) h)
+    (rw c.cell_parts-head.ensures.same at c.visit_difference.ensures.visit)
+
+pub returns-in-Minus-clause-graph : goal.returns-in-Minus-clause-graph
+returns-in-Minus-clause-graph c =
+    let above : 2 ^ 30 ≤ c.args.r = grind arith in
+    let cell = reference_cell _ _ c.parts_of_trees.ensures above (record { tree = c.requires.term.refers.tree; stands = c.requires.term.refers.known }) in
+    let parts = parts_of _ c.args.r c.cell_parts-head.result.0 c.cell_parts-head.result.1 cell c.cell_parts-head.ensures.first c.cell_parts-head.ensures.second in
+    IfOk-weaker c.visit_difference.result _ _
+    (λ visit h.
+    parts_deeper c.args.symbols.now c.args.terms.now c.count-leaves.ensures.table c.one_to_one.ensures c.parts_of_trees.ensures
+    c.args.graph.now c.visit_difference.new.graph c.args.r c.cell_parts-head.result.0 c.cell_parts-head.result.1 parts h)
+    (rw c.cell_parts-head.ensures.same at c.visit_difference.ensures.graph)
 
 pub returns-in-Times-clause-visit : goal.returns-in-Times-clause-visit
 returns-in-Times-clause-visit c =

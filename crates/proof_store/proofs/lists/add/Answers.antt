@@ -8,5 +8,5 @@ overflow_cast-len g c =
     let few = c.if-are_too_many.ensures refl in
     let before = c.len.ensures in
     let all = c.len-2.ensures in
-    let both : length c.extend_from_slice.new.self.items ≡ length c.args.items.now.items + length c.args.list.now = ap length c.in_ok-extend_from_slice.ensures.items ∙ length-append c.args.items.now.items c.args.list.now in
+    let both : length c.extend.new.items.items ≡ length c.args.items.now.items + length c.args.list.now = ap length c.in_ok-extend.ensures.extended ∙ length-append c.args.items.now.items c.args.list.now in
     omega (arith, few, before, all, both)

@@ -1,4 +1,4 @@
-use Rattle.std.proofs.Common.{◌≡◌, ◌↔◌, ◌∷◌, [], ◌∙◌, List, IsTrue, false, sym, subst}
+use Rattle.std.proofs.Common.{◌↔◌, ◌∷◌, [], ◌∙◌, List, IsTrue, sym, subst}
 use Rattle.rule_model.specs.Clausal.{as_it_stands}
 use Rattle.rule_model.specs.Congruence.{Equates, AreCongruent, AreCongruentTruths}
 use Rattle.term_model.specs.declared.symbols.Sort.{Sort}

@@ -1,4 +1,4 @@
-use Rattle.std.proofs.Common.{◌≡◌, ◌↔◌, ◌∷◌, [], ◌∙◌, List, IsTrue, sym, refl}
+use Rattle.std.proofs.Common.{◌↔◌, ◌∷◌, [], ◌∙◌, List, IsTrue, sym, refl}
 use Rattle.rule_model.specs.Congruence.{Implies, AreCongruent}
 use Rattle.term_model.specs.Terms.{Term}
 use Rattle.term_pool.specs.Views.{RefersTo}

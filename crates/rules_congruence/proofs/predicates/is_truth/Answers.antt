@@ -1,4 +1,4 @@
-use Rattle.std.proofs.Common.{refl, subst}
+use Rattle.std.proofs.Common.{refl}
 use Rattle.term_model.specs.declared.symbols.Sort.{Sort}
 use Rattle.term_model.proofs.Sorting.{one_sort}
 use Rattle.rules_congruence.proofs.PartLemmas.{false_is}

@@ -1,4 +1,4 @@
-use Rattle.std.proofs.Common.{◌≡◌, ◌↔◌, ◌∙◌, List, IsTrue, sym, refl}
+use Rattle.std.proofs.Common.{◌↔◌, ◌∙◌, List, IsTrue, sym, refl}
 use Rattle.rule_model.specs.Congruence.{Denies}
 use Rattle.term_model.specs.Terms.{Term}
 use Rattle.rules_congruence.specs.Predicates.{GivesOther, GivesPredicate}

@@ -1,12 +1,22 @@
-use Rattle.std.proofs.Common.{◌↔◌, List, IsTrue}
+use Rattle.std.proofs.Common.{◌↔◌, inl, List, IsTrue, refl}
 use Rattle.rule_model.specs.Congruence.{AreLinked}
 use Rattle.term_model.specs.Terms.{Term}
 use Rattle.rules_congruence.specs.Applications.{AreApplied}
 use Rattle.rules_congruence.specs.Links.{TellsSides}
 use Rattle.rules_congruence.specs.Sides.{IsGiven}
 use Rattle.rules_congruence.proofs.Options.{if_ok}
-use Rattle.rules_congruence.proofs.TogetherLemmas.{sides_told}
+use Rattle.rules_congruence.proofs.StrictLemmas.{differences_linked}
+use Rattle.rules_congruence.proofs.TogetherLemmas.{sides_told, differing_by}
 use Rattle.rules_congruence.proofs.together.hang_by.Goals as goal
+
+pub returns-then-are_in_order-clause-together : goal.returns-then-are_in_order-clause-together
+returns-then-are_in_order-clause-together c ps t u given a = (
+  λ e. inl (differences_linked ps a.ts a.us
+      ((differing_by c.args.symbols.now c.args.terms.now (c.equal_exactly_where_terms_are.ensures c.args.symbols.now c.count-leaves.ensures.table)
+      c.args.given.now.pairs.items c.args.given.now.only ps c.args.both.now.left.items c.args.both.now.right.items a.ts a.us given a.left a.right).0
+      (c.are_in_order.ensures.0 c.if-are_in_order.true))),
+  λ h. refl,
+)
 
 pub returns-clause-together : goal.returns-clause-together
 returns-clause-together c =

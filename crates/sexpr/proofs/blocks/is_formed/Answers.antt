@@ -10,7 +10,7 @@ loop-place-init c = record { within = omega arith; formed = formed_from_start c.
 pub loop-place-preserved-in-Some : goal.loop-place-preserved-in-Some
 loop-place-preserved-in-Some c = record {
   within = omega (arith, c.if-bytes-place-gt-BLOCK.true);
-  formed = subst (λ i. IsFormedSoFar c.args.bytes.now (c.loop-place.place + 16) i c.in-Some.after) (sym c.is_common-inside.ensures) c.in-Some.ensures;
+  formed = subst (λ i. IsFormedSoFar c.args.bytes.now (c.loop-place.place + 16) i c.in-Some.after) (sym c.is_word_byte-inside.ensures) c.in-Some.ensures;
 }
 
 pub returns : goal.returns

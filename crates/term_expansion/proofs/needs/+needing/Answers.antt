@@ -1,14 +1,14 @@
 -- What a term needs, by what stands at its top.
-use Rattle.std.proofs.Common.{◌≡◌, ◌∙◌, ◌-◌, [], get_or, take, sym, subst, arith}
+use Rattle.std.proofs.Common.{◌≡◌, ◌∙◌, ◌-◌, ◌≤◌, [], get_or, take, refl, sym, subst, arith}
 use Rattle.std.proofs.lemmas.List.{take_all, take_more}
 use Rattle.std.proofs.lemmas.Result.{on_ok_weaker}
 use Rattle.term_model.specs.Terms.{Term}
-use Rattle.term_pool.specs.Building.{AreBindings}
 use Rattle.term_pool.specs.Reading.{arguments_of}
 use Rattle.term_pool.specs.Views.{RefersTo}
 use Rattle.term_expansion.specs.Free.{AddsLeaves, AddsUnbound}
 use Rattle.term_expansion.specs.Needs.{IsNeeded, HasNeeds}
 use Rattle.term_expansion.proofs.LeafLemmas.{head_within, application-no_let, refer_at}
+use Rattle.term_expansion.proofs.Heights as heights
 use Rattle.term_expansion.proofs.Needing as lemma
 use Rattle.term_expansion.proofs.TermParts as parts
 use Rattle.term_expansion.proofs.needs.+needing.Goals as goal
@@ -27,27 +27,26 @@ needs_of-returns-clause-needs t c =
     let s = c.args.symbols.now in
     let v = c.args.terms.now in
     let kept = c.in_ok-kept.kept in
-    lemma.needs-more s v c.needs_anew.new.needs c.insert.new.self c.number-2.result kept c.in_ok-insert.ensures.updates.0
+    lemma.needs-more s v c.needs_anew.new.needs.leaves c.insert.new.self c.number-2.result kept c.in_ok-insert.ensures.updates.0
     (subst (λ r. HasNeeds s v r kept.items) (sym c.number-2.ensures.number)
-    (lemma.needs-found s v c.args.r c.new-found.result.keys c.needs_anew.new.found.keys kept.items c.new-found.ensures.empty (c.in_ok-kept.ensures.items ∙ c.as_slice.ensures.keys) c.requires.term c.in_ok-needs_anew.ensures.adds))
+    (lemma.needs-found s v c.args.r c.new-found.result.keys c.needs_anew.new.found.keys kept.items c.new-found.ensures.empty (c.in_ok-kept.ensures.items ∙ c.as_slice.ensures.keys) (heights.is_term s v c.args.most c.args.r c.requires.low) c.in_ok-needs_anew.ensures.adds))
     c.in_ok-needs_anew.ensures.needs
 
 pub needs_anew-needs_of_let-requires : goal.needs_anew-needs_of_let-requires
-needs_anew-needs_of_let-requires t c =
-    let below = c.in-Some-checked_sub.ensures in (
-      omega arith,
-      (
-        parts.term_moved _ _ _ _ c.head_of.ensures.same c.requires.term,
-        (
-          λ u refers. c.in_default.ensures.let_term c.args.symbols.now u c.count-leaves.ensures.table (parts.refers_back _ _ _ c.args.r u c.head_of.ensures.same refers),
-          lemma.needs_moved _ _ _ _ c.head_of.ensures.same c.requires.needs,
-        ),
-      ),
-    )
+needs_anew-needs_of_let-requires t c = (
+  omega arith,
+  (
+    heights.low_moved _ _ _ _ _ c.head_of.ensures.same c.requires.low,
+    (
+      λ u refers. c.in_default.ensures.let_term c.args.symbols.now u c.count-leaves.ensures.table (parts.refers_back _ _ _ c.args.r u c.head_of.ensures.same refers),
+      lemma.needs_moved _ _ _ _ c.head_of.ensures.same c.requires.needs,
+    ),
+  ),
+)
 
 pub needs_anew-is_variable-requires : goal.needs_anew-is_variable-requires
 needs_anew-is_variable-requires t c =
-    let u = c.requires.term in
+    let u = c.requires.low in
     head_within c.args.symbols.now c.in-Some.head (arguments_of u.means) u.means (c.in-Some.ensures.application c.args.symbols.now u.means c.count-leaves.ensures.table u.refers)
 
 pub needs_anew-returns-then-is_variable-clause-adds : goal.needs_anew-returns-then-is_variable-clause-adds
@@ -59,16 +58,18 @@ needs_anew-returns-then-is_variable-clause-adds t c =
     (c.in-Some.ensures.application c.args.symbols.now u c.count-leaves.ensures.table refers))
     c.add.ensures
 
+pub needs_anew-overflow_sub-most : goal.needs_anew-overflow_sub-most
+needs_anew-overflow_sub-most t c = heights.positive _ _ c.args.most c.args.r c.requires.low
+
 pub needs_anew-needs_of_all-requires : goal.needs_anew-needs_of_all-requires
 needs_anew-needs_of_all-requires t c =
-    let below = c.in-Some-checked_sub-2.ensures in
+    let some : 1 ≤ c.args.most = heights.positive _ _ c.args.most c.args.r c.requires.low in
     let same = c.arguments_of.ensures.same ∙ c.head_of.ensures.same in (
       omega arith,
       (
-        parts.terms_moved _ _ _ c.in_ok-list.list.items _ c.arguments_of.ensures.same c.deref.ensures.value
-            (parts.arguments_are c.args.symbols.now c.head_of.new.terms c.args.r c.in-Some.head c.in_ok-list.list.items
-            (λ u refers. c.in-Some.ensures.application c.args.symbols.now u c.count-leaves.ensures.table (parts.refers_back _ _ _ c.args.r u c.head_of.ensures.same refers))
-            c.in_ok-list.ensures.arguments (parts.term_moved _ _ _ _ c.head_of.ensures.same c.requires.term)),
+        heights.all_low_moved _ _ _ _ c.in_ok-list.list.items _ c.arguments_of.ensures.same c.deref.ensures.value
+            (heights.arguments_low c.args.symbols.now c.head_of.new.terms c.args.most c.args.r c.in-Some.head c.in_ok-list.list.items (heights.low_moved _ _ _ _ _ c.head_of.ensures.same c.requires.low)
+            (λ u refers. c.in-Some.ensures.application c.args.symbols.now u c.count-leaves.ensures.table (parts.refers_back _ _ _ c.args.r u c.head_of.ensures.same refers)) c.in_ok-list.ensures.arguments),
         lemma.needs_moved _ _ _ _ same c.requires.needs,
       ),
     )
@@ -95,7 +96,7 @@ needs_of_all-add_needs_of-requires t c =
     let above = c.terms-test.true in (
       omega arith,
       (
-        parts.term_moved _ _ _ _ walk.same (parts.one_of c.args.symbols.now c.args.terms.now c.args.list.now (c.terms.at - 1) c.index-list-at.result c.requires.terms (omega arith) c.index-list-at.is),
+        heights.low_moved _ _ _ _ _ walk.same (heights.low_at c.args.symbols.now c.args.terms.now c.args.most c.args.list.now (c.terms.at - 1) c.index-list-at.result c.requires.low (omega arith) c.index-list-at.is),
         lemma.needs_moved _ _ _ _ walk.same walk.needs,
       ),
     )
@@ -103,78 +104,78 @@ needs_of_all-add_needs_of-requires t c =
 pub needs_of_all-terms-preserved : goal.needs_of_all-terms-preserved
 needs_of_all-terms-preserved t c =
     lemma.passed-next c.args.symbols.now c.args.terms.now c.terms.terms c.add_needs_of.new.terms c.args.list.now c.terms.at c.index-list-at.result c.args.found.now.keys c.terms.found.keys c.add_needs_of.new.found.keys
-    c.terms.needs c.add_needs_of.new.needs c.terms.invariant c.terms-test.true c.index-list-at.is c.add_needs_of.ensures.same c.in_ok-add_needs_of.ensures.adds c.in_ok-add_needs_of.ensures.needs
+    c.terms.needs.leaves c.add_needs_of.new.needs.leaves c.terms.invariant c.terms-test.true c.index-list-at.is c.add_needs_of.ensures.same c.in_ok-add_needs_of.ensures.adds c.in_ok-add_needs_of.ensures.needs
 
-pub needs_of_bound-add_needs_of-requires : goal.needs_of_bound-add_needs_of-requires
-needs_of_bound-add_needs_of-requires t c = (
-  omega arith,
-  (
-    lemma.given-term c.args.symbols.now c.args.terms.now c.count-leaves.ensures.table c.args.k c.in-Some.value.now c.args.parts.now.variables.items c.args.parts.now.values.items c.requires.bindings.0 c.requires.variable.0
-        c.requires.bindings.1 c.requires.variable.1 (sym (c.requires.values c.args.k) ∙ sym c.in-Some.ensures.value),
-    c.requires.needs,
-  ),
-)
-
-pub needs_of_bound-returns-in-Some-clause-adds : goal.needs_of_bound-returns-in-Some-clause-adds
-needs_of_bound-returns-in-Some-clause-adds t c =
-    on_ok_weaker c.add_needs_of.result
-    (λ adds bs y are leaf.
-    lemma.given-adds c.args.symbols.now c.args.terms.now c.count-leaves.ensures.table c.args.k c.in-Some.value.now c.args.parts.now.variables.items c.args.parts.now.values.items c.args.found.now.keys c.add_needs_of.new.found.keys
-    bs y are leaf (sym (c.requires.values c.args.k) ∙ sym c.in-Some.ensures.value) adds)
-    c.add_needs_of.ensures.adds
-
-pub needs_of_bound-returns-in-None-clause-adds : goal.needs_of_bound-returns-in-None-clause-adds
-needs_of_bound-returns-in-None-clause-adds t c =
-    on_ok_weaker c.add.result
-    (λ one bs y are leaf.
-    lemma.unbound-adds c.args.symbols.now c.args.terms.now c.count-leaves.ensures.table c.args.k c.args.parts.now.variables.items c.args.parts.now.values.items c.args.found.now.keys c.add.new.set.keys
-    bs y are leaf (sym (c.requires.values c.args.k) ∙ sym c.in-None.ensures.value) one)
-    c.add.ensures
+pub needs_of_let-overflow_sub-below : goal.needs_of_let-overflow_sub-below
+needs_of_let-overflow_sub-below t c = heights.positive _ _ c.args.most c.args.r c.requires.low
 
 pub needs_of_let-let_parts-requires : goal.needs_of_let-let_parts-requires
-needs_of_let-let_parts-requires t c = parts.is_let_term c.args.symbols.now _ _ c.requires.is_let c.requires.term
+needs_of_let-let_parts-requires t c = parts.is_let_term c.args.symbols.now _ _ c.requires.is_let (heights.is_term _ _ c.args.most c.args.r c.requires.low)
 
 pub needs_of_let-needs_of-requires : goal.needs_of_let-needs_of-requires
-needs_of_let-needs_of-requires t c = (
-  omega arith,
-  (
-    parts.term_moved _ _ _ _ c.let_parts.ensures.same
-        (parts.body_is c.args.symbols.now c.args.terms.now c.args.r c.in_ok-parts.parts.body c.requires.is_let c.in_ok-parts.ensures.body c.requires.term),
-    lemma.needs_moved _ _ _ _ c.let_parts.ensures.same c.requires.needs,
-  ),
-)
-
-pub needs_of_let-leaves-init : goal.needs_of_let-leaves-init
-needs_of_let-leaves-init t c =
-    lemma.through-none c.args.symbols.now c.args.terms.now c.needs_of.new.terms c.in_ok-parts.parts.variables.items c.in_ok-parts.parts.values.items c.args.found.now.keys c.needs_of.new.needs
-    (c.needs_of.ensures.same ∙ c.let_parts.ensures.same) (lemma.needs_moved _ _ _ _ c.needs_of.ensures.same c.in_ok-inside.ensures.needs)
-
-pub needs_of_let-needs_of_bound-requires : goal.needs_of_let-needs_of_bound-requires
-needs_of_let-needs_of_bound-requires t c =
-    let s = c.args.symbols.now in
-    let p = c.in_ok-parts.parts in
-    let (bs, u, e, refers) = parts.let_refers s c.args.terms.now c.args.r c.requires.term.means c.requires.term.refers (c.requires.is_let c.requires.term.means c.requires.term.refers) in (
+needs_of_let-needs_of-requires t c =
+    let some : 1 ≤ c.args.most = heights.positive _ _ c.args.most c.args.r c.requires.low in (
       omega arith,
       (
-        (bs, subst (λ z. AreBindings s z p.variables.items p.values.items bs) (sym c.leaves.invariant.same) (c.in_ok-parts.ensures.bindings s bs u refers)),
-        (
-          lemma.values_moved c.in_ok-values.values c.deref.result.now p.variables.items c.deref-2.result.now p.values.items c.deref.ensures.value c.deref-2.ensures.value c.in_ok-values.ensures,
-          (lemma.needed-variable c.args.symbols.now c.let_parts.new.terms p.body c.in_ok-inside.inside.items c.deref-k-items.result.now c.leaves.k-index c.in_ok-inside.ensures.leaves c.deref-k-items.ensures.value c.leaves-test.true, lemma.needs_moved _ _ _ _ c.leaves.invariant.same c.leaves.invariant.needs),
-        ),
+        heights.low_moved _ _ _ _ _ c.let_parts.ensures.same
+            (heights.body_low c.args.symbols.now c.args.terms.now c.args.most c.args.r c.in_ok-parts.parts.body c.requires.low c.requires.is_let c.in_ok-parts.ensures.body),
+        lemma.needs_moved _ _ _ _ c.let_parts.ensures.same c.requires.needs,
       ),
     )
 
-pub needs_of_let-returns-in_err-needs_of_bound-clause-same : goal.needs_of_let-returns-in_err-needs_of_bound-clause-same
-needs_of_let-returns-in_err-needs_of_bound-clause-same t c = c.needs_of_bound.ensures.same ∙ c.leaves.invariant.same
+pub needs_of_let-leaves-init : goal.needs_of_let-leaves-init
+needs_of_let-leaves-init t c =
+    lemma.through-none c.args.symbols.now c.args.terms.now c.needs_of.new.terms c.in_ok-parts.parts.variables.items c.in_ok-parts.parts.values.items c.args.found.now.keys c.needs_of.new.needs.leaves
+    (c.needs_of.ensures.same ∙ c.let_parts.ensures.same) (lemma.needs_moved _ _ _ _ c.needs_of.ensures.same c.in_ok-inside.ensures.needs)
+
+pub needs_of_let-add_needs_of-requires : goal.needs_of_let-add_needs_of-requires
+needs_of_let-add_needs_of-requires t c =
+    let s = c.args.symbols.now in
+    let p = c.in_ok-parts.parts in
+    let some : 1 ≤ c.args.most = heights.positive _ _ c.args.most c.args.r c.requires.low in (
+      omega arith,
+      (
+        heights.low_moved _ _ _ _ _ c.leaves.invariant.same
+            (heights.value_low s c.args.terms.now c.args.most c.args.r p.variables.items p.values.items c.requires.low c.requires.is_let c.in_ok-parts.ensures.bindings _ c.in-Some.value.now
+            (sym (lemma.values_moved c.in_ok-values.values c.deref.result.now p.variables.items c.deref-2.result.now p.values.items c.deref.ensures.value c.deref-2.ensures.value c.in_ok-values.ensures _) ∙ sym c.in-Some.ensures.value)),
+        lemma.needs_moved _ _ _ _ c.leaves.invariant.same c.leaves.invariant.needs,
+      ),
+    )
+
+pub needs_of_let-returns-in_err-add_needs_of-clause-same : goal.needs_of_let-returns-in_err-add_needs_of-clause-same
+needs_of_let-returns-in_err-add_needs_of-clause-same t c = c.add_needs_of.ensures.same ∙ c.leaves.invariant.same
+
+pub needs_of_let-leaves-preserved-in-Some : goal.needs_of_let-leaves-preserved-in-Some
+needs_of_let-leaves-preserved-in-Some t c =
+    let s = c.args.symbols.now in
+    let p = c.in_ok-parts.parts in
+    let k = get_or c.deref-k-items.result.now c.leaves.k-index 0 in
+    let old = c.leaves.found.keys in
+    let new = c.add_needs_of.new.found.keys in
+    let by_leaves = lemma.values_moved c.in_ok-values.values c.deref.result.now p.variables.items c.deref-2.result.now p.values.items c.deref.ensures.value c.deref-2.ensures.value c.in_ok-values.ensures in
+    lemma.through-next s c.args.terms.now c.leaves.terms c.add_needs_of.new.terms p.variables.items p.values.items _ _ c.args.found.now.keys old new
+    c.leaves.needs.leaves c.add_needs_of.new.needs.leaves k c.leaves.invariant (take_more c.deref-k-items.result.now c.leaves.k-index 0 c.leaves-test.true)
+    (lemma.needed-variable s c.let_parts.new.terms p.body c.in_ok-inside.inside.items c.deref-k-items.result.now c.leaves.k-index c.in_ok-inside.ensures.leaves c.deref-k-items.ensures.value c.leaves-test.true)
+    c.add_needs_of.ensures.same
+    (λ bs y are leaf.
+    lemma.given-adds s c.leaves.terms c.count-leaves.ensures.table k c.in-Some.value.now p.variables.items p.values.items old new bs y are leaf (sym (by_leaves k) ∙ sym c.in-Some.ensures.value) c.in_ok-add_needs_of.ensures.adds)
+    c.in_ok-add_needs_of.ensures.needs
 
 pub needs_of_let-leaves-preserved : goal.needs_of_let-leaves-preserved
 needs_of_let-leaves-preserved t c =
+    let s = c.args.symbols.now in
     let p = c.in_ok-parts.parts in
     let k = get_or c.deref-k-items.result.now c.leaves.k-index 0 in
-    lemma.through-next c.args.symbols.now c.args.terms.now c.leaves.terms c.needs_of_bound.new.terms p.variables.items p.values.items _ _ c.args.found.now.keys c.leaves.found.keys c.needs_of_bound.new.found.keys
-    c.leaves.needs c.needs_of_bound.new.needs k c.leaves.invariant (take_more c.deref-k-items.result.now c.leaves.k-index 0 c.leaves-test.true)
-    (lemma.needed-variable c.args.symbols.now c.let_parts.new.terms p.body c.in_ok-inside.inside.items c.deref-k-items.result.now c.leaves.k-index c.in_ok-inside.ensures.leaves c.deref-k-items.ensures.value c.leaves-test.true)
-    c.needs_of_bound.ensures.same c.in_ok-needs_of_bound.ensures.adds c.in_ok-needs_of_bound.ensures.needs
+    let old = c.leaves.found.keys in
+    let new = c.add.new.set.keys in
+    let by_leaves = lemma.values_moved c.in_ok-values.values c.deref.result.now p.variables.items c.deref-2.result.now p.values.items c.deref.ensures.value c.deref-2.ensures.value c.in_ok-values.ensures in
+    lemma.through-next s c.args.terms.now c.leaves.terms c.leaves.terms p.variables.items p.values.items _ _ c.args.found.now.keys old new
+    c.leaves.needs.leaves c.leaves.needs.leaves k c.leaves.invariant (take_more c.deref-k-items.result.now c.leaves.k-index 0 c.leaves-test.true)
+    (lemma.needed-variable s c.let_parts.new.terms p.body c.in_ok-inside.inside.items c.deref-k-items.result.now c.leaves.k-index c.in_ok-inside.ensures.leaves c.deref-k-items.ensures.value c.leaves-test.true)
+    refl
+    (λ bs y are leaf.
+    lemma.unbound-adds s c.leaves.terms c.count-leaves.ensures.table k p.variables.items p.values.items old new bs y are leaf (sym (by_leaves k) ∙ sym c.in_default.ensures.value) c.in_ok-add.ensures)
+    (lemma.needs_moved _ _ _ _ c.leaves.invariant.same c.leaves.invariant.needs)
 
 pub needs_of_let-returns-clause-adds : goal.needs_of_let-returns-clause-adds
 needs_of_let-returns-clause-adds t c = λ u refers.

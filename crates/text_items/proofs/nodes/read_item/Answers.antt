@@ -17,13 +17,13 @@ loop-inner-init c =
 
 pub unreachable-requires-in_default-next : goal.unreachable-requires-in_default-next
 unreachable-requires-in_default-next c =
-    let n = next_comes c.args.lexer.now c.args.first c.requires.item c.loop-inner.lexer c.loop-inner.nodes.items c.loop-inner.inner c.loop-inner.invariant
+    let n = next_comes c.args.lexer.now c.args.first c.requires.item c.loop-inner.reading c.loop-inner.nodes.items c.loop-inner.inner c.loop-inner.invariant
     c.next.result c.loop-inner-test.true c.next.ensures.exact in
     cc (n.1, c.in_default-next.is)
 
 pub unreachable-requires-in_default-found : goal.unreachable-requires-in_default-found
 unreachable-requires-in_default-found c =
-    let n = next_comes c.args.lexer.now c.args.first c.requires.item c.loop-inner.lexer c.loop-inner.nodes.items c.loop-inner.inner c.loop-inner.invariant
+    let n = next_comes c.args.lexer.now c.args.first c.requires.item c.loop-inner.reading c.loop-inner.nodes.items c.loop-inner.inner c.loop-inner.invariant
     c.next.result c.loop-inner-test.true c.next.ensures.exact in
     cc (n.1, c.in-Ok.is, c.in_default-found.is)
 
@@ -31,7 +31,7 @@ pub loop-inner-preserved-in-Some-placed : goal.loop-inner-preserved-in-Some-plac
 loop-inner-preserved-in-Some-placed c =
     let here : length c.loop-inner.nodes.items ≡ c.len.result = omega (arith, c.len.ensures) in
     let read = rw c.in-Some-found.is at c.in-Ok.ensures in
-    so_far_next c.args.lexer.now c.args.first c.requires.item c.loop-inner.lexer c.loop-inner.nodes.items c.loop-inner.inner c.loop-inner.invariant
+    so_far_next c.args.lexer.now c.args.first c.requires.item c.loop-inner.reading c.loop-inner.nodes.items c.loop-inner.inner c.loop-inner.invariant
     c.in-Some-found.token c.next.new.self c.push-in-Some-placed.new.self.items c.in-Some-placed.after c.loop-inner-test.true
     read.exact read.progress read.source read.position
     (subst (λ nodes. IsAdded c.loop-inner.nodes.items c.loop-inner.inner c.in-Some-found.token c.in-Some-found.token.kind nodes c.in-Some-placed.after)
@@ -41,15 +41,15 @@ loop-inner-preserved-in-Some-placed c =
 pub loop-inner-preserved : goal.loop-inner-preserved
 loop-inner-preserved c =
     let read = rw c.in-Some-found.is at c.in-Ok.ensures in
-    so_far_next c.args.lexer.now c.args.first c.requires.item c.loop-inner.lexer c.loop-inner.nodes.items c.loop-inner.inner c.loop-inner.invariant
+    so_far_next c.args.lexer.now c.args.first c.requires.item c.loop-inner.reading c.loop-inner.nodes.items c.loop-inner.inner c.loop-inner.invariant
     c.in-Some-found.token c.next.new.self c.close-inner.new.nodes.items c.close-inner.result c.loop-inner-test.true
     read.exact read.progress read.source read.position
     (closed_added c.loop-inner.nodes.items c.loop-inner.inner c.in-Some-found.token c.in-Some-found.token.kind _ c.close-inner.result c.close-inner.new.nodes.items (sym c.placed-in-loop-inner.ensures ∙ c.in_default-placed.is) c.close-inner.ensures)
 
 pub returns-clause-item : goal.returns-clause-item
 returns-clause-item c =
-    item_there c.args.lexer.now c.args.first c.requires.item c.loop-inner.lexer c.loop-inner.nodes.items c.loop-inner.inner c.loop-inner.invariant c.loop-inner-test.false
+    item_there c.args.lexer.now c.args.first c.requires.item c.loop-inner.reading c.loop-inner.nodes.items c.loop-inner.inner c.loop-inner.invariant c.loop-inner-test.false
 
 pub returns-clause-behind : goal.returns-clause-behind
 returns-clause-behind c =
-    rest_there c.args.lexer.now c.args.first c.requires.item c.loop-inner.lexer c.loop-inner.nodes.items c.loop-inner.inner c.loop-inner.invariant c.loop-inner-test.false
+    rest_there c.args.lexer.now c.args.first c.requires.item c.loop-inner.reading c.loop-inner.nodes.items c.loop-inner.inner c.loop-inner.invariant c.loop-inner-test.false

@@ -1,6 +1,6 @@
 use Rattle.std.proofs.Common.{length, ◌-◌, ◌≡◌, ◌≤◌, drop, false}
 use Rattle.sexpr.specs.Tokens as spec
-use Rattle.sexpr.proofs.scan.blanks_end.Given as goal
+use Rattle.sexpr.proofs.scan.token_start.Given as goal
 
 abbrev pub invariant-loop-place : goal.invariant-loop-place
 invariant-loop-place l = record {

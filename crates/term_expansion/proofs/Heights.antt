@@ -1,0 +1,117 @@
+-- Heights of terms and of their parts.
+use Rattle.std.proofs.Common.{◌≡◌, ℕ, ◌+◌, ◌-◌, ◌<◌, ◌≤◌, max, List, [], ◌∷◌, length, get_or, Some, Bool, true, false, cond, eqb, sym, subst, All, arith}
+use Rattle.std.proofs.lemmas.List.Elements.{All-nil, All-cons, All-get_or}
+use Rattle.sym_table.specs.Table.{Table}
+use Rattle.term_model.specs.Terms.{Term, numeral, variable, operation, call, let_in, Terms, no_terms, term, list_of, Bindings, no_bindings, binding}
+use Rattle.term_pool.specs.Building.{IsAppliedLeaf, AreBindings}
+use Rattle.term_pool.specs.Reading.{arguments_of, IsLet}
+use Rattle.term_pool.specs.Views.{TermsView, RefersTo, ReferToAll, KeepsTerms, IsTerm}
+use Rattle.rule_model.specs.Heights.{height, highest, highest_bound}
+use Rattle.term_expansion.specs.Expanding.{AreGiven}
+use Rattle.term_expansion.specs.Needs.{IsAtMost, value_of}
+use Rattle.term_expansion.proofs.Images.{same_some}
+use Rattle.term_expansion.proofs.NeedLemmas.{refers-grow}
+use Rattle.term_expansion.proofs.TermParts.{no_let, arguments_refer}
+
+pub is_term : (s : Table) (v : TermsView) (most r : ℕ) → IsAtMost s v most r → IsTerm s v r
+is_term s v most r h = record { means = h.means; refers = h.refers }
+
+-- the same terms
+pub low_moved : (s : Table) (v w : TermsView) (most r : ℕ) → w ≡ v → IsAtMost s v most r → IsAtMost s w most r
+low_moved s v w most r e h = subst (λ (x : TermsView). IsAtMost s x most r) (sym e) h
+
+pub all_low_moved : (s : Table) (v w : TermsView) (most : ℕ) (rs qs : List ℕ) → w ≡ v → qs ≡ rs → All (IsAtMost s v most) rs → All (IsAtMost s w most) qs
+all_low_moved s v w most rs qs e f h =
+    subst (λ (xs : List ℕ). All (IsAtMost s w most) xs) (sym f) (subst (λ (x : TermsView). All (IsAtMost s x most) rs) (sym e) h)
+
+pub low_grow : (s : Table) (v w : TermsView) (most r : ℕ) → KeepsTerms v w → IsAtMost s v most r → IsAtMost s w most r
+low_grow s v w most r keeps h = record { means = h.means; refers = refers-grow s v w keeps r h.means h.refers; low = h.low }
+
+-- one of a list
+pub low_at : (s : Table) (v : TermsView) (most : ℕ) (rs : List ℕ) (i r : ℕ) → All (IsAtMost s v most) rs → i < length rs → r ≡ get_or rs i r → IsAtMost s v most r
+low_at s v most rs i r h l e = subst (λ (k : ℕ). IsAtMost s v most k) (sym e) (All-get_or (IsAtMost s v most) rs i r l h)
+
+pub positive : (s : Table) (v : TermsView) (most r : ℕ) → IsAtMost s v most r → 1 ≤ most
+unfolding height
+positive s v most r h = let low = h.low in let one = at_least h.means in omega arith
+  where
+    at_least : (t : Term) → 1 ≤ height t
+    at_least (numeral n) = omega arith
+    at_least (variable x) = omega arith
+    at_least (operation op ts) = omega arith
+    at_least (call f ts) = omega arith
+    at_least (let_in bs u) = omega arith
+
+-- applications
+list_low : (s : Table) (v : TermsView) (most : ℕ) (rs : List ℕ) (ts : Terms) → highest ts ≤ most → ReferToAll s v rs (list_of ts) → All (IsAtMost s v most) rs
+unfolding height
+list_low s v most [] no_terms low h = All-nil (IsAtMost s v most)
+list_low s v most [] (term t ts) low h = absurd h
+list_low s v most (r ∷ rs) no_terms low h = absurd h
+list_low s v most (r ∷ rs) (term t ts) low h =
+    All-cons (IsAtMost s v most) r rs (record { means = t; refers = h.0; low = omega arith }) (list_low s v most rs ts (omega arith) h.1)
+
+none_low : (s : Table) (v : TermsView) (most : ℕ) (rs : List ℕ) → ReferToAll s v rs [] → All (IsAtMost s v most) rs
+none_low s v most [] h = All-nil (IsAtMost s v most)
+none_low s v most (r ∷ rs) h = absurd h
+
+pub arguments_low : (s : Table) (v : TermsView) (most r head : ℕ) (rs : List ℕ) → IsAtMost s v most r → ((t : Term) → RefersTo s v r t → IsAppliedLeaf s head (arguments_of t) t) → ((s : Table) (t : Term) → RefersTo s v r t → (IsLet t → ⊥) → ReferToAll s v rs (arguments_of t)) → All (IsAtMost s v (most - 1)) rs
+unfolding height
+arguments_low s v most r head rs h application arguments =
+    go h.means h.low (no_let s head (arguments_of h.means) h.means (application h.means h.refers)) (arguments_refer s v r head rs application arguments h.means h.refers)
+  where
+    go : (t : Term) → height t ≤ most → (IsLet t → ⊥) → ReferToAll s v rs (arguments_of t) → All (IsAtMost s v (most - 1)) rs
+    go (numeral n) low never all = none_low s v (most - 1) rs all
+    go (variable x) low never all = none_low s v (most - 1) rs all
+    go (operation op ts) low never all = list_low s v (most - 1) rs ts (omega arith) all
+    go (call f ts) low never all = list_low s v (most - 1) rs ts (omega arith) all
+    go (let_in bs u) low never all = absurd (never tt)
+
+-- lets
+record IsLowLet (s : Table) (v : TermsView) (most r : ℕ) : Type 0 where
+  bindings : Bindings
+  body : Term
+  refers : RefersTo s v r (let_in bindings body)
+  low : 1 + max (highest_bound bindings) (height body) ≤ most
+
+low_let : (s : Table) (v : TermsView) (most r : ℕ) → IsAtMost s v most r → ((t : Term) → RefersTo s v r t → IsLet t) → IsLowLet s v most r
+unfolding height
+low_let s v most r h is = go h.means h.refers h.low (is h.means h.refers)
+  where
+    go : (t : Term) → RefersTo s v r t → height t ≤ most → IsLet t → IsLowLet s v most r
+    go (numeral n) refers low e = absurd e
+    go (variable x) refers low e = absurd e
+    go (operation op ts) refers low e = absurd e
+    go (call f ts) refers low e = absurd e
+    go (let_in bs u) refers low e = record { bindings = bs; body = u; refers = refers; low = low }
+
+pub body_low : (s : Table) (v : TermsView) (most r body : ℕ) → IsAtMost s v most r → ((t : Term) → RefersTo s v r t → IsLet t) → ((s : Table) (bs : Bindings) (u : Term) → RefersTo s v r (let_in bs u) → RefersTo s v body u) → IsAtMost s v (most - 1) body
+body_low s v most r body h is bodies =
+    let l = low_let s v most r h is in
+    let low = l.low in
+    record { means = l.body; refers = bodies s l.bindings l.body l.refers; low = omega arith }
+
+bound_low : (s : Table) (v : TermsView) (most k r : ℕ) (ks rs : List ℕ) (bs : Bindings) → highest_bound bs ≤ most → AreBindings s v ks rs bs → value_of k ks rs ≡ Some r → IsAtMost s v most r
+unfolding height
+bound_low s v most k r [] rs bs low h e = absurd cc
+bound_low s v most k r (j ∷ ks) [] bs low h e = absurd cc
+bound_low s v most k r (j ∷ ks) (q ∷ rs) no_bindings low h e = absurd h
+bound_low s v most k r (j ∷ ks) (q ∷ rs) (binding z t bs) low h e =
+    go (eqb j k) e (λ later. bound_low s v most k r ks rs bs (omega arith) h.2 later)
+  where
+    go : (b : Bool) → cond b (Some q) (value_of k ks rs) ≡ Some r → (value_of k ks rs ≡ Some r → IsAtMost s v most r) → IsAtMost s v most r
+    go true e next = record { means = t; refers = subst (λ i. RefersTo s v i t) (same_some e) h.1; low = omega arith }
+    go false e next = next e
+
+pub value_low : (s : Table) (v : TermsView) (most r : ℕ) (ks rs : List ℕ) → IsAtMost s v most r → ((t : Term) → RefersTo s v r t → IsLet t) → ((s : Table) (bs : Bindings) (u : Term) → RefersTo s v r (let_in bs u) → AreBindings s v ks rs bs) → (k q : ℕ) → value_of k ks rs ≡ Some q → IsAtMost s v (most - 1) q
+value_low s v most r ks rs h is bindings k q e =
+    let l = low_let s v most r h is in
+    let low = l.low in
+    bound_low s v (most - 1) k q ks rs l.bindings (omega arith) (bindings s l.bindings l.body l.refers) e
+
+pub given_low : (s : Table) (v : TermsView) (most r : ℕ) (ks rs leaves gs ps : List ℕ) → IsAtMost s v most r → ((t : Term) → RefersTo s v r t → IsLet t) → ((s : Table) (bs : Bindings) (u : Term) → RefersTo s v r (let_in bs u) → AreBindings s v ks rs bs) → AreGiven leaves ks rs gs ps → All (IsAtMost s v (most - 1)) ps
+given_low s v most r ks rs leaves [] [] h is bindings given = All-nil (IsAtMost s v (most - 1))
+given_low s v most r ks rs leaves [] (p ∷ ps) h is bindings given = absurd given
+given_low s v most r ks rs leaves (g ∷ gs) [] h is bindings given = absurd given
+given_low s v most r ks rs leaves (g ∷ gs) (p ∷ ps) h is bindings given =
+    All-cons (IsAtMost s v (most - 1)) p ps (value_low s v most r ks rs h is bindings g p given.0.1) (given_low s v most r ks rs leaves gs ps h is bindings given.1)
