@@ -19,6 +19,13 @@ pub struct Node {
     pub next: usize,
 }
 
+/// A text, and the nodes of items that stand in it.
+#[derive(Clone, Copy)]
+pub struct ItemText<'n, 't> {
+    pub text: &'n Lexer<'t>,
+    pub nodes: &'n [Node],
+}
+
 /// Reads the item that begins with `first`, the token that the lexer gave last, in place of what `nodes` held.
 ///
 /// The lexer stands behind the item then. Refused only for want of memory, where nothing is said of the nodes. The
