@@ -91,7 +91,7 @@ pub(crate) fn expand(
     symbols: &Symbols,
     terms: &mut Terms<'_>,
     expansion: &mut Expansion,
-    most: u32,
+    most: u64,
     r: Ref,
 ) -> Result<Ref, TermStop>
     requires low { IsAtMost symbols.now terms.old most r }
@@ -128,7 +128,7 @@ fn expand_anew(
     symbols: &Symbols,
     terms: &mut Terms<'_>,
     expansion: &mut Expansion,
-    most: u32,
+    most: u64,
     r: Ref,
 ) -> Result<Ref, TermStop>
     requires cell { 2 ^ 30 ≤ r }
@@ -155,7 +155,7 @@ fn expand_application(
     symbols: &Symbols,
     terms: &mut Terms<'_>,
     expansion: &mut Expansion,
-    most: u32,
+    most: u64,
     r: Ref,
     head: u32,
 ) -> Result<Ref, TermStop>
@@ -186,7 +186,7 @@ fn expand_let(
     symbols: &Symbols,
     terms: &mut Terms<'_>,
     expansion: &mut Expansion,
-    most: u32,
+    most: u64,
     r: Ref,
 ) -> Result<Ref, TermStop>
     requires is_let { (t : Term) → RefersTo symbols.now terms.old r t → IsLet t }
@@ -222,7 +222,7 @@ fn expand_all(
     symbols: &Symbols,
     terms: &mut Terms<'_>,
     expansion: &mut Expansion,
-    most: u32,
+    most: u64,
     list: &[Ref],
 ) -> Result<Vec<Ref>, TermStop>
     requires low { All (IsAtMost symbols.now terms.old most) list.now }

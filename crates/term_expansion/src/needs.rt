@@ -64,7 +64,7 @@ pub(crate) fn needs_of(
     symbols: &Symbols,
     terms: &mut Terms<'_>,
     needs: &mut KnownNeeds,
-    most: u32,
+    most: u64,
     r: Ref,
 ) -> Result<Vec<u32>, Memory>
     requires low { IsAtMost symbols.now terms.old most r }
@@ -91,7 +91,7 @@ fn needs_anew(
     symbols: &Symbols,
     terms: &mut Terms<'_>,
     needs: &mut KnownNeeds,
-    most: u32,
+    most: u64,
     r: Ref,
     found: &mut IndexSet<u32>,
 ) -> Result<(), Memory>
@@ -118,7 +118,7 @@ fn add_needs_of(
     symbols: &Symbols,
     terms: &mut Terms<'_>,
     needs: &mut KnownNeeds,
-    most: u32,
+    most: u64,
     r: Ref,
     found: &mut IndexSet<u32>,
 ) -> Result<(), Memory>
@@ -140,7 +140,7 @@ fn needs_of_all(
     symbols: &Symbols,
     terms: &mut Terms<'_>,
     needs: &mut KnownNeeds,
-    most: u32,
+    most: u64,
     list: &[Ref],
     found: &mut IndexSet<u32>,
 ) -> Result<(), Memory>
@@ -165,7 +165,7 @@ fn needs_of_let(
     symbols: &Symbols,
     terms: &mut Terms<'_>,
     needs: &mut KnownNeeds,
-    most: u32,
+    most: u64,
     r: Ref,
     found: &mut IndexSet<u32>,
 ) -> Result<(), Memory>

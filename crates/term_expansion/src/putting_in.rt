@@ -95,7 +95,7 @@ fn put_in_expanded(
     Ok(Value {
         term,
         sort: what.sort,
-        height,
+        height: height as u64,
         plain: all_plain(replacement),
     })
 }

@@ -20,7 +20,7 @@ use term_model::Sort;
 pub struct Values {
     terms: Vec<Ref>,
     sorts: Vec<Sort>,
-    heights: Vec<u32>,
+    heights: Vec<u64>,
     plain: Vec<bool>,
     len: usize,
 }
@@ -124,7 +124,7 @@ impl Values {
     }
 
     /// The greatest height of the values from place `n` on, or 0 where there are none.
-    pub fn highest_from(&self, n: usize) -> u32
+    pub fn highest_from(&self, n: usize) -> u64
         requires { n ≤ length self.now }
         ensures { result ≡ greatest_height (drop n self.now) }
     {
@@ -144,7 +144,7 @@ impl Values {
 fn one_more(
     terms: &mut Vec<Ref>,
     sorts: &mut Vec<Sort>,
-    heights: &mut Vec<u32>,
+    heights: &mut Vec<u64>,
     plain: &mut Vec<bool>,
     value: Value,
 ) -> Result<(), Memory>
@@ -165,7 +165,7 @@ fn one_more(
 }
 
 /// The greatest of some numbers, or 0 where there are none.
-fn greatest(numbers: &[u32]) -> u32
+fn greatest(numbers: &[u64]) -> u64
     ensures { result ≡ spec.greatest numbers.now }
 {
     numbers.iter().copied().max().unwrap_or(0)

@@ -21,14 +21,14 @@ use std::collections::HashMap;
 #[derive(Clone, Copy)]
 pub struct Image {
     pub term: Ref,
-    pub height: u32,
-    highest: u32,
+    pub height: u64,
+    highest: u64,
     pub plain: bool,
 }
 
 impl Image {
     /// A term with its height and its mark.
-    pub fn new(term: Ref, height: u32, plain: bool) -> Image
+    pub fn new(term: Ref, height: u64, plain: bool) -> Image
         ensures { result ≡ record { term = term; height = height; highest = 0; plain = plain } }
     {
         Image {

@@ -13,7 +13,7 @@ use term_names::faults::ReadFault;
 use text_items::refusals::refused;
 
 /// The greatest height of a term.
-const MOST_HEIGHT: u32 = 2000;
+const MOST_HEIGHT: u64 = 2000;
 
 /// The term that begins at `place`, where its sorts allow one and it is not too high.
 pub(crate) fn settle(place: u64, made: Option<Value>) -> Result<Value, ReadFault>
