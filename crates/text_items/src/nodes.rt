@@ -52,7 +52,13 @@ pub fn read_item(
     let Some((next, after)) = placed(first.kind, 0, 1) else {
         unreachable!()
     };
-    nodes.push(Node { token: first, next })?;
+    // Put together from its parts, as each token below.
+    let token = Token {
+        kind: first.kind,
+        start: first.start,
+        end: first.end,
+    };
+    nodes.push(Node { token, next })?;
     let mut inner = after;
     // The lexer is copied while the item is read: what it holds stays in registers, where behind the reference it would be
     // loaded and stored anew for each token.
