@@ -102,28 +102,38 @@ pub fn unbind(scope: &mut Scope, count: usize)
     }
 }
 
-/// The let with this body whose variables are these leaves, and whose values stand from place `from` on; where lets are
-/// replaced it is the body. There is one variable or more.
+/// The variables of a let, by their leaves, and their values, which stand from place `from` on.
+#[derive(Clone, Copy)]
+pub struct LetVariables<'n> {
+    pub leaves: &'n [u32],
+    pub values: &'n Values,
+    pub from: usize,
+}
+
+/// The let with this body that binds these variables, of which there is one or more; where lets are replaced it is the body.
 pub fn close(
     symbols: &Symbols,
     terms: &mut Terms<'_>,
-    leaves: &[u32],
-    values: &Values,
-    from: usize,
+    variables: &LetVariables<'_>,
     body: Value,
     replaces_lets: bool,
 ) -> Result<Option<Value>, ReadFault>
-    requires some { 0 < length leaves.now }
-    requires within { from ≤ length values.now }
-    requires low { AreLow values.now }
+    requires some { 0 < length variables.now.leaves.now }
+    requires within { variables.now.from ≤ length variables.now.values.now }
+    requires low { AreLow variables.now.values.now }
     requires body_low { body.height ≤ most_height }
-    requires bound { (bs : List Bound) × (t : Typed) × AreValuesBound symbols.now terms.old leaves.now (drop from values.now) bs × IsValue symbols.now terms.old body t }
-    ensures makes { (p : Place) (bs : List Bound) (t : Typed) → AreValuesBound symbols.now terms.old leaves.now (drop from values.now) bs → IsValue symbols.now terms.old body t → p.settings.replaces_lets ≡ replaces_lets → Makes symbols.now terms.old terms.new (Some (let_term p bs t)) result }
+    requires bound { (bs : List Bound) × (t : Typed) × AreValuesBound symbols.now terms.old variables.now.leaves.now (drop variables.now.from variables.now.values.now) bs × IsValue symbols.now terms.old body t }
+    ensures makes { (p : Place) (bs : List Bound) (t : Typed) → AreValuesBound symbols.now terms.old variables.now.leaves.now (drop variables.now.from variables.now.values.now) bs → IsValue symbols.now terms.old body t → p.settings.replaces_lets ≡ replaces_lets → Makes symbols.now terms.old terms.new (Some (let_term p bs t)) result }
     ensures keeps { KeepsTerms terms.old terms.new }
 {
     if replaces_lets {
         return Ok(Some(body));
     }
+    let LetVariables {
+        leaves,
+        values,
+        from,
+    } = *variables;
     let _leaves = symbols.count();
     trees_are_built_of_parts();
     let height = 1 + values.highest_from(from).max(body.height);
