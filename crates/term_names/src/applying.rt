@@ -15,7 +15,7 @@ ghost use Rattle.term_expansion.specs.Values.{AreValues};
 use crate::entries::Macro;
 use crate::faults::ReadFault;
 use crate::heads::Head;
-use crate::known::Known;
+use crate::known::NameTables;
 use crate::stacks::Values;
 use sort_check::check_app;
 use std::alloc::Global;
@@ -30,20 +30,23 @@ use term_pool::{Terms, trees_are_built_of_parts};
 ///
 /// A macro costs the distinct cells of its body; anything else one cell for each argument and one more.
 pub fn apply(
-    alloc: Global,
-    symbols: &Symbols,
+    tables: &NameTables<'_, '_>,
     terms: &mut Terms<'_>,
-    known: &Known<'_>,
     head: Head,
     values: &Values,
     from: usize,
 ) -> Result<Option<Value>, ReadFault>
     requires some { from < length values.now }
     requires low { AreLow values.now }
-    requires head { (m : Meaning) × (ts : List Typed) × HeadMeans symbols.now terms.old known.now head m × AreValues symbols.now terms.old (drop from values.now) ts }
-    ensures makes { (m : Meaning) (ts : List Typed) → HeadMeans symbols.now terms.old known.now head m → AreValues symbols.now terms.old (drop from values.now) ts → Makes symbols.now terms.old terms.new (meaning_applied m ts) result }
+    requires head { (m : Meaning) × (ts : List Typed) × HeadMeans tables.now.symbols.now terms.old tables.now.known.now head m × AreValues tables.now.symbols.now terms.old (drop from values.now) ts }
+    ensures makes { (m : Meaning) (ts : List Typed) → HeadMeans tables.now.symbols.now terms.old tables.now.known.now head m → AreValues tables.now.symbols.now terms.old (drop from values.now) ts → Makes tables.now.symbols.now terms.old terms.new (meaning_applied m ts) result }
     ensures keeps { KeepsTerms terms.old terms.new }
 {
+    let NameTables {
+        alloc,
+        symbols,
+        known,
+    } = *tables;
     match head {
         Head::Symbol(leaf) => apply_symbol(symbols, terms, leaf, values, from),
         Head::Macro(which) => {

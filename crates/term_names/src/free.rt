@@ -21,7 +21,7 @@ ghost use Rattle.problem_text.specs.Scripts.{Script};
 ghost use Rattle.term_names.specs.Standing.{IsScript};
 ghost use Rattle.term_expansion.specs.Values.{IsValue};
 
-use crate::known::{Known, KnownEntry};
+use crate::known::{Known, KnownEntry, NameTables};
 use indexmap::IndexSet;
 use pair_pool::{Memory, Ref};
 use std::alloc::Global;
@@ -105,25 +105,28 @@ fn leaves_of_named<'b>(
 /// Gathers the free variables of a term that is no higher than `most`.
 #[cycle(gather)]
 fn gather(
-    alloc: Global,
-    symbols: &Symbols,
+    tables: &NameTables<'_, '_>,
     terms: &mut Terms<'_>,
-    known: &Known<'_>,
     bodies: &mut HashMap<u32, Vec<u32>>,
     region: &mut Region,
     r: Ref,
     most: u32,
 ) -> Result<(), Memory>
-    requires table { IsTable symbols.now }
-    requires low { IsAtMost symbols.now terms.old most r }
-    requires bodies { AreBodies symbols.now terms.old bodies.old }
-    requires covers { CoversFree symbols.now terms.old region.old.seen.keys region.old.found.keys }
-    requires script { (sc : Script) × IsScript symbols.now terms.old known.now sc }
-    ensures adds { OnOk result ((t : Term) → RefersTo symbols.now terms.old r t → AddsLeaves symbols.now region.old.found.keys region.new.found.keys (λ x. IsFree x t)) }
-    ensures covers { OnOk result (CoversFree symbols.now terms.old region.new.seen.keys region.new.found.keys) }
-    ensures bodies { OnOk result (AreBodies symbols.now terms.old bodies.new) }
+    requires table { IsTable tables.now.symbols.now }
+    requires low { IsAtMost tables.now.symbols.now terms.old most r }
+    requires bodies { AreBodies tables.now.symbols.now terms.old bodies.old }
+    requires covers { CoversFree tables.now.symbols.now terms.old region.old.seen.keys region.old.found.keys }
+    requires script { (sc : Script) × IsScript tables.now.symbols.now terms.old tables.now.known.now sc }
+    ensures adds { OnOk result ((t : Term) → RefersTo tables.now.symbols.now terms.old r t → AddsLeaves tables.now.symbols.now region.old.found.keys region.new.found.keys (λ x. IsFree x t)) }
+    ensures covers { OnOk result (CoversFree tables.now.symbols.now terms.old region.new.seen.keys region.new.found.keys) }
+    ensures bodies { OnOk result (AreBodies tables.now.symbols.now terms.old bodies.new) }
     ensures same { terms.new ≡ terms.old }
 {
+    let NameTables {
+        alloc,
+        symbols,
+        known,
+    } = *tables;
     if has(&region.seen, r.number()) {
         return Ok(());
     }
@@ -132,52 +135,41 @@ fn gather(
         return add(&mut region.seen, r.number());
     }
     let Some(head) = terms.head(r) else {
-        gather_let(alloc, symbols, terms, known, bodies, region, r, most)?;
+        gather_let(tables, terms, bodies, region, r, most)?;
         return add(&mut region.seen, r.number());
     };
     if is_variable(symbols, head) {
         return add(&mut region.found, head);
     }
     let list = arguments(alloc, terms, r)?;
-    gather_all(
-        alloc,
-        symbols,
-        terms,
-        known,
-        bodies,
-        region,
-        &list,
-        most - 1,
-    )?;
+    gather_all(tables, terms, bodies, region, &list, most - 1)?;
     add(&mut region.seen, r.number())
 }
 
 /// The free variables of all these terms.
 #[cycle(gather)]
 fn gather_all(
-    alloc: Global,
-    symbols: &Symbols,
+    tables: &NameTables<'_, '_>,
     terms: &mut Terms<'_>,
-    known: &Known<'_>,
     bodies: &mut HashMap<u32, Vec<u32>>,
     region: &mut Region,
     list: &[Ref],
     most: u32,
 ) -> Result<(), Memory>
-    requires table { IsTable symbols.now }
-    requires low { All (IsAtMost symbols.now terms.old most) list.now }
-    requires bodies { AreBodies symbols.now terms.old bodies.old }
-    requires covers { CoversFree symbols.now terms.old region.old.seen.keys region.old.found.keys }
-    requires script { (sc : Script) × IsScript symbols.now terms.old known.now sc }
-    ensures adds { OnOk result ((ts : List Term) → ReferToAll symbols.now terms.old list.now ts → AddsLeaves symbols.now region.old.found.keys region.new.found.keys (λ x. IsFreeInAny x ts)) }
-    ensures covers { OnOk result (CoversFree symbols.now terms.old region.new.seen.keys region.new.found.keys) }
-    ensures bodies { OnOk result (AreBodies symbols.now terms.old bodies.new) }
+    requires table { IsTable tables.now.symbols.now }
+    requires low { All (IsAtMost tables.now.symbols.now terms.old most) list.now }
+    requires bodies { AreBodies tables.now.symbols.now terms.old bodies.old }
+    requires covers { CoversFree tables.now.symbols.now terms.old region.old.seen.keys region.old.found.keys }
+    requires script { (sc : Script) × IsScript tables.now.symbols.now terms.old tables.now.known.now sc }
+    ensures adds { OnOk result ((ts : List Term) → ReferToAll tables.now.symbols.now terms.old list.now ts → AddsLeaves tables.now.symbols.now region.old.found.keys region.new.found.keys (λ x. IsFreeInAny x ts)) }
+    ensures covers { OnOk result (CoversFree tables.now.symbols.now terms.old region.new.seen.keys region.new.found.keys) }
+    ensures bodies { OnOk result (AreBodies tables.now.symbols.now terms.old bodies.new) }
     ensures same { terms.new ≡ terms.old }
 {
     let mut at = list.len();
     'terms: while at > 0 {
         at -= 1;
-        gather(alloc, symbols, terms, known, bodies, region, list[at], most)?;
+        gather(tables, terms, bodies, region, list[at], most)?;
     }
     Ok(())
 }
@@ -185,45 +177,35 @@ fn gather_all(
 /// The free variables of a let: those of what it gives variables, and those of its body that it does not bind.
 #[cycle(gather)]
 fn gather_let(
-    alloc: Global,
-    symbols: &Symbols,
+    tables: &NameTables<'_, '_>,
     terms: &mut Terms<'_>,
-    known: &Known<'_>,
     bodies: &mut HashMap<u32, Vec<u32>>,
     region: &mut Region,
     r: Ref,
     most: u32,
 ) -> Result<(), Memory>
-    requires table { IsTable symbols.now }
-    requires low { IsAtMost symbols.now terms.old most r }
-    requires is_let { (t : Term) → RefersTo symbols.now terms.old r t → IsLet t }
-    requires bodies { AreBodies symbols.now terms.old bodies.old }
-    requires covers { CoversFree symbols.now terms.old region.old.seen.keys region.old.found.keys }
-    requires script { (sc : Script) × IsScript symbols.now terms.old known.now sc }
-    ensures adds { OnOk result ((t : Term) → RefersTo symbols.now terms.old r t → AddsLeaves symbols.now region.old.found.keys region.new.found.keys (λ x. IsFree x t)) }
-    ensures covers { OnOk result (CoversFree symbols.now terms.old region.new.seen.keys region.new.found.keys) }
-    ensures bodies { OnOk result (AreBodies symbols.now terms.old bodies.new) }
+    requires table { IsTable tables.now.symbols.now }
+    requires low { IsAtMost tables.now.symbols.now terms.old most r }
+    requires is_let { (t : Term) → RefersTo tables.now.symbols.now terms.old r t → IsLet t }
+    requires bodies { AreBodies tables.now.symbols.now terms.old bodies.old }
+    requires covers { CoversFree tables.now.symbols.now terms.old region.old.seen.keys region.old.found.keys }
+    requires script { (sc : Script) × IsScript tables.now.symbols.now terms.old tables.now.known.now sc }
+    ensures adds { OnOk result ((t : Term) → RefersTo tables.now.symbols.now terms.old r t → AddsLeaves tables.now.symbols.now region.old.found.keys region.new.found.keys (λ x. IsFree x t)) }
+    ensures covers { OnOk result (CoversFree tables.now.symbols.now terms.old region.new.seen.keys region.new.found.keys) }
+    ensures bodies { OnOk result (AreBodies tables.now.symbols.now terms.old bodies.new) }
     ensures same { terms.new ≡ terms.old }
 {
     if let Some(leaves) = bodies.get(&r.number()) {
         return add_all(leaves, &mut region.found);
     }
+    let alloc = tables.alloc;
     let parts = let_parts(alloc, terms, r)?;
     let values = &parts.values;
-    gather_all(
-        alloc,
-        symbols,
-        terms,
-        known,
-        bodies,
-        region,
-        values,
-        most - 1,
-    )?;
+    gather_all(tables, terms, bodies, region, values, most - 1)?;
     if let Some(leaves) = bodies.get(&parts.body.number()) {
         return add_unbound(alloc, leaves, &parts.variables, &mut region.found);
     }
-    let leaves = leaves_of(alloc, symbols, terms, known, bodies, parts.body, most - 1)?;
+    let leaves = leaves_of(tables, terms, bodies, parts.body, most - 1)?;
     add_unbound(alloc, &leaves, &parts.variables, &mut region.found)?;
     let _ = bodies.insert(parts.body.number(), leaves)?;
     Ok(())
@@ -232,27 +214,26 @@ fn gather_let(
 /// The leaves of the free variables of a term, by a walk of its own.
 #[cycle(gather)]
 fn leaves_of(
-    alloc: Global,
-    symbols: &Symbols,
+    tables: &NameTables<'_, '_>,
     terms: &mut Terms<'_>,
-    known: &Known<'_>,
     bodies: &mut HashMap<u32, Vec<u32>>,
     r: Ref,
     most: u32,
 ) -> Result<Vec<u32>, Memory>
-    requires table { IsTable symbols.now }
-    requires low { IsAtMost symbols.now terms.old most r }
-    requires bodies { AreBodies symbols.now terms.old bodies.old }
-    requires script { (sc : Script) × IsScript symbols.now terms.old known.now sc }
-    ensures leaves { IfOk result (λ leaves. (t : Term) → RefersTo symbols.now terms.old r t → AddsLeaves symbols.now [] leaves.items (λ x. IsFree x t)) }
-    ensures bodies { OnOk result (AreBodies symbols.now terms.old bodies.new) }
+    requires table { IsTable tables.now.symbols.now }
+    requires low { IsAtMost tables.now.symbols.now terms.old most r }
+    requires bodies { AreBodies tables.now.symbols.now terms.old bodies.old }
+    requires script { (sc : Script) × IsScript tables.now.symbols.now terms.old tables.now.known.now sc }
+    ensures leaves { IfOk result (λ leaves. (t : Term) → RefersTo tables.now.symbols.now terms.old r t → AddsLeaves tables.now.symbols.now [] leaves.items (λ x. IsFree x t)) }
+    ensures bodies { OnOk result (AreBodies tables.now.symbols.now terms.old bodies.new) }
     ensures same { terms.new ≡ terms.old }
 {
+    let alloc = tables.alloc;
     let mut region = Region {
         seen: IndexSet::new(alloc),
         found: IndexSet::new(alloc),
     };
-    gather(alloc, symbols, terms, known, bodies, &mut region, r, most)?;
+    gather(tables, terms, bodies, &mut region, r, most)?;
     let leaves = Vec::from_slice(alloc, region.found.as_slice())?;
     Ok(leaves)
 }
@@ -281,13 +262,10 @@ pub fn free_leaves(
         return Ok(Vec::new(alloc));
     }
     let mut bodies = HashMap::new(alloc);
-    leaves_of(
+    let tables = NameTables {
         alloc,
         symbols,
-        terms,
         known,
-        &mut bodies,
-        what.term,
-        MOST_HEIGHT,
-    )
+    };
+    leaves_of(&tables, terms, &mut bodies, what.term, MOST_HEIGHT)
 }

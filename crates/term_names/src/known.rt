@@ -11,7 +11,7 @@ use crate::entries::{Entries, Entry, Macro, Named};
 use pair_pool::Ref;
 use std::alloc::Global;
 use std::marker::Model;
-use sym_table::Memory;
+use sym_table::{Memory, Symbols};
 use term_expansion::values::Value;
 use term_model::Sort;
 
@@ -37,6 +37,14 @@ pub enum KnownEntry {
 pub struct Known<'a> {
     base: Option<&'a Entries>,
     own: Entries,
+}
+
+/// The tables that say what names mean, and where memory for what is made of them is taken.
+#[derive(Clone, Copy)]
+pub struct NameTables<'n, 'a> {
+    pub alloc: Global,
+    pub symbols: &'n Symbols,
+    pub known: &'n Known<'a>,
 }
 
 impl<'a> Model for Known<'a> {

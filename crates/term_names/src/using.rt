@@ -17,7 +17,7 @@ ghost use Rattle.term_expansion.specs.Values.{PutsIn};
 
 use crate::entries::{Macro, Named};
 use crate::faults::ReadFault;
-use crate::known::Known;
+use crate::known::NameTables;
 use crate::looking_up::Found;
 use crate::scope::Scope;
 use pair_pool::Ref;
@@ -34,18 +34,21 @@ use term_pool::Terms;
 /// Costs nothing but for a named term where lets are replaced, whose distinct cells are gone through where it has a let or
 /// a free variable.
 pub fn use_alone(
-    alloc: Global,
-    symbols: &Symbols,
+    tables: &NameTables<'_, '_>,
     terms: &mut Terms<'_>,
-    known: &Known<'_>,
     scope: &Scope,
     replaces_lets: bool,
     found: Found,
 ) -> Result<Option<Value>, ReadFault>
-    requires found { (p : Place) × (m : Meaning) × IsScope symbols.now terms.old scope.now p.scope × (p.settings.replaces_lets ≡ replaces_lets) × IsFoundMeaning symbols.now terms.old known.now p found (Some m) }
-    ensures makes { (p : Place) (m : Meaning) → IsScope symbols.now terms.old scope.now p.scope → p.settings.replaces_lets ≡ replaces_lets → IsFoundMeaning symbols.now terms.old known.now p found (Some m) → Makes symbols.now terms.old terms.new (meaning_applied m []) result }
+    requires found { (p : Place) × (m : Meaning) × IsScope tables.now.symbols.now terms.old scope.now p.scope × (p.settings.replaces_lets ≡ replaces_lets) × IsFoundMeaning tables.now.symbols.now terms.old tables.now.known.now p found (Some m) }
+    ensures makes { (p : Place) (m : Meaning) → IsScope tables.now.symbols.now terms.old scope.now p.scope → p.settings.replaces_lets ≡ replaces_lets → IsFoundMeaning tables.now.symbols.now terms.old tables.now.known.now p found (Some m) → Makes tables.now.symbols.now terms.old terms.new (meaning_applied m []) result }
     ensures keeps { KeepsTerms terms.old terms.new }
 {
+    let NameTables {
+        alloc,
+        symbols,
+        known,
+    } = *tables;
     match found {
         Found::Term(value) => Ok(Some(value)),
         Found::Named(which) => {

@@ -15,19 +15,19 @@ use Rattle.term_names.proofs.free.+gather.Goals as goal
 pub gather-returns-then-has-clause-adds : goal.gather-returns-then-has-clause-adds
 gather-returns-then-has-clause-adds t c =
     λ u refers.
-    lemma.covers-adds c.args.symbols.now c.args.terms.now c.args.region.now.seen.keys c.args.region.now.found.keys c.args.r c.requires.covers
+    lemma.covers-adds c.args.tables.now.symbols.now c.args.terms.now c.args.region.now.seen.keys c.args.region.now.found.keys c.args.r c.requires.covers
     (subst (Contains c.args.region.now.seen.keys) c.number.ensures.number (c.has.ensures.0 c.if-has.true)) u refers
 
 pub gather-returns-in-Some-clause-adds : goal.gather-returns-in-Some-clause-adds
 gather-returns-in-Some-clause-adds t c =
     on_ok_weaker c.add.result
     (λ one u refers.
-    lemma.kept-adds c.args.symbols.now c.in-Some.leaves.now c.args.region.now.found.keys c.add_all.new.found.keys u (c.in-Some.ensures u refers) c.in_ok-add_all.ensures)
+    lemma.kept-adds c.args.tables.now.symbols.now c.in-Some.leaves.now c.args.region.now.found.keys c.add_all.new.found.keys u (c.in-Some.ensures u refers) c.in_ok-add_all.ensures)
     c.add.ensures
 
 pub gather-returns-in-Some-clause-covers : goal.gather-returns-in-Some-clause-covers
 gather-returns-in-Some-clause-covers t c =
-    let s = c.args.symbols.now in
+    let s = c.args.tables.now.symbols.now in
     let v = c.args.terms.now in
     let old = c.args.region.now.seen.keys in
     let found = c.args.region.now.found.keys in
@@ -41,15 +41,15 @@ gather-returns-in-Some-clause-covers t c =
 
 pub gather-gather_let-requires : goal.gather-gather_let-requires
 gather-gather_let-requires t c =
-    let s = c.args.symbols.now in
+    let s = c.args.tables.now.symbols.now in
     let v = c.args.terms.now in
     let w = c.head.new.self in
     let first : w ≡ v = leaf.stays v w c.head.ensures.keeps c.head.ensures.unchanged in
-    (omega arith, (c.requires.table, (subst (λ z. IsAtMost s z c.args.most c.args.r) (sym first) c.requires.low, (λ u refers. c.in_default-head.ensures.let_term s u c.requires.table (subst (λ z. RefersTo s z c.args.r u) first refers), (subst (λ z. AreBodies s z c.args.bodies.now) (sym first) c.requires.bodies, (subst (λ z. CoversFree s z c.args.region.now.seen.keys c.args.region.now.found.keys) (sym first) c.requires.covers, (c.requires.script.0, subst (λ z. IsScript s z c.args.known.now c.requires.script.0) (sym first) c.requires.script.1)))))))
+    (omega arith, (c.requires.table, (subst (λ z. IsAtMost s z c.args.most c.args.r) (sym first) c.requires.low, (λ u refers. c.in_default-head.ensures.let_term s u c.requires.table (subst (λ z. RefersTo s z c.args.r u) first refers), (subst (λ z. AreBodies s z c.args.bodies.now) (sym first) c.requires.bodies, (subst (λ z. CoversFree s z c.args.region.now.seen.keys c.args.region.now.found.keys) (sym first) c.requires.covers, (c.requires.script.0, subst (λ z. IsScript s z c.args.tables.now.known.now c.requires.script.0) (sym first) c.requires.script.1)))))))
 
 pub gather-returns-in_default-head-clause-covers : goal.gather-returns-in_default-head-clause-covers
 gather-returns-in_default-head-clause-covers t c =
-    let s = c.args.symbols.now in
+    let s = c.args.tables.now.symbols.now in
     let v = c.args.terms.now in
     let w = c.head.new.self in
     let first : w ≡ v = leaf.stays v w c.head.ensures.keeps c.head.ensures.unchanged in
@@ -65,28 +65,28 @@ gather-returns-in_default-head-clause-covers t c =
 pub gather-is_variable-requires : goal.gather-is_variable-requires
 gather-is_variable-requires t c =
     let low = c.requires.low in
-    leaf.head_within c.args.symbols.now c.in-Some-head.head (arguments_of low.means) low.means (c.in-Some-head.ensures.application c.args.symbols.now low.means c.requires.table low.refers)
+    leaf.head_within c.args.tables.now.symbols.now c.in-Some-head.head (arguments_of low.means) low.means (c.in-Some-head.ensures.application c.args.tables.now.symbols.now low.means c.requires.table low.refers)
 
 pub gather-returns-then-is_variable-clause-adds : goal.gather-returns-then-is_variable-clause-adds
 gather-returns-then-is_variable-clause-adds t c =
     let is = c.is_variable.ensures.yes c.if-is_variable.true in
     on_ok_weaker c.add-then-is_variable.result
     (λ one u refers.
-    lemma.variable-adds c.args.symbols.now c.in-Some-head.head is.0 (arguments_of u) u c.args.region.now.found.keys c.add-then-is_variable.new.set.keys is.1 one (c.in-Some-head.ensures.application c.args.symbols.now u c.requires.table refers))
+    lemma.variable-adds c.args.tables.now.symbols.now c.in-Some-head.head is.0 (arguments_of u) u c.args.region.now.found.keys c.add-then-is_variable.new.set.keys is.1 one (c.in-Some-head.ensures.application c.args.tables.now.symbols.now u c.requires.table refers))
     c.add-then-is_variable.ensures
 
 pub gather-returns-then-is_variable-clause-covers : goal.gather-returns-then-is_variable-clause-covers
 gather-returns-then-is_variable-clause-covers t c =
     on_ok_weaker c.add-then-is_variable.result
-    (λ one. lemma.covers-kept c.args.symbols.now c.args.terms.now c.args.region.now.seen.keys c.args.region.now.found.keys c.add-then-is_variable.new.set.keys one.kept c.requires.covers)
+    (λ one. lemma.covers-kept c.args.tables.now.symbols.now c.args.terms.now c.args.region.now.seen.keys c.args.region.now.found.keys c.add-then-is_variable.new.set.keys one.kept c.requires.covers)
     c.add-then-is_variable.ensures
 
 pub gather-overflow_sub-most : goal.gather-overflow_sub-most
-gather-overflow_sub-most t c = lemma.positive c.args.symbols.now c.args.terms.now c.args.most c.args.r c.requires.low
+gather-overflow_sub-most t c = lemma.positive c.args.tables.now.symbols.now c.args.terms.now c.args.most c.args.r c.requires.low
 
 pub gather-gather_all-requires : goal.gather-gather_all-requires
 gather-gather_all-requires t c =
-    let s = c.args.symbols.now in
+    let s = c.args.tables.now.symbols.now in
     let v = c.args.terms.now in
     let w = c.head.new.self in
     let some : 1 ≤ c.args.most = lemma.positive s v c.args.most c.args.r c.requires.low in
@@ -94,12 +94,12 @@ gather-gather_all-requires t c =
     let same = c.arguments.ensures.same in
     let no_let = λ (u : Term) (refers : RefersTo s w c.args.r u). leaf.application-no_let s c.in-Some-head.head (arguments_of u) u (c.in-Some-head.ensures.application s u c.requires.table (subst (λ z. RefersTo s z c.args.r u) first refers)) in
     let low = lemma.arguments_low s w c.args.most c.args.r c.in_ok-list.list.items (subst (λ z. IsAtMost s z c.args.most c.args.r) (sym first) c.requires.low) no_let (c.in_ok-list.ensures.arguments s) in
-    (omega arith, (c.requires.table, (lemma.low_at s w c.arguments.new.terms (c.args.most - 1) c.in_ok-list.list.items c.deref.result.now same c.deref.ensures.value low, (subst (λ z. AreBodies s z c.args.bodies.now) (sym (same ∙ first)) c.requires.bodies, (subst (λ z. CoversFree s z c.args.region.now.seen.keys c.args.region.now.found.keys) (sym (same ∙ first)) c.requires.covers, (c.requires.script.0, subst (λ z. IsScript s z c.args.known.now c.requires.script.0) (sym (same ∙ first)) c.requires.script.1))))))
+    (omega arith, (c.requires.table, (lemma.low_at s w c.arguments.new.terms (c.args.most - 1) c.in_ok-list.list.items c.deref.result.now same c.deref.ensures.value low, (subst (λ z. AreBodies s z c.args.bodies.now) (sym (same ∙ first)) c.requires.bodies, (subst (λ z. CoversFree s z c.args.region.now.seen.keys c.args.region.now.found.keys) (sym (same ∙ first)) c.requires.covers, (c.requires.script.0, subst (λ z. IsScript s z c.args.tables.now.known.now c.requires.script.0) (sym (same ∙ first)) c.requires.script.1))))))
 
 -- what the arguments have
-adds : (t : ℕ) (c : goal.gather-After-drop-list-2 t) → (u : Term) → RefersTo c.args.symbols.now c.args.terms.now c.args.r u → AddsLeaves c.args.symbols.now c.args.region.now.found.keys c.gather_all.new.region.found.keys (λ x. IsFree x u)
+adds : (t : ℕ) (c : goal.gather-After-drop-list-2 t) → (u : Term) → RefersTo c.args.tables.now.symbols.now c.args.terms.now c.args.r u → AddsLeaves c.args.tables.now.symbols.now c.args.region.now.found.keys c.gather_all.new.region.found.keys (λ x. IsFree x u)
 adds t c =
-    let s = c.args.symbols.now in
+    let s = c.args.tables.now.symbols.now in
     let v = c.args.terms.now in
     let w = c.head.new.self in
     let first : w ≡ v = leaf.stays v w c.head.ensures.keeps c.head.ensures.unchanged in
@@ -114,7 +114,7 @@ gather-returns-clause-adds t c = on_ok_weaker c.add-2.result (λ one. adds t c) 
 
 pub gather-returns-clause-covers : goal.gather-returns-clause-covers
 gather-returns-clause-covers t c =
-    let s = c.args.symbols.now in
+    let s = c.args.tables.now.symbols.now in
     let v = c.args.terms.now in
     let w = c.head.new.self in
     let first : c.arguments.new.terms ≡ v = c.arguments.ensures.same ∙ leaf.stays v w c.head.ensures.keeps c.head.ensures.unchanged in
@@ -128,7 +128,7 @@ gather-returns-clause-covers t c =
 
 pub gather_all-terms-preserved : goal.gather_all-terms-preserved
 gather_all-terms-preserved t c =
-    lemma.passed-more c.args.symbols.now c.args.terms.now c.terms.terms c.gather.new.terms c.args.list.now c.terms.at c.index-list-at.result c.args.region.now.found.keys c.terms.region.seen.keys c.terms.region.found.keys
+    lemma.passed-more c.args.tables.now.symbols.now c.args.terms.now c.terms.terms c.gather.new.terms c.args.list.now c.terms.at c.index-list-at.result c.args.region.now.found.keys c.terms.region.seen.keys c.terms.region.found.keys
     c.gather.new.region.seen.keys c.gather.new.region.found.keys c.terms.bodies c.gather.new.bodies
     c.terms.invariant c.terms-test.true c.index-list-at.is c.gather.ensures.same c.in_ok-gather.ensures.adds c.in_ok-gather.ensures.covers c.in_ok-gather.ensures.bodies
 
@@ -136,29 +136,29 @@ pub gather_let-returns-in-Some-clause-adds : goal.gather_let-returns-in-Some-cla
 gather_let-returns-in-Some-clause-adds t c =
     on_ok_weaker c.add_all.result
     (λ adds u refers.
-    lemma.kept-adds c.args.symbols.now c.in-Some.leaves.now.items c.args.region.now.found.keys c.add_all.new.found.keys u
-    (c.requires.bodies.each c.number.result c.in-Some.leaves.now (sym c.in-Some.ensures.value) u (subst (λ r. RefersTo c.args.symbols.now c.args.terms.now r u) (sym c.number.ensures.number) refers))
+    lemma.kept-adds c.args.tables.now.symbols.now c.in-Some.leaves.now.items c.args.region.now.found.keys c.add_all.new.found.keys u
+    (c.requires.bodies.each c.number.result c.in-Some.leaves.now (sym c.in-Some.ensures.value) u (subst (λ r. RefersTo c.args.tables.now.symbols.now c.args.terms.now r u) (sym c.number.ensures.number) refers))
     (subst (λ ks. AddsUnbound ks [] c.args.region.now.found.keys c.add_all.new.found.keys) c.deref.ensures.value adds))
     c.add_all.ensures
 
 pub gather_let-returns-in-Some-clause-covers : goal.gather_let-returns-in-Some-clause-covers
 gather_let-returns-in-Some-clause-covers t c =
     on_ok_weaker c.add_all.result
-    (λ adds. lemma.covers-kept c.args.symbols.now c.args.terms.now c.args.region.now.seen.keys c.args.region.now.found.keys c.add_all.new.found.keys adds.kept c.requires.covers)
+    (λ adds. lemma.covers-kept c.args.tables.now.symbols.now c.args.terms.now c.args.region.now.seen.keys c.args.region.now.found.keys c.add_all.new.found.keys adds.kept c.requires.covers)
     c.add_all.ensures
 
 pub gather_let-let_parts-requires : goal.gather_let-let_parts-requires
-gather_let-let_parts-requires t c = lemma.let_there c.args.symbols.now c.args.terms.now c.args.most c.args.r c.requires.low c.requires.is_let
+gather_let-let_parts-requires t c = lemma.let_there c.args.tables.now.symbols.now c.args.terms.now c.args.most c.args.r c.requires.low c.requires.is_let
 
 pub gather_let-overflow_sub-most : goal.gather_let-overflow_sub-most
-gather_let-overflow_sub-most t c = lemma.positive c.args.symbols.now c.args.terms.now c.args.most c.args.r c.requires.low
+gather_let-overflow_sub-most t c = lemma.positive c.args.tables.now.symbols.now c.args.terms.now c.args.most c.args.r c.requires.low
 
 pub gather_let-overflow_sub-most-2 : goal.gather_let-overflow_sub-most-2
-gather_let-overflow_sub-most-2 t c = lemma.positive c.args.symbols.now c.args.terms.now c.args.most c.args.r c.requires.low
+gather_let-overflow_sub-most-2 t c = lemma.positive c.args.tables.now.symbols.now c.args.terms.now c.args.most c.args.r c.requires.low
 
 pub gather_let-gather_all-requires : goal.gather_let-gather_all-requires
 gather_let-gather_all-requires t c =
-    let s = c.args.symbols.now in
+    let s = c.args.tables.now.symbols.now in
     let v = c.args.terms.now in
     let some : 1 ≤ c.args.most = lemma.positive s v c.args.most c.args.r c.requires.low in
     let same = c.let_parts.ensures.same in
@@ -169,14 +169,14 @@ gather_let-gather_all-requires t c =
         c.requires.table,
         (
           lemma.low_at s v c.let_parts.new.terms (c.args.most - 1) p.values.items c.deref-2.result.now same c.deref-2.ensures.value low,
-          (subst (λ z. AreBodies s z c.args.bodies.now) (sym same) c.requires.bodies, (subst (λ z. CoversFree s z c.args.region.now.seen.keys c.args.region.now.found.keys) (sym same) c.requires.covers, (c.requires.script.0, subst (λ z. IsScript s z c.args.known.now c.requires.script.0) (sym same) c.requires.script.1))),
+          (subst (λ z. AreBodies s z c.args.bodies.now) (sym same) c.requires.bodies, (subst (λ z. CoversFree s z c.args.region.now.seen.keys c.args.region.now.found.keys) (sym same) c.requires.covers, (c.requires.script.0, subst (λ z. IsScript s z c.args.tables.now.known.now c.requires.script.0) (sym same) c.requires.script.1))),
         ),
       ),
     )
 
 pub gather_let-leaves_of-requires : goal.gather_let-leaves_of-requires
 gather_let-leaves_of-requires t c =
-    let s = c.args.symbols.now in
+    let s = c.args.tables.now.symbols.now in
     let v = c.args.terms.now in
     let some : 1 ≤ c.args.most = lemma.positive s v c.args.most c.args.r c.requires.low in
     let again = c.gather_all.ensures.same in
@@ -185,13 +185,13 @@ gather_let-leaves_of-requires t c =
       omega arith,
       (
         c.requires.table,
-        (subst (λ z. IsAtMost s z (c.args.most - 1) p.body) (sym (again ∙ c.let_parts.ensures.same)) low, (subst (λ z. AreBodies s z c.gather_all.new.bodies) (sym again) c.in_ok-gather_all.ensures.bodies, (c.requires.script.0, subst (λ z. IsScript s z c.args.known.now c.requires.script.0) (sym (again ∙ c.let_parts.ensures.same)) c.requires.script.1))),
+        (subst (λ z. IsAtMost s z (c.args.most - 1) p.body) (sym (again ∙ c.let_parts.ensures.same)) low, (subst (λ z. AreBodies s z c.gather_all.new.bodies) (sym again) c.in_ok-gather_all.ensures.bodies, (c.requires.script.0, subst (λ z. IsScript s z c.args.tables.now.known.now c.requires.script.0) (sym (again ∙ c.let_parts.ensures.same)) c.requires.script.1))),
       ),
     )
 
 pub gather_let-returns-clause-adds : goal.gather_let-returns-clause-adds
 gather_let-returns-clause-adds t c =
-    let s = c.args.symbols.now in
+    let s = c.args.tables.now.symbols.now in
     let v = c.args.terms.now in
     let p = c.in_ok-parts.parts in
     let same : c.gather_all.new.terms ≡ v = c.gather_all.ensures.same ∙ c.let_parts.ensures.same in
@@ -204,7 +204,7 @@ gather_let-returns-clause-adds t c =
 
 pub gather_let-returns-clause-bodies : goal.gather_let-returns-clause-bodies
 gather_let-returns-clause-bodies t c =
-    let s = c.args.symbols.now in
+    let s = c.args.tables.now.symbols.now in
     let z = c.gather_all.new.terms in
     subst (λ z. AreBodies s z c.insert.new.self) (c.gather_all.ensures.same ∙ c.let_parts.ensures.same)
     (lemma.bodies-more s z c.leaves_of.new.bodies c.insert.new.self c.number-3.result c.in_ok-leaves.leaves c.in_ok-insert.ensures.updates.0
@@ -212,14 +212,14 @@ gather_let-returns-clause-bodies t c =
 
 pub gather_let-returns-clause-covers : goal.gather_let-returns-clause-covers
 gather_let-returns-clause-covers t c =
-    let s = c.args.symbols.now in
+    let s = c.args.tables.now.symbols.now in
     let seen = c.gather_all.new.region.seen.keys in
     let found = c.gather_all.new.region.found.keys in
     lemma.covers-kept s c.args.terms.now seen found c.add_unbound-2.new.found.keys c.in_ok-add_unbound.ensures.kept (subst (λ z. CoversFree s z seen found) c.let_parts.ensures.same c.in_ok-gather_all.ensures.covers)
 
 pub gather_let-returns-in-Some-get-clause-adds : goal.gather_let-returns-in-Some-get-clause-adds
 gather_let-returns-in-Some-get-clause-adds t c =
-    let s = c.args.symbols.now in
+    let s = c.args.tables.now.symbols.now in
     let v = c.args.terms.now in
     let p = c.in_ok-parts.parts in
     let leaves = c.in-Some-get.leaves.now in
@@ -236,7 +236,7 @@ gather_let-returns-in-Some-get-clause-adds t c =
 
 pub gather_let-returns-in-Some-get-clause-covers : goal.gather_let-returns-in-Some-get-clause-covers
 gather_let-returns-in-Some-get-clause-covers t c =
-    let s = c.args.symbols.now in
+    let s = c.args.tables.now.symbols.now in
     let seen = c.gather_all.new.region.seen.keys in
     let found = c.gather_all.new.region.found.keys in
     on_ok_weaker c.add_unbound.result

@@ -16,7 +16,7 @@ decreases-leaves_of l = 4 * l.most + 2
 
 abbrev pub invariant-gather_all-terms : goal.invariant-gather_all-terms
 invariant-gather_all-terms l =
-    IsPassed l.symbols l.fn.terms l.terms l.fn.list l.at l.fn.region.found.keys l.region.seen.keys l.region.found.keys l.bodies
+    IsPassed l.tables.symbols.now l.fn.terms l.terms l.fn.list l.at l.fn.region.found.keys l.region.seen.keys l.region.found.keys l.bodies
 
 abbrev pub decreases-gather_all-terms : goal.decreases-gather_all-terms
 decreases-gather_all-terms l = l.at
