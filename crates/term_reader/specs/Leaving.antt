@@ -7,7 +7,9 @@ use Rattle.term_reader.specs.Turns.{Goes}
 use Rattle.term_reader.specs.Credits.{node_of, bound_of, effort}
 use Rattle.term_names.specs.declared.faults.ReadFault.{ReadFault}
 use Rattle.term_reader.specs.declared.frames.Frame.{Frame}
-use Rattle.term_reader.specs.declared.leaving_lets.OpenBindings.{OpenBindings}
+use Rattle.term_reader.specs.declared.frames.OpenArguments.{OpenArguments}
+use Rattle.term_reader.specs.declared.frames.OpenBindings.{OpenBindings}
+use Rattle.term_reader.specs.declared.frames.OpenBody.{OpenBody}
 use Rattle.text_items.specs.declared.nodes.Node.{Node}
 use Rattle.term_reader.specs.declared.reader.Reader.{Reader}
 use Rattle.term_reader.specs.declared.reader.Turn.{Turn}
@@ -16,6 +18,14 @@ use Rattle.term_expansion.specs.declared.values.Value.{Value}
 -- the reader with this form as the innermost open one
 abbrev pub with_open : Reader → Frame → Reader
 with_open r frame = record r { frames = frame ∷ r.frames }
+
+-- the form of an application whose arguments are being read
+abbrev pub arguments_frame : OpenArguments → Frame
+arguments_frame a = Frame.Arguments a.place a.head a.from a.end
+
+-- the form of a let whose body is being read
+abbrev pub body_frame : OpenBody → Frame
+body_frame b = Frame.Body b.place b.from b.leaves
 
 -- the form of a let whose bindings are being read
 abbrev pub bindings_frame : OpenBindings → Frame

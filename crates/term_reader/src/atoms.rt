@@ -22,6 +22,7 @@ use term_expansion::values::Value;
 use term_model::Sort;
 use term_names::faults::ReadFault;
 use term_names::heads::Head;
+use term_names::known::NameTables;
 use term_names::looking_up::{Found, find, head_of};
 use term_names::using::use_alone;
 use term_pool::Terms;
@@ -71,15 +72,12 @@ pub(crate) fn symbol_value(
     if is_unknown(&found) {
         return Err(ReadFault::Text(refused(Cause::UnknownName, place)));
     }
-    let made = use_alone(
-        reader.alloc,
+    let tables = NameTables {
+        alloc: reader.alloc,
         symbols,
-        terms,
-        &reader.known,
-        &reader.scope,
-        reader.replaces_lets,
-        found,
-    )?;
+        known: &reader.known,
+    };
+    let made = use_alone(&tables, terms, &reader.scope, reader.replaces_lets, found)?;
     settle(place, made)
 }
 

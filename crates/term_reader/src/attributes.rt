@@ -12,8 +12,16 @@ ghost use Rattle.text_items.specs.Stepping.{IsItemAt, AreItemsFrom};
 
 use sexpr::{Lexer, TokenKind};
 use text_items::keywords::{Keyword, Wanted, attributes_fault};
-use text_items::nodes::Node;
+use text_items::nodes::{ItemText, Node};
 use text_items::shapes::{node_at, second};
+
+/// The attributes of a term, which stand from node `first` to before node `end`.
+#[derive(Clone, Copy)]
+pub(crate) struct TermAttributes<'n, 't> {
+    pub(crate) items: ItemText<'n, 't>,
+    pub(crate) first: usize,
+    pub(crate) end: usize,
+}
 
 /// The first fault of an annotated term that begins at `place`. What stands after its `!` goes from `first` to before
 /// `end`: the term, and one or more attributes.

@@ -22,30 +22,30 @@ use sexpr::{Cause, Lexer};
 use sym_table::Symbols;
 use term_names::faults::ReadFault;
 use term_pool::Terms;
-use text_items::nodes::Node;
+use text_items::nodes::{ItemText, Node};
 use text_items::refusals::refused;
 
 /// Reads the term at node `k`.
 pub(crate) fn enter(
-    text: &Lexer<'_>,
-    nodes: &[Node],
+    items: &ItemText<'_, '_>,
     symbols: &mut Symbols,
     terms: &mut Terms<'_>,
     reader: &mut Reader<'_>,
     k: usize,
 ) -> Result<Turn, ReadFault>
-    requires at { (g : WholeReading) × IsAt (source text.now) nodes.now g symbols.old terms.old reader.old k }
-    requires room { bound_of symbols.old nodes.now reader.old k ≤ 2 ^ 30 }
-    ensures goes { (g : WholeReading) → IsAt (source text.now) nodes.now g symbols.old terms.old reader.old k → Goes (source text.now) nodes.now g symbols.new terms.old terms.new reader.new result }
+    requires at { (g : WholeReading) × IsAt (source items.now.text.now) items.now.nodes.now g symbols.old terms.old reader.old k }
+    requires room { bound_of symbols.old items.now.nodes.now reader.old k ≤ 2 ^ 30 }
+    ensures goes { (g : WholeReading) → IsAt (source items.now.text.now) items.now.nodes.now g symbols.old terms.old reader.old k → Goes (source items.now.text.now) items.now.nodes.now g symbols.new terms.old terms.new reader.new result }
     ensures symbols { AddsNoSymbols symbols.old symbols.new }
-    ensures inside { IfOk result (λ t. node_of t ≤ length nodes.now) }
-    ensures few { IfOk result (λ t. bound_of symbols.new nodes.now reader.new (node_of t) ≤ bound_of symbols.old nodes.now reader.old k) }
-    ensures few_at_all { OnErr result (length symbols.new.leaves ≤ bound_of symbols.old nodes.now reader.old k) }
-    ensures progress { IfOk result (λ t. effort nodes.now reader.new t < effort nodes.now reader.old (turn.Read k)) }
+    ensures inside { IfOk result (λ t. node_of t ≤ length items.now.nodes.now) }
+    ensures few { IfOk result (λ t. bound_of symbols.new items.now.nodes.now reader.new (node_of t) ≤ bound_of symbols.old items.now.nodes.now reader.old k) }
+    ensures few_at_all { OnErr result (length symbols.new.leaves ≤ bound_of symbols.old items.now.nodes.now reader.old k) }
+    ensures progress { IfOk result (λ t. effort items.now.nodes.now reader.new t < effort items.now.nodes.now reader.old (turn.Read k)) }
     ensures replaces { reader.new.replaces_lets ≡ reader.old.replaces_lets }
     ensures base { reader.new.known.base ≡ reader.old.known.base }
     ensures keeps { KeepsTerms terms.old terms.new }
 {
+    let ItemText { text, nodes } = *items;
     match layer_at(text, nodes, k) {
         Layer::Faulty(refusal) => Err(ReadFault::Text(refusal)),
         Layer::Number(n) => Ok(Turn::Use(number_value(symbols, n)?, k + 1)),
@@ -54,33 +54,41 @@ pub(crate) fn enter(
             Ok(Turn::Use(value, k + 1))
         }
         Layer::Application { head, first, end } => {
-            enter_application(text, nodes, symbols, reader, k, head, first, end)
+            let parts = ApplicationParts { head, first, end };
+            enter_application(items, symbols, reader, k, &parts)
         }
         Layer::Let { first, body } => enter_let(text, nodes, reader, k, first, body),
         Layer::Annotated { term, end, .. } => open_form(reader, Frame::Names { end }, term),
     }
 }
 
-/// Reads the first argument of the application at node `k`, whose head is at node `head` and whose arguments stand from
-/// `first` to before `end`. An unknown head is the first fault, whatever the arguments are.
-fn enter_application(
-    text: &Lexer<'_>,
-    nodes: &[Node],
-    symbols: &Symbols,
-    reader: &mut Reader<'_>,
-    k: usize,
+/// The nodes of an application: that of its head, and those of its arguments, from `first` to before `end`.
+#[derive(Clone, Copy)]
+struct ApplicationParts {
     head: usize,
     first: usize,
     end: usize,
+}
+
+/// Reads the first argument of the application at node `k`, which has these parts. An unknown head is the first fault, whatever
+/// the arguments are.
+fn enter_application(
+    items: &ItemText<'_, '_>,
+    symbols: &Symbols,
+    reader: &mut Reader<'_>,
+    k: usize,
+    parts: &ApplicationParts,
 ) -> Result<Turn, ReadFault>
-    requires { (v : TermsView) × (g : WholeReading) × HasTop (source text.now) nodes.now g symbols.now v reader.old k (top.Application head first end) }
-    ensures goes { (v : TermsView) (g : WholeReading) → HasTop (source text.now) nodes.now g symbols.now v reader.old k (top.Application head first end) → Goes (source text.now) nodes.now g symbols.now v v reader.new result }
-    ensures inside { IfOk result (λ t. node_of t ≤ length nodes.now) }
-    ensures few { IfOk result (λ t. bound_of symbols.now nodes.now reader.new (node_of t) ≤ bound_of symbols.now nodes.now reader.old k) }
-    ensures progress { IfOk result (λ t. effort nodes.now reader.new t < effort nodes.now reader.old (turn.Read k)) }
+    requires { (v : TermsView) × (g : WholeReading) × HasTop (source items.now.text.now) items.now.nodes.now g symbols.now v reader.old k (top.Application parts.now.head parts.now.first parts.now.end) }
+    ensures goes { (v : TermsView) (g : WholeReading) → HasTop (source items.now.text.now) items.now.nodes.now g symbols.now v reader.old k (top.Application parts.now.head parts.now.first parts.now.end) → Goes (source items.now.text.now) items.now.nodes.now g symbols.now v v reader.new result }
+    ensures inside { IfOk result (λ t. node_of t ≤ length items.now.nodes.now) }
+    ensures few { IfOk result (λ t. bound_of symbols.now items.now.nodes.now reader.new (node_of t) ≤ bound_of symbols.now items.now.nodes.now reader.old k) }
+    ensures progress { IfOk result (λ t. effort items.now.nodes.now reader.new t < effort items.now.nodes.now reader.old (turn.Read k)) }
     ensures replaces { reader.new.replaces_lets ≡ reader.old.replaces_lets }
     ensures base { reader.new.known.base ≡ reader.old.known.base }
 {
+    let ItemText { text, nodes } = *items;
+    let ApplicationParts { head, first, end } = *parts;
     let Some(applied) = head_at(text, nodes, symbols, reader, head) else {
         return Err(ReadFault::Text(refused(Cause::UnknownName, start_at(nodes, head))));
     };

@@ -35,3 +35,31 @@ pub enum Frame {
         end: usize,
     },
 }
+
+/// An application whose arguments are being read: the fields of `Frame::Arguments`.
+#[derive(Clone, Copy)]
+pub(crate) struct OpenArguments {
+    pub(crate) place: u64,
+    pub(crate) head: Head,
+    pub(crate) from: usize,
+    pub(crate) end: usize,
+}
+
+/// The bindings of a let that are being read: the fields of `Frame::Bindings`.
+#[derive(Clone, Copy)]
+pub(crate) struct OpenBindings {
+    pub(crate) place: u64,
+    pub(crate) from: usize,
+    pub(crate) leaves: usize,
+    pub(crate) name: usize,
+    pub(crate) repeat: usize,
+    pub(crate) body: usize,
+}
+
+/// A let whose body is being read: the fields of `Frame::Body`.
+#[derive(Clone, Copy)]
+pub(crate) struct OpenBody {
+    pub(crate) place: u64,
+    pub(crate) from: usize,
+    pub(crate) leaves: usize,
+}

@@ -3,7 +3,7 @@ ghost use Rattle.std.specs.Prelude.{◌≡◌, ◌≤◌, ◌<◌, ◌^◌, ◌-
 ghost use Rattle.sexpr.specs.Source.{source};
 ghost use Rattle.term_pool.specs.Views.{KeepsTerms};
 ghost use Rattle.term_reader.specs.Frames.{WholeReading};
-ghost use Rattle.term_reader.specs.Leaving.{with_open, Leaves};
+ghost use Rattle.term_reader.specs.Leaving.{with_open, arguments_frame, Leaves};
 ghost use Rattle.term_reader.specs.Turns.{HasRead, Goes};
 ghost use Rattle.term_reader.specs.Credits.{node_of, bound_of, effort};
 ghost use Rattle.term_names.specs.Standing.{AddsNoSymbols};
@@ -11,40 +11,39 @@ ghost use Rattle.term_reader.specs.declared.frames.Frame.TheVariants as frame;
 ghost use Rattle.text_items.specs.declared.nodes.Node as node;
 ghost use Rattle.term_reader.specs.declared.reader.Turn.TheVariants as turn;
 
-use crate::frames::Frame;
-use crate::leaving_lets::{OpenBindings, leave_binding, leave_body};
+use crate::attributes::TermAttributes;
+use crate::frames::{Frame, OpenArguments, OpenBindings, OpenBody};
+use crate::leaving_lets::{leave_binding, leave_body};
 use crate::naming::give_names;
 use crate::reader::{Reader, Turn};
 use crate::settling::settle;
-use sexpr::Lexer;
 use sym_table::Symbols;
 use term_expansion::values::Value;
 use term_names::applying::apply;
 use term_names::faults::ReadFault;
-use term_names::heads::Head;
+use term_names::known::NameTables;
 use term_pool::Terms;
-use text_items::nodes::Node;
+use text_items::nodes::ItemText;
 
 /// Goes on with the innermost open form, whose next term is `value`; behind that stands node `n`.
 pub(crate) fn leave(
-    text: &Lexer<'_>,
-    nodes: &[Node],
+    items: &ItemText<'_, '_>,
     symbols: &mut Symbols,
     terms: &mut Terms<'_>,
     reader: &mut Reader<'_>,
     value: Value,
     n: usize,
 ) -> Result<Turn, ReadFault>
-    requires read { (g : WholeReading) × HasRead (source text.now) nodes.now g symbols.old terms.old reader.old value n }
+    requires read { (g : WholeReading) × HasRead (source items.now.text.now) items.now.nodes.now g symbols.old terms.old reader.old value n }
     requires open { 0 < length reader.old.frames }
-    requires inside { n ≤ length nodes.now }
-    requires room { bound_of symbols.old nodes.now reader.old n ≤ 2 ^ 30 }
-    ensures goes { (g : WholeReading) → HasRead (source text.now) nodes.now g symbols.old terms.old reader.old value n → Goes (source text.now) nodes.now g symbols.new terms.old terms.new reader.new result }
+    requires inside { n ≤ length items.now.nodes.now }
+    requires room { bound_of symbols.old items.now.nodes.now reader.old n ≤ 2 ^ 30 }
+    ensures goes { (g : WholeReading) → HasRead (source items.now.text.now) items.now.nodes.now g symbols.old terms.old reader.old value n → Goes (source items.now.text.now) items.now.nodes.now g symbols.new terms.old terms.new reader.new result }
     ensures symbols { AddsNoSymbols symbols.old symbols.new }
-    ensures inside { IfOk result (λ t. node_of t ≤ length nodes.now) }
-    ensures few { IfOk result (λ t. bound_of symbols.new nodes.now reader.new (node_of t) ≤ bound_of symbols.old nodes.now reader.old n) }
-    ensures few_at_all { OnErr result (length symbols.new.leaves ≤ bound_of symbols.old nodes.now reader.old n) }
-    ensures progress { IfOk result (λ t. effort nodes.now reader.new t < effort nodes.now reader.old (turn.Use value n)) }
+    ensures inside { IfOk result (λ t. node_of t ≤ length items.now.nodes.now) }
+    ensures few { IfOk result (λ t. bound_of symbols.new items.now.nodes.now reader.new (node_of t) ≤ bound_of symbols.old items.now.nodes.now reader.old n) }
+    ensures few_at_all { OnErr result (length symbols.new.leaves ≤ bound_of symbols.old items.now.nodes.now reader.old n) }
+    ensures progress { IfOk result (λ t. effort items.now.nodes.now reader.new t < effort items.now.nodes.now reader.old (turn.Use value n)) }
     ensures replaces { reader.new.replaces_lets ≡ reader.old.replaces_lets }
     ensures base { reader.new.known.base ≡ reader.old.known.base }
     ensures keeps { KeepsTerms terms.old terms.new }
@@ -63,7 +62,15 @@ pub(crate) fn leave(
             head,
             from,
             end,
-        } => leave_arguments(symbols, terms, reader, value, place, head, from, end),
+        } => {
+            let open = OpenArguments {
+                place,
+                head,
+                from,
+                end,
+            };
+            leave_arguments(symbols, terms, reader, value, &open)
+        }
         Frame::Bindings {
             place,
             from,
@@ -80,64 +87,67 @@ pub(crate) fn leave(
                 repeat,
                 body,
             };
-            leave_binding(text, nodes, symbols, reader, value, n, open)
+            leave_binding(items, symbols, reader, value, n, &open)
         }
         Frame::Body {
             place,
             from,
             leaves,
-        } => leave_body(symbols, terms, reader, value, n, place, from, leaves),
+        } => {
+            let open = OpenBody {
+                place,
+                from,
+                leaves,
+            };
+            leave_body(symbols, terms, reader, value, n, &open)
+        }
         Frame::Names { end } => {
-            leave_annotated(text, nodes, symbols, terms, reader, value, n, end)
+            let attributes = TermAttributes {
+                items: *items,
+                first: n,
+                end,
+            };
+            leave_annotated(&attributes, symbols, terms, reader, value)
         }
     }
 }
 
-/// The last argument of an application was read, before node `end`: what is applied to them.
+/// The last argument of an application was read: what is applied to them.
 fn leave_arguments(
     symbols: &Symbols,
     terms: &mut Terms<'_>,
     reader: &mut Reader<'_>,
     value: Value,
-    place: u64,
-    head: Head,
-    from: usize,
-    end: usize,
+    form: &OpenArguments,
 ) -> Result<Turn, ReadFault>
-    requires read { (source : List ℕ) × (nodes : List node.Node) × (g : WholeReading) × HasRead source nodes g symbols.now terms.old (with_open reader.old (frame.Arguments place head from end)) value end }
-    ensures leaves { (source : List ℕ) (nodes : List node.Node) (g : WholeReading) → HasRead source nodes g symbols.now terms.old (with_open reader.old (frame.Arguments place head from end)) value end → Leaves source nodes g symbols.now terms.old (with_open reader.old (frame.Arguments place head from end)) value end symbols.now terms.new reader.new result }
+    requires read { (source : List ℕ) × (nodes : List node.Node) × (g : WholeReading) × HasRead source nodes g symbols.now terms.old (with_open reader.old (arguments_frame form.now)) value form.now.end }
+    ensures leaves { (source : List ℕ) (nodes : List node.Node) (g : WholeReading) → HasRead source nodes g symbols.now terms.old (with_open reader.old (arguments_frame form.now)) value form.now.end → Leaves source nodes g symbols.now terms.old (with_open reader.old (arguments_frame form.now)) value form.now.end symbols.now terms.new reader.new result }
     ensures replaces { reader.new.replaces_lets ≡ reader.old.replaces_lets }
     ensures base { reader.new.known.base ≡ reader.old.known.base }
     ensures keeps { KeepsTerms terms.old terms.new }
 {
     reader.values.push(value)?;
-    let made = apply(
-        reader.alloc,
+    let tables = NameTables {
+        alloc: reader.alloc,
         symbols,
-        terms,
-        &reader.known,
-        head,
-        &reader.values,
-        from,
-    )?;
-    reader.values.truncate(from);
-    let term = settle(place, made)?;
-    Ok(Turn::Use(term, end))
+        known: &reader.known,
+    };
+    let made = apply(&tables, terms, form.head, &reader.values, form.from)?;
+    reader.values.truncate(form.from);
+    let term = settle(form.place, made)?;
+    Ok(Turn::Use(term, form.end))
 }
 
 /// The term of an annotation was read, and gets its names.
 fn leave_annotated(
-    text: &Lexer<'_>,
-    nodes: &[Node],
+    attributes: &TermAttributes<'_, '_>,
     symbols: &Symbols,
     terms: &mut Terms<'_>,
     reader: &mut Reader<'_>,
     value: Value,
-    n: usize,
-    end: usize,
 ) -> Result<Turn, ReadFault>
-    requires read { (g : WholeReading) × HasRead (source text.now) nodes.now g symbols.now terms.old (with_open reader.old (frame.Names end)) value n }
-    ensures leaves { (g : WholeReading) → HasRead (source text.now) nodes.now g symbols.now terms.old (with_open reader.old (frame.Names end)) value n → Leaves (source text.now) nodes.now g symbols.now terms.old (with_open reader.old (frame.Names end)) value n symbols.now terms.new reader.new result }
+    requires read { (g : WholeReading) × HasRead (source attributes.now.items.text.now) attributes.now.items.nodes.now g symbols.now terms.old (with_open reader.old (frame.Names attributes.now.end)) value attributes.now.first }
+    ensures leaves { (g : WholeReading) → HasRead (source attributes.now.items.text.now) attributes.now.items.nodes.now g symbols.now terms.old (with_open reader.old (frame.Names attributes.now.end)) value attributes.now.first → Leaves (source attributes.now.items.text.now) attributes.now.items.nodes.now g symbols.now terms.old (with_open reader.old (frame.Names attributes.now.end)) value attributes.now.first symbols.now terms.new reader.new result }
     ensures replaces { reader.new.replaces_lets ≡ reader.old.replaces_lets }
     ensures base { reader.new.known.base ≡ reader.old.known.base }
     ensures keeps { KeepsTerms terms.old terms.new }
@@ -146,14 +156,11 @@ fn leave_annotated(
     let term = &value;
     give_names(
         reader.alloc,
-        text,
-        nodes,
+        attributes,
         symbols,
         terms,
         &mut reader.known,
         *term,
-        n,
-        end,
     )?;
-    Ok(Turn::Use(value, end))
+    Ok(Turn::Use(value, attributes.end))
 }

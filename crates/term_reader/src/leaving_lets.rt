@@ -7,7 +7,7 @@ ghost use Rattle.term_pool.specs.Views.{TermsView, KeepsTerms};
 ghost use Rattle.text_items.specs.ItemShapes.{Name};
 ghost use Rattle.term_reader.specs.Frames.{WholeReading};
 ghost use Rattle.text_items.specs.NameNodes.{IsNameNode};
-ghost use Rattle.term_reader.specs.Leaving.{with_open, bindings_frame, Leaves};
+ghost use Rattle.term_reader.specs.Leaving.{with_open, bindings_frame, body_frame, Leaves};
 ghost use Rattle.term_reader.specs.Turns.{HasRead};
 ghost use Rattle.term_reader.specs.Credits.{bound_of};
 ghost use Rattle.term_names.specs.Standing.{AddsNoSymbols};
@@ -15,7 +15,7 @@ ghost use Rattle.term_names.specs.declared.faults.ReadFault.TheVariants as ReadF
 ghost use Rattle.term_reader.specs.declared.frames.Frame.TheVariants as frame;
 ghost use Rattle.text_items.specs.declared.nodes.Node as node;
 
-use crate::frames::Frame;
+use crate::frames::{Frame, OpenBindings, OpenBody};
 use crate::reader::{Reader, Turn};
 use crate::settling::settle;
 use sexpr::{Cause, Lexer};
@@ -23,38 +23,26 @@ use sym_table::Symbols;
 use term_expansion::values::Value;
 use term_model::Sort;
 use term_names::faults::ReadFault;
-use term_names::lets::{bind, close, unbind};
+use term_names::lets::{LetVariables, bind, close, unbind};
 use term_pool::Terms;
-use text_items::nodes::{Node, node_at};
+use text_items::nodes::{ItemText, Node, node_at};
 use text_items::refusals::refused;
 use text_items::shapes::name_of;
-
-/// The bindings of a let that are being read: the fields of `Frame::Bindings`.
-#[derive(Clone, Copy)]
-pub(crate) struct OpenBindings {
-    pub(crate) place: u64,
-    pub(crate) from: usize,
-    pub(crate) leaves: usize,
-    pub(crate) name: usize,
-    pub(crate) repeat: usize,
-    pub(crate) body: usize,
-}
 
 /// The term of a binding was read: the term of the next one is read, where its variable may be bound, or, where none is
 /// left, the body.
 pub(crate) fn leave_binding(
-    text: &Lexer<'_>,
-    nodes: &[Node],
+    items: &ItemText<'_, '_>,
     symbols: &mut Symbols,
     reader: &mut Reader<'_>,
     value: Value,
     n: usize,
-    pairs: OpenBindings,
+    pairs: &OpenBindings,
 ) -> Result<Turn, ReadFault>
-    requires read { (v : TermsView) × (g : WholeReading) × HasRead (source text.now) nodes.now g symbols.old v (with_open reader.old (bindings_frame pairs)) value n }
-    requires inside { n ≤ length nodes.now }
-    requires room { bound_of symbols.old nodes.now (with_open reader.old (bindings_frame pairs)) n ≤ 2 ^ 30 }
-    ensures leaves { (v : TermsView) (g : WholeReading) → HasRead (source text.now) nodes.now g symbols.old v (with_open reader.old (bindings_frame pairs)) value n → Leaves (source text.now) nodes.now g symbols.old v (with_open reader.old (bindings_frame pairs)) value n symbols.new v reader.new result }
+    requires read { (v : TermsView) × (g : WholeReading) × HasRead (source items.now.text.now) items.now.nodes.now g symbols.old v (with_open reader.old (bindings_frame pairs.now)) value n }
+    requires inside { n ≤ length items.now.nodes.now }
+    requires room { bound_of symbols.old items.now.nodes.now (with_open reader.old (bindings_frame pairs.now)) n ≤ 2 ^ 30 }
+    ensures leaves { (v : TermsView) (g : WholeReading) → HasRead (source items.now.text.now) items.now.nodes.now g symbols.old v (with_open reader.old (bindings_frame pairs.now)) value n → Leaves (source items.now.text.now) items.now.nodes.now g symbols.old v (with_open reader.old (bindings_frame pairs.now)) value n symbols.new v reader.new result }
     ensures symbols { AddsNoSymbols symbols.old symbols.new }
     ensures one_more { length symbols.new.leaves ≤ length symbols.old.leaves + 1 }
     ensures replaces { reader.new.replaces_lets ≡ reader.old.replaces_lets }
@@ -67,7 +55,8 @@ pub(crate) fn leave_binding(
         name,
         repeat,
         body,
-    } = pairs;
+    } = *pairs;
+    let ItemText { text, nodes } = *items;
     add_variable(text, nodes, symbols, &mut reader.leaves, name, value.sort)?;
     reader.values.push(value)?;
     if n == body {
@@ -122,35 +111,35 @@ fn add_variable(
     Ok(())
 }
 
-/// The body of a let was read. Its variables are the leaves from place `first` on, and their values those from `from` on.
+/// The body of a let was read, which is whole with it.
 pub(crate) fn leave_body(
     symbols: &Symbols,
     terms: &mut Terms<'_>,
     reader: &mut Reader<'_>,
     value: Value,
     n: usize,
-    place: u64,
-    from: usize,
-    first: usize,
+    form: &OpenBody,
 ) -> Result<Turn, ReadFault>
-    requires read { (source : List ℕ) × (nodes : List node.Node) × (g : WholeReading) × HasRead source nodes g symbols.now terms.old (with_open reader.old (frame.Body place from first)) value n }
-    ensures leaves { (source : List ℕ) (nodes : List node.Node) (g : WholeReading) → HasRead source nodes g symbols.now terms.old (with_open reader.old (frame.Body place from first)) value n → Leaves source nodes g symbols.now terms.old (with_open reader.old (frame.Body place from first)) value n symbols.now terms.new reader.new result }
+    requires read { (source : List ℕ) × (nodes : List node.Node) × (g : WholeReading) × HasRead source nodes g symbols.now terms.old (with_open reader.old (body_frame form.now)) value n }
+    ensures leaves { (source : List ℕ) (nodes : List node.Node) (g : WholeReading) → HasRead source nodes g symbols.now terms.old (with_open reader.old (body_frame form.now)) value n → Leaves source nodes g symbols.now terms.old (with_open reader.old (body_frame form.now)) value n symbols.now terms.new reader.new result }
     ensures replaces { reader.new.replaces_lets ≡ reader.old.replaces_lets }
     ensures base { reader.new.known.base ≡ reader.old.known.base }
     ensures keeps { KeepsTerms terms.old terms.new }
 {
-    let made = close(
-        symbols,
-        terms,
-        &reader.leaves[first..],
-        &reader.values,
+    let OpenBody {
+        place,
         from,
-        value,
-        reader.replaces_lets,
-    )?;
-    unbind(&mut reader.scope, reader.leaves.len() - first);
+        leaves,
+    } = *form;
+    let variables = LetVariables {
+        leaves: &reader.leaves[leaves..],
+        values: &reader.values,
+        from,
+    };
+    let made = close(symbols, terms, &variables, value, reader.replaces_lets)?;
+    unbind(&mut reader.scope, reader.leaves.len() - leaves);
     reader.values.truncate(from);
-    reader.leaves.truncate(first);
+    reader.leaves.truncate(leaves);
     let term = settle(place, made)?;
     Ok(Turn::Use(term, n))
 }

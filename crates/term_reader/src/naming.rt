@@ -16,9 +16,9 @@ ghost use Rattle.problem_text.specs.Terms.{with_names};
 ghost use Rattle.term_expansion.specs.Values.{IsValue};
 ghost use Rattle.term_names.specs.declared.known.Which.{Which};
 
-use crate::attributes::next_name;
+use crate::attributes::{TermAttributes, next_name};
 use crate::taken::is_taken;
-use sexpr::{Cause, Lexer};
+use sexpr::Cause;
 use std::alloc::Global;
 use sym_table::Symbols;
 use term_expansion::values::Value;
@@ -26,96 +26,99 @@ use term_names::faults::ReadFault;
 use term_names::free::free_leaves;
 use term_names::known::Known;
 use term_pool::Terms;
-use text_items::nodes::{Node, node_at};
+use text_items::nodes::{ItemText, node_at};
 use text_items::refusals::refused;
 use text_items::shapes::name_of;
 
-/// Gives a term the names of the attributes that stand from node `first` to before node `end`. Each may be used from there
-/// on, and none may be a built-in word or the name of a function, a macro or a named term.
+/// A term that gets names, with the leaves of its free variables.
+#[derive(Clone, Copy)]
+struct TermToName<'n> {
+    value: &'n Value,
+    free: &'n [u32],
+}
+
+/// Gives a term the names of its attributes. Each may be used from there on, and none may be a built-in word or the name of a
+/// function, a macro or a named term.
 ///
 /// Goes through the distinct cells of the term once where there is a name. Refuses at the first name that is taken, and
 /// want of memory.
 pub(crate) fn give_names(
     alloc: Global,
-    text: &Lexer<'_>,
-    nodes: &[Node],
+    attributes: &TermAttributes<'_, '_>,
     symbols: &Symbols,
     terms: &mut Terms<'_>,
     known: &mut Known<'_>,
     value: Value,
-    first: usize,
-    end: usize,
 ) -> Result<(), ReadFault>
-    requires attributes { (names : List Name) × AreTermAttributes (source text.now) nodes.now first names end }
+    requires attributes { (names : List Name) × AreTermAttributes (source attributes.now.items.text.now) attributes.now.items.nodes.now attributes.now.first names attributes.now.end }
     requires term { (t : Typed) × IsValue symbols.now terms.old value t }
     requires low { value.height ≤ most_height }
     requires script { (sc : Script) × IsScript symbols.now terms.old known.old sc }
-    ensures given { (names : List Name) (t : Typed) (sc : Script) → AreTermAttributes (source text.now) nodes.now first names end → IsValue symbols.now terms.old value t → IsScript symbols.now terms.old known.old sc → GivesNames symbols.now terms.new known.new t (with_names t names sc) result }
+    ensures given { (names : List Name) (t : Typed) (sc : Script) → AreTermAttributes (source attributes.now.items.text.now) attributes.now.items.nodes.now attributes.now.first names attributes.now.end → IsValue symbols.now terms.old value t → IsScript symbols.now terms.old known.old sc → GivesNames symbols.now terms.new known.new t (with_names t names sc) result }
     ensures macros { (w : Which) → macro_of known.new w ≡ macro_of known.old w }
     ensures base { known.new.base ≡ known.old.base }
     ensures keeps { KeepsTerms terms.old terms.new }
     ensures unchanged { IsUnchanged terms.old.pass terms.new.pass }
 {
-    if next_name(text, nodes, first, end).is_none() {
+    let TermAttributes { items, first, end } = *attributes;
+    if next_name(items.text, items.nodes, first, end).is_none() {
         return Ok(());
     }
     let free = free_leaves(alloc, symbols, terms, known, value)?;
-    give_each(
-        alloc, text, nodes, symbols, known, &value, &free, first, end,
-    )
+    let term = TermToName {
+        value: &value,
+        free: &free,
+    };
+    give_each(alloc, attributes, symbols, known, &term)
 }
 
-/// Gives a term, whose free variables have these leaves, the names of attributes.
+/// Gives a term the names of its attributes.
 fn give_each(
     alloc: Global,
-    text: &Lexer<'_>,
-    nodes: &[Node],
+    attributes: &TermAttributes<'_, '_>,
     symbols: &Symbols,
     known: &mut Known<'_>,
-    value: &Value,
-    free: &[u32],
-    first: usize,
-    end: usize,
+    term: &TermToName<'_>,
 ) -> Result<(), ReadFault>
-    requires attributes { (names : List Name) × AreTermAttributes (source text.now) nodes.now first names end }
-    requires script { (v : TermsView) × (t : Typed) × (sc : Script) × IsFreeIn symbols.now v value.now free.now t × IsScript symbols.now v known.old sc }
-    ensures given { (v : TermsView) (names : List Name) (t : Typed) (sc : Script) → AreTermAttributes (source text.now) nodes.now first names end → IsFreeIn symbols.now v value.now free.now t → IsScript symbols.now v known.old sc → GivesNames symbols.now v known.new t (with_names t names sc) result }
+    requires attributes { (names : List Name) × AreTermAttributes (source attributes.now.items.text.now) attributes.now.items.nodes.now attributes.now.first names attributes.now.end }
+    requires script { (v : TermsView) × (t : Typed) × (sc : Script) × IsFreeIn symbols.now v term.now.value.now term.now.free.now t × IsScript symbols.now v known.old sc }
+    ensures given { (v : TermsView) (names : List Name) (t : Typed) (sc : Script) → AreTermAttributes (source attributes.now.items.text.now) attributes.now.items.nodes.now attributes.now.first names attributes.now.end → IsFreeIn symbols.now v term.now.value.now term.now.free.now t → IsScript symbols.now v known.old sc → GivesNames symbols.now v known.new t (with_names t names sc) result }
     ensures macros { (w : Which) → macro_of known.new w ≡ macro_of known.old w }
     ensures base { known.new.base ≡ known.old.base }
 {
+    let TermAttributes { items, first, end } = *attributes;
     let mut k = first;
     'names: loop {
-        let Some(at) = next_name(text, nodes, k, end) else {
+        let Some(at) = next_name(items.text, items.nodes, k, end) else {
             return Ok(());
         };
-        give_name(alloc, text, nodes, symbols, known, value, free, at)?;
+        give_name(alloc, &items, symbols, known, term, at)?;
         k = at;
     }
 }
 
-/// Gives a term, whose free variables have these leaves, the name at node `at`.
+/// Gives a term the name at node `at`.
 fn give_name(
     alloc: Global,
-    text: &Lexer<'_>,
-    nodes: &[Node],
+    items: &ItemText<'_, '_>,
     symbols: &Symbols,
     known: &mut Known<'_>,
-    value: &Value,
-    free: &[u32],
+    term: &TermToName<'_>,
     at: usize,
 ) -> Result<(), ReadFault>
-    requires name { (x : Name) × IsNameNode (source text.now) nodes.now at x }
+    requires name { (x : Name) × IsNameNode (source items.now.text.now) items.now.nodes.now at x }
     requires script { (v : TermsView) × (sc : Script) × IsScript symbols.now v known.old sc }
-    ensures given { (v : TermsView) (x : Name) (t : Typed) (sc : Script) → IsNameNode (source text.now) nodes.now at x → IsFreeIn symbols.now v value.now free.now t → IsScript symbols.now v known.old sc → GivesNames symbols.now v known.new t (with_names t (x ∷ []) sc) result }
+    ensures given { (v : TermsView) (x : Name) (t : Typed) (sc : Script) → IsNameNode (source items.now.text.now) items.now.nodes.now at x → IsFreeIn symbols.now v term.now.value.now term.now.free.now t → IsScript symbols.now v known.old sc → GivesNames symbols.now v known.new t (with_names t (x ∷ []) sc) result }
     ensures macros { (w : Which) → macro_of known.new w ≡ macro_of known.old w }
     ensures base { known.new.base ≡ known.old.base }
 {
+    let ItemText { text, nodes } = *items;
     let name = name_of(text, nodes, at);
     if is_taken(symbols, known, name) {
         let place = node_at(nodes, at).token.start;
         return Err(ReadFault::Text(refused(Cause::Repeated, place)));
     }
-    let owned = Vec::from_slice(alloc, free)?;
-    known.give_name(name, *value, owned)?;
+    let owned = Vec::from_slice(alloc, term.free)?;
+    known.give_name(name, *term.value, owned)?;
     Ok(())
 }

@@ -18,7 +18,7 @@ use sym_table::Symbols;
 use term_expansion::values::Value;
 use term_names::faults::ReadFault;
 use term_pool::Terms;
-use text_items::nodes::Node;
+use text_items::nodes::{ItemText, Node};
 
 /// Reads the term at node `k` (SMT-LIB 2.6, "Terms and Formulas"): its value, or its first fault.
 ///
@@ -44,15 +44,16 @@ pub fn read(
     ensures base { reader.new.known.base ≡ reader.old.known.base }
     ensures keeps { KeepsTerms terms.old terms.new }
 {
+    let items = ItemText { text, nodes };
     let mut turn = Turn::Read(k);
     'turns: loop {
         turn = match turn {
-            Turn::Read(k) => enter(text, nodes, symbols, terms, reader, k)?,
+            Turn::Read(k) => enter(&items, symbols, terms, reader, k)?,
             Turn::Use(value, n) => {
                 if reader.frames.len() == 0 {
                     return Ok(value);
                 }
-                leave(text, nodes, symbols, terms, reader, value, n)?
+                leave(&items, symbols, terms, reader, value, n)?
             }
         };
     }

@@ -10,38 +10,38 @@ use Rattle.term_reader.proofs.entering.enter_application.Goals as goal
 pub start_at-requires : goal.start_at-requires
 start_at-requires c =
     let (v, g, h) = c.requires in
-    let (at, x, f, fs, e, begins, named, are, same_end, later) = h.top in (x.place, name_begins (source c.args.text.now) c.args.nodes.now c.args.head x named)
+    let (at, x, f, fs, e, begins, named, are, same_end, later) = h.top in (x.place, name_begins (source c.args.items.now.text.now) c.args.items.now.nodes.now c.args.parts.now.head x named)
 
 pub returns-in_default-clause-goes : goal.returns-in_default-clause-goes
 returns-in_default-clause-goes c =
     λ v g h.
-    application_unknown (source c.args.text.now) c.args.nodes.now g c.args.symbols.now v c.args.reader.now c.args.k c.args.head c.args.first c.args.end c.start_at.result c.refused.result h
+    application_unknown (source c.args.items.now.text.now) c.args.items.now.nodes.now g c.args.symbols.now v c.args.reader.now c.args.k c.args.parts.now.head c.args.parts.now.first c.args.parts.now.end c.start_at.result c.refused.result h
     c.start_at.ensures c.refused.ensures c.in_default.ensures
 
 pub returns-clause-goes : goal.returns-clause-goes
 returns-clause-goes c =
     λ v g h.
-    opened_goes c.args.reader.now c.open_form.new.reader _ c.args.first c.open_form.result c.open_form.ensures.opened (source c.args.text.now) c.args.nodes.now g c.args.symbols.now v c.open_form.ensures.fault
+    opened_goes c.args.reader.now c.open_form.new.reader _ c.args.parts.now.first c.open_form.result c.open_form.ensures.opened (source c.args.items.now.text.now) c.args.items.now.nodes.now g c.args.symbols.now v c.open_form.ensures.fault
     (rw c.len.ensures
-    (application_goes (source c.args.text.now) c.args.nodes.now g c.args.symbols.now v c.args.reader.now c.args.k c.args.head c.args.first c.args.end c.start_at-2.result c.in-Some.applied h
+    (application_goes (source c.args.items.now.text.now) c.args.items.now.nodes.now g c.args.symbols.now v c.args.reader.now c.args.k c.args.parts.now.head c.args.parts.now.first c.args.parts.now.end c.start_at-2.result c.in-Some.applied h
     c.start_at-2.ensures c.in-Some.ensures))
 
 pub returns-clause-inside : goal.returns-clause-inside
 returns-clause-inside c =
     let (v, g, h) = c.requires in
-    let further = application_further (source c.args.text.now) c.args.nodes.now g c.args.symbols.now v c.args.reader.now c.args.k c.args.head c.args.first c.args.end h in
-    at_opened c.args.reader.now c.open_form.new.reader _ c.args.first c.open_form.result c.open_form.ensures.opened (λ (q : Reader) (t : Turn). node_of t ≤ length c.args.nodes.now) (omega arith)
+    let further = application_further (source c.args.items.now.text.now) c.args.items.now.nodes.now g c.args.symbols.now v c.args.reader.now c.args.k c.args.parts.now.head c.args.parts.now.first c.args.parts.now.end h in
+    at_opened c.args.reader.now c.open_form.new.reader _ c.args.parts.now.first c.open_form.result c.open_form.ensures.opened (λ (q : Reader) (t : Turn). node_of t ≤ length c.args.items.now.nodes.now) (omega arith)
 
 pub returns-clause-few : goal.returns-clause-few
 returns-clause-few c =
     let (v, g, h) = c.requires in
-    let further = application_further (source c.args.text.now) c.args.nodes.now g c.args.symbols.now v c.args.reader.now c.args.k c.args.head c.args.first c.args.end h in
-    at_opened c.args.reader.now c.open_form.new.reader _ c.args.first c.open_form.result c.open_form.ensures.opened
-    (λ (q : Reader) (t : Turn). bound_of c.args.symbols.now c.args.nodes.now q (node_of t) ≤ bound_of c.args.symbols.now c.args.nodes.now c.args.reader.now c.args.k) (omega arith)
+    let further = application_further (source c.args.items.now.text.now) c.args.items.now.nodes.now g c.args.symbols.now v c.args.reader.now c.args.k c.args.parts.now.head c.args.parts.now.first c.args.parts.now.end h in
+    at_opened c.args.reader.now c.open_form.new.reader _ c.args.parts.now.first c.open_form.result c.open_form.ensures.opened
+    (λ (q : Reader) (t : Turn). bound_of c.args.symbols.now c.args.items.now.nodes.now q (node_of t) ≤ bound_of c.args.symbols.now c.args.items.now.nodes.now c.args.reader.now c.args.k) (omega arith)
 
 pub returns-clause-progress : goal.returns-clause-progress
 returns-clause-progress c =
     let (v, g, h) = c.requires in
-    let further = application_further (source c.args.text.now) c.args.nodes.now g c.args.symbols.now v c.args.reader.now c.args.k c.args.head c.args.first c.args.end h in
-    at_opened c.args.reader.now c.open_form.new.reader _ c.args.first c.open_form.result c.open_form.ensures.opened
-    (λ (q : Reader) (t : Turn). effort c.args.nodes.now q t < effort c.args.nodes.now c.args.reader.now (Turn.Read c.args.k)) (omega arith)
+    let further = application_further (source c.args.items.now.text.now) c.args.items.now.nodes.now g c.args.symbols.now v c.args.reader.now c.args.k c.args.parts.now.head c.args.parts.now.first c.args.parts.now.end h in
+    at_opened c.args.reader.now c.open_form.new.reader _ c.args.parts.now.first c.open_form.result c.open_form.ensures.opened
+    (λ (q : Reader) (t : Turn). effort c.args.items.now.nodes.now q t < effort c.args.items.now.nodes.now c.args.reader.now (Turn.Read c.args.k)) (omega arith)

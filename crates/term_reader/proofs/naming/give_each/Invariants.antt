@@ -7,10 +7,10 @@ use Rattle.term_reader.proofs.naming.give_each.Given as goal
 
 abbrev pub invariant-names : goal.invariant-names
 invariant-names l = record {
-  left : AreLeft l.symbols (source l.text) l.nodes l.value l.free l.first l.k l.end l.fn.known l.known;
+  left : AreLeft l.symbols (source l.attributes.items.text.now) l.attributes.items.nodes.now l.term.value.now l.term.free.now l.attributes.first l.k l.attributes.end l.fn.known l.known;
   macros : (w : Which) → macro_of l.known w ≡ macro_of l.fn.known w;
   base : l.known.base ≡ l.fn.known.base;
 }
 
 abbrev pub decreases-names : goal.decreases-names
-decreases-names l = l.end - l.k
+decreases-names l = l.attributes.end - l.k

@@ -10,7 +10,7 @@ use Rattle.term_reader.proofs.naming.give_name.Goals as goal
 pub returns-then-is_taken-clause-given : goal.returns-then-is_taken-clause-given
 returns-then-is_taken-clause-given c =
     λ v x t sc named free is.
-    let place = name_place (source c.args.text.now) c.args.nodes.now c.args.at x c.node_at-place.result named c.node_at-place.ensures in
+    let place = name_place (source c.args.items.now.text.now) c.args.items.now.nodes.now c.args.at x c.node_at-place.result named c.node_at-place.ensures in
     name_refused t x sc c.refused.result (sym (c.is_taken.ensures v sc is ∙ ap (is_taken sc) (c.name_of-name.ensures x named)) ∙ c.if-is_taken.true)
     (c.refused.ensures ∙ ap (λ (p : ℕ). record { cause = Repeated; at = p }) place)
 
@@ -23,7 +23,7 @@ pub returns-clause-given : goal.returns-clause-given
 returns-clause-given c =
     λ v x t sc named free is.
     let same = c.name_of-name.ensures x named in
-    name_given c.args.symbols.now v c.args.known.now c.give_name.new.self sc c.name_of-name.result.now x t (record { value = c.args.value.now; free = c.in_ok-owned.owned }) same
+    name_given c.args.symbols.now v c.args.known.now c.give_name.new.self sc c.name_of-name.result.now x t (record { value = c.args.term.now.value.now; free = c.in_ok-owned.owned }) same
     (record {
       entry = c.in_ok-give_name.ensures.entry;
       named = c.in_ok-give_name.ensures.named;
