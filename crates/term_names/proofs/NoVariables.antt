@@ -1,5 +1,5 @@
 -- Where the table has no leaf of a variable, none stands free in a term over it.
-use Rattle.std.proofs.Common.{ℕ, [], inl, inr, Contains}
+use Rattle.std.proofs.Common.{ℕ, [], inl, inr}
 use Rattle.sym_table.specs.Leaf.{Leaf, operator}
 use Rattle.sym_table.specs.Table.{Table, IsLeaf}
 use Rattle.pair_pool.specs.Trees.{Tree, leaf, cell}

@@ -1,7 +1,7 @@
 -- Values and their parts.
 use Rattle.std.proofs.Common.{◌≡◌, ℕ, ◌+◌, ◌-◌, ◌≤◌, ◌<◌, Bool, List, [], ◌∷◌, ◌++◌, map, take, drop, length, slice_set, refl, sym, ◌∙◌, ap, subst, ◌&&◌, arith}
 use Rattle.std.specs.List.{list_all}
-use Rattle.std.proofs.lemmas.List.{map-append, take-map, drop-map, take_rest, take-take, take_more_set, take_all, length-append, length-set, length-map, length-take-le, drop-take}
+use Rattle.std.proofs.lemmas.List.{map-append, take-map, drop-map, take-take, take_more_set, take_all, length-append, length-set, length-map, length-take-le, drop-take}
 use Rattle.term_model.specs.declared.symbols.Sort.{Sort}
 use Rattle.term_expansion.specs.declared.values.Value.{Value}
 use Rattle.term_names.specs.StackParts.{values_of, values_in, AreParts, HaveRoom}

@@ -1,5 +1,5 @@
 -- Private. Whether an application is being read, and not yet its last argument.
-use Rattle.std.specs.Prelude.{ℕ, List, [], ◌∷◌, Bool, false, not, nat_eq}
+use Rattle.std.specs.Prelude.{ℕ, List, ◌∷◌, Bool, false, not, nat_eq}
 use Rattle.term_reader.specs.declared.frames.Frame.{Frame}
 
 -- The innermost open form is an application that has more arguments behind node n.

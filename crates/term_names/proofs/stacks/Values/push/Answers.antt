@@ -1,5 +1,5 @@
 -- Each part gets the value's part at its place, which is one of the lists' or their new end.
-use Rattle.std.proofs.Common.{◌∙◌, ap, ◌≡◌, ◌<◌, ◌++◌, ◌+◌, [], ◌∷◌, length, slice_set, subst, sym, arith}
+use Rattle.std.proofs.Common.{◌∙◌, ap, ◌≡◌, ◌++◌, ◌+◌, [], ◌∷◌, length, slice_set, arith}
 use Rattle.term_names.specs.StackParts.{values_in, AreParts, HaveRoom}
 use Rattle.term_names.proofs.ValueParts.{values_of-same, AreParts-own, AreParts-push, AreParts-longer, HaveRoom-push, HaveRoom-longer}
 use Rattle.term_names.proofs.stacks.Values.push.Goals as goal

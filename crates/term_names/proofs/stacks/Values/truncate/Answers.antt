@@ -1,7 +1,7 @@
 -- All parts are cut at one place.
-use Rattle.std.proofs.Common.{◌∙◌, ◌≤◌, ap, sym, refl, take, length, arith}
+use Rattle.std.proofs.Common.{◌∙◌, ap, sym, refl, take, length, arith}
 use Rattle.std.proofs.lemmas.List.{take_all}
-use Rattle.term_names.specs.StackParts.{values_in, AreParts, HaveRoom}
+use Rattle.term_names.specs.StackParts.{values_in, AreParts}
 use Rattle.term_names.proofs.ValueParts.{values_of-same, values-length, AreParts-own, AreParts-take}
 use Rattle.term_names.proofs.stacks.Values.truncate.Goals as goal
 
