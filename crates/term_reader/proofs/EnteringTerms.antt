@@ -207,7 +207,7 @@ module _ (source : List ℕ) (nodes : List Node) (g : WholeReading) (s : Table) 
   -- an argument is read, or the first one
   pub application_goes : (head first end place : ℕ) (applied : Head) → Top (Layer.Application head first end) → IsStart k place
       → ((w : TermsView) (sc : Script) (p : Place) (x : Name) → ReaderStands s w r sc p → IsNameNode source nodes head x → IsHeadFound s w r.known (Some applied) (meaning_of p sc x.name))
-      → Goes source nodes g s v v (with_open r (Frame.Arguments place applied (length r.values) end)) (Ok (Turn.Read first))
+      → Goes source nodes g s v v (with_open r (Frame.Arguments (record { place = place; head = applied; from = length r.values; end = end }))) (Ok (Turn.Read first))
   application_goes head first end place applied h starts found =
       let a = h.at in
       let (at, x, f, fs, e, begins, named, are, same_end, later) = h.top in
@@ -258,7 +258,7 @@ module _ (source : List ℕ) (nodes : List Node) (g : WholeReading) (s : Table) 
   -- the term of a let's first binding is read, or its variable may not be bound
   pub let_goes : (first body repeat place from leaf : ℕ) → Top (Layer.Let first body) → IsStart k place → from ≡ length r.values → leaf ≡ length r.leaves.items → repeat ≢ first
       → ((bs : LetBinds) → AreBinds source nodes first bs body → IsFirstRepeat source nodes first [] bs repeat body)
-      → Goes source nodes g s v v (with_open r (Frame.Bindings place from leaf (first + 1) repeat body)) (Ok (Turn.Read (first + 2)))
+      → Goes source nodes g s v v (with_open r (Frame.Bindings (record { place = place; from = from; leaves = leaf; name = first + 1; repeat = repeat; body = body }))) (Ok (Turn.Read (first + 2)))
   let_goes first body repeat place from leaf h starts from_is leaf_is differs repeats =
       let a = h.at in
       let (at, bs, f, e, begins, are, some, body_here, later) = h.top in

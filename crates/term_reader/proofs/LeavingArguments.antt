@@ -22,7 +22,7 @@ use Rattle.term_reader.specs.Settling.{SettlesTerm}
 use Rattle.term_expansion.specs.Values.{AreValues}
 use Rattle.term_names.specs.declared.faults.ReadFault.{ReadFault}
 use Rattle.term_reader.specs.declared.frames.Frame.{Frame}
-use Rattle.term_names.specs.declared.heads.Head.{Head}
+use Rattle.term_reader.specs.declared.frames.OpenArguments.{OpenArguments}
 use Rattle.text_items.specs.declared.nodes.Node.{Node}
 use Rattle.term_reader.specs.declared.reader.Reader.{Reader}
 use Rattle.term_reader.specs.declared.reader.Turn.{Turn}
@@ -39,46 +39,46 @@ use Rattle.term_reader.proofs.Staying.{table_keeps_none, adds_none, script_stays
 abbrev pub pushed : Reader → Value → List Value
 pushed r c = r.values ++ c ∷ []
 
-module _ (source : List ℕ) (nodes : List Node) (g : WholeReading) (s : Table) (v : TermsView) (r : Reader) (c : Value) (n place : ℕ) (head : Head) (from end : ℕ) (h : HasRead source nodes g s v (with_open r (Frame.Arguments place head from end)) c n) where
+module _ (source : List ℕ) (nodes : List Node) (g : WholeReading) (s : Table) (v : TermsView) (r : Reader) (c : Value) (n : ℕ) (opened : OpenArguments) (h : HasRead source nodes g s v (with_open r (Frame.Arguments opened)) c n) where
   -- the frames around it stay, over what is left of the stack
-  take_pushed : take from (pushed r c) ≡ take from r.values
-  take_pushed = let (m, read, left, rest, is, here, outer) = h.frames in take-append-le from r.values (c ∷ []) here.within
+  take_pushed : take opened.from (pushed r c) ≡ take opened.from r.values
+  take_pushed = let (m, read, left, rest, is, here, outer) = h.frames in take-append-le opened.from r.values (c ∷ []) here.within
 
   low_pushed : AreLow (pushed r c)
   low_pushed = all_at_end _ r.values c h.stands.low h.low
 
   -- what is applied to the arguments
-  pub applied_here : (m : Meaning) × (ts : List Typed) × HeadMeans s v r.known head m × AreValues s v (drop from (pushed r c)) ts
+  pub applied_here : (m : Meaning) × (ts : List Typed) × HeadMeans s v r.known opened.head m × AreValues s v (drop opened.from (pushed r c)) ts
   applied_here =
       let (m, read, left, rest, is, here, outer) = h.frames in
-      (m, read ++ h.term ∷ [], here.applies, values_pushed s v from r.values read c h.term here.within here.read_values h.is)
+      (m, read ++ h.term ∷ [], here.applies, values_pushed s v opened.from r.values read c h.term here.within here.read_values h.is)
 
-  pub arguments_bounds : n ≤ length nodes → (n ≤ end) × (end ≤ length nodes)
+  pub arguments_bounds : n ≤ length nodes → (n ≤ opened.end) × (opened.end ≤ length nodes)
   arguments_bounds inside =
       let (m, read, left, rest, is, here, outer) = h.frames in
-      (forms_ordered source nodes n left end here.left_here, forms_inside source nodes n left end here.left_here inside)
+      (forms_ordered source nodes n left opened.end here.left_here, forms_inside source nodes n left opened.end here.left_here inside)
 
   -- it was the last one
-  arguments_whole : n ≡ end → (w : TermsView) (made : Result (Option Value) ReadFault)
-      → ((m : Meaning) (ts : List Typed) → HeadMeans s v r.known head m → AreValues s v (drop from (pushed r c)) ts → Makes s v w (meaning_applied m ts) made)
-      → IsWhole g s v w place made
+  arguments_whole : n ≡ opened.end → (w : TermsView) (made : Result (Option Value) ReadFault)
+      → ((m : Meaning) (ts : List Typed) → HeadMeans s v r.known opened.head m → AreValues s v (drop opened.from (pushed r c)) ts → Makes s v w (meaning_applied m ts) made)
+      → IsWhole g s v w opened.place made
   arguments_whole last w made makes =
       let (m, read, left, rest, is, here, outer) = h.frames in
-      let none : left ≡ no_forms = forms_done source nodes n left end here.left_here last in
+      let none : left ≡ no_forms = forms_done source nodes n left opened.end here.left_here last in
       record {
         script = h.script;
         expected = meaning_applied m (read ++ h.term ∷ []);
         waiting = rest;
-        comes = ap (λ (limit : Option ℕ). resumed rest (settled limit place (meaning_applied m (read ++ h.term ∷ [])) h.script)) (sym (limit_so h.place.settings r.replaces_lets h.stands.settings))
-            ∙ sym (last_argument_read rest place m read h.term h.place h.script)
-            ∙ ap (λ (fs : Forms). resumed (arguments place m read fs h.place ∷ rest) (done h.term h.script)) (sym none)
+        comes = ap (λ (limit : Option ℕ). resumed rest (settled limit opened.place (meaning_applied m (read ++ h.term ∷ [])) h.script)) (sym (limit_so h.place.settings r.replaces_lets h.stands.settings))
+            ∙ sym (last_argument_read rest opened.place m read h.term h.place h.script)
+            ∙ ap (λ (fs : Forms). resumed (arguments opened.place m read fs h.place ∷ rest) (done h.term h.script)) (sym none)
             ∙ ap (λ (ws : List Waiting). resumed ws (done h.term h.script)) (sym is) ∙ h.comes;
-        makes = makes m (read ++ h.term ∷ []) here.applies (values_pushed s v from r.values read c h.term here.within here.read_values h.is);
+        makes = makes m (read ++ h.term ∷ []) here.applies (values_pushed s v opened.from r.values read c h.term here.within here.read_values h.is);
       }
 
-  arguments_close : n ≡ end → (w : TermsView) → KeepsTerms v w → (made : Result (Option Value) ReadFault)
-      → ((m : Meaning) (ts : List Typed) → HeadMeans s v r.known head m → AreValues s v (drop from (pushed r c)) ts → Makes s v w (meaning_applied m ts) made)
-      → Closes source nodes g s v w (record r { values = take from (pushed r c) }) place end made
+  arguments_close : n ≡ opened.end → (w : TermsView) → KeepsTerms v w → (made : Result (Option Value) ReadFault)
+      → ((m : Meaning) (ts : List Typed) → HeadMeans s v r.known opened.head m → AreValues s v (drop opened.from (pushed r c)) ts → Makes s v w (meaning_applied m ts) made)
+      → Closes source nodes g s v w (record r { values = take opened.from (pushed r c) }) opened.place opened.end made
   unfolding arguments_whole
   arguments_close last w keeps made makes =
       let (m, read, left, rest, is, here, outer) = h.frames in
@@ -89,23 +89,23 @@ module _ (source : List ℕ) (nodes : List Node) (g : WholeReading) (s : Table) 
           script = script_stays s s v w (adds_none s) keeps r.known h.script h.stands.script;
           scope = scope_stays s s v w (table_keeps_none s) keeps r.scope h.place.scope h.stands.scope;
           settings = h.stands.settings;
-          low = low_below from (pushed r c) low_pushed;
+          low = low_below opened.from (pushed r c) low_pushed;
         };
-        frames = frames_stay s s v w (table_keeps_none s) keeps source nodes g r.known r.known (λ _. refl) r.frames (take from (pushed r c)) r.leaves.items r.scope h.place end rest
-            (subst (λ values. AreFrames source nodes g s v r.known r.frames values r.leaves.items r.scope h.place end rest) (sym take_pushed) outer);
+        frames = frames_stay s s v w (table_keeps_none s) keeps source nodes g r.known r.known (λ _. refl) r.frames (take opened.from (pushed r c)) r.leaves.items r.scope h.place opened.end rest
+            (subst (λ values. AreFrames source nodes g s v r.known r.frames values r.leaves.items r.scope h.place opened.end rest) (sym take_pushed) outer);
       }
 
   -- the next one is read
-  pub arguments_go_on : n ≢ end → IsAt source nodes g s v (record r { values = pushed r c; frames = Frame.Arguments place head from end ∷ r.frames }) n
+  pub arguments_go_on : n ≢ opened.end → IsAt source nodes g s v (record r { values = pushed r c; frames = Frame.Arguments opened ∷ r.frames }) n
   arguments_go_on more =
       let (m, read, left, rest, is, here, outer) = h.frames in
-      let a = forms_more source nodes n left end here.left_here more in
+      let a = forms_more source nodes n left opened.end here.left_here more in
       record {
         script = h.script;
         place = h.place;
         spelled = a.first;
         behind = a.next;
-        waiting = arguments place m (read ++ h.term ∷ []) a.others h.place ∷ rest;
+        waiting = arguments opened.place m (read ++ h.term ∷ []) a.others h.place ∷ rest;
         stands = record { script = h.stands.script; scope = h.stands.scope; settings = h.stands.settings; low = low_pushed };
         here = a.here;
         frames = (
@@ -117,51 +117,51 @@ module _ (source : List ℕ) (nodes : List Node) (g : WholeReading) (s : Table) 
           record {
             applies = here.applies;
             within = pushed_within here.within;
-            read_values = values_pushed s v from r.values read c h.term here.within here.read_values h.is;
+            read_values = values_pushed s v opened.from r.values read c h.term here.within here.read_values h.is;
             left_here = a.there;
           },
-          subst (λ values. AreFrames source nodes g s v r.known r.frames values r.leaves.items r.scope h.place end rest) (sym take_pushed) outer,
+          subst (λ values. AreFrames source nodes g s v r.known r.frames values r.leaves.items r.scope h.place opened.end rest) (sym take_pushed) outer,
         );
-        comes = sym (next_argument_read rest place m read h.term a.first a.others h.place h.script)
-            ∙ ap (λ (fs : Forms). resumed (arguments place m read fs h.place ∷ rest) (done h.term h.script)) (sym a.split)
+        comes = sym (next_argument_read rest opened.place m read h.term a.first a.others h.place h.script)
+            ∙ ap (λ (fs : Forms). resumed (arguments opened.place m read fs h.place ∷ rest) (done h.term h.script)) (sym a.split)
             ∙ ap (λ (ws : List Waiting). resumed ws (done h.term h.script)) (sym is) ∙ h.comes;
       }
     where
-      pushed_within : from ≤ length r.values → from ≤ length (pushed r c)
+      pushed_within : opened.from ≤ length r.values → opened.from ≤ length (pushed r c)
       pushed_within e = omega (arith, e, length-append r.values (c ∷ []))
 
   -- what is left to be done
-  pub arguments_closed_spend : n ≡ end → (t : Value) (values : List Value) → n ≤ length nodes
-      → Spends nodes s (with_open r (Frame.Arguments place head from end)) (Turn.Use c n) s (record r { values = values }) (Turn.Use t end)
+  pub arguments_closed_spend : n ≡ opened.end → (t : Value) (values : List Value) → n ≤ length nodes
+      → Spends nodes s (with_open r (Frame.Arguments opened)) (Turn.Use c n) s (record r { values = values }) (Turn.Use t opened.end)
   arguments_closed_spend last t values inside =
       let e = arguments_bounds inside in
       record { inside = e.1; few = omega (arith, last); progress = omega (arith, last) }
 
   -- What is done, by the stacks as the code has them.
-  pub arguments_fault : n ≡ end → (w : TermsView) → (values : List Value) → values ≡ pushed r c → (fault : ReadFault)
-      → ((m : Meaning) (ts : List Typed) → HeadMeans s v r.known head m → AreValues s v (drop from values) ts → Makes s v w (meaning_applied m ts) (Err fault)) → (q : Reader)
-      → Leaves source nodes g s v (with_open r (Frame.Arguments place head from end)) c n s w q (Err fault)
+  pub arguments_fault : n ≡ opened.end → (w : TermsView) → (values : List Value) → values ≡ pushed r c → (fault : ReadFault)
+      → ((m : Meaning) (ts : List Typed) → HeadMeans s v r.known opened.head m → AreValues s v (drop opened.from values) ts → Makes s v w (meaning_applied m ts) (Err fault)) → (q : Reader)
+      → Leaves source nodes g s v (with_open r (Frame.Arguments opened)) c n s w q (Err fault)
   arguments_fault last w values are fault makes q = record {
-    goes = unmade_ends source nodes g s v w place fault q (arguments_whole last w (Err fault) (rw are at makes));
+    goes = unmade_ends source nodes g s v w opened.place fault q (arguments_whole last w (Err fault) (rw are at makes));
     spends = λ _. tt;
   }
 
-  pub arguments_refused : n ≡ end → (w : TermsView) → (values : List Value) → values ≡ pushed r c → (made : Option Value)
-      → ((m : Meaning) (ts : List Typed) → HeadMeans s v r.known head m → AreValues s v (drop from values) ts → Makes s v w (meaning_applied m ts) (Ok made)) → (fault : ReadFault)
-      → ((s : Table) (v : TermsView) (o : Option Typed) (sc : Script) → IsMade s v o (Ok made) → SettlesTerm s v place o sc (Err fault)) → (q : Reader)
-      → Leaves source nodes g s v (with_open r (Frame.Arguments place head from end)) c n s w q (Err fault)
+  pub arguments_refused : n ≡ opened.end → (w : TermsView) → (values : List Value) → values ≡ pushed r c → (made : Option Value)
+      → ((m : Meaning) (ts : List Typed) → HeadMeans s v r.known opened.head m → AreValues s v (drop opened.from values) ts → Makes s v w (meaning_applied m ts) (Ok made)) → (fault : ReadFault)
+      → ((s : Table) (v : TermsView) (o : Option Typed) (sc : Script) → IsMade s v o (Ok made) → SettlesTerm s v opened.place o sc (Err fault)) → (q : Reader)
+      → Leaves source nodes g s v (with_open r (Frame.Arguments opened)) c n s w q (Err fault)
   arguments_refused last w values are made makes fault settles q = record {
-    goes = unsettled_ends source nodes g s v w place made fault q (arguments_whole last w (Ok made) (rw are at makes)) settles;
+    goes = unsettled_ends source nodes g s v w opened.place made fault q (arguments_whole last w (Ok made) (rw are at makes)) settles;
     spends = λ _. tt;
   }
 
-  pub arguments_settled : n ≡ end → (w : TermsView) → KeepsTerms v w → (values : List Value) → values ≡ pushed r c → (made : Option Value)
-      → ((m : Meaning) (ts : List Typed) → HeadMeans s v r.known head m → AreValues s v (drop from values) ts → Makes s v w (meaning_applied m ts) (Ok made)) → (t : Value)
-      → ((s : Table) (v : TermsView) (o : Option Typed) (sc : Script) → IsMade s v o (Ok made) → SettlesTerm s v place o sc (Ok t)) → (kept : List Value) → kept ≡ take from values
-      → Leaves source nodes g s v (with_open r (Frame.Arguments place head from end)) c n s w (record r { values = kept }) (Ok (Turn.Use t end))
+  pub arguments_settled : n ≡ opened.end → (w : TermsView) → KeepsTerms v w → (values : List Value) → values ≡ pushed r c → (made : Option Value)
+      → ((m : Meaning) (ts : List Typed) → HeadMeans s v r.known opened.head m → AreValues s v (drop opened.from values) ts → Makes s v w (meaning_applied m ts) (Ok made)) → (t : Value)
+      → ((s : Table) (v : TermsView) (o : Option Typed) (sc : Script) → IsMade s v o (Ok made) → SettlesTerm s v opened.place o sc (Ok t)) → (kept : List Value) → kept ≡ take opened.from values
+      → Leaves source nodes g s v (with_open r (Frame.Arguments opened)) c n s w (record r { values = kept }) (Ok (Turn.Use t opened.end))
   arguments_settled last w keeps values are made makes t settles kept take_is = record {
-    goes = subst (λ (vs : List Value). Goes source nodes g s v w (record r { values = vs }) (Ok (Turn.Use t end))) (sym (take_is ∙ ap (take from) are))
-        (settled_goes_on source nodes g s v w place _ end made t (arguments_close last w keeps (Ok made) (rw are at makes)) settles);
+    goes = subst (λ (vs : List Value). Goes source nodes g s v w (record r { values = vs }) (Ok (Turn.Use t opened.end))) (sym (take_is ∙ ap (take opened.from) are))
+        (settled_goes_on source nodes g s v w opened.place _ opened.end made t (arguments_close last w keeps (Ok made) (rw are at makes)) settles);
     spends = arguments_closed_spend last t kept;
   }
 
@@ -169,19 +169,19 @@ module _ (source : List ℕ) (nodes : List Node) (g : WholeReading) (s : Table) 
 module _ (source : List ℕ) (nodes : List Node) (g : WholeReading) (s : Table) (v : TermsView) (r : Reader) (c : Value) (n : ℕ) (values : List Value) (are : values ≡ pushed r c) where
   pub argument_goes_on : (frames : List Frame) → r.frames ≡ frames → wants_more frames n ≡ true → HasRead source nodes g s v r c n
       → Goes source nodes g s v v (record r { values = values }) (Ok (Turn.Read n))
-  argument_goes_on (Frame.Arguments place head from end ∷ frames) is more h =
-      let same = same_reader source nodes s v r c n (Frame.Arguments place head from end) frames is in
+  argument_goes_on (Frame.Arguments opened ∷ frames) is more h =
+      let same = same_reader source nodes s v r c n (Frame.Arguments opened) frames is in
       nothing_made source nodes g s v _ (Ok (Turn.Read n))
       (subst (λ (x : Reader). IsAt source nodes g s v (record x { values = values }) n) (sym same)
       (rw are
-      (arguments_go_on source nodes g s v (around r frames) c n place head from end (subst (λ (x : Reader). HasRead source nodes g s v x c n) same h)
-      (eqb-false n end (not-true _ more)))))
+      (arguments_go_on source nodes g s v (around r frames) c n opened (subst (λ (x : Reader). HasRead source nodes g s v x c n) same h)
+      (eqb-false n opened.end (not-true _ more)))))
   argument_goes_on [] is more h = absurd (false≢true more)
-  argument_goes_on (Frame.Bindings place from first name repeat body ∷ frames) is more h = absurd (false≢true more)
-  argument_goes_on (Frame.Body place from first ∷ frames) is more h = absurd (false≢true more)
+  argument_goes_on (Frame.Bindings opened ∷ frames) is more h = absurd (false≢true more)
+  argument_goes_on (Frame.Body opened ∷ frames) is more h = absurd (false≢true more)
   argument_goes_on (Frame.Names end ∷ frames) is more h = absurd (false≢true more)
 
 -- An application that wants no more has had its last argument.
-pub had_last : (frames : List Frame) (n place : ℕ) (head : Head) (from end : ℕ) (others : List Frame) → frames ≡ Frame.Arguments place head from end ∷ others
-    → wants_more frames n ≡ false → n ≡ end
-had_last frames n place head from end others is none = eqb-true n end (not-false _ (rw is at none))
+pub had_last : (frames : List Frame) (n : ℕ) (opened : OpenArguments) (others : List Frame) → frames ≡ Frame.Arguments opened ∷ others
+    → wants_more frames n ≡ false → n ≡ opened.end
+had_last frames n opened others is none = eqb-true n opened.end (not-false _ (rw is at none))

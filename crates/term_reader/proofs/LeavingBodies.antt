@@ -20,6 +20,7 @@ use Rattle.term_reader.specs.Settling.{SettlesTerm}
 use Rattle.term_expansion.specs.Values.{IsValue}
 use Rattle.term_names.specs.declared.faults.ReadFault.{ReadFault}
 use Rattle.term_reader.specs.declared.frames.Frame.{Frame}
+use Rattle.term_reader.specs.declared.frames.OpenBody.{OpenBody}
 use Rattle.text_items.specs.declared.nodes.Node.{Node}
 use Rattle.term_reader.specs.declared.reader.Reader.{Reader}
 use Rattle.term_reader.specs.declared.reader.Turn.{Turn}
@@ -36,39 +37,39 @@ scope_around scope inner around first count split each =
     let k : count - first ≡ length inner = omega (arith, each) in
     rw (k, split) (drop-append_seam inner around)
 
-module _ (source : List ℕ) (nodes : List Node) (g : WholeReading) (s : Table) (v : TermsView) (r : Reader) (c : Value) (n place from first : ℕ) (h : HasRead source nodes g s v (with_open r (Frame.Body place from first)) c n) where
+module _ (source : List ℕ) (nodes : List Node) (g : WholeReading) (s : Table) (v : TermsView) (r : Reader) (c : Value) (n : ℕ) (opened : OpenBody) (h : HasRead source nodes g s v (with_open r (Frame.Body opened)) c n) where
   -- the reader without what the let owned
   abbrev pub Without : Reader → Type 0
-  Without q = (q.scope ≡ drop (length r.leaves.items - first) r.scope) × (q.values ≡ take from r.values) × (q.leaves.items ≡ take first r.leaves.items)
+  Without q = (q.scope ≡ drop (length r.leaves.items - opened.leaves) r.scope) × (q.values ≡ take opened.from r.values) × (q.leaves.items ≡ take opened.leaves r.leaves.items)
 
   abbrev pub without : Reader → Reader
   without q = record r { scope = q.scope; values = q.values; leaves = q.leaves }
 
   abbrev pub Closed : TermsView → Result (Option Value) ReadFault → Type 0
   Closed w made =
-      (ks : List ℕ) × (ks ≡ drop first r.leaves.items)
-      × ((p : Place) (bs : List Bound) (t : Typed) → AreValuesBound s v ks (drop from r.values) bs → IsValue s v c t → p.settings.replaces_lets ≡ r.replaces_lets → Makes s v w (Some (let_term p bs t)) made)
+      (ks : List ℕ) × (ks ≡ drop opened.leaves r.leaves.items)
+      × ((p : Place) (bs : List Bound) (t : Typed) → AreValuesBound s v ks (drop opened.from r.values) bs → IsValue s v c t → p.settings.replaces_lets ≡ r.replaces_lets → Makes s v w (Some (let_term p bs t)) made)
 
   outer_settings : (outer : Place) (bound : List Bound) → h.place ≡ inside bound outer → outer.settings ≡ limited r.replaces_lets
   outer_settings outer bound same = sym (ap (λ (p : Place). p.settings) same) ∙ h.stands.settings
 
-  body_whole : (w : TermsView) (made : Result (Option Value) ReadFault) → Closed w made → IsWhole g s v w place made
+  body_whole : (w : TermsView) (made : Result (Option Value) ReadFault) → Closed w made → IsWhole g s v w opened.place made
   body_whole w made (ks, are, makes) =
       let (bound, around, outer, rest, is, here, frames) = h.frames in
       record {
         script = h.script;
         expected = Some (let_term outer bound h.term);
         waiting = rest;
-        comes = ap (λ (limit : Option ℕ). resumed rest (settled limit place (Some (let_term outer bound h.term)) h.script)) (sym (limit_so outer.settings r.replaces_lets (outer_settings outer bound here.same_place)))
-            ∙ sym (body_read rest place bound outer h.term h.script) ∙ ap (λ (ws : List Waiting). resumed ws (done h.term h.script)) (sym is) ∙ h.comes;
+        comes = ap (λ (limit : Option ℕ). resumed rest (settled limit opened.place (Some (let_term outer bound h.term)) h.script)) (sym (limit_so outer.settings r.replaces_lets (outer_settings outer bound here.same_place)))
+            ∙ sym (body_read rest opened.place bound outer h.term h.script) ∙ ap (λ (ws : List Waiting). resumed ws (done h.term h.script)) (sym is) ∙ h.comes;
         makes = makes outer bound h.term (rw are here.bound_here) h.is (replaces_so outer.settings r.replaces_lets (outer_settings outer bound here.same_place));
       }
 
-  body_closes : (q : Reader) → Without q → (w : TermsView) → KeepsTerms v w → (made : Result (Option Value) ReadFault) → Closed w made → Closes source nodes g s v w (without q) place n made
+  body_closes : (q : Reader) → Without q → (w : TermsView) → KeepsTerms v w → (made : Result (Option Value) ReadFault) → Closed w made → Closes source nodes g s v w (without q) opened.place n made
   unfolding body_whole
   body_closes q (scope_is, values_are, leaves_are) w keeps made closed =
       let (bound, around, outer, rest, is, here, frames) = h.frames in
-      let scope_same : q.scope ≡ around = scope_is ∙ scope_around r.scope here.inner around first (length r.leaves.items) here.split here.one_each in
+      let scope_same : q.scope ≡ around = scope_is ∙ scope_around r.scope here.inner around opened.leaves (length r.leaves.items) here.split here.one_each in
       record {
         whole = body_whole w made closed;
         around = outer;
@@ -76,25 +77,25 @@ module _ (source : List ℕ) (nodes : List Node) (g : WholeReading) (s : Table) 
           script = script_stays s s v w (adds_none s) keeps r.known h.script h.stands.script;
           scope = subst (λ es. IsScope s w es outer.scope) (sym scope_same) (scope_stays s s v w (table_keeps_none s) keeps around outer.scope here.around_here);
           settings = outer_settings outer bound here.same_place;
-          low = rw values_are (low_below from r.values h.stands.low);
+          low = rw values_are (low_below opened.from r.values h.stands.low);
         };
         frames = rw (values_are, leaves_are, scope_same)
-            (frames_stay s s v w (table_keeps_none s) keeps source nodes g r.known r.known (λ _. refl) r.frames (take from r.values) (take first r.leaves.items) around outer n rest frames);
+            (frames_stay s s v w (table_keeps_none s) keeps source nodes g r.known r.known (λ _. refl) r.frames (take opened.from r.values) (take opened.leaves r.leaves.items) around outer n rest frames);
       }
 
   -- What is done.
-  pub body_fault : (w : TermsView) (fault : ReadFault) → Closed w (Err fault) → (q : Reader) → Leaves source nodes g s v (with_open r (Frame.Body place from first)) c n s w q (Err fault)
-  body_fault w fault made q = record { goes = unmade_ends source nodes g s v w place fault q (body_whole w (Err fault) made); spends = λ _. tt }
+  pub body_fault : (w : TermsView) (fault : ReadFault) → Closed w (Err fault) → (q : Reader) → Leaves source nodes g s v (with_open r (Frame.Body opened)) c n s w q (Err fault)
+  body_fault w fault made q = record { goes = unmade_ends source nodes g s v w opened.place fault q (body_whole w (Err fault) made); spends = λ _. tt }
 
   pub body_refused : (w : TermsView) (made : Option Value) → Closed w (Ok made) → (fault : ReadFault)
-      → ((s : Table) (v : TermsView) (o : Option Typed) (sc : Script) → IsMade s v o (Ok made) → SettlesTerm s v place o sc (Err fault)) → (q : Reader)
-      → Leaves source nodes g s v (with_open r (Frame.Body place from first)) c n s w q (Err fault)
-  body_refused w made closed fault settles q = record { goes = unsettled_ends source nodes g s v w place made fault q (body_whole w (Ok made) closed) settles; spends = λ _. tt }
+      → ((s : Table) (v : TermsView) (o : Option Typed) (sc : Script) → IsMade s v o (Ok made) → SettlesTerm s v opened.place o sc (Err fault)) → (q : Reader)
+      → Leaves source nodes g s v (with_open r (Frame.Body opened)) c n s w q (Err fault)
+  body_refused w made closed fault settles q = record { goes = unsettled_ends source nodes g s v w opened.place made fault q (body_whole w (Ok made) closed) settles; spends = λ _. tt }
 
   pub body_settled : (q : Reader) → Without q → (w : TermsView) → KeepsTerms v w → (made : Option Value) → Closed w (Ok made) → (t : Value)
-      → ((s : Table) (v : TermsView) (o : Option Typed) (sc : Script) → IsMade s v o (Ok made) → SettlesTerm s v place o sc (Ok t))
-      → Leaves source nodes g s v (with_open r (Frame.Body place from first)) c n s w (without q) (Ok (Turn.Use t n))
+      → ((s : Table) (v : TermsView) (o : Option Typed) (sc : Script) → IsMade s v o (Ok made) → SettlesTerm s v opened.place o sc (Ok t))
+      → Leaves source nodes g s v (with_open r (Frame.Body opened)) c n s w (without q) (Ok (Turn.Use t n))
   body_settled q is w keeps made closed t settles = record {
-    goes = settled_goes_on source nodes g s v w place (without q) n made t (body_closes q is w keeps (Ok made) closed) settles;
+    goes = settled_goes_on source nodes g s v w opened.place (without q) n made t (body_closes q is w keeps (Ok made) closed) settles;
     spends = λ within. record { inside = within; few = omega arith; progress = omega arith };
   }

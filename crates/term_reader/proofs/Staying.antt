@@ -260,16 +260,16 @@ module _ (s z : Table) (v w : TermsView) (keeps : Keeps s z) (terms : KeepsTerms
       → (fs : List Frame) (values : List Value) (leaves : List ℕ) (scope : List Scoped) (p : Place) (n : ℕ) (ws : List Waiting)
       → AreFrames source nodes g s v k fs values leaves scope p n ws → AreFrames source nodes g z w l fs values leaves scope p n ws
   frames_stay source nodes g k l same [] values leaves scope p n ws h = h
-  frames_stay source nodes g k l same (Frame.Arguments place head from end ∷ fs) values leaves scope p n ws (m, read, left, rest, is, here, outer) = (
+  frames_stay source nodes g k l same (Frame.Arguments opened ∷ fs) values leaves scope p n ws (m, read, left, rest, is, here, outer) = (
     m,
     read,
     left,
     rest,
     is,
-    arguments_stay source nodes k l same head from end n values m read left here,
-    frames_stay source nodes g k l same fs (take from values) leaves scope p end rest outer,
+    arguments_stay source nodes k l same opened.head opened.from opened.end n values m read left here,
+    frames_stay source nodes g k l same fs (take opened.from values) leaves scope p opened.end rest outer,
   )
-  frames_stay source nodes g k l same (Frame.Bindings place from first name repeat body ∷ fs) values leaves scope p n ws (read, x, earlier, left, f, m, rest, is, here, outer) = (
+  frames_stay source nodes g k l same (Frame.Bindings opened ∷ fs) values leaves scope p n ws (read, x, earlier, left, f, m, rest, is, here, outer) = (
     read,
     x,
     earlier,
@@ -278,17 +278,17 @@ module _ (s z : Table) (v w : TermsView) (keeps : Keeps s z) (terms : KeepsTerms
     m,
     rest,
     is,
-    bindings_stay_open source nodes from first name repeat body n values leaves read x earlier left f m here,
-    frames_stay source nodes g k l same fs (take from values) (take first leaves) scope p m rest outer,
+    bindings_stay_open source nodes opened.from opened.leaves opened.name opened.repeat opened.body n values leaves read x earlier left f m here,
+    frames_stay source nodes g k l same fs (take opened.from values) (take opened.leaves leaves) scope p m rest outer,
   )
-  frames_stay source nodes g k l same (Frame.Body place from first ∷ fs) values leaves scope p n ws (bs, around, outside, rest, is, here, outer) = (
+  frames_stay source nodes g k l same (Frame.Body opened ∷ fs) values leaves scope p n ws (bs, around, outside, rest, is, here, outer) = (
     bs,
     around,
     outside,
     rest,
     is,
-    body_stays from first values leaves scope p bs around outside here,
-    frames_stay source nodes g k l same fs (take from values) (take first leaves) around outside n rest outer,
+    body_stays opened.from opened.leaves values leaves scope p bs around outside here,
+    frames_stay source nodes g k l same fs (take opened.from values) (take opened.leaves leaves) around outside n rest outer,
   )
   frames_stay source nodes g k l same (Frame.Names end ∷ fs) values leaves scope p n ws (names, rest, is, here, outer) =
       (names, rest, is, here, frames_stay source nodes g k l same fs values leaves scope p end rest outer)

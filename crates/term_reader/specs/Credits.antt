@@ -9,7 +9,7 @@ use Rattle.term_reader.specs.declared.reader.Turn.{Turn}
 -- how many leaves the table may still get for an open form
 abbrev pub credit : List Frame → ℕ
 credit [] = 0
-credit (Frame.Bindings place from first name repeat body ∷ fs) = 2 + credit fs
+credit (Frame.Bindings opened ∷ fs) = 2 + credit fs
 credit (f ∷ fs) = 1 + credit fs
 
 -- the node that a turn is at

@@ -63,19 +63,19 @@ pub record WholeReading : Type 0 where
 abbrev pub AreFrames : List ℕ → List Node → WholeReading → Table → TermsView → KnownView → List Frame → List Value → List ℕ → List Scoped → Place → ℕ → List Waiting → Type 0
 AreFrames source nodes g s v k [] values leaves scope p n ws =
     (ws ≡ []) × (values ≡ []) × (leaves ≡ []) × (scope ≡ g.around) × (p ≡ g.place) × (n ≡ g.last)
-AreFrames source nodes g s v k (Frame.Arguments place head from end ∷ fs) values leaves scope p n ws =
-    (m : Meaning) × (read : List Typed) × (left : Forms) × (rest : List Waiting) × (ws ≡ arguments place m read left p ∷ rest)
-    × HasArgumentsSoFar source nodes s v k head from end n values m read left
-    × AreFrames source nodes g s v k fs (take from values) leaves scope p end rest
-AreFrames source nodes g s v k (Frame.Bindings place from first name repeat body ∷ fs) values leaves scope p n ws =
+AreFrames source nodes g s v k (Frame.Arguments opened ∷ fs) values leaves scope p n ws =
+    (m : Meaning) × (read : List Typed) × (left : Forms) × (rest : List Waiting) × (ws ≡ arguments opened.place m read left p ∷ rest)
+    × HasArgumentsSoFar source nodes s v k opened.head opened.from opened.end n values m read left
+    × AreFrames source nodes g s v k fs (take opened.from values) leaves scope p opened.end rest
+AreFrames source nodes g s v k (Frame.Bindings opened ∷ fs) values leaves scope p n ws =
     (read : List Bound) × (x : Name) × (earlier : List (List ℕ)) × (left : LetBinds) × (f : Form) × (m : ℕ) × (rest : List Waiting)
-    × (ws ≡ bindings place read x earlier left f p ∷ rest)
-    × HasBindings source nodes s v from first name repeat body n values leaves read x earlier left f m
-    × AreFrames source nodes g s v k fs (take from values) (take first leaves) scope p m rest
-AreFrames source nodes g s v k (Frame.Body place from first ∷ fs) values leaves scope p n ws =
-    (bound : List Bound) × (around : List Scoped) × (outer : Place) × (rest : List Waiting) × (ws ≡ body_of place bound outer ∷ rest)
-    × HasBody s v from first values leaves scope p bound around outer
-    × AreFrames source nodes g s v k fs (take from values) (take first leaves) around outer n rest
+    × (ws ≡ bindings opened.place read x earlier left f p ∷ rest)
+    × HasBindings source nodes s v opened.from opened.leaves opened.name opened.repeat opened.body n values leaves read x earlier left f m
+    × AreFrames source nodes g s v k fs (take opened.from values) (take opened.leaves leaves) scope p m rest
+AreFrames source nodes g s v k (Frame.Body opened ∷ fs) values leaves scope p n ws =
+    (bound : List Bound) × (around : List Scoped) × (outer : Place) × (rest : List Waiting) × (ws ≡ body_of opened.place bound outer ∷ rest)
+    × HasBody s v opened.from opened.leaves values leaves scope p bound around outer
+    × AreFrames source nodes g s v k fs (take opened.from values) (take opened.leaves leaves) around outer n rest
 AreFrames source nodes g s v k (Frame.Names end ∷ fs) values leaves scope p n ws =
     (names : List Name) × (rest : List Waiting) × (ws ≡ naming names ∷ rest)
     × AreTermAttributes source nodes n names end

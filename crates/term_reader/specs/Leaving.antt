@@ -7,9 +7,6 @@ use Rattle.term_reader.specs.Turns.{Goes}
 use Rattle.term_reader.specs.Credits.{node_of, bound_of, effort}
 use Rattle.term_names.specs.declared.faults.ReadFault.{ReadFault}
 use Rattle.term_reader.specs.declared.frames.Frame.{Frame}
-use Rattle.term_reader.specs.declared.frames.OpenArguments.{OpenArguments}
-use Rattle.term_reader.specs.declared.frames.OpenBindings.{OpenBindings}
-use Rattle.term_reader.specs.declared.frames.OpenBody.{OpenBody}
 use Rattle.text_items.specs.declared.nodes.Node.{Node}
 use Rattle.term_reader.specs.declared.reader.Reader.{Reader}
 use Rattle.term_reader.specs.declared.reader.Turn.{Turn}
@@ -18,18 +15,6 @@ use Rattle.term_expansion.specs.declared.values.Value.{Value}
 -- the reader with this form as the innermost open one
 abbrev pub with_open : Reader → Frame → Reader
 with_open r frame = record r { frames = frame ∷ r.frames }
-
--- the form of an application whose arguments are being read
-abbrev pub arguments_frame : OpenArguments → Frame
-arguments_frame a = Frame.Arguments a.place a.head a.from a.end
-
--- the form of a let whose body is being read
-abbrev pub body_frame : OpenBody → Frame
-body_frame b = Frame.Body b.place b.from b.leaves
-
--- the form of a let whose bindings are being read
-abbrev pub bindings_frame : OpenBindings → Frame
-bindings_frame b = Frame.Bindings b.place b.from b.leaves b.name b.repeat b.body
 
 -- The next turn is at one of the nodes or behind them, needs no more leaves, and has less left to be done.
 pub record Spends (nodes : List Node) (s : Table) (r : Reader) (turn : Turn) (t : Table) (q : Reader) (next : Turn) : Type 0 where

@@ -4,5 +4,5 @@ use Rattle.term_reader.specs.declared.frames.Frame.{Frame}
 
 -- The innermost open form is an application that has more arguments behind node n.
 abbrev pub wants_more : List Frame → ℕ → Bool
-wants_more (Frame.Arguments place head from end ∷ frames) n = not (nat_eq n end)
+wants_more (Frame.Arguments opened ∷ frames) n = not (nat_eq n opened.end)
 wants_more frames n = false

@@ -14,7 +14,7 @@ ghost use Rattle.term_reader.specs.declared.layers.Layer.TheVariants as top;
 ghost use Rattle.term_reader.specs.declared.reader.Turn.TheVariants as turn;
 
 use crate::atoms::{head_at, number_value, start_at, symbol_value};
-use crate::frames::Frame;
+use crate::frames::{Frame, OpenArguments, OpenBindings};
 use crate::layers::{Layer, layer_at};
 use crate::reader::{Reader, Turn};
 use crate::repeats::first_repeat;
@@ -92,13 +92,13 @@ fn enter_application(
     let Some(applied) = head_at(text, nodes, symbols, reader, head) else {
         return Err(ReadFault::Text(refused(Cause::UnknownName, start_at(nodes, head))));
     };
-    let frame = Frame::Arguments {
+    let form = OpenArguments {
         place: start_at(nodes, k),
         head: applied,
         from: reader.values.len(),
         end,
     };
-    open_form(reader, frame, first)
+    open_form(reader, Frame::Arguments(form), first)
 }
 
 /// Reads the term of the first binding of the let at node `k`, whose pairs stand from `first` to before `body`, where the
@@ -123,7 +123,7 @@ fn enter_let(
     if repeat == first {
         return Err(ReadFault::Text(refused(Cause::Repeated, start_at(nodes, first + 1))));
     }
-    let frame = Frame::Bindings {
+    let form = OpenBindings {
         place: start_at(nodes, k),
         from: reader.values.len(),
         leaves: reader.leaves.len(),
@@ -131,7 +131,7 @@ fn enter_let(
         repeat,
         body,
     };
-    open_form(reader, frame, first + 2)
+    open_form(reader, Frame::Bindings(form), first + 2)
 }
 
 /// Opens a form, and then reads the term at node `next`. Refused for want of memory alone.

@@ -43,7 +43,7 @@ impl Frames {
         ensures { result ≡ spec.wants_more self.now n }
     {
         match self.frames.last() {
-            Some(Frame::Arguments { end, .. }) => n != *end,
+            Some(Frame::Arguments(form)) => n != form.end,
             _ => false,
         }
     }

@@ -6,60 +6,39 @@ use term_names::heads::Head;
 /// the list of nodes, and what was read by where it begins on the stacks of values and of leaves.
 #[derive(Clone, Copy)]
 pub enum Frame {
-    /// The arguments of an application up to node `end`; those that were read are the values from `from` on.
-    Arguments {
-        place: u64,
-        head: Head,
-        from: usize,
-        end: usize,
-    },
-    /// The bindings of a let up to node `body`. The variables and values of those that were read are the leaves from
-    /// `leaves` on and the values from `from` on; the one that is being read has its name at node `name`; the first
-    /// faulty one stands at node `repeat`.
-    Bindings {
-        place: u64,
-        from: usize,
-        leaves: usize,
-        name: usize,
-        repeat: usize,
-        body: usize,
-    },
-    /// The body of a let whose variables and values are the leaves from `leaves` on and the values from `from` on.
-    Body {
-        place: u64,
-        from: usize,
-        leaves: usize,
-    },
+    Arguments(OpenArguments),
+    Bindings(OpenBindings),
+    Body(OpenBody),
     /// The term of an annotation with attributes up to node `end`.
-    Names {
-        end: usize,
-    },
+    Names { end: usize },
 }
 
-/// An application whose arguments are being read: the fields of `Frame::Arguments`.
+/// An application whose arguments are being read, up to node `end`; those that were read are the values from `from` on.
 #[derive(Clone, Copy)]
-pub(crate) struct OpenArguments {
-    pub(crate) place: u64,
-    pub(crate) head: Head,
-    pub(crate) from: usize,
-    pub(crate) end: usize,
+pub struct OpenArguments {
+    pub place: u64,
+    pub head: Head,
+    pub from: usize,
+    pub end: usize,
 }
 
-/// The bindings of a let that are being read: the fields of `Frame::Bindings`.
+/// The bindings of a let that are being read, up to node `body`. The variables and values of those that were read are the
+/// leaves from `leaves` on and the values from `from` on; the one that is being read has its name at node `name`; the
+/// first faulty one stands at node `repeat`.
 #[derive(Clone, Copy)]
-pub(crate) struct OpenBindings {
-    pub(crate) place: u64,
-    pub(crate) from: usize,
-    pub(crate) leaves: usize,
-    pub(crate) name: usize,
-    pub(crate) repeat: usize,
-    pub(crate) body: usize,
+pub struct OpenBindings {
+    pub place: u64,
+    pub from: usize,
+    pub leaves: usize,
+    pub name: usize,
+    pub repeat: usize,
+    pub body: usize,
 }
 
-/// A let whose body is being read: the fields of `Frame::Body`.
+/// A let whose body is being read. Its variables and values are the leaves from `leaves` on and the values from `from` on.
 #[derive(Clone, Copy)]
-pub(crate) struct OpenBody {
-    pub(crate) place: u64,
-    pub(crate) from: usize,
-    pub(crate) leaves: usize,
+pub struct OpenBody {
+    pub place: u64,
+    pub from: usize,
+    pub leaves: usize,
 }

@@ -3,7 +3,7 @@ ghost use Rattle.std.specs.Prelude.{◌≡◌, ◌≤◌, ◌<◌, ◌^◌, ◌-
 ghost use Rattle.sexpr.specs.Source.{source};
 ghost use Rattle.term_pool.specs.Views.{KeepsTerms};
 ghost use Rattle.term_reader.specs.Frames.{WholeReading};
-ghost use Rattle.term_reader.specs.Leaving.{with_open, arguments_frame, Leaves};
+ghost use Rattle.term_reader.specs.Leaving.{with_open, Leaves};
 ghost use Rattle.term_reader.specs.Turns.{HasRead, Goes};
 ghost use Rattle.term_reader.specs.Credits.{node_of, bound_of, effort};
 ghost use Rattle.term_names.specs.Standing.{AddsNoSymbols};
@@ -12,7 +12,7 @@ ghost use Rattle.text_items.specs.declared.nodes.Node as node;
 ghost use Rattle.term_reader.specs.declared.reader.Turn.TheVariants as turn;
 
 use crate::attributes::TermAttributes;
-use crate::frames::{Frame, OpenArguments, OpenBindings, OpenBody};
+use crate::frames::{Frame, OpenArguments};
 use crate::leaving_lets::{leave_binding, leave_body};
 use crate::naming::give_names;
 use crate::reader::{Reader, Turn};
@@ -57,50 +57,9 @@ pub(crate) fn leave(
         unreachable!()
     };
     match frame {
-        Frame::Arguments {
-            place,
-            head,
-            from,
-            end,
-        } => {
-            let open = OpenArguments {
-                place,
-                head,
-                from,
-                end,
-            };
-            leave_arguments(symbols, terms, reader, value, &open)
-        }
-        Frame::Bindings {
-            place,
-            from,
-            leaves,
-            name,
-            repeat,
-            body,
-        } => {
-            let open = OpenBindings {
-                place,
-                from,
-                leaves,
-                name,
-                repeat,
-                body,
-            };
-            leave_binding(items, symbols, reader, value, n, &open)
-        }
-        Frame::Body {
-            place,
-            from,
-            leaves,
-        } => {
-            let open = OpenBody {
-                place,
-                from,
-                leaves,
-            };
-            leave_body(symbols, terms, reader, value, n, &open)
-        }
+        Frame::Arguments(form) => leave_arguments(symbols, terms, reader, value, &form),
+        Frame::Bindings(form) => leave_binding(items, symbols, reader, value, n, &form),
+        Frame::Body(form) => leave_body(symbols, terms, reader, value, n, &form),
         Frame::Names { end } => {
             let attributes = TermAttributes {
                 items: *items,
@@ -120,8 +79,8 @@ fn leave_arguments(
     value: Value,
     form: &OpenArguments,
 ) -> Result<Turn, ReadFault>
-    requires read { (source : List ℕ) × (nodes : List node.Node) × (g : WholeReading) × HasRead source nodes g symbols.now terms.old (with_open reader.old (arguments_frame form.now)) value form.now.end }
-    ensures leaves { (source : List ℕ) (nodes : List node.Node) (g : WholeReading) → HasRead source nodes g symbols.now terms.old (with_open reader.old (arguments_frame form.now)) value form.now.end → Leaves source nodes g symbols.now terms.old (with_open reader.old (arguments_frame form.now)) value form.now.end symbols.now terms.new reader.new result }
+    requires read { (source : List ℕ) × (nodes : List node.Node) × (g : WholeReading) × HasRead source nodes g symbols.now terms.old (with_open reader.old (frame.Arguments form.now)) value form.now.end }
+    ensures leaves { (source : List ℕ) (nodes : List node.Node) (g : WholeReading) → HasRead source nodes g symbols.now terms.old (with_open reader.old (frame.Arguments form.now)) value form.now.end → Leaves source nodes g symbols.now terms.old (with_open reader.old (frame.Arguments form.now)) value form.now.end symbols.now terms.new reader.new result }
     ensures replaces { reader.new.replaces_lets ≡ reader.old.replaces_lets }
     ensures base { reader.new.known.base ≡ reader.old.known.base }
     ensures keeps { KeepsTerms terms.old terms.new }

@@ -7,7 +7,7 @@ ghost use Rattle.term_pool.specs.Views.{TermsView, KeepsTerms};
 ghost use Rattle.text_items.specs.ItemShapes.{Name};
 ghost use Rattle.term_reader.specs.Frames.{WholeReading};
 ghost use Rattle.text_items.specs.NameNodes.{IsNameNode};
-ghost use Rattle.term_reader.specs.Leaving.{with_open, bindings_frame, body_frame, Leaves};
+ghost use Rattle.term_reader.specs.Leaving.{with_open, Leaves};
 ghost use Rattle.term_reader.specs.Turns.{HasRead};
 ghost use Rattle.term_reader.specs.Credits.{bound_of};
 ghost use Rattle.term_names.specs.Standing.{AddsNoSymbols};
@@ -37,12 +37,12 @@ pub(crate) fn leave_binding(
     reader: &mut Reader<'_>,
     value: Value,
     n: usize,
-    pairs: &OpenBindings,
+    form: &OpenBindings,
 ) -> Result<Turn, ReadFault>
-    requires read { (v : TermsView) × (g : WholeReading) × HasRead (source items.now.text.now) items.now.nodes.now g symbols.old v (with_open reader.old (bindings_frame pairs.now)) value n }
+    requires read { (v : TermsView) × (g : WholeReading) × HasRead (source items.now.text.now) items.now.nodes.now g symbols.old v (with_open reader.old (frame.Bindings form.now)) value n }
     requires inside { n ≤ length items.now.nodes.now }
-    requires room { bound_of symbols.old items.now.nodes.now (with_open reader.old (bindings_frame pairs.now)) n ≤ 2 ^ 30 }
-    ensures leaves { (v : TermsView) (g : WholeReading) → HasRead (source items.now.text.now) items.now.nodes.now g symbols.old v (with_open reader.old (bindings_frame pairs.now)) value n → Leaves (source items.now.text.now) items.now.nodes.now g symbols.old v (with_open reader.old (bindings_frame pairs.now)) value n symbols.new v reader.new result }
+    requires room { bound_of symbols.old items.now.nodes.now (with_open reader.old (frame.Bindings form.now)) n ≤ 2 ^ 30 }
+    ensures leaves { (v : TermsView) (g : WholeReading) → HasRead (source items.now.text.now) items.now.nodes.now g symbols.old v (with_open reader.old (frame.Bindings form.now)) value n → Leaves (source items.now.text.now) items.now.nodes.now g symbols.old v (with_open reader.old (frame.Bindings form.now)) value n symbols.new v reader.new result }
     ensures symbols { AddsNoSymbols symbols.old symbols.new }
     ensures one_more { length symbols.new.leaves ≤ length symbols.old.leaves + 1 }
     ensures replaces { reader.new.replaces_lets ≡ reader.old.replaces_lets }
@@ -55,7 +55,7 @@ pub(crate) fn leave_binding(
         name,
         repeat,
         body,
-    } = *pairs;
+    } = *form;
     let ItemText { text, nodes } = *items;
     add_variable(text, nodes, symbols, &mut reader.leaves, name, value.sort)?;
     reader.values.push(value)?;
@@ -68,25 +68,25 @@ pub(crate) fn leave_binding(
             from,
             reader.replaces_lets,
         )?;
-        reader.frames.push(Frame::Body {
+        reader.frames.push(Frame::Body(OpenBody {
             place,
             from,
             leaves,
-        })?;
+        }))?;
         return Ok(Turn::Read(body));
     }
     if n == repeat {
         let at = node_at(nodes, n + 1).token.start;
         return Err(ReadFault::Text(refused(Cause::Repeated, at)));
     }
-    reader.frames.push(Frame::Bindings {
+    reader.frames.push(Frame::Bindings(OpenBindings {
         place,
         from,
         leaves,
         name: n + 1,
         repeat,
         body,
-    })?;
+    }))?;
     Ok(Turn::Read(n + 2))
 }
 
@@ -120,8 +120,8 @@ pub(crate) fn leave_body(
     n: usize,
     form: &OpenBody,
 ) -> Result<Turn, ReadFault>
-    requires read { (source : List ℕ) × (nodes : List node.Node) × (g : WholeReading) × HasRead source nodes g symbols.now terms.old (with_open reader.old (body_frame form.now)) value n }
-    ensures leaves { (source : List ℕ) (nodes : List node.Node) (g : WholeReading) → HasRead source nodes g symbols.now terms.old (with_open reader.old (body_frame form.now)) value n → Leaves source nodes g symbols.now terms.old (with_open reader.old (body_frame form.now)) value n symbols.now terms.new reader.new result }
+    requires read { (source : List ℕ) × (nodes : List node.Node) × (g : WholeReading) × HasRead source nodes g symbols.now terms.old (with_open reader.old (frame.Body form.now)) value n }
+    ensures leaves { (source : List ℕ) (nodes : List node.Node) (g : WholeReading) → HasRead source nodes g symbols.now terms.old (with_open reader.old (frame.Body form.now)) value n → Leaves source nodes g symbols.now terms.old (with_open reader.old (frame.Body form.now)) value n symbols.now terms.new reader.new result }
     ensures replaces { reader.new.replaces_lets ≡ reader.old.replaces_lets }
     ensures base { reader.new.known.base ≡ reader.old.known.base }
     ensures keeps { KeepsTerms terms.old terms.new }

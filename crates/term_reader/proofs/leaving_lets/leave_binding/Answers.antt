@@ -8,57 +8,57 @@ use Rattle.term_reader.proofs.leaving_lets.leave_binding.Goals as goal
 pub offset_bounds-deref-leaves : goal.offset_bounds-deref-leaves
 offset_bounds-deref-leaves c =
     let (v, g, h) = c.requires.read in
-    let added : IsAdded (source c.args.items.now.text.now) c.args.items.now.nodes.now g c.args.symbols.now v c.args.reader.now c.args.value c.args.n c.args.pairs.now.place c.args.pairs.now.from c.args.pairs.now.leaves c.args.pairs.now.name c.args.pairs.now.repeat c.args.pairs.now.body h c.add_variable.new.symbols c.add_variable.new.leaves.items c.push.new.self = record { adds = c.add_variable.ensures.symbols; leaf = c.in_ok-add_variable.ensures.added; values_are = c.in_ok-push.ensures.pushed } in
-    let within : c.args.pairs.now.leaves < length c.deref.result.now = rw c.deref.ensures.value (leaves_within_now (source c.args.items.now.text.now) c.args.items.now.nodes.now g c.args.symbols.now v c.args.reader.now c.args.value c.args.n c.args.pairs.now.place c.args.pairs.now.from c.args.pairs.now.leaves c.args.pairs.now.name c.args.pairs.now.repeat c.args.pairs.now.body h c.add_variable.new.symbols c.add_variable.new.leaves.items c.push.new.self added) in
+    let added : IsAdded (source c.args.items.now.text.now) c.args.items.now.nodes.now g c.args.symbols.now v c.args.reader.now c.args.value c.args.n c.args.form.now h c.add_variable.new.symbols c.add_variable.new.leaves.items c.push.new.self = record { adds = c.add_variable.ensures.symbols; leaf = c.in_ok-add_variable.ensures.added; values_are = c.in_ok-push.ensures.pushed } in
+    let within : c.args.form.now.leaves < length c.deref.result.now = rw c.deref.ensures.value (leaves_within_now (source c.args.items.now.text.now) c.args.items.now.nodes.now g c.args.symbols.now v c.args.reader.now c.args.value c.args.n c.args.form.now h c.add_variable.new.symbols c.add_variable.new.leaves.items c.push.new.self added) in
     let small = c.deref.type_inv.1 in
-    let below : c.args.pairs.now.leaves * 4 < 2 ^ 64 = omega arith in
+    let below : c.args.form.now.leaves * 4 < 2 ^ 64 = omega arith in
     search (rules, below)
 
 pub slice_bounds-bind-count : goal.slice_bounds-bind-count
 slice_bounds-bind-count c =
     let (v, g, h) = c.requires.read in
-    let added : IsAdded (source c.args.items.now.text.now) c.args.items.now.nodes.now g c.args.symbols.now v c.args.reader.now c.args.value c.args.n c.args.pairs.now.place c.args.pairs.now.from c.args.pairs.now.leaves c.args.pairs.now.name c.args.pairs.now.repeat c.args.pairs.now.body h c.add_variable.new.symbols c.add_variable.new.leaves.items c.push.new.self = record { adds = c.add_variable.ensures.symbols; leaf = c.in_ok-add_variable.ensures.added; values_are = c.in_ok-push.ensures.pushed } in
-    let within : c.args.pairs.now.leaves < length c.deref.result.now = rw c.deref.ensures.value (leaves_within_now (source c.args.items.now.text.now) c.args.items.now.nodes.now g c.args.symbols.now v c.args.reader.now c.args.value c.args.n c.args.pairs.now.place c.args.pairs.now.from c.args.pairs.now.leaves c.args.pairs.now.name c.args.pairs.now.repeat c.args.pairs.now.body h c.add_variable.new.symbols c.add_variable.new.leaves.items c.push.new.self added) in
+    let added : IsAdded (source c.args.items.now.text.now) c.args.items.now.nodes.now g c.args.symbols.now v c.args.reader.now c.args.value c.args.n c.args.form.now h c.add_variable.new.symbols c.add_variable.new.leaves.items c.push.new.self = record { adds = c.add_variable.ensures.symbols; leaf = c.in_ok-add_variable.ensures.added; values_are = c.in_ok-push.ensures.pushed } in
+    let within : c.args.form.now.leaves < length c.deref.result.now = rw c.deref.ensures.value (leaves_within_now (source c.args.items.now.text.now) c.args.items.now.nodes.now g c.args.symbols.now v c.args.reader.now c.args.value c.args.n c.args.form.now h c.add_variable.new.symbols c.add_variable.new.leaves.items c.push.new.self added) in
     omega (arith, within)
 
 pub slice_bounds-bind-start : goal.slice_bounds-bind-start
 slice_bounds-bind-start c =
     let (v, g, h) = c.requires.read in
-    let added : IsAdded (source c.args.items.now.text.now) c.args.items.now.nodes.now g c.args.symbols.now v c.args.reader.now c.args.value c.args.n c.args.pairs.now.place c.args.pairs.now.from c.args.pairs.now.leaves c.args.pairs.now.name c.args.pairs.now.repeat c.args.pairs.now.body h c.add_variable.new.symbols c.add_variable.new.leaves.items c.push.new.self = record { adds = c.add_variable.ensures.symbols; leaf = c.in_ok-add_variable.ensures.added; values_are = c.in_ok-push.ensures.pushed } in
-    let within : c.args.pairs.now.leaves < length c.deref.result.now = rw c.deref.ensures.value (leaves_within_now (source c.args.items.now.text.now) c.args.items.now.nodes.now g c.args.symbols.now v c.args.reader.now c.args.value c.args.n c.args.pairs.now.place c.args.pairs.now.from c.args.pairs.now.leaves c.args.pairs.now.name c.args.pairs.now.repeat c.args.pairs.now.body h c.add_variable.new.symbols c.add_variable.new.leaves.items c.push.new.self added) in
-    let below : c.args.pairs.now.leaves ≤ length c.deref.result.now = omega (arith, within) in
+    let added : IsAdded (source c.args.items.now.text.now) c.args.items.now.nodes.now g c.args.symbols.now v c.args.reader.now c.args.value c.args.n c.args.form.now h c.add_variable.new.symbols c.add_variable.new.leaves.items c.push.new.self = record { adds = c.add_variable.ensures.symbols; leaf = c.in_ok-add_variable.ensures.added; values_are = c.in_ok-push.ensures.pushed } in
+    let within : c.args.form.now.leaves < length c.deref.result.now = rw c.deref.ensures.value (leaves_within_now (source c.args.items.now.text.now) c.args.items.now.nodes.now g c.args.symbols.now v c.args.reader.now c.args.value c.args.n c.args.form.now h c.add_variable.new.symbols c.add_variable.new.leaves.items c.push.new.self added) in
+    let below : c.args.form.now.leaves ≤ length c.deref.result.now = omega (arith, within) in
     search (rules, below)
 
 pub bind-requires-clause-bound : goal.bind-requires-clause-bound
 bind-requires-clause-bound c =
     let (v, g, h) = c.requires.read in
-    let added : IsAdded (source c.args.items.now.text.now) c.args.items.now.nodes.now g c.args.symbols.now v c.args.reader.now c.args.value c.args.n c.args.pairs.now.place c.args.pairs.now.from c.args.pairs.now.leaves c.args.pairs.now.name c.args.pairs.now.repeat c.args.pairs.now.body h c.add_variable.new.symbols c.add_variable.new.leaves.items c.push.new.self = record { adds = c.add_variable.ensures.symbols; leaf = c.in_ok-add_variable.ensures.added; values_are = c.in_ok-push.ensures.pushed } in
-    rw (take_rest c.deref.result.now c.args.pairs.now.leaves ∙ ap (drop c.args.pairs.now.leaves) c.deref.ensures.value)
-    (bindings_bound (source c.args.items.now.text.now) c.args.items.now.nodes.now g c.args.symbols.now v c.args.reader.now c.args.value c.args.n c.args.pairs.now.place c.args.pairs.now.from c.args.pairs.now.leaves c.args.pairs.now.name c.args.pairs.now.repeat c.args.pairs.now.body h c.add_variable.new.symbols c.add_variable.new.leaves.items c.push.new.self added)
+    let added : IsAdded (source c.args.items.now.text.now) c.args.items.now.nodes.now g c.args.symbols.now v c.args.reader.now c.args.value c.args.n c.args.form.now h c.add_variable.new.symbols c.add_variable.new.leaves.items c.push.new.self = record { adds = c.add_variable.ensures.symbols; leaf = c.in_ok-add_variable.ensures.added; values_are = c.in_ok-push.ensures.pushed } in
+    rw (take_rest c.deref.result.now c.args.form.now.leaves ∙ ap (drop c.args.form.now.leaves) c.deref.ensures.value)
+    (bindings_bound (source c.args.items.now.text.now) c.args.items.now.nodes.now g c.args.symbols.now v c.args.reader.now c.args.value c.args.n c.args.form.now h c.add_variable.new.symbols c.add_variable.new.leaves.items c.push.new.self added)
 
 pub returns-then-n-body-clause-leaves : goal.returns-then-n-body-clause-leaves
 returns-then-n-body-clause-leaves c = λ v g h.
-    let added : IsAdded (source c.args.items.now.text.now) c.args.items.now.nodes.now g c.args.symbols.now v c.args.reader.now c.args.value c.args.n c.args.pairs.now.place c.args.pairs.now.from c.args.pairs.now.leaves c.args.pairs.now.name c.args.pairs.now.repeat c.args.pairs.now.body h c.add_variable.new.symbols c.add_variable.new.leaves.items c.push.new.self = record { adds = c.add_variable.ensures.symbols; leaf = c.in_ok-add_variable.ensures.added; values_are = c.in_ok-push.ensures.pushed } in
+    let added : IsAdded (source c.args.items.now.text.now) c.args.items.now.nodes.now g c.args.symbols.now v c.args.reader.now c.args.value c.args.n c.args.form.now h c.add_variable.new.symbols c.add_variable.new.leaves.items c.push.new.self = record { adds = c.add_variable.ensures.symbols; leaf = c.in_ok-add_variable.ensures.added; values_are = c.in_ok-push.ensures.pushed } in
     let (inner, split, each) = c.in_ok-bind.ensures.inner in
-    body_next (source c.args.items.now.text.now) c.args.items.now.nodes.now g c.args.symbols.now v c.args.reader.now c.args.value c.args.n c.args.pairs.now.place c.args.pairs.now.from c.args.pairs.now.leaves c.args.pairs.now.name c.args.pairs.now.repeat c.args.pairs.now.body h
+    body_next (source c.args.items.now.text.now) c.args.items.now.nodes.now g c.args.symbols.now v c.args.reader.now c.args.value c.args.n c.args.form.now h
     c.add_variable.new.symbols (record c.args.reader.now { scope = c.bind.new.scope; values = c.push.new.self; leaves = c.add_variable.new.leaves; frames = c.push-then-n-body.new.self })
-    added c.add_variable.ensures.one_more c.if-n-body.true inner _ (take_rest c.deref.result.now c.args.pairs.now.leaves ∙ ap (drop c.args.pairs.now.leaves) c.deref.ensures.value)
+    added c.add_variable.ensures.one_more c.if-n-body.true inner _ (take_rest c.deref.result.now c.args.form.now.leaves ∙ ap (drop c.args.form.now.leaves) c.deref.ensures.value)
     c.in_ok-bind.ensures.bound split each c.in_ok-push-2.ensures.pushed
 
 pub node_at-at-requires : goal.node_at-at-requires
 node_at-at-requires c =
     let (v, g, h) = c.requires.read in
-    let below = more_nodes_there (source c.args.items.now.text.now) c.args.items.now.nodes.now g c.args.symbols.now v c.args.reader.now c.args.value c.args.n c.args.pairs.now.place c.args.pairs.now.from c.args.pairs.now.leaves c.args.pairs.now.name c.args.pairs.now.repeat c.args.pairs.now.body h c.if-n-body.false in
+    let below = more_nodes_there (source c.args.items.now.text.now) c.args.items.now.nodes.now g c.args.symbols.now v c.args.reader.now c.args.value c.args.n c.args.form.now h c.if-n-body.false in
     omega (arith, below)
 
 pub returns-then-n-repeat-clause-leaves : goal.returns-then-n-repeat-clause-leaves
 returns-then-n-repeat-clause-leaves c = λ v g h.
-    binding_faulty (source c.args.items.now.text.now) c.args.items.now.nodes.now g c.args.symbols.now v c.args.reader.now c.args.value c.args.n c.args.pairs.now.place c.args.pairs.now.from c.args.pairs.now.leaves c.args.pairs.now.name c.args.pairs.now.repeat c.args.pairs.now.body h
+    binding_faulty (source c.args.items.now.text.now) c.args.items.now.nodes.now g c.args.symbols.now v c.args.reader.now c.args.value c.args.n c.args.form.now h
     c.add_variable.new.symbols _ c.if-n-body.false c.if-n-repeat.true c.node_at-at.result c.node_at-at.ensures c.refused.result c.refused.ensures
 
 pub returns-clause-leaves : goal.returns-clause-leaves
 returns-clause-leaves c = λ v g h.
-    let added : IsAdded (source c.args.items.now.text.now) c.args.items.now.nodes.now g c.args.symbols.now v c.args.reader.now c.args.value c.args.n c.args.pairs.now.place c.args.pairs.now.from c.args.pairs.now.leaves c.args.pairs.now.name c.args.pairs.now.repeat c.args.pairs.now.body h c.add_variable.new.symbols c.add_variable.new.leaves.items c.push.new.self = record { adds = c.add_variable.ensures.symbols; leaf = c.in_ok-add_variable.ensures.added; values_are = c.in_ok-push.ensures.pushed } in
-    binding_next (source c.args.items.now.text.now) c.args.items.now.nodes.now g c.args.symbols.now v c.args.reader.now c.args.value c.args.n c.args.pairs.now.place c.args.pairs.now.from c.args.pairs.now.leaves c.args.pairs.now.name c.args.pairs.now.repeat c.args.pairs.now.body h
+    let added : IsAdded (source c.args.items.now.text.now) c.args.items.now.nodes.now g c.args.symbols.now v c.args.reader.now c.args.value c.args.n c.args.form.now h c.add_variable.new.symbols c.add_variable.new.leaves.items c.push.new.self = record { adds = c.add_variable.ensures.symbols; leaf = c.in_ok-add_variable.ensures.added; values_are = c.in_ok-push.ensures.pushed } in
+    binding_next (source c.args.items.now.text.now) c.args.items.now.nodes.now g c.args.symbols.now v c.args.reader.now c.args.value c.args.n c.args.form.now h
     c.add_variable.new.symbols (record c.args.reader.now { values = c.push.new.self; leaves = c.add_variable.new.leaves; frames = c.push-2.new.self })
     added c.add_variable.ensures.one_more c.if-n-body.false c.if-n-repeat.false c.in_ok-push-3.ensures.pushed
