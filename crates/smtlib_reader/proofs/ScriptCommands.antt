@@ -67,9 +67,9 @@ done_goes_on replaces rest sc o e = ap (then_rest replaces rest) e
 goes_further : (source : List ℕ) (nodes : List Node) (c : code.Command) (d : ScriptCommand) → (c ≡ Exit → ⊥) → SaysScriptCommand source nodes c d → ends d ≡ false
 goes_further source nodes (SetLogic name) d other (n, e, _) = ap ends e
 goes_further source nodes WithoutEffect d other e = ap ends e
-goes_further source nodes (DeclareSort name arity zero) d other says = ap ends says.same
-goes_further source nodes (DeclareFun name first last target) d other says = ap ends says.same
-goes_further source nodes (DefineFun name first last target body) d other says = ap ends says.same
+goes_further source nodes (DeclareSort head) d other says = ap ends says.same
+goes_further source nodes (DeclareFun head) d other says = ap ends says.same
+goes_further source nodes (DefineFun head body) d other says = ap ends says.same
 goes_further source nodes (Assert t) d other (i, m, e, _) = ap ends e
 goes_further source nodes CheckSat d other e = ap ends e
 goes_further source nodes Exit d other e = absurd (other refl)

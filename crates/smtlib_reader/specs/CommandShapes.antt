@@ -6,6 +6,8 @@ use Rattle.sexpr.specs.Words.{is_symbol}
 use Rattle.sexpr.specs.Items.{Item, word, quoted, string, list, Items}
 use Rattle.text_items.specs.declared.nodes.Node.{Node}
 use Rattle.smtlib_reader.specs.declared.commands.Command.{Command}
+use Rattle.smtlib_reader.specs.declared.commands.FunctionHead.{FunctionHead}
+use Rattle.smtlib_reader.specs.declared.commands.SortHead.{SortHead}
 use Rattle.smtlib_reader.specs.declared.command_words.CommandWord.{CommandWord}
 use Rattle.problem_text.specs.Words.{is_among, left_out_commands}
 use Rattle.text_items.specs.ItemShapes.{Name, excess, pairs_fault}
@@ -14,26 +16,26 @@ use Rattle.text_items.specs.Nodes.{IsNode, AreNodes}
 use Rattle.text_items.specs.NameNodes.{BeginsAt, IsNameNode}
 
 -- The nodes say the command: a name and nodes of sorts, parameters and terms, with what kind of numeral an arity is.
-pub record SaysSort (source : List ℕ) (nodes : List Node) (name arity : ℕ) (is_zero : Bool) (d : Shape) : Type 0 where
+pub record SaysSort (source : List ℕ) (nodes : List Node) (head : SortHead) (d : Shape) : Type 0 where
   pub named : Name
   pub place : ℕ
   pub value : ℕ
   pub same : d ≡ declare_sort named place value
-  pub name_here : IsNameNode source nodes name named
-  pub arity_here : BeginsAt nodes arity place
-  pub zero : is_zero ≡ (value == 0)
+  pub name_here : IsNameNode source nodes head.name named
+  pub arity_here : BeginsAt nodes head.arity place
+  pub zero : head.is_zero ≡ (value == 0)
 
-pub record SaysFun (source : List ℕ) (nodes : List Node) (name first last target : ℕ) (d : Shape) : Type 0 where
+pub record SaysFun (source : List ℕ) (nodes : List Node) (head : FunctionHead) (d : Shape) : Type 0 where
   pub named : Name
   pub sorts : Items
   pub result : Item
   pub after : ℕ
   pub same : d ≡ declare_fun named sorts result
-  pub name_here : IsNameNode source nodes name named
-  pub sorts_here : AreNodes source nodes first sorts last
-  pub result_here : IsNode source nodes target result after
+  pub name_here : IsNameNode source nodes head.name named
+  pub sorts_here : AreNodes source nodes head.first sorts head.end
+  pub result_here : IsNode source nodes head.target result after
 
-pub record SaysDefinition (source : List ℕ) (nodes : List Node) (name first last target body : ℕ) (d : Shape) : Type 0 where
+pub record SaysDefinition (source : List ℕ) (nodes : List Node) (head : FunctionHead) (body : ℕ) (d : Shape) : Type 0 where
   pub named : Name
   pub parameters : Items
   pub result : Item
@@ -41,19 +43,19 @@ pub record SaysDefinition (source : List ℕ) (nodes : List Node) (name first la
   pub after : ℕ
   pub behind : ℕ
   pub same : d ≡ define_fun named parameters result value
-  pub name_here : IsNameNode source nodes name named
-  pub parameters_here : AreNodes source nodes first parameters last
+  pub name_here : IsNameNode source nodes head.name named
+  pub parameters_here : AreNodes source nodes head.first parameters head.end
   pub pairs : pairs_fault parameters ≡ None
-  pub result_here : IsNode source nodes target result after
+  pub result_here : IsNode source nodes head.target result after
   pub value_here : IsNode source nodes body value behind
-  pub in_order : last ≤ body
+  pub in_order : head.end ≤ body
 
 abbrev pub SaysScriptCommand : List ℕ → List Node → Command → Shape → Type 0
 SaysScriptCommand source nodes (Command.SetLogic name) d = (n : Name) × (d ≡ set_logic n) × IsNameNode source nodes name n
 SaysScriptCommand source nodes Command.WithoutEffect d = d ≡ without_effect
-SaysScriptCommand source nodes (Command.DeclareSort name arity is_zero) d = SaysSort source nodes name arity is_zero d
-SaysScriptCommand source nodes (Command.DeclareFun name first last target) d = SaysFun source nodes name first last target d
-SaysScriptCommand source nodes (Command.DefineFun name first last target body) d = SaysDefinition source nodes name first last target body d
+SaysScriptCommand source nodes (Command.DeclareSort head) d = SaysSort source nodes head d
+SaysScriptCommand source nodes (Command.DeclareFun head) d = SaysFun source nodes head d
+SaysScriptCommand source nodes (Command.DefineFun head body) d = SaysDefinition source nodes head body d
 SaysScriptCommand source nodes (Command.Assert t) d = (i : Item) × (m : ℕ) × (d ≡ assert_term i) × IsNode source nodes t i m
 SaysScriptCommand source nodes Command.CheckSat d = d ≡ check_sat
 SaysScriptCommand source nodes Command.Exit d = d ≡ exit

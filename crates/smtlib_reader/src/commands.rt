@@ -16,35 +16,33 @@ use text_items::children::{bad_command, excess, place_at, take};
 use text_items::nodes::Node;
 use text_items::refusals::refused;
 
-/// A command by the places of its nodes. Sorts, parameters and terms are still to be read. The sorts of arguments
-/// and the parameters stand from `first` to before `end`, and a declared constant has none.
+/// A sort that is declared, by the nodes of its name and of its arity, and whether this is zero.
+#[derive(Clone, Copy)]
+pub(crate) struct SortHead {
+    pub(crate) name: usize,
+    pub(crate) arity: usize,
+    pub(crate) is_zero: bool,
+}
+
+/// What a function has before its body, by the nodes of its name and of the sort of its uses. The sorts of its arguments,
+/// or its parameters where it is defined, stand from `first` to before `end`, and a declared constant has none.
+#[derive(Clone, Copy)]
+pub(crate) struct FunctionHead {
+    pub(crate) name: usize,
+    pub(crate) first: usize,
+    pub(crate) end: usize,
+    pub(crate) target: usize,
+}
+
+/// A command by the places of its nodes. Sorts, parameters and terms are still to be read.
 #[derive(Clone, Copy)]
 pub(crate) enum Command {
-    SetLogic {
-        name: usize,
-    },
+    SetLogic { name: usize },
     WithoutEffect,
-    DeclareSort {
-        name: usize,
-        arity: usize,
-        is_zero: bool,
-    },
-    DeclareFun {
-        name: usize,
-        first: usize,
-        end: usize,
-        target: usize,
-    },
-    DefineFun {
-        name: usize,
-        first: usize,
-        end: usize,
-        target: usize,
-        body: usize,
-    },
-    Assert {
-        term: usize,
-    },
+    DeclareSort(SortHead),
+    DeclareFun(FunctionHead),
+    DefineFun { head: FunctionHead, body: usize },
+    Assert { term: usize },
     CheckSat,
     Exit,
 }
@@ -155,14 +153,12 @@ fn declare_sort(text: &Lexer<'_>, nodes: &[Node], start: u64, at: usize) -> Resu
     let later = numeral_fault(text, nodes, arity).or(excess(nodes, rest, nodes.len()));
     let fault = symbol_fault(text, nodes, name).or(later);
     let is_zero = is_zero(text, nodes, arity);
-    unless(
-        fault,
-        Command::DeclareSort {
-            name,
-            arity,
-            is_zero,
-        },
-    )
+    let head = SortHead {
+        name,
+        arity,
+        is_zero,
+    };
+    unless(fault, Command::DeclareSort(head))
 }
 
 fn declare_fun(text: &Lexer<'_>, nodes: &[Node], start: u64, at: usize) -> Result<Command, Refusal>
@@ -175,16 +171,13 @@ fn declare_fun(text: &Lexer<'_>, nodes: &[Node], start: u64, at: usize) -> Resul
     let target = take(nodes, &mut rest, nodes.len(), start)?;
     let later = list_fault(nodes, sorts).or(excess(nodes, rest, nodes.len()));
     let fault = symbol_fault(text, nodes, name).or(later);
-    let (first, end) = (sorts + 1, target);
-    unless(
-        fault,
-        Command::DeclareFun {
-            name,
-            first,
-            end,
-            target,
-        },
-    )
+    let head = FunctionHead {
+        name,
+        first: sorts + 1,
+        end: target,
+        target,
+    };
+    unless(fault, Command::DeclareFun(head))
 }
 
 fn declare_const(
@@ -200,16 +193,13 @@ fn declare_const(
     let name = take(nodes, &mut rest, nodes.len(), start)?;
     let target = take(nodes, &mut rest, nodes.len(), start)?;
     let fault = symbol_fault(text, nodes, name).or(excess(nodes, rest, nodes.len()));
-    let (first, end) = (target, target);
-    unless(
-        fault,
-        Command::DeclareFun {
-            name,
-            first,
-            end,
-            target,
-        },
-    )
+    let head = FunctionHead {
+        name,
+        first: target,
+        end: target,
+        target,
+    };
+    unless(fault, Command::DeclareFun(head))
 }
 
 #[tactic(auto, using(text_items::proofs::NodeSteps::node_behind))]
@@ -224,17 +214,13 @@ fn define_fun(text: &Lexer<'_>, nodes: &[Node], start: u64, at: usize) -> Result
     let body = take(nodes, &mut rest, nodes.len(), start)?;
     let later = parameters_fault(text, nodes, parameters).or(excess(nodes, rest, nodes.len()));
     let fault = symbol_fault(text, nodes, name).or(later);
-    let (first, end) = (parameters + 1, target);
-    unless(
-        fault,
-        Command::DefineFun {
-            name,
-            first,
-            end,
-            target,
-            body,
-        },
-    )
+    let head = FunctionHead {
+        name,
+        first: parameters + 1,
+        end: target,
+        target,
+    };
+    unless(fault, Command::DefineFun { head, body })
 }
 
 fn assertion(nodes: &[Node], start: u64, at: usize) -> Result<Command, Refusal>

@@ -13,10 +13,11 @@ ghost use Rattle.problem_text.specs.Words.{is_among, is_built_in};
 ghost use Rattle.smtlib_reader.specs.declared.commands.Command.TheVariants as command;
 ghost use Rattle.term_names.specs.declared.faults.ReadFault.TheVariants as ReadFault;
 
+use crate::commands::{FunctionHead, SortHead};
 use crate::session::Session;
 use crate::sorts_at::{sort_at, sorts_at};
 use name_set::NameSet;
-use sexpr::{Cause, Lexer};
+use sexpr::Cause;
 use sym_table::{NameFault, Symbols};
 use term_model::Sort;
 use term_names::faults::ReadFault;
@@ -24,31 +25,31 @@ use term_names::words::is_logic;
 use term_pool::Terms;
 use term_reader::repeats;
 use term_reader::taken::is_taken;
-use text_items::nodes::{Node, node_at};
+use text_items::nodes::{ItemText, node_at};
 use text_items::refusals::refused;
 use text_items::shapes::name_of;
 
 /// Sets the logic by the name at a node, once.
 pub(crate) fn set_logic(
-    text: &Lexer<'_>,
-    nodes: &[Node],
+    items: &ItemText<'_, '_>,
     symbols: &mut Symbols,
     terms: &mut Terms<'_>,
     session: &mut Session<'_>,
     name: usize,
 ) -> Result<(), ReadFault>
-    requires says { (c : shape.ScriptCommand) × SaysScriptCommand (source text.now) nodes.now (command.SetLogic name) c }
+    requires says { (c : shape.ScriptCommand) × SaysScriptCommand (source items.now.text.now) items.now.nodes.now (command.SetLogic name) c }
     requires session { (sc : Script) × IsSession symbols.old terms.old session.old sc }
-    requires room { length symbols.old.leaves + length nodes.now ≤ 2 ^ 30 }
-    requires room_for_sorts { length symbols.old.sorts + length nodes.now ≤ 2 ^ 30 }
-    ensures performs { (c : shape.ScriptCommand) (sc : Script) → SaysScriptCommand (source text.now) nodes.now (command.SetLogic name) c → IsSession symbols.old terms.old session.old sc → Performs symbols.new terms.old terms.new session.new (script_performed session.old.reader.replaces_lets c sc) result }
+    requires room { length symbols.old.leaves + length items.now.nodes.now ≤ 2 ^ 30 }
+    requires room_for_sorts { length symbols.old.sorts + length items.now.nodes.now ≤ 2 ^ 30 }
+    ensures performs { (c : shape.ScriptCommand) (sc : Script) → SaysScriptCommand (source items.now.text.now) items.now.nodes.now (command.SetLogic name) c → IsSession symbols.old terms.old session.old sc → Performs symbols.new terms.old terms.new session.new (script_performed session.old.reader.replaces_lets c sc) result }
     ensures symbols { Keeps symbols.old symbols.new }
-    ensures few { length symbols.new.leaves ≤ length symbols.old.leaves + length nodes.now }
-    ensures few_sorts { length symbols.new.sorts ≤ length symbols.old.sorts + length nodes.now }
+    ensures few { length symbols.new.leaves ≤ length symbols.old.leaves + length items.now.nodes.now }
+    ensures few_sorts { length symbols.new.sorts ≤ length symbols.old.sorts + length items.now.nodes.now }
     ensures replaces { session.new.reader.replaces_lets ≡ session.old.reader.replaces_lets }
     ensures base { session.new.reader.known.base ≡ session.old.reader.known.base }
     ensures keeps { KeepsTerms terms.old terms.new }
 {
+    let ItemText { text, nodes } = *items;
     let spelled = name_of(text, nodes, name);
     let place = node_at(nodes, name).token.start;
     if session.has_logic {
@@ -63,27 +64,30 @@ pub(crate) fn set_logic(
 
 /// Declares the sort of the name at a node. One with parameters is left out, at its numeral.
 pub(crate) fn declare_sort(
-    text: &Lexer<'_>,
-    nodes: &[Node],
+    items: &ItemText<'_, '_>,
     symbols: &mut Symbols,
     terms: &mut Terms<'_>,
     session: &mut Session<'_>,
-    name: usize,
-    arity: usize,
-    is_zero: bool,
+    head: SortHead,
 ) -> Result<(), ReadFault>
-    requires says { (c : shape.ScriptCommand) × SaysScriptCommand (source text.now) nodes.now (command.DeclareSort name arity is_zero) c }
+    requires says { (c : shape.ScriptCommand) × SaysScriptCommand (source items.now.text.now) items.now.nodes.now (command.DeclareSort head) c }
     requires session { (sc : Script) × IsSession symbols.old terms.old session.old sc }
-    requires room { length symbols.old.leaves + length nodes.now ≤ 2 ^ 30 }
-    requires room_for_sorts { length symbols.old.sorts + length nodes.now ≤ 2 ^ 30 }
-    ensures performs { (c : shape.ScriptCommand) (sc : Script) → SaysScriptCommand (source text.now) nodes.now (command.DeclareSort name arity is_zero) c → IsSession symbols.old terms.old session.old sc → Performs symbols.new terms.old terms.new session.new (script_performed session.old.reader.replaces_lets c sc) result }
+    requires room { length symbols.old.leaves + length items.now.nodes.now ≤ 2 ^ 30 }
+    requires room_for_sorts { length symbols.old.sorts + length items.now.nodes.now ≤ 2 ^ 30 }
+    ensures performs { (c : shape.ScriptCommand) (sc : Script) → SaysScriptCommand (source items.now.text.now) items.now.nodes.now (command.DeclareSort head) c → IsSession symbols.old terms.old session.old sc → Performs symbols.new terms.old terms.new session.new (script_performed session.old.reader.replaces_lets c sc) result }
     ensures symbols { Keeps symbols.old symbols.new }
-    ensures few { length symbols.new.leaves ≤ length symbols.old.leaves + length nodes.now }
-    ensures few_sorts { length symbols.new.sorts ≤ length symbols.old.sorts + length nodes.now }
+    ensures few { length symbols.new.leaves ≤ length symbols.old.leaves + length items.now.nodes.now }
+    ensures few_sorts { length symbols.new.sorts ≤ length symbols.old.sorts + length items.now.nodes.now }
     ensures replaces { session.new.reader.replaces_lets ≡ session.old.reader.replaces_lets }
     ensures base { session.new.reader.known.base ≡ session.old.reader.known.base }
     ensures keeps { KeepsTerms terms.old terms.new }
 {
+    let ItemText { text, nodes } = *items;
+    let SortHead {
+        name,
+        arity,
+        is_zero,
+    } = head;
     let spelled = name_of(text, nodes, name);
     if is_sort_taken(symbols, spelled) {
         let place = node_at(nodes, name).token.start;
@@ -120,37 +124,41 @@ fn add_sort(symbols: &mut Symbols, name: &[u8]) -> Result<(), ReadFault>
     }
 }
 
-/// Declares the function of the name at a node, whose arguments' sorts stand from `first` to before `end`.
+/// Declares the function of the name at a node.
 pub(crate) fn declare_fun(
-    text: &Lexer<'_>,
-    nodes: &[Node],
+    items: &ItemText<'_, '_>,
     symbols: &mut Symbols,
     terms: &mut Terms<'_>,
     session: &mut Session<'_>,
-    name: usize,
-    first: usize,
-    end: usize,
-    target: usize,
+    head: FunctionHead,
 ) -> Result<(), ReadFault>
-    requires says { (c : shape.ScriptCommand) × SaysScriptCommand (source text.now) nodes.now (command.DeclareFun name first end target) c }
+    requires says { (c : shape.ScriptCommand) × SaysScriptCommand (source items.now.text.now) items.now.nodes.now (command.DeclareFun head) c }
     requires session { (sc : Script) × IsSession symbols.old terms.old session.old sc }
-    requires room { length symbols.old.leaves + length nodes.now ≤ 2 ^ 30 }
-    requires room_for_sorts { length symbols.old.sorts + length nodes.now ≤ 2 ^ 30 }
-    ensures performs { (c : shape.ScriptCommand) (sc : Script) → SaysScriptCommand (source text.now) nodes.now (command.DeclareFun name first end target) c → IsSession symbols.old terms.old session.old sc → Performs symbols.new terms.old terms.new session.new (script_performed session.old.reader.replaces_lets c sc) result }
+    requires room { length symbols.old.leaves + length items.now.nodes.now ≤ 2 ^ 30 }
+    requires room_for_sorts { length symbols.old.sorts + length items.now.nodes.now ≤ 2 ^ 30 }
+    ensures performs { (c : shape.ScriptCommand) (sc : Script) → SaysScriptCommand (source items.now.text.now) items.now.nodes.now (command.DeclareFun head) c → IsSession symbols.old terms.old session.old sc → Performs symbols.new terms.old terms.new session.new (script_performed session.old.reader.replaces_lets c sc) result }
     ensures symbols { Keeps symbols.old symbols.new }
-    ensures few { length symbols.new.leaves ≤ length symbols.old.leaves + length nodes.now }
-    ensures few_sorts { length symbols.new.sorts ≤ length symbols.old.sorts + length nodes.now }
+    ensures few { length symbols.new.leaves ≤ length symbols.old.leaves + length items.now.nodes.now }
+    ensures few_sorts { length symbols.new.sorts ≤ length symbols.old.sorts + length items.now.nodes.now }
     ensures replaces { session.new.reader.replaces_lets ≡ session.old.reader.replaces_lets }
     ensures base { session.new.reader.known.base ≡ session.old.reader.known.base }
     ensures keeps { KeepsTerms terms.old terms.new }
 {
-    let spelled = name_of(text, nodes, name);
+    let ItemText { text, nodes } = *items;
+    let spelled = name_of(text, nodes, head.name);
     if is_taken(symbols, &session.reader.known, spelled) {
-        let place = node_at(nodes, name).token.start;
+        let place = node_at(nodes, head.name).token.start;
         return Err(ReadFault::Text(refused(Cause::Repeated, place)));
     }
-    sorts_at(text, nodes, first, end, symbols, &mut session.sorts)?;
-    let sort = sort_at(text, nodes, target, symbols)?;
+    sorts_at(
+        text,
+        nodes,
+        head.first,
+        head.end,
+        symbols,
+        &mut session.sorts,
+    )?;
+    let sort = sort_at(text, nodes, head.target, symbols)?;
     add_function(
         symbols,
         &mut session.functions,

@@ -21,12 +21,13 @@ ghost use Rattle.term_names.specs.Standing.{AddsNoSymbols};
 ghost use Rattle.smtlib_reader.specs.declared.commands.Command.TheVariants as command;
 ghost use Rattle.term_names.specs.declared.faults.ReadFault.TheVariants as ReadFault;
 
+use crate::commands::FunctionHead;
 use crate::expected_sorts::expect_sort;
 use crate::parameters::{Parameter, parameters_at};
 use crate::session::Session;
 use crate::sorts_at::sort_at;
 use pair_pool::Ref;
-use sexpr::{Cause, Lexer};
+use sexpr::Cause;
 use std::alloc::Global;
 use sym_table::Symbols;
 use term_expansion::values::Value;
@@ -38,116 +39,100 @@ use term_pool::Terms;
 use term_reader::reader::Reader;
 use term_reader::reading::read;
 use term_reader::taken::is_taken;
-use text_items::nodes::{Node, node_at};
+use text_items::nodes::{ItemText, node_at};
 use text_items::refusals::refused;
 use text_items::shapes::name_of;
 
-/// Defines the macro of the name at a node, whose parameters stand from `first` to before `end`. The name is taken from
-/// where it stands, and usable after the command.
+/// Defines the macro of the name at a node. The name is taken from where it stands, and usable after the command.
 pub(crate) fn define_fun(
-    text: &Lexer<'_>,
-    nodes: &[Node],
+    items: &ItemText<'_, '_>,
     symbols: &mut Symbols,
     terms: &mut Terms<'_>,
     session: &mut Session<'_>,
-    name: usize,
-    first: usize,
-    end: usize,
-    target: usize,
+    head: FunctionHead,
     body: usize,
 ) -> Result<(), ReadFault>
-    requires says { (c : shape.ScriptCommand) × SaysScriptCommand (source text.now) nodes.now (command.DefineFun name first end target body) c }
+    requires says { (c : shape.ScriptCommand) × SaysScriptCommand (source items.now.text.now) items.now.nodes.now (command.DefineFun head body) c }
     requires session { (sc : Script) × IsSession symbols.old terms.old session.old sc }
-    requires room { length symbols.old.leaves + length nodes.now ≤ 2 ^ 30 }
-    requires room_for_sorts { length symbols.old.sorts + length nodes.now ≤ 2 ^ 30 }
-    ensures performs { (c : shape.ScriptCommand) (sc : Script) → SaysScriptCommand (source text.now) nodes.now (command.DefineFun name first end target body) c → IsSession symbols.old terms.old session.old sc → Performs symbols.new terms.old terms.new session.new (script_performed session.old.reader.replaces_lets c sc) result }
+    requires room { length symbols.old.leaves + length items.now.nodes.now ≤ 2 ^ 30 }
+    requires room_for_sorts { length symbols.old.sorts + length items.now.nodes.now ≤ 2 ^ 30 }
+    ensures performs { (c : shape.ScriptCommand) (sc : Script) → SaysScriptCommand (source items.now.text.now) items.now.nodes.now (command.DefineFun head body) c → IsSession symbols.old terms.old session.old sc → Performs symbols.new terms.old terms.new session.new (script_performed session.old.reader.replaces_lets c sc) result }
     ensures symbols { Keeps symbols.old symbols.new }
-    ensures few { length symbols.new.leaves ≤ length symbols.old.leaves + length nodes.now }
-    ensures few_sorts { length symbols.new.sorts ≤ length symbols.old.sorts + length nodes.now }
+    ensures few { length symbols.new.leaves ≤ length symbols.old.leaves + length items.now.nodes.now }
+    ensures few_sorts { length symbols.new.sorts ≤ length symbols.old.sorts + length items.now.nodes.now }
     ensures replaces { session.new.reader.replaces_lets ≡ session.old.reader.replaces_lets }
     ensures base { session.new.reader.known.base ≡ session.old.reader.known.base }
     ensures keeps { KeepsTerms terms.old terms.new }
 {
-    let spelled = name_of(text, nodes, name);
+    let ItemText { text, nodes } = *items;
+    let spelled = name_of(text, nodes, head.name);
     if is_taken(symbols, &session.reader.known, spelled) {
-        let place = node_at(nodes, name).token.start;
+        let place = node_at(nodes, head.name).token.start;
         return Err(ReadFault::Text(refused(Cause::Repeated, place)));
     }
     session.reader.known.reserve(spelled)?;
     let alloc = session.reader.alloc;
-    let sort = signature_at(
-        alloc,
-        text,
-        nodes,
-        symbols,
-        &mut session.parameters,
-        first,
-        end,
-        target,
-    )?;
-    define_macro(
-        text,
-        nodes,
-        symbols,
-        terms,
-        &mut session.reader,
-        &session.parameters,
-        spelled,
-        sort,
-        body,
-    )
+    let sort = signature_at(alloc, items, symbols, &mut session.parameters, head)?;
+    let new = NewMacro {
+        name: spelled,
+        parameters: &session.parameters,
+        target: sort,
+    };
+    define_macro(items, symbols, terms, &mut session.reader, &new, body)
 }
 
 /// Reads what stands before the body: the parameters, into `parameters`, and the sort of the uses.
 fn signature_at(
     alloc: Global,
-    text: &Lexer<'_>,
-    nodes: &[Node],
+    items: &ItemText<'_, '_>,
     symbols: &Symbols,
     parameters: &mut Vec<Parameter>,
-    first: usize,
-    end: usize,
-    target: usize,
+    head: FunctionHead,
 ) -> Result<Sort, ReadFault>
-    requires parameters { (items : Items) × AreNodes (source text.now) nodes.now first items end × (pairs_fault items ≡ None) }
-    requires target { (i : Item) × (m : ℕ) × IsNode (source text.now) nodes.now target i m }
-    ensures { (items : Items) (i : Item) (m : ℕ) → AreNodes (source text.now) nodes.now first items end → pairs_fault items ≡ None → IsNode (source text.now) nodes.now target i m → IsSignatureRead (source text.now) nodes.now first end parameters.new.items (signature_from symbols.now.sorts items i) result }
+    requires parameters { (pairs : Items) × AreNodes (source items.now.text.now) items.now.nodes.now head.first pairs head.end × (pairs_fault pairs ≡ None) }
+    requires target { (i : Item) × (m : ℕ) × IsNode (source items.now.text.now) items.now.nodes.now head.target i m }
+    ensures { (pairs : Items) (i : Item) (m : ℕ) → AreNodes (source items.now.text.now) items.now.nodes.now head.first pairs head.end → pairs_fault pairs ≡ None → IsNode (source items.now.text.now) items.now.nodes.now head.target i m → IsSignatureRead (source items.now.text.now) items.now.nodes.now head.first head.end parameters.new.items (signature_from symbols.now.sorts pairs i) result }
 {
-    parameters_at(alloc, text, nodes, first, end, symbols, parameters)?;
-    let sort = sort_at(text, nodes, target, symbols)?;
+    parameters_at(alloc, items, head.first, head.end, symbols, parameters)?;
+    let sort = sort_at(items.text, items.nodes, head.target, symbols)?;
     Ok(sort)
+}
+
+/// A macro that is to be defined, but for its body: its name, its parameters, and the sort of its uses.
+#[derive(Clone, Copy)]
+struct NewMacro<'a> {
+    name: &'a [u8],
+    parameters: &'a [Parameter],
+    target: Sort,
 }
 
 /// Defines the macro of a name that was taken for it, whose parameters and target were read.
 fn define_macro(
-    text: &Lexer<'_>,
-    nodes: &[Node],
+    items: &ItemText<'_, '_>,
     symbols: &mut Symbols,
     terms: &mut Terms<'_>,
     reader: &mut Reader<'_>,
-    parameters: &[Parameter],
-    name: &[u8],
-    target: Sort,
+    new: &NewMacro<'_>,
     body: usize,
 ) -> Result<(), ReadFault>
-    requires parameters { (xs : List Var) × AreParameters (source text.now) nodes.now parameters.now xs }
-    requires body { (i : Item) × (m : ℕ) × IsNode (source text.now) nodes.now body i m }
-    requires defining { (sc : Script) × IsDefining symbols.old terms.old reader.old name.now sc }
-    requires few_parameters { length parameters.now ≤ body }
-    requires room { length symbols.old.leaves + length nodes.now ≤ 2 ^ 30 }
-    ensures defines { (xs : List Var) (i : Item) (m : ℕ) (sc : Script) → AreParameters (source text.now) nodes.now parameters.now xs → IsNode (source text.now) nodes.now body i m → IsDefining symbols.old terms.old reader.old name.now sc → Defines symbols.new terms.old terms.new reader.new (macro_defined name.now xs target i sc) result }
+    requires parameters { (xs : List Var) × AreParameters (source items.now.text.now) items.now.nodes.now new.now.parameters.now xs }
+    requires body { (i : Item) × (m : ℕ) × IsNode (source items.now.text.now) items.now.nodes.now body i m }
+    requires defining { (sc : Script) × IsDefining symbols.old terms.old reader.old new.now.name.now sc }
+    requires few_parameters { length new.now.parameters.now ≤ body }
+    requires room { length symbols.old.leaves + length items.now.nodes.now ≤ 2 ^ 30 }
+    ensures defines { (xs : List Var) (i : Item) (m : ℕ) (sc : Script) → AreParameters (source items.now.text.now) items.now.nodes.now new.now.parameters.now xs → IsNode (source items.now.text.now) items.now.nodes.now body i m → IsDefining symbols.old terms.old reader.old new.now.name.now sc → Defines symbols.new terms.old terms.new reader.new (macro_defined new.now.name.now xs new.now.target i sc) result }
     ensures symbols { AddsNoSymbols symbols.old symbols.new }
-    ensures few { length symbols.new.leaves ≤ length symbols.old.leaves + length nodes.now }
+    ensures few { length symbols.new.leaves ≤ length symbols.old.leaves + length items.now.nodes.now }
     ensures replaces { reader.new.replaces_lets ≡ reader.old.replaces_lets }
     ensures base { reader.new.known.base ≡ reader.old.known.base }
     ensures keeps { KeepsTerms terms.old terms.new }
 {
-    let listed = enter_parameters(text, nodes, symbols, reader, parameters)?;
-    let value = read_body(text, nodes, symbols, terms, reader, body)?;
-    expect_sort(nodes, body, value.sort, target)?;
+    let listed = enter_parameters(items, symbols, reader, new.parameters)?;
+    let value = read_body(items, symbols, terms, reader, body)?;
+    expect_sort(items.nodes, body, value.sort, new.target)?;
     reader
         .known
-        .define(name, listed.leaves, listed.sorts, target, value)?;
+        .define(new.name, listed.leaves, listed.sorts, new.target, value)?;
     Ok(())
 }
 
@@ -160,30 +145,22 @@ struct Listed {
 
 /// Puts the parameters in scope, the first one innermost, and lists their leaves and sorts.
 fn enter_parameters(
-    text: &Lexer<'_>,
-    nodes: &[Node],
+    items: &ItemText<'_, '_>,
     symbols: &mut Symbols,
     reader: &mut Reader<'_>,
     parameters: &[Parameter],
 ) -> Result<Listed, ReadFault>
-    requires parameters { (xs : List Var) × AreParameters (source text.now) nodes.now parameters.now xs }
+    requires parameters { (xs : List Var) × AreParameters (source items.now.text.now) items.now.nodes.now parameters.now xs }
     requires idle { (v : TermsView) × (sc : Script) × IsReaderIdle symbols.old v reader.old sc (top reader.old.replaces_lets) }
     requires room { length symbols.old.leaves + length parameters.now ≤ 2 ^ 30 }
-    ensures entered { (v : TermsView) (xs : List Var) (sc : Script) → AreParameters (source text.now) nodes.now parameters.now xs → IsReaderIdle symbols.old v reader.old sc (top reader.old.replaces_lets) → IfOk result (λ l. AreListed symbols.new l xs × IsReadyForBody symbols.new v reader.new xs sc) }
+    ensures entered { (v : TermsView) (xs : List Var) (sc : Script) → AreParameters (source items.now.text.now) items.now.nodes.now parameters.now xs → IsReaderIdle symbols.old v reader.old sc (top reader.old.replaces_lets) → IfOk result (λ l. AreListed symbols.new l xs × IsReadyForBody symbols.new v reader.new xs sc) }
     ensures memory { IfErr result (λ fault. fault ≡ ReadFault.Memory) }
     ensures symbols { AddsNoSymbols symbols.old symbols.new }
     ensures few { length symbols.new.leaves ≤ length symbols.old.leaves + length parameters.now }
     ensures known { reader.new.known ≡ reader.old.known }
     ensures replaces { reader.new.replaces_lets ≡ reader.old.replaces_lets }
 {
-    let leaves = list_parameters(
-        text,
-        nodes,
-        symbols,
-        &mut reader.values,
-        reader.alloc,
-        parameters,
-    )?;
+    let leaves = list_parameters(items, symbols, &mut reader.values, reader.alloc, parameters)?;
     let sorts = Vec::from_slice(reader.alloc, reader.values.sorts_from(0))?;
     bind(
         symbols,
@@ -199,24 +176,23 @@ fn enter_parameters(
 
 /// The leaves of the parameters. Each parameter, as a term, is put on the values.
 fn list_parameters(
-    text: &Lexer<'_>,
-    nodes: &[Node],
+    items: &ItemText<'_, '_>,
     symbols: &mut Symbols,
     values: &mut Values,
     alloc: Global,
     parameters: &[Parameter],
 ) -> Result<Vec<u32>, ReadFault>
-    requires parameters { (xs : List Var) × AreParameters (source text.now) nodes.now parameters.now xs }
+    requires parameters { (xs : List Var) × AreParameters (source items.now.text.now) items.now.nodes.now parameters.now xs }
     requires no_values { values.old ≡ [] }
     requires room { length symbols.old.leaves + length parameters.now ≤ 2 ^ 30 }
-    ensures bound { (v : TermsView) (xs : List Var) → AreParameters (source text.now) nodes.now parameters.now xs → IfOk result (λ leaves. AreValuesBound symbols.new v leaves.items values.new (map itself xs)) }
+    ensures bound { (v : TermsView) (xs : List Var) → AreParameters (source items.now.text.now) items.now.nodes.now parameters.now xs → IfOk result (λ leaves. AreValuesBound symbols.new v leaves.items values.new (map itself xs)) }
     ensures memory { IfErr result (λ fault. fault ≡ ReadFault.Memory) }
     ensures symbols { AddsNoSymbols symbols.old symbols.new }
     ensures few { length symbols.new.leaves ≤ length symbols.old.leaves + length parameters.now }
 {
     let mut leaves = Vec::new(alloc);
     'parameters: for parameter in parameters {
-        let leaf = add_parameter(text, nodes, symbols, values, parameter)?;
+        let leaf = add_parameter(items, symbols, values, parameter)?;
         leaves.push(leaf)?;
     }
     Ok(leaves)
@@ -224,20 +200,19 @@ fn list_parameters(
 
 /// The leaf of a parameter, which is put on the values as a term.
 fn add_parameter(
-    text: &Lexer<'_>,
-    nodes: &[Node],
+    items: &ItemText<'_, '_>,
     symbols: &mut Symbols,
     values: &mut Values,
     parameter: &Parameter,
 ) -> Result<u32, ReadFault>
-    requires parameter { (x : Var) × IsParameter (source text.now) nodes.now parameter.now x }
+    requires parameter { (x : Var) × IsParameter (source items.now.text.now) items.now.nodes.now parameter.now x }
     requires room { length symbols.old.leaves < 2 ^ 30 }
-    ensures added { (v : TermsView) (x : Var) → IsParameter (source text.now) nodes.now parameter.now x → IfOk result (λ leaf. AddsParameter symbols.new v values.old values.new leaf x) }
+    ensures added { (v : TermsView) (x : Var) → IsParameter (source items.now.text.now) items.now.nodes.now parameter.now x → IfOk result (λ leaf. AddsParameter symbols.new v values.old values.new leaf x) }
     ensures memory { IfErr result (λ fault. fault ≡ ReadFault.Memory) }
     ensures symbols { AddsNoSymbols symbols.old symbols.new }
     ensures few { length symbols.new.leaves ≤ length symbols.old.leaves + 1 }
 {
-    let name = name_of(text, nodes, parameter.name);
+    let name = name_of(items.text, items.nodes, parameter.name);
     let leaf = symbols.variable(name, parameter.sort)?;
     // There are few enough leaves for a reference.
     let _leaves = symbols.count();
@@ -253,26 +228,25 @@ fn add_parameter(
 
 /// Reads the body, which stands with the parameters in scope, and takes them out of scope. Lets are replaced.
 fn read_body(
-    text: &Lexer<'_>,
-    nodes: &[Node],
+    items: &ItemText<'_, '_>,
     symbols: &mut Symbols,
     terms: &mut Terms<'_>,
     reader: &mut Reader<'_>,
     body: usize,
 ) -> Result<Value, ReadFault>
-    requires body { (i : Item) × (m : ℕ) × IsNode (source text.now) nodes.now body i m }
+    requires body { (i : Item) × (m : ℕ) × IsNode (source items.now.text.now) items.now.nodes.now body i m }
     requires ready { (xs : List Var) × (sc : Script) × IsReadyForBody symbols.old terms.old reader.old xs sc }
-    requires room { length symbols.old.leaves + (length nodes.now - body) ≤ 2 ^ 30 }
-    ensures reads { (xs : List Var) (i : Item) (m : ℕ) (sc : Script) → IsNode (source text.now) nodes.now body i m → IsReadyForBody symbols.old terms.old reader.old xs sc → ReadsBody symbols.new terms.old terms.new reader.new (body_read xs i sc) result }
+    requires room { length symbols.old.leaves + (length items.now.nodes.now - body) ≤ 2 ^ 30 }
+    ensures reads { (xs : List Var) (i : Item) (m : ℕ) (sc : Script) → IsNode (source items.now.text.now) items.now.nodes.now body i m → IsReadyForBody symbols.old terms.old reader.old xs sc → ReadsBody symbols.new terms.old terms.new reader.new (body_read xs i sc) result }
     ensures symbols { AddsNoSymbols symbols.old symbols.new }
-    ensures few { length symbols.new.leaves ≤ length symbols.old.leaves + (length nodes.now - body) }
+    ensures few { length symbols.new.leaves ≤ length symbols.old.leaves + (length items.now.nodes.now - body) }
     ensures replaces { reader.new.replaces_lets ≡ reader.old.replaces_lets }
     ensures base { reader.new.known.base ≡ reader.old.known.base }
     ensures keeps { KeepsTerms terms.old terms.new }
 {
     let replaces_lets = reader.replaces_lets;
     reader.replaces_lets = true;
-    let outcome = read(text, nodes, symbols, terms, reader, body);
+    let outcome = read(items.text, items.nodes, symbols, terms, reader, body);
     reader.replaces_lets = replaces_lets;
     let value = outcome?;
     let count = reader.scope.len();

@@ -15,7 +15,7 @@ use std::alloc::Global;
 use sym_table::{Symbols, is_built_in};
 use term_model::Sort;
 use term_names::faults::ReadFault;
-use text_items::nodes::{Node, node_at};
+use text_items::nodes::{ItemText, Node, node_at};
 use text_items::refusals::refused;
 use text_items::shapes::name_of;
 
@@ -31,36 +31,35 @@ pub(crate) struct Parameter {
 /// A name is looked up among those before it by a hash.
 pub(crate) fn parameters_at(
     alloc: Global,
-    text: &Lexer<'_>,
-    nodes: &[Node],
+    items: &ItemText<'_, '_>,
     first: usize,
     end: usize,
     symbols: &Symbols,
     out: &mut Vec<Parameter>,
 ) -> Result<(), ReadFault>
-    requires { (items : Items) × AreNodes (source text.now) nodes.now first items end × (pairs_fault items ≡ None) }
-    ensures { (items : Items) → AreNodes (source text.now) nodes.now first items end → pairs_fault items ≡ None → AreParametersRead (source text.now) nodes.now result out.new.items (parameters_from symbols.now.sorts [] items) }
+    requires { (pairs : Items) × AreNodes (source items.now.text.now) items.now.nodes.now first pairs end × (pairs_fault pairs ≡ None) }
+    ensures { (pairs : Items) → AreNodes (source items.now.text.now) items.now.nodes.now first pairs end → pairs_fault pairs ≡ None → AreParametersRead (source items.now.text.now) items.now.nodes.now result out.new.items (parameters_from symbols.now.sorts [] pairs) }
 {
     out.clear();
     let mut earlier = IndexSet::new(alloc);
-    read_all(text, nodes, first, end, symbols, &mut earlier, out)
+    read_all(items, first, end, symbols, &mut earlier, out)
 }
 
 /// Reads the parameters whose pairs stand from `first` to before `end`, where none stands before them.
 fn read_all<'a>(
-    text: &Lexer<'a>,
-    nodes: &[Node],
+    items: &ItemText<'_, 'a>,
     first: usize,
     end: usize,
     symbols: &Symbols,
     earlier: &mut IndexSet<&'a [u8]>,
     out: &mut Vec<Parameter>,
 ) -> Result<(), ReadFault>
-    requires pairs { (items : Items) × AreNodes (source text.now) nodes.now first items end × (pairs_fault items ≡ None) }
+    requires pairs { (pairs : Items) × AreNodes (source items.now.text.now) items.now.nodes.now first pairs end × (pairs_fault pairs ≡ None) }
     requires no_names { earlier.old.keys ≡ [] }
     requires none_read { out.old.items ≡ [] }
-    ensures { (items : Items) → AreNodes (source text.now) nodes.now first items end → pairs_fault items ≡ None → AreParametersRead (source text.now) nodes.now result out.new.items (parameters_from symbols.now.sorts [] items) }
+    ensures { (pairs : Items) → AreNodes (source items.now.text.now) items.now.nodes.now first pairs end → pairs_fault pairs ≡ None → AreParametersRead (source items.now.text.now) items.now.nodes.now result out.new.items (parameters_from symbols.now.sorts [] pairs) }
 {
+    let ItemText { text, nodes } = *items;
     let mut k = first;
     while k < end {
         let next = node_at(nodes, k).next;

@@ -14,59 +14,38 @@ use crate::commands::Command;
 use crate::declaring::{declare_fun, declare_sort, set_logic};
 use crate::defining::define_fun;
 use crate::session::Session;
-use sexpr::Lexer;
 use sym_table::Symbols;
 use term_names::faults::ReadFault;
 use term_pool::Terms;
-use text_items::nodes::Node;
+use text_items::nodes::ItemText;
 
 /// Does what a command asks for. An exit asks for nothing here.
 pub(crate) fn perform(
-    text: &Lexer<'_>,
-    nodes: &[Node],
+    items: &ItemText<'_, '_>,
     symbols: &mut Symbols,
     terms: &mut Terms<'_>,
     session: &mut Session<'_>,
     command: Command,
 ) -> Result<(), ReadFault>
-    requires says { (c : shape.ScriptCommand) × SaysScriptCommand (source text.now) nodes.now command c }
+    requires says { (c : shape.ScriptCommand) × SaysScriptCommand (source items.now.text.now) items.now.nodes.now command c }
     requires session { (sc : Script) × IsSession symbols.old terms.old session.old sc }
-    requires room { length symbols.old.leaves + length nodes.now ≤ 2 ^ 30 }
-    requires room_for_sorts { length symbols.old.sorts + length nodes.now ≤ 2 ^ 30 }
-    ensures performs { (c : shape.ScriptCommand) (sc : Script) → SaysScriptCommand (source text.now) nodes.now command c → IsSession symbols.old terms.old session.old sc → Performs symbols.new terms.old terms.new session.new (script_performed session.old.reader.replaces_lets c sc) result }
+    requires room { length symbols.old.leaves + length items.now.nodes.now ≤ 2 ^ 30 }
+    requires room_for_sorts { length symbols.old.sorts + length items.now.nodes.now ≤ 2 ^ 30 }
+    ensures performs { (c : shape.ScriptCommand) (sc : Script) → SaysScriptCommand (source items.now.text.now) items.now.nodes.now command c → IsSession symbols.old terms.old session.old sc → Performs symbols.new terms.old terms.new session.new (script_performed session.old.reader.replaces_lets c sc) result }
     ensures symbols { Keeps symbols.old symbols.new }
-    ensures few { length symbols.new.leaves ≤ length symbols.old.leaves + length nodes.now }
-    ensures few_sorts { length symbols.new.sorts ≤ length symbols.old.sorts + length nodes.now }
+    ensures few { length symbols.new.leaves ≤ length symbols.old.leaves + length items.now.nodes.now }
+    ensures few_sorts { length symbols.new.sorts ≤ length symbols.old.sorts + length items.now.nodes.now }
     ensures replaces { session.new.reader.replaces_lets ≡ session.old.reader.replaces_lets }
     ensures base { session.new.reader.known.base ≡ session.old.reader.known.base }
     ensures keeps { KeepsTerms terms.old terms.new }
 {
     match command {
         Command::WithoutEffect | Command::Exit => Ok(()),
-        Command::SetLogic { name } => set_logic(text, nodes, symbols, terms, session, name),
-        Command::DeclareSort {
-            name,
-            arity,
-            is_zero,
-        } => declare_sort(text, nodes, symbols, terms, session, name, arity, is_zero),
-        Command::DeclareFun {
-            name,
-            first,
-            end,
-            target,
-        } => declare_fun(
-            text, nodes, symbols, terms, session, name, first, end, target,
-        ),
-        Command::DefineFun {
-            name,
-            first,
-            end,
-            target,
-            body,
-        } => define_fun(
-            text, nodes, symbols, terms, session, name, first, end, target, body,
-        ),
-        Command::Assert { term } => assert_term(text, nodes, symbols, terms, session, term),
+        Command::SetLogic { name } => set_logic(items, symbols, terms, session, name),
+        Command::DeclareSort(head) => declare_sort(items, symbols, terms, session, head),
+        Command::DeclareFun(head) => declare_fun(items, symbols, terms, session, head),
+        Command::DefineFun { head, body } => define_fun(items, symbols, terms, session, head, body),
+        Command::Assert { term } => assert_term(items, symbols, terms, session, term),
         Command::CheckSat => {
             session.is_checked = true;
             Ok(())

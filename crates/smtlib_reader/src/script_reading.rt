@@ -18,7 +18,7 @@ use sexpr::Lexer;
 use sym_table::Symbols;
 use term_names::faults::ReadFault;
 use term_pool::Terms;
-use text_items::nodes::{Node, read_item};
+use text_items::nodes::{ItemText, Node, read_item};
 
 /// Reads the next item of a text into the nodes, and answers whether there was one. Refuses want of memory alone.
 fn next_item(lexer: &mut Lexer<'_>, nodes: &mut Vec<Node>) -> Result<bool, ReadFault>
@@ -78,7 +78,8 @@ fn read_command(
     if is_exit(command) {
         return Ok(false);
     }
-    perform(lexer, nodes, symbols, terms, session, command)?;
+    let items = ItemText { text: lexer, nodes };
+    perform(&items, symbols, terms, session, command)?;
     Ok(true)
 }
 

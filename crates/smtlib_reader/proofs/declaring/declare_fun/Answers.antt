@@ -10,7 +10,7 @@ use Rattle.smtlib_reader.proofs.declaring.declare_fun.Goals as goal
 pub returns-then-is_taken-clause-performs : goal.returns-then-is_taken-clause-performs
 returns-then-is_taken-clause-performs c =
     λ d sc says is.
-    let place = name_place (source c.args.text.now) c.args.nodes.now c.args.name says.named c.node_at-place.result says.name_here c.node_at-place.ensures in
+    let place = name_place (source c.args.items.now.text.now) c.args.items.now.nodes.now c.args.head.name says.named c.node_at-place.result says.name_here c.node_at-place.ensures in
     let same = c.name_of-spelled.ensures says.named says.name_here in
     rw says.same
     (function_repeated c.args.symbols.now c.args.terms.now c.args.session.now _ c.args.session.now.reader.replaces_lets says.named says.sorts says.result sc is c.refused.result

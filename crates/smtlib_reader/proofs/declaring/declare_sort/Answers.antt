@@ -11,7 +11,7 @@ use Rattle.smtlib_reader.proofs.declaring.declare_sort.Goals as goal
 pub returns-then-is_sort_taken-clause-performs : goal.returns-then-is_sort_taken-clause-performs
 returns-then-is_sort_taken-clause-performs c =
     λ d sc says is.
-    let place = name_place (source c.args.text.now) c.args.nodes.now c.args.name says.named c.node_at-place.result says.name_here c.node_at-place.ensures in
+    let place = name_place (source c.args.items.now.text.now) c.args.items.now.nodes.now c.args.head.name says.named c.node_at-place.result says.name_here c.node_at-place.ensures in
     let same = c.name_of-spelled.ensures says.named says.name_here in
     rw says.same
     (sort_repeated c.args.symbols.now c.args.terms.now c.args.session.now c.args.session.now.reader.replaces_lets says.named says.place says.value sc is c.refused.result
@@ -21,7 +21,7 @@ returns-then-is_sort_taken-clause-performs c =
 pub node_at-place-requires-then-not-is_zero : goal.node_at-place-requires-then-not-is_zero
 node_at-place-requires-then-not-is_zero c =
     let (d, says) = c.requires.says in
-    slice_get_within c.args.nodes.now c.args.arity says.arity_here.0 says.arity_here.1
+    slice_get_within c.args.items.now.nodes.now c.args.head.arity says.arity_here.0 says.arity_here.1
 
 pub returns-then-not-is_zero-clause-performs : goal.returns-then-not-is_zero-clause-performs
 returns-then-not-is_zero-clause-performs c =

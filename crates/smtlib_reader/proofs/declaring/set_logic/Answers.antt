@@ -9,7 +9,7 @@ use Rattle.smtlib_reader.proofs.declaring.set_logic.Goals as goal
 pub returns-then-session-clause-performs : goal.returns-then-session-clause-performs
 returns-then-session-clause-performs c =
     λ d sc says is.
-    let place = name_place (source c.args.text.now) c.args.nodes.now c.args.name says.0 c.node_at-place.result says.2 c.node_at-place.ensures in
+    let place = name_place (source c.args.items.now.text.now) c.args.items.now.nodes.now c.args.name says.0 c.node_at-place.result says.2 c.node_at-place.ensures in
     rw says.1
     (logic_repeated c.args.symbols.now c.args.terms.now c.args.session.now c.args.session.now.reader.replaces_lets says.0 sc is c.refused.result c.if-session.true
     (c.refused.ensures ∙ ap (λ (p : ℕ). record { cause = Repeated; at = p }) place))
@@ -17,7 +17,7 @@ returns-then-session-clause-performs c =
 pub returns-then-not-is_logic-clause-performs : goal.returns-then-not-is_logic-clause-performs
 returns-then-not-is_logic-clause-performs c =
     λ d sc says is.
-    let place = name_place (source c.args.text.now) c.args.nodes.now c.args.name says.0 c.node_at-place.result says.2 c.node_at-place.ensures in
+    let place = name_place (source c.args.items.now.text.now) c.args.items.now.nodes.now c.args.name says.0 c.node_at-place.result says.2 c.node_at-place.ensures in
     let same = c.name_of-spelled.ensures says.0 says.2 in
     rw says.1
     (logic_left_out c.args.symbols.now c.args.terms.now c.args.session.now c.args.session.now.reader.replaces_lets says.0 sc is c.refused-then-not-is_logic.result c.if-session.false

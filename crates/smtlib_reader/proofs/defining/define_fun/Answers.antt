@@ -9,7 +9,7 @@ use Rattle.smtlib_reader.proofs.defining.define_fun.Goals as goal
 
 pub returns-then-is_taken-clause-performs : goal.returns-then-is_taken-clause-performs
 returns-then-is_taken-clause-performs c = λ command sc says session.
-    let place = name_place (source c.args.text.now) c.args.nodes.now c.args.name says.named c.node_at-place.result says.name_here c.node_at-place.ensures in
+    let place = name_place (source c.args.items.now.text.now) c.args.items.now.nodes.now c.args.head.name says.named c.node_at-place.result says.name_here c.node_at-place.ensures in
     rw says.same
     (name_taken _ says.named says.parameters says.result says.value sc _ _ c.args.session.now _ c.refused.result
     (sym (c.is_taken.ensures _ sc session.idle.script ∙ ap (is_taken sc) (c.name_of-spelled.ensures says.named says.name_here)) ∙ c.if-is_taken.true)
@@ -25,7 +25,7 @@ returns-in_err-sort-clause-performs c = λ command sc says session.
     let free = sym (c.is_taken.ensures _ sc session.idle.script ∙ ap (is_taken sc) (c.name_of-spelled.ensures says.named says.name_here)) ∙ c.if-is_taken.false in
     let p = err_from_is_err_and c.from_residual-in_err-sort.result c.from_residual-in_err-sort.ensures.1 in
     rw (p.1, p.2, says.same)
-    (signature_fails _ says.named says.parameters says.result says.value sc _ _ c.args.session.now session free (source c.args.text.now) c.args.nodes.now c.args.first c.args.end c.signature_at.new.parameters.items _ c.in_err-sort.field-0.0
+    (signature_fails _ says.named says.parameters says.result says.value sc _ _ c.args.session.now session free (source c.args.items.now.text.now) c.args.items.now.nodes.now c.args.head.first c.args.head.end c.signature_at.new.parameters.items _ c.in_err-sort.field-0.0
     (c.in_err-sort.ensures says.parameters says.result says.after says.parameters_here says.pairs says.result_here))
 
 pub define_macro-requires-clause-defining : goal.define_macro-requires-clause-defining

@@ -10,11 +10,11 @@ use Rattle.smtlib_reader.proofs.defining.define_macro.Goals as goal
 
 pub enter_parameters-requires-clause-room : goal.enter_parameters-requires-clause-room
 enter_parameters-requires-clause-room c =
-    let (i, m, is) = c.requires.body in omega (arith, c.requires.room, c.requires.few_parameters, item_within (source c.args.text.now) c.args.nodes.now c.args.body i m is)
+    let (i, m, is) = c.requires.body in omega (arith, c.requires.room, c.requires.few_parameters, item_within (source c.args.items.now.text.now) c.args.items.now.nodes.now c.args.body i m is)
 
 pub returns-in_err-listed-clause-few : goal.returns-in_err-listed-clause-few
 returns-in_err-listed-clause-few c =
-    let (i, m, is) = c.requires.body in omega (arith, c.enter_parameters.ensures.few, c.requires.few_parameters, item_within (source c.args.text.now) c.args.nodes.now c.args.body i m is)
+    let (i, m, is) = c.requires.body in omega (arith, c.enter_parameters.ensures.few, c.requires.few_parameters, item_within (source c.args.items.now.text.now) c.args.items.now.nodes.now c.args.body i m is)
 
 pub read_body-requires-clause-ready : goal.read_body-requires-clause-ready
 read_body-requires-clause-ready c =
@@ -25,13 +25,13 @@ read_body-requires-clause-ready c =
 pub read_body-requires-clause-room : goal.read_body-requires-clause-room
 read_body-requires-clause-room c =
     let (i, m, is) = c.requires.body in
-    omega (arith, c.requires.room, c.enter_parameters.ensures.few, c.requires.few_parameters, item_within (source c.args.text.now) c.args.nodes.now c.args.body i m is)
+    omega (arith, c.requires.room, c.enter_parameters.ensures.few, c.requires.few_parameters, item_within (source c.args.items.now.text.now) c.args.items.now.nodes.now c.args.body i m is)
 
 pub returns-in_err-value-clause-defines : goal.returns-in_err-value-clause-defines
 returns-in_err-value-clause-defines c = λ xs i m sc are is d.
     let ready = (c.in_ok-listed.ensures.entered _ xs sc are d.idle).1 in
     let p = err_from_is_err_and c.from_residual-in_err-value.result c.from_residual-in_err-value.ensures.1 in
-    rw (p.1, p.2) (body_fails c.args.name.now xs c.args.target i sc _ _ _ c.read_body.new.reader c.read_body.new.reader c.in_err-value.field-0.0 (c.in_err-value.ensures.reads xs i m sc is ready))
+    rw (p.1, p.2) (body_fails c.args.new.now.name.now xs c.args.new.now.target i sc _ _ _ c.read_body.new.reader c.read_body.new.reader c.in_err-value.field-0.0 (c.in_err-value.ensures.reads xs i m sc is ready))
 
 pub returns-in_err-value-clause-symbols : goal.returns-in_err-value-clause-symbols
 returns-in_err-value-clause-symbols c = adds_then _ _ _ c.enter_parameters.ensures.symbols c.read_body.ensures.symbols
@@ -39,14 +39,14 @@ returns-in_err-value-clause-symbols c = adds_then _ _ _ c.enter_parameters.ensur
 pub returns-in_err-value-clause-few : goal.returns-in_err-value-clause-few
 returns-in_err-value-clause-few c =
     let (i, m, is) = c.requires.body in
-    omega (arith, c.enter_parameters.ensures.few, c.read_body.ensures.few, c.requires.few_parameters, item_within (source c.args.text.now) c.args.nodes.now c.args.body i m is)
+    omega (arith, c.enter_parameters.ensures.few, c.read_body.ensures.few, c.requires.few_parameters, item_within (source c.args.items.now.text.now) c.args.items.now.nodes.now c.args.body i m is)
 
 pub returns-in_err-expect_sort-clause-defines : goal.returns-in_err-expect_sort-clause-defines
 returns-in_err-expect_sort-clause-defines c = λ xs i m sc are is d.
     let ready = (c.in_ok-listed.ensures.entered _ xs sc are d.idle).1 in
     let p = err_from_is_err_and c.from_residual-in_err-expect_sort.result c.from_residual-in_err-expect_sort.ensures.1 in
     rw (p.1, p.2)
-    (other_sort c.args.name.now xs c.args.target i sc _ _ _ c.read_body.new.reader c.in_ok-value.value (c.in_ok-value.ensures.reads xs i m sc is ready) c.read_body.new.reader c.in_err-expect_sort.field-0.0
+    (other_sort c.args.new.now.name.now xs c.args.new.now.target i sc _ _ _ c.read_body.new.reader c.in_ok-value.value (c.in_ok-value.ensures.reads xs i m sc is ready) c.read_body.new.reader c.in_err-expect_sort.field-0.0
     (c.in_err-expect_sort.ensures _ i m is))
 
 pub returns-in_err-expect_sort-clause-symbols : goal.returns-in_err-expect_sort-clause-symbols
@@ -58,14 +58,14 @@ define-requires c =
     let (i, m, is) = c.requires.body in
     let (sc, d) = c.requires.defining in
     let ready = (c.in_ok-listed.ensures.entered _ xs sc are d.idle).1 in
-    reserved_yet c.args.name.now xs c.args.target i sc _ _ _ c.read_body.new.reader c.in_ok-value.value (c.in_ok-value.ensures.reads xs i m sc is ready) _ d.reserved
-    (ap (λ (e : EntriesView). lookup e.names c.args.name.now) (c.read_body.ensures.base ∙ ap (λ (k : KnownView). k.base) c.enter_parameters.ensures.known) ∙ d.no_base)
+    reserved_yet c.args.new.now.name.now xs c.args.new.now.target i sc _ _ _ c.read_body.new.reader c.in_ok-value.value (c.in_ok-value.ensures.reads xs i m sc is ready) _ d.reserved
+    (ap (λ (e : EntriesView). lookup e.names c.args.new.now.name.now) (c.read_body.ensures.base ∙ ap (λ (k : KnownView). k.base) c.enter_parameters.ensures.known) ∙ d.no_base)
 
 pub returns-in_err-define-clause-defines : goal.returns-in_err-define-clause-defines
 returns-in_err-define-clause-defines c = λ xs i m sc are is d.
     let ready = (c.in_ok-listed.ensures.entered _ xs sc are d.idle).1 in
     let p = err_from_is_err_and c.from_residual-in_err-define.result c.from_residual-in_err-define.ensures.1 in
-    rw (p.1, p.2) (no_memory c.args.name.now xs c.args.target i sc _ _ _ c.read_body.new.reader c.in_ok-value.value (c.in_ok-value.ensures.reads xs i m sc is ready) _)
+    rw (p.1, p.2) (no_memory c.args.new.now.name.now xs c.args.new.now.target i sc _ _ _ c.read_body.new.reader c.in_ok-value.value (c.in_ok-value.ensures.reads xs i m sc is ready) _)
 
 pub returns-in_err-define-clause-symbols : goal.returns-in_err-define-clause-symbols
 returns-in_err-define-clause-symbols c = adds_then _ _ _ c.enter_parameters.ensures.symbols c.read_body.ensures.symbols
@@ -73,7 +73,7 @@ returns-in_err-define-clause-symbols c = adds_then _ _ _ c.enter_parameters.ensu
 pub returns-clause-defines : goal.returns-clause-defines
 returns-clause-defines c = λ xs i m sc are is d.
     let entered = c.in_ok-listed.ensures.entered _ xs sc are d.idle in
-    is_defined c.args.name.now xs c.args.target i sc _ _ _ c.read_body.new.reader c.in_ok-value.value (c.in_ok-value.ensures.reads xs i m sc is entered.1) _ d.reserved _ c.define.new.self c.in_ok-listed.listed
+    is_defined c.args.new.now.name.now xs c.args.new.now.target i sc _ _ _ c.read_body.new.reader c.in_ok-value.value (c.in_ok-value.ensures.reads xs i m sc is entered.1) _ d.reserved _ c.define.new.self c.in_ok-listed.listed
     entered.0 c.read_body.ensures.symbols (c.in_ok-expect_sort.ensures _ i m is)
     (record { entry = c.in_ok-define.ensures.entry; macros = c.in_ok-define.ensures.macros; named = c.define.ensures.named; base = c.define.ensures.base })
 

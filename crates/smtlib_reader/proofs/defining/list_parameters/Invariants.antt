@@ -9,8 +9,8 @@ use Rattle.smtlib_reader.proofs.defining.list_parameters.Given as goal
 
 abbrev pub invariant-parameters : goal.invariant-parameters
 invariant-parameters l = record {
-  listed : (v : TermsView) (xs : List Var) → AreParameters (source l.text) l.nodes l.parameters xs
-      → AreListedUpTo (source l.text) l.nodes l.symbols v (drop l.parameter-index l.parameters) l.leaves.items l.values xs;
+  listed : (v : TermsView) (xs : List Var) → AreParameters (source l.items.text.now) l.items.nodes.now l.parameters xs
+      → AreListedUpTo (source l.items.text.now) l.items.nodes.now l.symbols v (drop l.parameter-index l.parameters) l.leaves.items l.values xs;
   symbols : AddsNoSymbols l.fn.symbols l.symbols;
   few : length l.symbols.leaves ≤ length l.fn.symbols.leaves + l.parameter-index;
 }

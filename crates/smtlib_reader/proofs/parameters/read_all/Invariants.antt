@@ -9,8 +9,8 @@ use Rattle.smtlib_reader.proofs.parameters.read_all.Given as goal
 
 abbrev pub invariant-loop-k : goal.invariant-loop-k
 invariant-loop-k l =
-    (items : Items) → AreNodes (source l.text) l.nodes l.first items l.end → pairs_fault items ≡ None
-    → IsReadUpTo (source l.text) l.nodes l.symbols.sorts l.k items l.end l.earlier.keys l.out.items
+    (items : Items) → AreNodes (source l.items.text.now) l.items.nodes.now l.first items l.end → pairs_fault items ≡ None
+    → IsReadUpTo (source l.items.text.now) l.items.nodes.now l.symbols.sorts l.k items l.end l.earlier.keys l.out.items
 
 abbrev pub decreases-loop-k : goal.decreases-loop-k
 decreases-loop-k l = l.end - l.k
