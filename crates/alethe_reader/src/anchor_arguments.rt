@@ -38,7 +38,7 @@ use term_model::Sort;
 use term_names::faults::ReadFault;
 use term_pool::Terms;
 use term_reader::TermReader;
-use text_items::nodes::Node;
+use text_items::nodes::{ItemText, Node};
 use text_items::refusals::refused;
 use text_items::shapes::node_at;
 
@@ -66,26 +66,26 @@ struct Wanted {
 ///
 /// Refused at the first fault of the first that has one. After a refusal the reader and what is bound are given up.
 pub(crate) fn read_arguments(
-    text: &Lexer<'_>,
-    nodes: &[Node],
+    items: &ItemText<'_, '_>,
     first: usize,
     symbols: &mut Symbols,
     terms: &mut Terms<'_>,
     reader: &mut TermReader<'_>,
     bound: &mut BoundVariables,
 ) -> Result<(), ReadFault>
-    requires arguments { (others : List shape.Argument) × AreArguments (source text.now) nodes.now first others (length nodes.now) }
+    requires arguments { (others : List shape.Argument) × AreArguments (source items.now.text.now) items.now.nodes.now first others (length items.now.nodes.now) }
     requires scope { (settings : ProofSettings) × (p : ProofState) × IsReaderOf symbols.old terms.old reader.old p.script (place_in settings p.scope.nesting) × AreBound symbols.old terms.old bound.old p.scope.nesting }
-    requires room { length symbols.old.leaves + (length nodes.now - first) ≤ 2 ^ 30 }
-    ensures read { (others : List shape.Argument) (settings : ProofSettings) (p : ProofState) → AreArguments (source text.now) nodes.now first others (length nodes.now) → IsReaderOf symbols.old terms.old reader.old p.script (place_in settings p.scope.nesting) → AreBound symbols.old terms.old bound.old p.scope.nesting → AnswersAs symbols.new terms.old terms.new (AreArgumentsRead symbols.new terms.new settings reader.new bound.new p) (arguments_read settings [] others p) result }
-    ensures few { length symbols.new.leaves ≤ length symbols.old.leaves + (length nodes.now - first) }
+    requires room { length symbols.old.leaves + (length items.now.nodes.now - first) ≤ 2 ^ 30 }
+    ensures read { (others : List shape.Argument) (settings : ProofSettings) (p : ProofState) → AreArguments (source items.now.text.now) items.now.nodes.now first others (length items.now.nodes.now) → IsReaderOf symbols.old terms.old reader.old p.script (place_in settings p.scope.nesting) → AreBound symbols.old terms.old bound.old p.scope.nesting → AnswersAs symbols.new terms.old terms.new (AreArgumentsRead symbols.new terms.new settings reader.new bound.new p) (arguments_read settings [] others p) result }
+    ensures few { length symbols.new.leaves ≤ length symbols.old.leaves + (length items.now.nodes.now - first) }
     ensures symbols { AddsNoSymbols symbols.old symbols.new }
     ensures keeps { KeepsTerms terms.old terms.new }
 {
     bound.opened.clear();
+    let nodes = items.nodes;
     let mut k = first;
     'arguments: while k != nodes.len() {
-        read_argument(text, nodes, k, symbols, terms, reader, bound)?;
+        read_argument(items, k, symbols, terms, reader, bound)?;
         k = node_at(nodes, k).next;
     }
     Ok(())
@@ -93,24 +93,24 @@ pub(crate) fn read_arguments(
 
 /// Reads the argument at node `k`, behind those that were read of the anchor.
 fn read_argument(
-    text: &Lexer<'_>,
-    nodes: &[Node],
+    items: &ItemText<'_, '_>,
     k: usize,
     symbols: &mut Symbols,
     terms: &mut Terms<'_>,
     reader: &mut TermReader<'_>,
     bound: &mut BoundVariables,
 ) -> Result<(), ReadFault>
-    requires argument { (i : Item) × (m : ℕ) × IsNode (source text.now) nodes.now k i m × (shape.argument_fault i ≡ None) }
+    requires argument { (i : Item) × (m : ℕ) × IsNode (source items.now.text.now) items.now.nodes.now k i m × (shape.argument_fault i ≡ None) }
     requires opening { (settings : ProofSettings) × (earlier : List (List ℕ)) × (bs : List (Var × Term)) × (p : ProofState) × IsOpening symbols.old terms.old settings reader.old bound.old earlier bs p }
-    requires room { length symbols.old.leaves + (length nodes.now - k) ≤ 2 ^ 30 }
-    ensures read { (i : Item) (m : ℕ) (settings : ProofSettings) (earlier : List (List ℕ)) (bs : List (Var × Term)) (p : ProofState) → IsNode (source text.now) nodes.now k i m → shape.argument_fault i ≡ None → IsOpening symbols.old terms.old settings reader.old bound.old earlier bs p → AnswersAs symbols.new terms.old terms.new (IsArgumentRead symbols.new terms.new settings reader.new bound.new earlier bs p) (argument_read settings earlier (shape.argument_of i) p) result }
+    requires room { length symbols.old.leaves + (length items.now.nodes.now - k) ≤ 2 ^ 30 }
+    ensures read { (i : Item) (m : ℕ) (settings : ProofSettings) (earlier : List (List ℕ)) (bs : List (Var × Term)) (p : ProofState) → IsNode (source items.now.text.now) items.now.nodes.now k i m → shape.argument_fault i ≡ None → IsOpening symbols.old terms.old settings reader.old bound.old earlier bs p → AnswersAs symbols.new terms.old terms.new (IsArgumentRead symbols.new terms.new settings reader.new bound.new earlier bs p) (argument_read settings earlier (shape.argument_of i) p) result }
     // Each leaf that is added has a node of the item.
-    ensures spent { (i : Item) (m : ℕ) → IsNode (source text.now) nodes.now k i m → OnOk result (length symbols.new.leaves ≤ length symbols.old.leaves + (m - k)) }
-    ensures few { length symbols.new.leaves ≤ length symbols.old.leaves + (length nodes.now - k) }
+    ensures spent { (i : Item) (m : ℕ) → IsNode (source items.now.text.now) items.now.nodes.now k i m → OnOk result (length symbols.new.leaves ≤ length symbols.old.leaves + (m - k)) }
+    ensures few { length symbols.new.leaves ≤ length symbols.old.leaves + (length items.now.nodes.now - k) }
     ensures symbols { AddsNoSymbols symbols.old symbols.new }
     ensures keeps { KeepsTerms terms.old terms.new }
 {
+    let ItemText { text, nodes } = *items;
     match argument_at(text, nodes, k) {
         AnchorArgument::Alone { place } => { Err(ReadFault::Text(refused(Cause::LeftOut, place))) }
         AnchorArgument::Assigned {
@@ -127,32 +127,32 @@ fn read_argument(
                 sort,
                 term,
             };
-            read_assigned(text, nodes, assigned, symbols, terms, reader, bound)
+            read_assigned(items, assigned, symbols, terms, reader, bound)
         }
     }
 }
 
 /// Reads a variable with its term, behind those that were read of the anchor.
 fn read_assigned(
-    text: &Lexer<'_>,
-    nodes: &[Node],
+    items: &ItemText<'_, '_>,
     assigned: Assigned,
     symbols: &mut Symbols,
     terms: &mut Terms<'_>,
     reader: &mut TermReader<'_>,
     bound: &mut BoundVariables,
 ) -> Result<(), ReadFault>
-    requires name { (x : Name) × IsNameNode (source text.now) nodes.now assigned.variable x }
-    requires sort { (o : Option Item) × IsSortNode (source text.now) nodes.now assigned.sort o }
-    requires term { (i : Item) × (m : ℕ) × IsNode (source text.now) nodes.now assigned.term i m }
+    requires name { (x : Name) × IsNameNode (source items.now.text.now) items.now.nodes.now assigned.variable x }
+    requires sort { (o : Option Item) × IsSortNode (source items.now.text.now) items.now.nodes.now assigned.sort o }
+    requires term { (i : Item) × (m : ℕ) × IsNode (source items.now.text.now) items.now.nodes.now assigned.term i m }
     requires opening { (settings : ProofSettings) × (earlier : List (List ℕ)) × (bs : List (Var × Term)) × (p : ProofState) × IsOpening symbols.old terms.old settings reader.old bound.old earlier bs p }
-    requires room { length symbols.old.leaves + (length nodes.now - assigned.term) < 2 ^ 30 }
-    ensures read { (x : Name) (o : Option Item) (i : Item) (m : ℕ) (settings : ProofSettings) (earlier : List (List ℕ)) (bs : List (Var × Term)) (p : ProofState) → IsNameNode (source text.now) nodes.now assigned.variable x → IsSortNode (source text.now) nodes.now assigned.sort o → IsNode (source text.now) nodes.now assigned.term i m → IsOpening symbols.old terms.old settings reader.old bound.old earlier bs p → AnswersAs symbols.new terms.old terms.new (IsArgumentRead symbols.new terms.new settings reader.new bound.new earlier bs p) (argument_read settings earlier (shape.assigned assigned.place x o i) p) result }
-    ensures spent { (i : Item) (m : ℕ) → IsNode (source text.now) nodes.now assigned.term i m → OnOk result (length symbols.new.leaves ≤ length symbols.old.leaves + (m - assigned.term) + 1) }
-    ensures few { length symbols.new.leaves ≤ length symbols.old.leaves + (length nodes.now - assigned.term) + 1 }
+    requires room { length symbols.old.leaves + (length items.now.nodes.now - assigned.term) < 2 ^ 30 }
+    ensures read { (x : Name) (o : Option Item) (i : Item) (m : ℕ) (settings : ProofSettings) (earlier : List (List ℕ)) (bs : List (Var × Term)) (p : ProofState) → IsNameNode (source items.now.text.now) items.now.nodes.now assigned.variable x → IsSortNode (source items.now.text.now) items.now.nodes.now assigned.sort o → IsNode (source items.now.text.now) items.now.nodes.now assigned.term i m → IsOpening symbols.old terms.old settings reader.old bound.old earlier bs p → AnswersAs symbols.new terms.old terms.new (IsArgumentRead symbols.new terms.new settings reader.new bound.new earlier bs p) (argument_read settings earlier (shape.assigned assigned.place x o i) p) result }
+    ensures spent { (i : Item) (m : ℕ) → IsNode (source items.now.text.now) items.now.nodes.now assigned.term i m → OnOk result (length symbols.new.leaves ≤ length symbols.old.leaves + (m - assigned.term) + 1) }
+    ensures few { length symbols.new.leaves ≤ length symbols.old.leaves + (length items.now.nodes.now - assigned.term) + 1 }
     ensures symbols { AddsNoSymbols symbols.old symbols.new }
     ensures keeps { KeepsTerms terms.old terms.new }
 {
+    let ItemText { text, nodes } = *items;
     let variable = named_at(text, nodes, assigned.variable);
     judge_variable(bound, variable)?;
     let wanted = Wanted {

@@ -18,11 +18,11 @@ use crate::ids::Role;
 use crate::judging::{judge_id, named_at};
 use crate::scopes::enter_variables;
 use crate::session::{OpenAnchor, Session};
-use sexpr::{Cause, Lexer};
+use sexpr::Cause;
 use sym_table::Symbols;
 use term_names::faults::ReadFault;
 use term_pool::Terms;
-use text_items::nodes::Node;
+use text_items::nodes::ItemText;
 
 /// An anchor by the places of its nodes: it begins at `place` in the text, and its arguments, which go to the end, at node
 /// `first`.
@@ -39,28 +39,27 @@ pub struct AnchorNodes {
 /// and besides for want of memory, and where the pool had no room for a cell of a term that was read. After a refusal the
 /// session is given up.
 pub fn read_anchor(
-    text: &Lexer<'_>,
-    nodes: &[Node],
+    items: &ItemText<'_, '_>,
     anchor: AnchorNodes,
     symbols: &mut Symbols,
     terms: &mut Terms<'_>,
     session: &mut Session<'_>,
 ) -> Result<(), ReadFault>
-    requires says { (n : Name) × (others : List shape.Argument) × SaysAnchor (source text.now) nodes.now anchor.place anchor.id anchor.first (shape.anchor anchor.place n others) × IsSymbolName n.name }
+    requires says { (n : Name) × (others : List shape.Argument) × SaysAnchor (source items.now.text.now) items.now.nodes.now anchor.place anchor.id anchor.first (shape.anchor anchor.place n others) × IsSymbolName n.name }
     requires session { (settings : ProofSettings) × (p : ProofState) × IsProofSession symbols.old terms.old settings session.old p }
-    requires room { length symbols.old.leaves + (length nodes.now - anchor.first) ≤ 2 ^ 30 }
+    requires room { length symbols.old.leaves + (length items.now.nodes.now - anchor.first) ≤ 2 ^ 30 }
     requires few { next_scope session.old.builder + 1 < 2 ^ 32 - 1 }
-    ensures read { (n : Name) (others : List shape.Argument) (settings : ProofSettings) (p : ProofState) → SaysAnchor (source text.now) nodes.now anchor.place anchor.id anchor.first (shape.anchor anchor.place n others) → IsProofSession symbols.old terms.old settings session.old p → AnswersAs symbols.new terms.old terms.new (StandsAfter symbols.new terms.new settings session.new) (anchor_read settings anchor.place n others p) result }
-    ensures few { length symbols.new.leaves ≤ length symbols.old.leaves + (length nodes.now - anchor.first) }
+    ensures read { (n : Name) (others : List shape.Argument) (settings : ProofSettings) (p : ProofState) → SaysAnchor (source items.now.text.now) items.now.nodes.now anchor.place anchor.id anchor.first (shape.anchor anchor.place n others) → IsProofSession symbols.old terms.old settings session.old p → AnswersAs symbols.new terms.old terms.new (StandsAfter symbols.new terms.new settings session.new) (anchor_read settings anchor.place n others p) result }
+    ensures few { length symbols.new.leaves ≤ length symbols.old.leaves + (length items.now.nodes.now - anchor.first) }
     ensures symbols { AddsNoSymbols symbols.old symbols.new }
     ensures keeps { KeepsTerms terms.old terms.new }
     ensures commands { OnOk result (next_index session.new.builder ≡ next_index session.old.builder) }
     ensures scopes { OnOk result (next_scope session.new.builder ≡ next_scope session.old.builder + 1) }
 {
-    let id = named_at(text, nodes, anchor.id);
+    let id = named_at(items.text, items.nodes, anchor.id);
     judge_id(&session.ids, id, Cause::Repeated)?;
     let (reader, bound) = (&mut session.reader, &mut session.bound);
-    read_arguments(text, nodes, anchor.first, symbols, terms, reader, bound)?;
+    read_arguments(items, anchor.first, symbols, terms, reader, bound)?;
     enter_variables(&mut session.reader, &session.bound.opened)?;
     let open = OpenAnchor {
         place: anchor.place,

@@ -19,21 +19,15 @@ ghost use Rattle.alethe_reader.specs.Answers.{AnswersAs};
 ghost use Rattle.alethe_reader.specs.Arguments as spec;
 ghost use Rattle.alethe_reader.specs.Arguments.{AreNamed};
 
+use crate::ranges::NodeRange;
 use alethe_commands::is_symbol;
 use sexpr::{Lexer, TokenKind};
 use sym_table::Symbols;
 use term_names::faults::ReadFault;
 use term_pool::Terms;
 use term_reader::TermReader;
-use text_items::nodes::Node;
+use text_items::nodes::{ItemText, Node};
 use text_items::shapes::{is_list, name_at, node_at, second};
-
-/// Where the arguments of a step stand: from node `first` to before node `end`.
-#[derive(Clone, Copy)]
-pub(crate) struct ArgumentNodes {
-    pub(crate) first: usize,
-    pub(crate) end: usize,
-}
 
 /// Whether the item at a node is the attribute that gives a term a name.
 fn is_named(text: &Lexer<'_>, nodes: &[Node], k: usize) -> bool
@@ -88,23 +82,23 @@ fn is_naming(text: &Lexer<'_>, nodes: &[Node], k: usize) -> bool
 /// Refused at the first fault of the first that has one; and besides for want of memory, and where the pool had no room for a
 /// cell of a term that was read. After a refusal the reader is given up. Goes over the nodes once.
 pub(crate) fn names_at(
-    text: &Lexer<'_>,
-    nodes: &[Node],
-    arguments: ArgumentNodes,
+    items: &ItemText<'_, '_>,
+    arguments: NodeRange,
     symbols: &mut Symbols,
     terms: &mut Terms<'_>,
     reader: &mut TermReader<'_>,
 ) -> Result<(), ReadFault>
-    requires items { AreItemsFrom (source text.now) nodes.now arguments.first arguments.end }
+    requires items { AreItemsFrom (source items.now.text.now) items.now.nodes.now arguments.first arguments.end }
     requires reader { (settings : ProofSettings) × (nesting : Nesting Var Term) × (p : ProofState) × IsReaderOf symbols.old terms.old reader.old p.script (place_in settings nesting) }
-    requires room { length symbols.old.leaves + (length nodes.now - arguments.first) ≤ 2 ^ 30 }
-    ensures read { (items : Items) (settings : ProofSettings) (nesting : Nesting Var Term) (p : ProofState) → AreNodes (source text.now) nodes.now arguments.first items arguments.end → IsReaderOf symbols.old terms.old reader.old p.script (place_in settings nesting) → AnswersAs symbols.new terms.old terms.new (AreNamed symbols.new terms.new settings nesting reader.new p) (named_among settings nesting items p) result }
+    requires room { length symbols.old.leaves + (length items.now.nodes.now - arguments.first) ≤ 2 ^ 30 }
+    ensures read { (others : Items) (settings : ProofSettings) (nesting : Nesting Var Term) (p : ProofState) → AreNodes (source items.now.text.now) items.now.nodes.now arguments.first others arguments.end → IsReaderOf symbols.old terms.old reader.old p.script (place_in settings nesting) → AnswersAs symbols.new terms.old terms.new (AreNamed symbols.new terms.new settings nesting reader.new p) (named_among settings nesting others p) result }
     // Each leaf that is added has a node of its own.
     ensures spent { OnOk result (length symbols.new.leaves ≤ length symbols.old.leaves + (arguments.end - arguments.first)) }
-    ensures few { length symbols.new.leaves ≤ length symbols.old.leaves + (length nodes.now - arguments.first) }
+    ensures few { length symbols.new.leaves ≤ length symbols.old.leaves + (length items.now.nodes.now - arguments.first) }
     ensures symbols { AddsNoSymbols symbols.old symbols.new }
     ensures keeps { KeepsTerms terms.old terms.new }
 {
+    let ItemText { text, nodes } = *items;
     let mut k = arguments.first;
     'arguments: while k != arguments.end {
         if is_naming(text, nodes, k) {

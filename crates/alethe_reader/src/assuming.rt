@@ -19,40 +19,39 @@ use crate::formulas::formula_at;
 use crate::ids::Role;
 use crate::judging::{judge_id, named_at};
 use crate::session::Session;
-use sexpr::{Cause, Lexer};
+use sexpr::Cause;
 use sym_table::Symbols;
 use term_names::faults::ReadFault;
 use term_pool::Terms;
-use text_items::nodes::Node;
+use text_items::nodes::ItemText;
 
 /// Adds the assume whose id stands at node `id` and whose formula at node `term`.
 ///
 /// Refused where the id is that of an open anchor or of a visible command, at the formula's first fault, and besides for want
 /// of memory, and where the pool had no room for a cell of a term that was read. After a refusal the session is given up.
 pub fn read_assume(
-    text: &Lexer<'_>,
-    nodes: &[Node],
+    items: &ItemText<'_, '_>,
     id: usize,
     term: usize,
     symbols: &mut Symbols,
     terms: &mut Terms<'_>,
     session: &mut Session<'_>,
 ) -> Result<(), ReadFault>
-    requires id { (n : Name) × IsNameNode (source text.now) nodes.now id n × IsSymbolName n.name }
-    requires term { IsItemAt (source text.now) nodes.now term }
+    requires id { (n : Name) × IsNameNode (source items.now.text.now) items.now.nodes.now id n × IsSymbolName n.name }
+    requires term { IsItemAt (source items.now.text.now) items.now.nodes.now term }
     requires session { (settings : ProofSettings) × (p : ProofState) × IsProofSession symbols.old terms.old settings session.old p }
-    requires room { length symbols.old.leaves + (length nodes.now - term) ≤ 2 ^ 30 }
+    requires room { length symbols.old.leaves + (length items.now.nodes.now - term) ≤ 2 ^ 30 }
     requires few { next_index session.old.builder + 1 < 2 ^ 32 - 1 }
-    ensures read { (n : Name) (i : Item) (m : ℕ) (settings : ProofSettings) (p : ProofState) → IsNameNode (source text.now) nodes.now id n → IsNode (source text.now) nodes.now term i m → IsProofSession symbols.old terms.old settings session.old p → AnswersAs symbols.new terms.old terms.new (StandsAfter symbols.new terms.new settings session.new) (assume_read settings n i p) result }
-    ensures few { length symbols.new.leaves ≤ length symbols.old.leaves + (length nodes.now - term) }
+    ensures read { (n : Name) (i : Item) (m : ℕ) (settings : ProofSettings) (p : ProofState) → IsNameNode (source items.now.text.now) items.now.nodes.now id n → IsNode (source items.now.text.now) items.now.nodes.now term i m → IsProofSession symbols.old terms.old settings session.old p → AnswersAs symbols.new terms.old terms.new (StandsAfter symbols.new terms.new settings session.new) (assume_read settings n i p) result }
+    ensures few { length symbols.new.leaves ≤ length symbols.old.leaves + (length items.now.nodes.now - term) }
     ensures symbols { AddsNoSymbols symbols.old symbols.new }
     ensures keeps { KeepsTerms terms.old terms.new }
     ensures commands { OnOk result (next_index session.new.builder ≡ next_index session.old.builder + 1) }
     ensures scopes { OnOk result (next_scope session.new.builder ≡ next_scope session.old.builder) }
 {
-    let id = named_at(text, nodes, id);
+    let id = named_at(items.text, items.nodes, id);
     judge_id(&session.ids, id, Cause::BadAnchor)?;
-    let formula = formula_at(text, nodes, term, symbols, terms, &mut session.reader)?;
+    let formula = formula_at(items, term, symbols, terms, &mut session.reader)?;
     let index = session.builder.assume(id.name, formula)?;
     session.ids.push(id.name, Role::Assume, index)?;
     Ok(())

@@ -15,14 +15,15 @@ ghost use Rattle.alethe_text.specs.States.{ProofSettings, ProofState};
 ghost use Rattle.alethe_reader.specs.Answers.{AnswersAs};
 ghost use Rattle.alethe_reader.specs.ReadTerms.{IsReadFormula, AreReadFormulas};
 
+use crate::ranges::NodeRange;
 use pair_pool::Ref;
-use sexpr::{Cause, Lexer};
+use sexpr::Cause;
 use sym_table::Symbols;
 use term_model::Sort;
 use term_names::faults::ReadFault;
 use term_pool::Terms;
 use term_reader::TermReader;
-use text_items::nodes::Node;
+use text_items::nodes::ItemText;
 use text_items::refusals::refused;
 use text_items::shapes::node_at;
 
@@ -31,23 +32,23 @@ use text_items::shapes::node_at;
 /// Refused at the term's first fault, or else at its first byte where it has another sort; and besides for want of memory, and
 /// where the pool had no room for a cell of a term that was read. After a refusal the reader is given up.
 pub(crate) fn formula_at(
-    text: &Lexer<'_>,
-    nodes: &[Node],
+    items: &ItemText<'_, '_>,
     k: usize,
     symbols: &mut Symbols,
     terms: &mut Terms<'_>,
     reader: &mut TermReader<'_>,
 ) -> Result<Ref, ReadFault>
-    requires item { IsItemAt (source text.now) nodes.now k }
+    requires item { IsItemAt (source items.now.text.now) items.now.nodes.now k }
     requires reader { (settings : ProofSettings) × (nesting : Nesting Var Term) × (p : ProofState) × IsReaderOf symbols.old terms.old reader.old p.script (place_in settings nesting) }
-    requires room { length symbols.old.leaves + (length nodes.now - k) ≤ 2 ^ 30 }
-    ensures read { (i : Item) (m : ℕ) (settings : ProofSettings) (nesting : Nesting Var Term) (p : ProofState) → IsNode (source text.now) nodes.now k i m → IsReaderOf symbols.old terms.old reader.old p.script (place_in settings nesting) → AnswersAs symbols.new terms.old terms.new (IsReadFormula symbols.new terms.new settings nesting reader.new p) (formula_in settings nesting i p) result }
+    requires room { length symbols.old.leaves + (length items.now.nodes.now - k) ≤ 2 ^ 30 }
+    ensures read { (i : Item) (m : ℕ) (settings : ProofSettings) (nesting : Nesting Var Term) (p : ProofState) → IsNode (source items.now.text.now) items.now.nodes.now k i m → IsReaderOf symbols.old terms.old reader.old p.script (place_in settings nesting) → AnswersAs symbols.new terms.old terms.new (IsReadFormula symbols.new terms.new settings nesting reader.new p) (formula_in settings nesting i p) result }
     // Each leaf that is added has a node of the item.
-    ensures spent { (i : Item) (m : ℕ) → IsNode (source text.now) nodes.now k i m → OnOk result (length symbols.new.leaves ≤ length symbols.old.leaves + (m - k)) }
-    ensures few { length symbols.new.leaves ≤ length symbols.old.leaves + (length nodes.now - k) }
+    ensures spent { (i : Item) (m : ℕ) → IsNode (source items.now.text.now) items.now.nodes.now k i m → OnOk result (length symbols.new.leaves ≤ length symbols.old.leaves + (m - k)) }
+    ensures few { length symbols.new.leaves ≤ length symbols.old.leaves + (length items.now.nodes.now - k) }
     ensures symbols { AddsNoSymbols symbols.old symbols.new }
     ensures keeps { KeepsTerms terms.old terms.new }
 {
+    let ItemText { text, nodes } = *items;
     let value = reader.value_at(text, nodes, k, symbols, terms)?;
     if is_bool(value.sort) {
         Ok(value.term)
@@ -63,35 +64,33 @@ fn is_bool(given: Sort) -> bool
     given == Sort::Bool
 }
 
-/// Reads the formulas that stand from `first` to before `end` one after another, in place of what `formulas` held.
+/// Reads the formulas of a range one after another, in place of what `formulas` held.
 ///
 /// Refused at the first fault of the first that has one, as `formula_at` refuses. After a refusal the reader is given up.
 pub(crate) fn formulas_at(
-    text: &Lexer<'_>,
-    nodes: &[Node],
-    first: usize,
-    end: usize,
+    items: &ItemText<'_, '_>,
+    range: NodeRange,
     symbols: &mut Symbols,
     terms: &mut Terms<'_>,
     reader: &mut TermReader<'_>,
     formulas: &mut Vec<Ref>,
 ) -> Result<(), ReadFault>
-    requires items { AreItemsFrom (source text.now) nodes.now first end }
+    requires items { AreItemsFrom (source items.now.text.now) items.now.nodes.now range.first range.end }
     requires reader { (settings : ProofSettings) × (nesting : Nesting Var Term) × (p : ProofState) × IsReaderOf symbols.old terms.old reader.old p.script (place_in settings nesting) }
-    requires room { length symbols.old.leaves + (length nodes.now - first) ≤ 2 ^ 30 }
-    ensures read { (items : Items) (settings : ProofSettings) (nesting : Nesting Var Term) (p : ProofState) → AreNodes (source text.now) nodes.now first items end → IsReaderOf symbols.old terms.old reader.old p.script (place_in settings nesting) → AnswersAs symbols.new terms.old terms.new (AreReadFormulas symbols.new terms.new settings nesting reader.new p formulas.new.items) (formulas_in settings nesting items p) result }
+    requires room { length symbols.old.leaves + (length items.now.nodes.now - range.first) ≤ 2 ^ 30 }
+    ensures read { (literals : Items) (settings : ProofSettings) (nesting : Nesting Var Term) (p : ProofState) → AreNodes (source items.now.text.now) items.now.nodes.now range.first literals range.end → IsReaderOf symbols.old terms.old reader.old p.script (place_in settings nesting) → AnswersAs symbols.new terms.old terms.new (AreReadFormulas symbols.new terms.new settings nesting reader.new p formulas.new.items) (formulas_in settings nesting literals p) result }
     // Each leaf that is added has a node of its own.
-    ensures spent { OnOk result (length symbols.new.leaves ≤ length symbols.old.leaves + (end - first)) }
-    ensures few { length symbols.new.leaves ≤ length symbols.old.leaves + (length nodes.now - first) }
+    ensures spent { OnOk result (length symbols.new.leaves ≤ length symbols.old.leaves + (range.end - range.first)) }
+    ensures few { length symbols.new.leaves ≤ length symbols.old.leaves + (length items.now.nodes.now - range.first) }
     ensures symbols { AddsNoSymbols symbols.old symbols.new }
     ensures keeps { KeepsTerms terms.old terms.new }
 {
     formulas.clear();
-    let mut k = first;
-    'formulas: while k != end {
-        let formula = formula_at(text, nodes, k, symbols, terms, reader)?;
+    let mut k = range.first;
+    'formulas: while k != range.end {
+        let formula = formula_at(items, k, symbols, terms, reader)?;
         formulas.push(formula)?;
-        k = node_at(nodes, k).next;
+        k = node_at(items.nodes, k).next;
     }
     Ok(())
 }

@@ -7,6 +7,7 @@
 //!   `step_attributes`, `arguments` (the terms in arguments that get a name) and `pivots` (those of resolution in a strict
 //!   proof). `anchors`: anchors, with `anchor_arguments`, `needed_images` (the images that an argument needs), `scopes` and
 //!   `bound` (the variables that open anchors bind). `formulas`: formulas in a scope. `judging`: the id of a command.
+//!   `ranges`: items that stand one behind another.
 //! - `session`: what was read of a proof. [`Ids`] has the ids of the visible commands and of the open anchors, by name, with no
 //!   copy of a scope; `laws` ties them to the proof that is written, as `rule_model` has it.
 //!
@@ -28,6 +29,7 @@ mod performing;
 mod pivots;
 mod premises;
 mod proof_reading;
+mod ranges;
 mod rules;
 mod scopes;
 pub mod session;

@@ -17,35 +17,33 @@ use crate::assuming::read_assume;
 use crate::session::Session;
 use crate::stepping::{StepNodes, read_step};
 use alethe_commands::Command;
-use sexpr::Lexer;
 use sym_table::Symbols;
 use term_names::faults::ReadFault;
 use term_pool::Terms;
-use text_items::nodes::Node;
+use text_items::nodes::ItemText;
 
 /// Does what a command asks for.
 pub(crate) fn perform(
-    text: &Lexer<'_>,
-    nodes: &[Node],
+    items: &ItemText<'_, '_>,
     symbols: &mut Symbols,
     terms: &mut Terms<'_>,
     session: &mut Session<'_>,
     command: Command,
 ) -> Result<(), ReadFault>
-    requires says { (c : shape.Command) × SaysCommand (source text.now) nodes.now command c × IsNamed c }
+    requires says { (c : shape.Command) × SaysCommand (source items.now.text.now) items.now.nodes.now command c × IsNamed c }
     requires session { (settings : ProofSettings) × (p : ProofState) × IsProofSession symbols.old terms.old settings session.old p }
-    requires room { length symbols.old.leaves + length nodes.now ≤ 2 ^ 30 }
+    requires room { length symbols.old.leaves + length items.now.nodes.now ≤ 2 ^ 30 }
     requires few { next_index session.old.builder + 1 < 2 ^ 32 - 1 }
     requires few_scopes { next_scope session.old.builder + 1 < 2 ^ 32 - 1 }
-    ensures read { (c : shape.Command) (settings : ProofSettings) (p : ProofState) → SaysCommand (source text.now) nodes.now command c → IsProofSession symbols.old terms.old settings session.old p → AnswersAs symbols.new terms.old terms.new (StandsAfter symbols.new terms.new settings session.new) (performed settings c p) result }
-    ensures few { length symbols.new.leaves ≤ length symbols.old.leaves + length nodes.now }
+    ensures read { (c : shape.Command) (settings : ProofSettings) (p : ProofState) → SaysCommand (source items.now.text.now) items.now.nodes.now command c → IsProofSession symbols.old terms.old settings session.old p → AnswersAs symbols.new terms.old terms.new (StandsAfter symbols.new terms.new settings session.new) (performed settings c p) result }
+    ensures few { length symbols.new.leaves ≤ length symbols.old.leaves + length items.now.nodes.now }
     ensures commands { OnOk result (next_index session.new.builder ≤ next_index session.old.builder + 1) }
     ensures scopes { OnOk result (next_scope session.new.builder ≤ next_scope session.old.builder + 1) }
     ensures symbols { AddsNoSymbols symbols.old symbols.new }
     ensures keeps { KeepsTerms terms.old terms.new }
 {
     match command {
-        Command::Assume { id, term } => read_assume(text, nodes, id, term, symbols, terms, session),
+        Command::Assume { id, term } => read_assume(items, id, term, symbols, terms, session),
         Command::Step {
             id,
             first,
@@ -56,11 +54,11 @@ pub(crate) fn perform(
                 first,
                 attributes,
             };
-            read_step(text, nodes, step, symbols, terms, session)
+            read_step(items, step, symbols, terms, session)
         }
         Command::Anchor { place, id, first } => {
             let anchor = AnchorNodes { place, id, first };
-            read_anchor(text, nodes, anchor, symbols, terms, session)
+            read_anchor(items, anchor, symbols, terms, session)
         }
     }
 }

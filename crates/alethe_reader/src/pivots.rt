@@ -18,7 +18,8 @@ ghost use Rattle.alethe_reader.specs.Answers.{AnswersAs};
 ghost use Rattle.alethe_reader.specs.Pivots as spec;
 ghost use Rattle.alethe_reader.specs.Pivots.{EndsPair, IsReadPivot, AreReadPivots, pivot_read, held_pivots, one_pivot, both_lists};
 
-use crate::arguments::{ArgumentNodes, names_at};
+use crate::arguments::names_at;
+use crate::ranges::NodeRange;
 use alethe_commands::is_symbol;
 use pair_pool::Ref;
 use sexpr::Lexer;
@@ -26,7 +27,7 @@ use sym_table::Symbols;
 use term_names::faults::ReadFault;
 use term_pool::Terms;
 use term_reader::TermReader;
-use text_items::nodes::Node;
+use text_items::nodes::{ItemText, Node};
 use text_items::shapes::{node_at, second};
 
 /// Reads the pivots of a step from its arguments, in place of what `pivots` held. There are none where an argument that should
@@ -36,21 +37,20 @@ use text_items::shapes::{node_at, second};
 /// Refused at the first fault of the first term that has one; and besides for want of memory, and where the pool had no room
 /// for a cell of a term that was read. After a refusal the reader is given up.
 pub(crate) fn pivots_at(
-    text: &Lexer<'_>,
-    nodes: &[Node],
-    arguments: ArgumentNodes,
+    items: &ItemText<'_, '_>,
+    arguments: NodeRange,
     symbols: &mut Symbols,
     terms: &mut Terms<'_>,
     reader: &mut TermReader<'_>,
     pivots: &mut Vec<(Ref, bool)>,
 ) -> Result<(), ReadFault>
-    requires items { AreItemsFrom (source text.now) nodes.now arguments.first arguments.end }
+    requires items { AreItemsFrom (source items.now.text.now) items.now.nodes.now arguments.first arguments.end }
     requires reader { (settings : ProofSettings) × (nesting : Nesting Var Term) × (p : ProofState) × IsReaderOf symbols.old terms.old reader.old p.script (place_in settings nesting) }
-    requires room { length symbols.old.leaves + (length nodes.now - arguments.first) ≤ 2 ^ 30 }
-    ensures read { (items : Items) (settings : ProofSettings) (nesting : Nesting Var Term) (p : ProofState) → AreNodes (source text.now) nodes.now arguments.first items arguments.end → IsReaderOf symbols.old terms.old reader.old p.script (place_in settings nesting) → AnswersAs symbols.new terms.old terms.new (AreReadPivots symbols.new terms.new settings nesting reader.new p pivots.new.items) (pivots_from settings nesting items p) result }
+    requires room { length symbols.old.leaves + (length items.now.nodes.now - arguments.first) ≤ 2 ^ 30 }
+    ensures read { (others : Items) (settings : ProofSettings) (nesting : Nesting Var Term) (p : ProofState) → AreNodes (source items.now.text.now) items.now.nodes.now arguments.first others arguments.end → IsReaderOf symbols.old terms.old reader.old p.script (place_in settings nesting) → AnswersAs symbols.new terms.old terms.new (AreReadPivots symbols.new terms.new settings nesting reader.new p pivots.new.items) (pivots_from settings nesting others p) result }
     // Each leaf that is added has a node of its own.
     ensures spent { OnOk result (length symbols.new.leaves ≤ length symbols.old.leaves + (arguments.end - arguments.first)) }
-    ensures few { length symbols.new.leaves ≤ length symbols.old.leaves + (length nodes.now - arguments.first) }
+    ensures few { length symbols.new.leaves ≤ length symbols.old.leaves + (length items.now.nodes.now - arguments.first) }
     ensures symbols { AddsNoSymbols symbols.old symbols.new }
     ensures keeps { KeepsTerms terms.old terms.new }
 {
@@ -58,9 +58,9 @@ pub(crate) fn pivots_at(
     let mut all = true;
     let mut k = arguments.first;
     'pairs: while k != arguments.end {
-        let end = pair_end(nodes, k, arguments.end);
-        let pair = ArgumentNodes { first: k, end };
-        let pivot = pivot_at(text, nodes, pair, symbols, terms, reader)?;
+        let end = pair_end(items.nodes, k, arguments.end);
+        let pair = NodeRange { first: k, end };
+        let pivot = pivot_at(items, pair, symbols, terms, reader)?;
         all = hold(pivots, all, pivot)?;
         k = end;
     }
@@ -86,34 +86,34 @@ fn pair_end(nodes: &[Node], first: usize, end: usize) -> usize
 ///
 /// Refused as `pivots_at`.
 fn pivot_at(
-    text: &Lexer<'_>,
-    nodes: &[Node],
-    pair: ArgumentNodes,
+    items: &ItemText<'_, '_>,
+    pair: NodeRange,
     symbols: &mut Symbols,
     terms: &mut Terms<'_>,
     reader: &mut TermReader<'_>,
 ) -> Result<Option<(Ref, bool)>, ReadFault>
-    requires items { AreSomeFrom (source text.now) nodes.now pair.first pair.end }
+    requires items { AreSomeFrom (source items.now.text.now) items.now.nodes.now pair.first pair.end }
     requires reader { (settings : ProofSettings) × (nesting : Nesting Var Term) × (p : ProofState) × IsReaderOf symbols.old terms.old reader.old p.script (place_in settings nesting) }
-    requires room { length symbols.old.leaves + (length nodes.now - pair.first) ≤ 2 ^ 30 }
-    ensures read { (i : Item) (truth : Items) (settings : ProofSettings) (nesting : Nesting Var Term) (p : ProofState) → AreNodes (source text.now) nodes.now pair.first (item i truth) pair.end → IsReaderOf symbols.old terms.old reader.old p.script (place_in settings nesting) → AnswersAs symbols.new terms.old terms.new (IsReadPivot symbols.new terms.new settings nesting reader.new p) (pivot_read settings nesting i truth p) result }
+    requires room { length symbols.old.leaves + (length items.now.nodes.now - pair.first) ≤ 2 ^ 30 }
+    ensures read { (i : Item) (truth : Items) (settings : ProofSettings) (nesting : Nesting Var Term) (p : ProofState) → AreNodes (source items.now.text.now) items.now.nodes.now pair.first (item i truth) pair.end → IsReaderOf symbols.old terms.old reader.old p.script (place_in settings nesting) → AnswersAs symbols.new terms.old terms.new (IsReadPivot symbols.new terms.new settings nesting reader.new p) (pivot_read settings nesting i truth p) result }
     ensures spent { OnOk result (length symbols.new.leaves ≤ length symbols.old.leaves + (pair.end - pair.first)) }
-    ensures few { length symbols.new.leaves ≤ length symbols.old.leaves + (length nodes.now - pair.first) }
+    ensures few { length symbols.new.leaves ≤ length symbols.old.leaves + (length items.now.nodes.now - pair.first) }
     ensures symbols { AddsNoSymbols symbols.old symbols.new }
     ensures keeps { KeepsTerms terms.old terms.new }
 {
+    let ItemText { text, nodes } = *items;
     let value = reader.value_at(text, nodes, pair.first, symbols, terms)?;
-    let behind = ArgumentNodes {
+    let behind = NodeRange {
         first: node_at(nodes, pair.first).next,
         end: pair.end,
     };
-    names_at(text, nodes, behind, symbols, terms, reader)?;
+    names_at(items, behind, symbols, terms, reader)?;
     let truth = truth_among(text, nodes, behind);
     Ok(with_truth(value.term, truth))
 }
 
 /// The truth value that the first of some items is, where there is one and it is such a value.
-fn truth_among(text: &Lexer<'_>, nodes: &[Node], behind: ArgumentNodes) -> Option<bool>
+fn truth_among(text: &Lexer<'_>, nodes: &[Node], behind: NodeRange) -> Option<bool>
     requires { AreItemsFrom (source text.now) nodes.now behind.first behind.end }
     ensures { (items : Items) → AreNodes (source text.now) nodes.now behind.first items behind.end → result ≡ spec.truth_among items }
 {

@@ -11,9 +11,10 @@ ghost use Rattle.alethe_reader.specs.Reach.{IsReach, IsIndex, AreIndices};
 
 use crate::ids::{Found, Ids, Role};
 use crate::judging::{Named, named_at};
-use sexpr::{Cause, Lexer, Refusal};
+use crate::ranges::NodeRange;
+use sexpr::{Cause, Refusal};
 use term_names::faults::ReadFault;
-use text_items::nodes::Node;
+use text_items::nodes::ItemText;
 use text_items::refusals::refused;
 
 /// Which ids in use a list of names may have: those at the places from `first` to before `end`, of assumes, and of steps too
@@ -57,25 +58,23 @@ fn index_of(ids: &Ids, reach: Reach, id: Named<'_>) -> Result<u32, Refusal>
     }
 }
 
-/// Reads the indices of the commands whose ids stand from node `first` to before node `end`, in place of what `indices` held.
+/// Reads the indices of the commands whose ids stand in a range, in place of what `indices` held.
 ///
 /// Refused at the first that is none of a command within reach, and for want of memory.
 pub(crate) fn indices_at(
-    text: &Lexer<'_>,
-    nodes: &[Node],
-    first: usize,
-    end: usize,
+    items: &ItemText<'_, '_>,
+    range: NodeRange,
     ids: &Ids,
     reach: Reach,
     indices: &mut Vec<u32>,
 ) -> Result<(), ReadFault>
-    requires { (ns : List Name) × AreNameNodes (source text.now) nodes.now first ns end }
-    ensures { (ns : List Name) (sights : List Sight) (p : ProofState) → AreNameNodes (source text.now) nodes.now first ns end → IsReach ids.now reach sights → AreIndices sights ns p indices.new.items result }
+    requires { (ns : List Name) × AreNameNodes (source items.now.text.now) items.now.nodes.now range.first ns range.end }
+    ensures { (ns : List Name) (sights : List Sight) (p : ProofState) → AreNameNodes (source items.now.text.now) items.now.nodes.now range.first ns range.end → IsReach ids.now reach sights → AreIndices sights ns p indices.new.items result }
 {
     indices.clear();
-    let mut k = first;
-    'names: while k != end {
-        let index = index_of(ids, reach, named_at(text, nodes, k))?;
+    let mut k = range.first;
+    'names: while k != range.end {
+        let index = index_of(ids, reach, named_at(items.text, items.nodes, k))?;
         indices.push(index)?;
         k += 1;
     }

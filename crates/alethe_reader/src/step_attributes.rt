@@ -24,10 +24,11 @@ ghost use Rattle.alethe_text.specs.Steps.{attribute_read, attributes_read};
 ghost use Rattle.alethe_reader.specs.Answers.{AnswersAs};
 ghost use Rattle.alethe_reader.specs.StepParts.{AreStepParts, IsBare, StandsAt, AreReadAttributes, AreRatios, IsRuleJudged, KeepsOthers, fault_of_coefficients, own_nodes, nodes_from};
 
-use crate::arguments::{ArgumentNodes, names_at};
+use crate::arguments::names_at;
 use crate::judging::named_at;
 use crate::pivots::pivots_at;
 use crate::premises::indices_at;
+use crate::ranges::NodeRange;
 use crate::rules::is_left_out;
 use crate::session::{Session, StepParts};
 use crate::standing::Standing;
@@ -38,7 +39,7 @@ use sexpr::{Cause, Lexer};
 use sym_table::Symbols;
 use term_names::faults::ReadFault;
 use term_pool::Terms;
-use text_items::nodes::Node;
+use text_items::nodes::{ItemText, Node};
 use text_items::refusals::refused;
 
 /// Where the attributes of a step begin, the step's rule, and how it stands.
@@ -65,23 +66,23 @@ struct OneAttribute {
 /// that of a term that gets a name in other arguments; and besides for want of memory, and where the pool had no room for a cell
 /// of a term that was read. After a refusal the session is given up.
 pub(crate) fn attributes_at(
-    text: &Lexer<'_>,
-    nodes: &[Node],
+    items: &ItemText<'_, '_>,
     step: StepAttributes,
     symbols: &mut Symbols,
     terms: &mut Terms<'_>,
     session: &mut Session<'_>,
 ) -> Result<(), ReadFault>
-    requires attributes { (attributes : List Attribute) × AreAttributes (source text.now) nodes.now step.first attributes (length nodes.now) }
+    requires attributes { (attributes : List Attribute) × AreAttributes (source items.now.text.now) items.now.nodes.now step.first attributes (length items.now.nodes.now) }
     requires stands { (settings : ProofSettings) × (at : ids.Standing) × (p : ProofState) × StandsAt symbols.old terms.old settings at session.old step.standing p }
-    requires room { length symbols.old.leaves + (length nodes.now - step.first) ≤ 2 ^ 30 }
-    ensures read { (attributes : List Attribute) (settings : ProofSettings) (at : ids.Standing) (p : ProofState) (before : Step Term) → AreAttributes (source text.now) nodes.now step.first attributes (length nodes.now) → StandsAt symbols.old terms.old settings at session.old step.standing p → before.rule ≡ step.rule → IsBare before → AnswersAs symbols.new terms.old terms.new (AreReadAttributes symbols.new terms.new settings at.nesting session.new p before) (attributes_read settings at attributes before p) result }
+    requires room { length symbols.old.leaves + (length items.now.nodes.now - step.first) ≤ 2 ^ 30 }
+    ensures read { (attributes : List Attribute) (settings : ProofSettings) (at : ids.Standing) (p : ProofState) (before : Step Term) → AreAttributes (source items.now.text.now) items.now.nodes.now step.first attributes (length items.now.nodes.now) → StandsAt symbols.old terms.old settings at session.old step.standing p → before.rule ≡ step.rule → IsBare before → AnswersAs symbols.new terms.old terms.new (AreReadAttributes symbols.new terms.new settings at.nesting session.new p before) (attributes_read settings at attributes before p) result }
     // Each leaf that is added has a node of its own.
-    ensures few { length symbols.new.leaves ≤ length symbols.old.leaves + (length nodes.now - step.first) }
+    ensures few { length symbols.new.leaves ≤ length symbols.old.leaves + (length items.now.nodes.now - step.first) }
     ensures symbols { AddsNoSymbols symbols.old symbols.new }
     ensures keeps { KeepsTerms terms.old terms.new }
     ensures others { KeepsOthers session.old session.new }
 {
+    let ItemText { text, nodes } = *items;
     clear(&mut session.parts, takes_coefficients(step.rule));
     let mut at = step.first;
     'attributes: while let Some(attribute) = next_attribute(text, nodes, &mut at, nodes.len()) {
@@ -90,7 +91,7 @@ pub(crate) fn attributes_at(
             rule: step.rule,
             standing: step.standing,
         };
-        attribute_at(text, nodes, one, symbols, terms, session)?;
+        attribute_at(items, one, symbols, terms, session)?;
     }
     Ok(())
 }
@@ -131,19 +132,18 @@ fn takes_pivots(rule: Rule) -> bool
 
 /// Reads one attribute into the parts of the session.
 fn attribute_at(
-    text: &Lexer<'_>,
-    nodes: &[Node],
+    items: &ItemText<'_, '_>,
     one: OneAttribute,
     symbols: &mut Symbols,
     terms: &mut Terms<'_>,
     session: &mut Session<'_>,
 ) -> Result<(), ReadFault>
-    requires says { (a : Attribute) × SaysAttribute (source text.now) nodes.now one.attribute a }
+    requires says { (a : Attribute) × SaysAttribute (source items.now.text.now) items.now.nodes.now one.attribute a }
     requires stands { (settings : ProofSettings) × (at : ids.Standing) × (p : ProofState) × StandsAt symbols.old terms.old settings at session.old one.standing p }
-    requires room { length symbols.old.leaves + nodes_from one.attribute (length nodes.now) ≤ 2 ^ 30 }
-    ensures read { (a : Attribute) (settings : ProofSettings) (at : ids.Standing) (p : ProofState) (before : Step Term) → SaysAttribute (source text.now) nodes.now one.attribute a → StandsAt symbols.old terms.old settings at session.old one.standing p → before.rule ≡ one.rule → AreStepParts symbols.old terms.old session.old.parts before → AnswersAs symbols.new terms.old terms.new (AreReadAttributes symbols.new terms.new settings at.nesting session.new p before) (attribute_read settings at a before p) result }
+    requires room { length symbols.old.leaves + nodes_from one.attribute (length items.now.nodes.now) ≤ 2 ^ 30 }
+    ensures read { (a : Attribute) (settings : ProofSettings) (at : ids.Standing) (p : ProofState) (before : Step Term) → SaysAttribute (source items.now.text.now) items.now.nodes.now one.attribute a → StandsAt symbols.old terms.old settings at session.old one.standing p → before.rule ≡ one.rule → AreStepParts symbols.old terms.old session.old.parts before → AnswersAs symbols.new terms.old terms.new (AreReadAttributes symbols.new terms.new settings at.nesting session.new p before) (attribute_read settings at a before p) result }
     ensures spent { OnOk result (length symbols.new.leaves ≤ length symbols.old.leaves + own_nodes one.attribute) }
-    ensures few { length symbols.new.leaves ≤ length symbols.old.leaves + nodes_from one.attribute (length nodes.now) }
+    ensures few { length symbols.new.leaves ≤ length symbols.old.leaves + nodes_from one.attribute (length items.now.nodes.now) }
     ensures symbols { AddsNoSymbols symbols.old symbols.new }
     ensures keeps { KeepsTerms terms.old terms.new }
     ensures others { KeepsOthers session.old session.new }
@@ -151,26 +151,28 @@ fn attribute_at(
     let standing = one.standing;
     let parts = &mut session.parts;
     match one.attribute {
-        StepAttribute::Rule(k) => judge_rule(text, nodes, k),
+        StepAttribute::Rule(k) => judge_rule(items.text, items.nodes, k),
         StepAttribute::Premises { first, end } => {
+            let range = NodeRange { first, end };
             let reach = standing.premises;
             let indices = &mut parts.premises;
-            indices_at(text, nodes, first, end, &session.ids, reach, indices)
+            indices_at(items, range, &session.ids, reach, indices)
         }
         StepAttribute::Discharge { first, end } => {
+            let range = NodeRange { first, end };
             let reach = standing.discharges;
             let indices = &mut parts.discharged;
-            indices_at(text, nodes, first, end, &session.ids, reach, indices)
+            indices_at(items, range, &session.ids, reach, indices)
         }
         StepAttribute::Arguments { first, end } => {
-            let arguments = ArgumentNodes { first, end };
+            let arguments = NodeRange { first, end };
             if takes_coefficients(one.rule) {
-                ratios_at(text, nodes, arguments, parts)
+                ratios_at(items, arguments, parts)
             } else if reads_pivots(session.strict, one.rule) {
                 let (reader, pivots) = (&mut session.reader, &mut parts.pivots);
-                pivots_at(text, nodes, arguments, symbols, terms, reader, pivots)
+                pivots_at(items, arguments, symbols, terms, reader, pivots)
             } else {
-                names_at(text, nodes, arguments, symbols, terms, &mut session.reader)
+                names_at(items, arguments, symbols, terms, &mut session.reader)
             }
         }
     }
@@ -190,21 +192,20 @@ fn judge_rule(text: &Lexer<'_>, nodes: &[Node], k: usize) -> Result<(), ReadFaul
 
 /// Reads the coefficients of a step in place of what was there. It has none where some argument is no coefficient.
 fn ratios_at(
-    text: &Lexer<'_>,
-    nodes: &[Node],
-    arguments: ArgumentNodes,
+    items: &ItemText<'_, '_>,
+    arguments: NodeRange,
     parts: &mut StepParts,
 ) -> Result<(), ReadFault>
-    requires { AreItemsFrom (source text.now) nodes.now arguments.first arguments.end }
-    ensures read { (items : Items) → AreNodes (source text.now) nodes.now arguments.first items arguments.end → AreRatios parts.new result (coefficients_from items) }
+    requires { AreItemsFrom (source items.now.text.now) items.now.nodes.now arguments.first arguments.end }
+    ensures read { (others : Items) → AreNodes (source items.now.text.now) items.now.nodes.now arguments.first others arguments.end → AreRatios parts.new result (coefficients_from others) }
     ensures clause { parts.new.clause ≡ parts.old.clause }
     ensures premises { parts.new.premises ≡ parts.old.premises }
     ensures discharged { parts.new.discharged ≡ parts.old.discharged }
     ensures pivots { parts.new.pivots ≡ parts.old.pivots }
 {
     let all = coefficients_at(
-        text,
-        nodes,
+        items.text,
+        items.nodes,
         arguments.first,
         arguments.end,
         &mut parts.ratios,

@@ -33,6 +33,7 @@ ghost use Rattle.alethe_reader.specs.declared.session.OpenAnchor.{OpenAnchor};
 use crate::formulas::formulas_at;
 use crate::ids::Role;
 use crate::judging::{Named, named_at};
+use crate::ranges::NodeRange;
 use crate::rules::rule_named;
 use crate::scopes::leave_variables;
 use crate::session::{OpenAnchor, Session, StepParts};
@@ -42,12 +43,11 @@ use alethe_commands::attributes::rule_word;
 use pair_pool::Memory;
 use proof_store::{ProofBuilder, Ratio};
 use rule_model::Rule;
-use sexpr::Lexer;
 use sym_table::Symbols;
 use term_names::faults::ReadFault;
 use term_pool::Terms;
 use term_reader::TermReader;
-use text_items::nodes::Node;
+use text_items::nodes::ItemText;
 
 /// A step by the places of its nodes: its id, its literals, which end before its attributes, and these, which go to the end.
 #[derive(Clone, Copy)]
@@ -73,37 +73,33 @@ struct NewStep<'a> {
 /// order of the text; and besides for want of memory, and where the pool had no room for a cell of a term that was read. After
 /// a refusal the session is given up.
 pub fn read_step(
-    text: &Lexer<'_>,
-    nodes: &[Node],
+    items: &ItemText<'_, '_>,
     step: StepNodes,
     symbols: &mut Symbols,
     terms: &mut Terms<'_>,
     session: &mut Session<'_>,
 ) -> Result<(), ReadFault>
-    requires says { (n : Name) × (literals : Items) × (attributes : List shape.Attribute) × SaysStep (source text.now) nodes.now step.id step.first step.attributes (shape.step n literals attributes) × IsSymbolName n.name × IsSymbolName (steps.rule_word attributes) }
+    requires says { (n : Name) × (literals : Items) × (attributes : List shape.Attribute) × SaysStep (source items.now.text.now) items.now.nodes.now step.id step.first step.attributes (shape.step n literals attributes) × IsSymbolName n.name × IsSymbolName (steps.rule_word attributes) }
     requires session { (settings : ProofSettings) × (p : ProofState) × IsProofSession symbols.old terms.old settings session.old p }
-    requires room { length symbols.old.leaves + (length nodes.now - step.first) ≤ 2 ^ 30 }
+    requires room { length symbols.old.leaves + (length items.now.nodes.now - step.first) ≤ 2 ^ 30 }
     requires few { next_index session.old.builder + 1 < 2 ^ 32 - 1 }
-    ensures read { (n : Name) (literals : Items) (attributes : List shape.Attribute) (settings : ProofSettings) (p : ProofState) → SaysStep (source text.now) nodes.now step.id step.first step.attributes (shape.step n literals attributes) → IsProofSession symbols.old terms.old settings session.old p → AnswersAs symbols.new terms.old terms.new (StandsAfter symbols.new terms.new settings session.new) (steps.step_read settings n literals attributes p) result }
-    ensures few { length symbols.new.leaves ≤ length symbols.old.leaves + (length nodes.now - step.first) }
+    ensures read { (n : Name) (literals : Items) (attributes : List shape.Attribute) (settings : ProofSettings) (p : ProofState) → SaysStep (source items.now.text.now) items.now.nodes.now step.id step.first step.attributes (shape.step n literals attributes) → IsProofSession symbols.old terms.old settings session.old p → AnswersAs symbols.new terms.old terms.new (StandsAfter symbols.new terms.new settings session.new) (steps.step_read settings n literals attributes p) result }
+    ensures few { length symbols.new.leaves ≤ length symbols.old.leaves + (length items.now.nodes.now - step.first) }
     ensures symbols { AddsNoSymbols symbols.old symbols.new }
     ensures keeps { KeepsTerms terms.old terms.new }
     ensures commands { OnOk result (next_index session.new.builder ≡ next_index session.old.builder + 1) }
     ensures scopes { OnOk result (next_scope session.new.builder ≡ next_scope session.old.builder) }
 {
+    let ItemText { text, nodes } = *items;
     let id = named_at(text, nodes, step.id);
     let standing = standing_at(session, id)?;
     stand(&mut session.reader, standing.closes);
-    formulas_at(
-        text,
-        nodes,
-        step.first,
-        step.attributes,
-        symbols,
-        terms,
-        &mut session.reader,
-        &mut session.parts.clause,
-    )?;
+    let literals = NodeRange {
+        first: step.first,
+        end: step.attributes,
+    };
+    let (reader, clause) = (&mut session.reader, &mut session.parts.clause);
+    formulas_at(items, literals, symbols, terms, reader, clause)?;
     let word = rule_word(text, nodes, step.attributes, nodes.len());
     let rule = rule_named(word);
     let attributes = StepAttributes {
@@ -111,7 +107,7 @@ pub fn read_step(
         rule,
         standing,
     };
-    attributes_at(text, nodes, attributes, symbols, terms, session)?;
+    attributes_at(items, attributes, symbols, terms, session)?;
     let new = NewStep {
         id,
         rule,

@@ -21,7 +21,7 @@ use sexpr::Lexer;
 use sym_table::Symbols;
 use term_names::faults::ReadFault;
 use term_pool::Terms;
-use text_items::nodes::Node;
+use text_items::nodes::{ItemText, Node};
 
 /// Reads the next command of a text, and does what it asks for. Answers whether there was one.
 fn read_command(
@@ -51,7 +51,8 @@ fn read_command(
         return Ok(false);
     }
     let command = command_of(lexer, nodes)?;
-    perform(lexer, nodes, symbols, terms, session, command)?;
+    let items = ItemText { text: lexer, nodes };
+    perform(&items, symbols, terms, session, command)?;
     Ok(true)
 }
 

@@ -18,46 +18,46 @@ arguments-init c = record {
   adds = adds_none c.args.symbols.now;
   keeps = keeps_none c.args.terms.now;
   some = c.requires.reader;
-  left = λ items settings nesting p are h. left_first (source c.args.text.now) c.args.nodes.now settings nesting p c.args.symbols.now c.args.terms.now c.args.reader.now c.args.arguments.first c.args.arguments.end items are h;
+  left = λ items settings nesting p are h. left_first (source c.args.items.now.text.now) c.args.items.now.nodes.now settings nesting p c.args.symbols.now c.args.terms.now c.args.reader.now c.args.arguments.first c.args.arguments.end items are h;
 }
 
 pub is_naming-requires : goal.is_naming-requires
-is_naming-requires c = first_at (source c.args.text.now) c.args.nodes.now c.arguments.k c.args.arguments.end c.arguments.invariant.there c.arguments-test.true
+is_naming-requires c = first_at (source c.args.items.now.text.now) c.args.items.now.nodes.now c.arguments.k c.args.arguments.end c.arguments.invariant.there c.arguments-test.true
 
 pub value_at-requires-clause-item : goal.value_at-requires-clause-item
-value_at-requires-clause-item c = first_at (source c.args.text.now) c.args.nodes.now c.arguments.k c.args.arguments.end c.arguments.invariant.there c.arguments-test.true
+value_at-requires-clause-item c = first_at (source c.args.items.now.text.now) c.args.items.now.nodes.now c.arguments.k c.args.arguments.end c.arguments.invariant.there c.arguments-test.true
 
 pub value_at-requires-clause-room : goal.value_at-requires-clause-room
 value_at-requires-clause-room c =
-    let (i, m, is) = first_at (source c.args.text.now) c.args.nodes.now c.arguments.k c.args.arguments.end c.arguments.invariant.there c.arguments-test.true in
-    omega (arith, item_within (source c.args.text.now) c.args.nodes.now c.arguments.k i m is, c.arguments.invariant.spent, c.arguments.invariant.ordered, c.requires.room)
+    let (i, m, is) = first_at (source c.args.items.now.text.now) c.args.items.now.nodes.now c.arguments.k c.args.arguments.end c.arguments.invariant.there c.arguments-test.true in
+    omega (arith, item_within (source c.args.items.now.text.now) c.args.items.now.nodes.now c.arguments.k i m is, c.arguments.invariant.spent, c.arguments.invariant.ordered, c.requires.room)
 
 pub returns-in_err-value_at-clause-read : goal.returns-in_err-value_at-clause-read
 returns-in_err-value_at-clause-read c items settings nesting p are h =
     let is = err_from_is_err_and c.from_residual.result c.from_residual.ensures.1 in
-    rw (is.1, is.2) (fails (source c.args.text.now) c.args.nodes.now settings nesting p _ _ _ _ c.arguments.k c.args.arguments.end (named_among settings nesting items p) (c.arguments.invariant.left items settings nesting p are h) c.arguments-test.true
+    rw (is.1, is.2) (fails (source c.args.items.now.text.now) c.args.items.now.nodes.now settings nesting p _ _ _ _ c.arguments.k c.args.arguments.end (named_among settings nesting items p) (c.arguments.invariant.left items settings nesting p are h) c.arguments-test.true
     _ _ _ c.value_at.ensures.symbols c.value_at.ensures.keeps c.is_naming.result c.is_naming.ensures c.if-is_naming.true _ (λ i m t node reader. c.in_err-value_at.ensures.read i m t.script (place_in settings nesting) node reader) _ refl)
 
 pub returns-in_err-value_at-clause-few : goal.returns-in_err-value_at-clause-few
 returns-in_err-value_at-clause-few c =
-    let (i, m, is) = first_at (source c.args.text.now) c.args.nodes.now c.arguments.k c.args.arguments.end c.arguments.invariant.there c.arguments-test.true in
-    omega (arith, item_within (source c.args.text.now) c.args.nodes.now c.arguments.k i m is, c.arguments.invariant.spent, c.arguments.invariant.ordered, c.value_at.ensures.few)
+    let (i, m, is) = first_at (source c.args.items.now.text.now) c.args.items.now.nodes.now c.arguments.k c.args.arguments.end c.arguments.invariant.there c.arguments-test.true in
+    omega (arith, item_within (source c.args.items.now.text.now) c.args.items.now.nodes.now c.arguments.k i m is, c.arguments.invariant.spent, c.arguments.invariant.ordered, c.value_at.ensures.few)
 
 pub returns-in_err-value_at-clause-symbols : goal.returns-in_err-value_at-clause-symbols
 returns-in_err-value_at-clause-symbols c = adds_then _ _ _ c.arguments.invariant.adds c.value_at.ensures.symbols
 
 pub node_at-k-requires : goal.node_at-k-requires
-node_at-k-requires c = (source c.args.text.now, first_at (source c.args.text.now) c.args.nodes.now c.arguments.k c.args.arguments.end c.arguments.invariant.there c.arguments-test.true)
+node_at-k-requires c = (source c.args.items.now.text.now, first_at (source c.args.items.now.text.now) c.args.items.now.nodes.now c.arguments.k c.args.arguments.end c.arguments.invariant.there c.arguments-test.true)
 
 pub arguments-smaller-then-is_naming : goal.arguments-smaller-then-is_naming
 arguments-smaller-then-is_naming c =
-    let h = further (source c.args.text.now) c.args.nodes.now c.arguments.k c.args.arguments.end c.node_at-k.result c.arguments.invariant.there c.arguments-test.true (c.node_at-k.ensures (source c.args.text.now)) in
+    let h = further (source c.args.items.now.text.now) c.args.items.now.nodes.now c.arguments.k c.args.arguments.end c.node_at-k.result c.arguments.invariant.there c.arguments-test.true (c.node_at-k.ensures (source c.args.items.now.text.now)) in
     omega (arith, h.0, h.1)
 
 pub arguments-preserved-then-is_naming : goal.arguments-preserved-then-is_naming
 arguments-preserved-then-is_naming c =
-    let text = source c.args.text.now in
-    let nodes = c.args.nodes.now in
+    let text = source c.args.items.now.text.now in
+    let nodes = c.args.items.now.nodes.now in
     let first = first_at text nodes c.arguments.k c.args.arguments.end c.arguments.invariant.there c.arguments-test.true in
     let here = item_here text nodes c.arguments.k c.node_at-k.result first (c.node_at-k.ensures text) in
     let h = further text nodes c.arguments.k c.args.arguments.end c.node_at-k.result c.arguments.invariant.there c.arguments-test.true (c.node_at-k.ensures text) in
@@ -76,18 +76,18 @@ arguments-preserved-then-is_naming c =
 
 pub overflow_add-k : goal.overflow_add-k
 overflow_add-k c =
-    let (i, m, is) = first_at (source c.args.text.now) c.args.nodes.now c.arguments.k c.args.arguments.end c.arguments.invariant.there c.arguments-test.true in
-    let within = item_within (source c.args.text.now) c.args.nodes.now c.arguments.k i m is in
-    let lower = below (source c.args.text.now) c.args.nodes.now c.arguments.k c.args.arguments.end c.arguments.invariant.there c.arguments-test.true in
+    let (i, m, is) = first_at (source c.args.items.now.text.now) c.args.items.now.nodes.now c.arguments.k c.args.arguments.end c.arguments.invariant.there c.arguments-test.true in
+    let within = item_within (source c.args.items.now.text.now) c.args.items.now.nodes.now c.arguments.k i m is in
+    let lower = below (source c.args.items.now.text.now) c.args.items.now.nodes.now c.arguments.k c.args.arguments.end c.arguments.invariant.there c.arguments-test.true in
     omega arith
 
 pub arguments-smaller : goal.arguments-smaller
-arguments-smaller c = omega (arith, below (source c.args.text.now) c.args.nodes.now c.arguments.k c.args.arguments.end c.arguments.invariant.there c.arguments-test.true)
+arguments-smaller c = omega (arith, below (source c.args.items.now.text.now) c.args.items.now.nodes.now c.arguments.k c.args.arguments.end c.arguments.invariant.there c.arguments-test.true)
 
 pub arguments-preserved : goal.arguments-preserved
 arguments-preserved c =
-    let text = source c.args.text.now in
-    let nodes = c.args.nodes.now in
+    let text = source c.args.items.now.text.now in
+    let nodes = c.args.items.now.nodes.now in
     let (settings, nesting, p, reader) = c.arguments.invariant.some in
     record {
       there = inside_from text nodes c.arguments.k c.args.arguments.end settings nesting c.arguments.invariant.there c.arguments-test.true c.is_naming.result c.is_naming.ensures c.if-is_naming.false;
@@ -102,8 +102,8 @@ arguments-preserved c =
 
 pub returns-clause-read : goal.returns-clause-read
 returns-clause-read c items settings nesting p are h =
-    none_left (source c.args.text.now) c.args.nodes.now settings nesting p _ _ _ _ c.arguments.k c.args.arguments.end (named_among settings nesting items p) (c.arguments.invariant.left items settings nesting p are h) c.arguments-test.false
+    none_left (source c.args.items.now.text.now) c.args.items.now.nodes.now settings nesting p _ _ _ _ c.arguments.k c.args.arguments.end (named_among settings nesting items p) (c.arguments.invariant.left items settings nesting p are h) c.arguments-test.false
 
 pub returns-clause-few : goal.returns-clause-few
 returns-clause-few c =
-    omega (arith, end_within (source c.args.text.now) c.args.nodes.now c.args.arguments.first c.args.arguments.end c.requires.items, c.arguments.invariant.spent, c.arguments.invariant.ordered, c.arguments-test.false)
+    omega (arith, end_within (source c.args.items.now.text.now) c.args.items.now.nodes.now c.args.arguments.first c.args.arguments.end c.requires.items, c.arguments.invariant.spent, c.arguments.invariant.ordered, c.arguments-test.false)

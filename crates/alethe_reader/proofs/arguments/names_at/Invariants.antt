@@ -17,14 +17,14 @@ use Rattle.alethe_reader.proofs.arguments.names_at.Given as goal
 
 abbrev pub invariant-arguments : goal.invariant-arguments
 invariant-arguments l = record {
-  there : AreItemsFrom (source l.text) l.nodes l.k l.arguments.end;
+  there : AreItemsFrom (source l.items.text.now) l.items.nodes.now l.k l.arguments.end;
   ordered : l.arguments.first ≤ l.k;
   spent : length l.symbols.leaves + l.arguments.first ≤ length l.fn.symbols.leaves + l.k;
   adds : AddsNoSymbols l.fn.symbols l.symbols;
   keeps : KeepsTerms l.fn.terms l.terms;
   some : (settings : ProofSettings) × (nesting : Nesting Var Term) × (p : ProofState) × IsReaderOf l.symbols l.terms l.reader p.script (place_in settings nesting);
-  left : (items : Items) (settings : ProofSettings) (nesting : Nesting Var Term) (p : ProofState) → AreNodes (source l.text) l.nodes l.arguments.first items l.arguments.end → IsReaderOf l.fn.symbols l.fn.terms l.fn.reader p.script (place_in settings nesting)
-      → AreLeft (source l.text) l.nodes l.symbols l.fn.terms l.terms settings nesting l.reader p l.k l.arguments.end (named_among settings nesting items p);
+  left : (items : Items) (settings : ProofSettings) (nesting : Nesting Var Term) (p : ProofState) → AreNodes (source l.items.text.now) l.items.nodes.now l.arguments.first items l.arguments.end → IsReaderOf l.fn.symbols l.fn.terms l.fn.reader p.script (place_in settings nesting)
+      → AreLeft (source l.items.text.now) l.items.nodes.now l.symbols l.fn.terms l.terms settings nesting l.reader p l.k l.arguments.end (named_among settings nesting items p);
 }
 
 abbrev pub decreases-arguments : goal.decreases-arguments

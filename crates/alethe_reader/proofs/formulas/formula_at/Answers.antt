@@ -19,4 +19,4 @@ returns-then-is_bool-clause-read c i m settings nesting p node h =
 pub returns-else-is_bool-clause-read : goal.returns-else-is_bool-clause-read
 returns-else-is_bool-clause-read c i m settings nesting p node h =
     other_sort _ _ _ settings nesting _ i p c.in_ok-value.value (value_answers _ _ _ settings nesting _ i p _ (c.in_ok-value.ensures.read i m p.script (place_in settings nesting) node h)) (sym c.is_bool.ensures ∙ c.if-is_bool.false)
-    c.refused.result (c.refused.ensures ∙ ap (λ n. record { cause = SortMismatch; at = n }) (c.node_at-place.ensures (source c.args.text.now) i m node).start)
+    c.refused.result (c.refused.ensures ∙ ap (λ n. record { cause = SortMismatch; at = n }) (c.node_at-place.ensures (source c.args.items.now.text.now) i m node).start)

@@ -16,16 +16,16 @@ use Rattle.alethe_reader.proofs.formulas.formulas_at.Given as goal
 
 abbrev pub invariant-formulas : goal.invariant-formulas
 invariant-formulas l = record {
-  there : AreItemsFrom (source l.text) l.nodes l.k l.end;
-  ordered : l.first ≤ l.k;
-  within : (l.k ≡ l.first) ⊎ (l.k ≤ length l.nodes);
-  spent : length l.symbols.leaves + l.first ≤ length l.fn.symbols.leaves + l.k;
+  there : AreItemsFrom (source l.items.text.now) l.items.nodes.now l.k l.range.end;
+  ordered : l.range.first ≤ l.k;
+  within : (l.k ≡ l.range.first) ⊎ (l.k ≤ length l.items.nodes.now);
+  spent : length l.symbols.leaves + l.range.first ≤ length l.fn.symbols.leaves + l.k;
   adds : AddsNoSymbols l.fn.symbols l.symbols;
   keeps : KeepsTerms l.fn.terms l.terms;
   some : (settings : ProofSettings) × (nesting : Nesting Var Term) × (p : ProofState) × IsReaderOf l.symbols l.terms l.reader p.script (place_in settings nesting);
-  so_far : (items : Items) (settings : ProofSettings) (nesting : Nesting Var Term) (p : ProofState) → AreNodes (source l.text) l.nodes l.first items l.end → IsReaderOf l.fn.symbols l.fn.terms l.fn.reader p.script (place_in settings nesting)
-      → AreSoFar (source l.text) l.nodes l.symbols l.fn.terms l.terms settings nesting l.reader p l.formulas.items l.k l.end (formulas_in settings nesting items p);
+  so_far : (items : Items) (settings : ProofSettings) (nesting : Nesting Var Term) (p : ProofState) → AreNodes (source l.items.text.now) l.items.nodes.now l.range.first items l.range.end → IsReaderOf l.fn.symbols l.fn.terms l.fn.reader p.script (place_in settings nesting)
+      → AreSoFar (source l.items.text.now) l.items.nodes.now l.symbols l.fn.terms l.terms settings nesting l.reader p l.formulas.items l.k l.range.end (formulas_in settings nesting items p);
 }
 
 abbrev pub decreases-formulas : goal.decreases-formulas
-decreases-formulas l = l.end - l.k
+decreases-formulas l = l.range.end - l.k

@@ -13,7 +13,7 @@ read_assume-requires-clause-term c = assume_term _ _ _ c.requires.says c.in-Assu
 
 pub returns-in-Assume-clause-read : goal.returns-in-Assume-clause-read
 returns-in-Assume-clause-read c = λ d settings p says session.
-    let h = says_assume (source c.args.text.now) c.args.nodes.now c.args.command d says c.in-Assume.id c.in-Assume.term c.in-Assume.is in
+    let h = says_assume (source c.args.items.now.text.now) c.args.items.now.nodes.now c.args.command d says c.in-Assume.id c.in-Assume.term c.in-Assume.is in
     same_outcome (assume_performed _ _ settings d p _ _ h) (c.read_assume.ensures.read h.named h.formula h.after settings p h.name_here h.formula_here session)
 
 pub read_step-requires-clause-says : goal.read_step-requires-clause-says
@@ -21,7 +21,7 @@ read_step-requires-clause-says c = step_nodes _ _ _ c.requires.says c.in-Step.id
 
 pub returns-in-Step-clause-read : goal.returns-in-Step-clause-read
 returns-in-Step-clause-read c = λ d settings p says session.
-    let h = says_step (source c.args.text.now) c.args.nodes.now c.args.command d says c.in-Step.id c.in-Step.first c.in-Step.attributes c.in-Step.is in
+    let h = says_step (source c.args.items.now.text.now) c.args.items.now.nodes.now c.args.command d says c.in-Step.id c.in-Step.first c.in-Step.attributes c.in-Step.is in
     same_outcome (step_performed _ _ settings d p _ _ _ h)
     (c.read_step.ensures.read h.named h.literals h.attributes settings p (subst (SaysStep _ _ _ _ _) h.same h) session)
 
@@ -30,6 +30,6 @@ read_anchor-requires-clause-says c = anchor_nodes _ _ _ c.requires.says c.in-Anc
 
 pub returns-in-Anchor-clause-read : goal.returns-in-Anchor-clause-read
 returns-in-Anchor-clause-read c = λ d settings p says session.
-    let h = says_anchor (source c.args.text.now) c.args.nodes.now c.args.command d says c.in-Anchor.place c.in-Anchor.id c.in-Anchor.first c.in-Anchor.is in
+    let h = says_anchor (source c.args.items.now.text.now) c.args.items.now.nodes.now c.args.command d says c.in-Anchor.place c.in-Anchor.id c.in-Anchor.first c.in-Anchor.is in
     same_outcome (anchor_performed _ _ settings d p _ _ _ h)
     (c.read_anchor.ensures.read h.named h.others settings p (subst (SaysAnchor _ _ _ _ _) h.same h) session)

@@ -17,15 +17,15 @@ use Rattle.alethe_reader.proofs.pivots.pivots_at.Given as goal
 
 abbrev pub invariant-pairs : goal.invariant-pairs
 invariant-pairs l = record {
-  there : AreItemsFrom (source l.text) l.nodes l.k l.arguments.end;
+  there : AreItemsFrom (source l.items.text.now) l.items.nodes.now l.k l.arguments.end;
   ordered : l.arguments.first ≤ l.k;
-  within : (l.k ≡ l.arguments.first) ⊎ (l.k ≤ length l.nodes);
+  within : (l.k ≡ l.arguments.first) ⊎ (l.k ≤ length l.items.nodes.now);
   spent : length l.symbols.leaves + l.arguments.first ≤ length l.fn.symbols.leaves + l.k;
   adds : AddsNoSymbols l.fn.symbols l.symbols;
   keeps : KeepsTerms l.fn.terms l.terms;
   some : (settings : ProofSettings) × (nesting : Nesting Var Term) × (p : ProofState) × IsReaderOf l.symbols l.terms l.reader p.script (place_in settings nesting);
-  so_far : (items : Items) (settings : ProofSettings) (nesting : Nesting Var Term) (p : ProofState) → AreNodes (source l.text) l.nodes l.arguments.first items l.arguments.end → IsReaderOf l.fn.symbols l.fn.terms l.fn.reader p.script (place_in settings nesting)
-      → AreSoFar (source l.text) l.nodes l.symbols l.fn.terms l.terms settings nesting l.reader p l.all l.pivots.items l.k l.arguments.end (pivots_from settings nesting items p);
+  so_far : (items : Items) (settings : ProofSettings) (nesting : Nesting Var Term) (p : ProofState) → AreNodes (source l.items.text.now) l.items.nodes.now l.arguments.first items l.arguments.end → IsReaderOf l.fn.symbols l.fn.terms l.fn.reader p.script (place_in settings nesting)
+      → AreSoFar (source l.items.text.now) l.items.nodes.now l.symbols l.fn.terms l.terms settings nesting l.reader p l.all l.pivots.items l.k l.arguments.end (pivots_from settings nesting items p);
 }
 
 abbrev pub decreases-pairs : goal.decreases-pairs

@@ -14,14 +14,14 @@ use Rattle.alethe_reader.proofs.step_attributes.attribute_at.Goals as goal
 
 pub returns-in-Rule-clause-read : goal.returns-in-Rule-clause-read
 returns-in-Rule-clause-read c a settings at p before says stands same parts =
-    let h = subst (λ (x : StepAttribute). SaysAttribute (source c.args.text.now) c.args.nodes.now x a) c.in-Rule.is says in
+    let h = subst (λ (x : StepAttribute). SaysAttribute (source c.args.items.now.text.now) c.args.items.now.nodes.now x a) c.in-Rule.is says in
     same_outcome (ap (λ (x : Attribute). attribute_read settings at x before p) h.1)
     (rule_answers _ _ settings at c.args.session.now p before h.0 _ (c.judge_rule.ensures h.0 p h.2)
     (record { parts = parts; id = refl; rule = refl; rule_name = refl; clause = refl; behind = record { reader = stands.reader; scope = refl; anchors = refl } }))
 
 pub returns-in-Premises-clause-read : goal.returns-in-Premises-clause-read
 returns-in-Premises-clause-read c a settings at p before says stands same parts =
-    let h = subst (λ (x : StepAttribute). SaysAttribute (source c.args.text.now) c.args.nodes.now x a) c.in-Premises.is says in
+    let h = subst (λ (x : StepAttribute). SaysAttribute (source c.args.items.now.text.now) c.args.items.now.nodes.now x a) c.in-Premises.is says in
     same_outcome (ap (λ (x : Attribute). attribute_read settings at x before p) h.1)
     (premises_answer _ _ settings at (record c.args.session.now { parts = record c.args.session.now.parts { premises = c.indices_at.new.indices } }) p before h.0 _ _ (c.indices_at.ensures h.0 at.sees p h.2 stands.sees)
     (record {
@@ -35,7 +35,7 @@ returns-in-Premises-clause-read c a settings at p before says stands same parts 
 
 pub returns-in-Discharge-clause-read : goal.returns-in-Discharge-clause-read
 returns-in-Discharge-clause-read c a settings at p before says stands same parts =
-    let h = subst (λ (x : StepAttribute). SaysAttribute (source c.args.text.now) c.args.nodes.now x a) c.in-Discharge.is says in
+    let h = subst (λ (x : StepAttribute). SaysAttribute (source c.args.items.now.text.now) c.args.items.now.nodes.now x a) c.in-Discharge.is says in
     same_outcome (ap (λ (x : Attribute). attribute_read settings at x before p) h.1)
     (discharge_answers _ _ settings at (record c.args.session.now { parts = record c.args.session.now.parts { discharged = c.indices_at-in-Discharge.new.indices } }) p before h.0 _ _ (c.indices_at-in-Discharge.ensures h.0 at.discharges p h.2 stands.discharges)
     (record {
@@ -49,7 +49,7 @@ returns-in-Discharge-clause-read c a settings at p before says stands same parts
 
 pub returns-then-takes_coefficients-clause-read : goal.returns-then-takes_coefficients-clause-read
 returns-then-takes_coefficients-clause-read c a settings at p before says stands same parts =
-    let h = subst (λ (x : StepAttribute). SaysAttribute (source c.args.text.now) c.args.nodes.now x a) c.in-Arguments.is says in
+    let h = subst (λ (x : StepAttribute). SaysAttribute (source c.args.items.now.text.now) c.args.items.now.nodes.now x a) c.in-Arguments.is says in
     let takes = ap takes_coefficients same ∙ (sym c.takes_coefficients.ensures ∙ c.if-takes_coefficients.true) in
     same_outcome (ap (λ (x : Attribute). attribute_read settings at x before p) h.1)
     (ratios_answer _ _ settings at (record c.args.session.now { parts = c.ratios_at.new.parts }) p before h.0 takes c.ratios_at.new.parts _ (c.ratios_at.ensures.read h.0 h.2)
@@ -69,7 +69,7 @@ returns-then-takes_coefficients-clause-read c a settings at p before says stands
 
 pub returns-then-reads_pivots-clause-read : goal.returns-then-reads_pivots-clause-read
 returns-then-reads_pivots-clause-read c a settings at p before says stands same parts =
-    let h = subst (λ (x : StepAttribute). SaysAttribute (source c.args.text.now) c.args.nodes.now x a) c.in-Arguments.is says in
+    let h = subst (λ (x : StepAttribute). SaysAttribute (source c.args.items.now.text.now) c.args.items.now.nodes.now x a) c.in-Arguments.is says in
     let no_coefficients = ap takes_coefficients same ∙ (sym c.takes_coefficients.ensures ∙ c.if-takes_coefficients.false) in
     let takes = ap (λ b. b && takes_pivots before.rule) stands.strict ∙ (ap (λ r. c.args.session.now.strict && takes_pivots r) same ∙ (sym c.reads_pivots.ensures ∙ c.if-reads_pivots.true)) in
     same_outcome (ap (λ (x : Attribute). attribute_read settings at x before p) h.1)
@@ -78,7 +78,7 @@ returns-then-reads_pivots-clause-read c a settings at p before says stands same 
 
 pub returns-else-reads_pivots-clause-read : goal.returns-else-reads_pivots-clause-read
 returns-else-reads_pivots-clause-read c a settings at p before says stands same parts =
-    let h = subst (λ (x : StepAttribute). SaysAttribute (source c.args.text.now) c.args.nodes.now x a) c.in-Arguments.is says in
+    let h = subst (λ (x : StepAttribute). SaysAttribute (source c.args.items.now.text.now) c.args.items.now.nodes.now x a) c.in-Arguments.is says in
     let no_coefficients = ap takes_coefficients same ∙ (sym c.takes_coefficients.ensures ∙ c.if-takes_coefficients.false) in
     let takes = ap (λ b. b && takes_pivots before.rule) stands.strict ∙ (ap (λ r. c.args.session.now.strict && takes_pivots r) same ∙ (sym c.reads_pivots.ensures ∙ c.if-reads_pivots.false)) in
     same_outcome (ap (λ (x : Attribute). attribute_read settings at x before p) h.1)

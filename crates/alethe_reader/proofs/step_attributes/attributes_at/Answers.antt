@@ -47,7 +47,7 @@ attributes-init c =
         c.clear.ensures.parts _ _ (bare c.args.step.rule) (record { premises = refl; discharged = refl; pivots = refl; ratios = refl }) (sym c.takes_coefficients.ensures),
       );
       so_far = λ attributes settings at p before are stands same is_bare.
-          so_far_first (source c.args.text.now) c.args.nodes.now settings at c.args.step.standing p before c.args.step.first _ c.args.symbols.now c.args.terms.now session attributes are
+          so_far_first (source c.args.items.now.text.now) c.args.items.now.nodes.now settings at c.args.step.standing p before c.args.step.first _ c.args.symbols.now c.args.terms.now session attributes are
           (stands_still _ _ settings at _ c.args.session.now session p stands refl refl refl)
           (c.clear.ensures.parts _ _ before is_bare (ap takes_coefficients same ∙ sym c.takes_coefficients.ensures));
     }
@@ -65,20 +65,20 @@ attribute_at-requires-clause-stands c =
 
 pub attribute_at-requires-clause-room : goal.attribute_at-requires-clause-room
 attribute_at-requires-clause-room c =
-    omega (arith, nodes_fit c.attributes.at c.next_attribute.new.at (length c.args.nodes.now) c.in-Some.attribute c.in-Some.ensures.within, c.in-Some.ensures.later, c.in-Some.ensures.inside, c.attributes.invariant.spent, c.attributes.invariant.ordered, c.requires.room)
+    omega (arith, nodes_fit c.attributes.at c.next_attribute.new.at (length c.args.items.now.nodes.now) c.in-Some.attribute c.in-Some.ensures.within, c.in-Some.ensures.later, c.in-Some.ensures.inside, c.attributes.invariant.spent, c.attributes.invariant.ordered, c.requires.room)
 
 pub returns-in_err-attribute_at-clause-read : goal.returns-in_err-attribute_at-clause-read
 returns-in_err-attribute_at-clause-read c attributes settings at p before are stands same is_bare =
     let is = err_from_is_err_and c.from_residual.result c.from_residual.ensures.1 in
     let h = c.attributes.invariant.so_far attributes settings at p before are stands same is_bare in
     let f = c.in-Some.ensures.some h.rest h.there in
-    rw (is.1, is.2) (fails (source c.args.text.now) c.args.nodes.now settings at c.args.step.standing p before c.attributes.at (length c.args.nodes.now) _ _ _ _ _ _ _ (attributes_read settings at attributes before p) h
+    rw (is.1, is.2) (fails (source c.args.items.now.text.now) c.args.items.now.nodes.now settings at c.args.step.standing p before c.attributes.at (length c.args.items.now.nodes.now) _ _ _ _ _ _ _ (attributes_read settings at attributes before p) h
     c.attribute_at.ensures.symbols c.attribute_at.ensures.keeps c.in-Some.attribute c.next_attribute.new.at f _
     (c.in_err-attribute_at.ensures.read f.first settings at h.state h.step f.says h.stands (h.read.rule ∙ same) h.read.parts) _ refl)
 
 pub returns-in_err-attribute_at-clause-few : goal.returns-in_err-attribute_at-clause-few
 returns-in_err-attribute_at-clause-few c =
-    omega (arith, nodes_fit c.attributes.at c.next_attribute.new.at (length c.args.nodes.now) c.in-Some.attribute c.in-Some.ensures.within, c.in-Some.ensures.later, c.in-Some.ensures.inside, c.attributes.invariant.spent, c.attributes.invariant.ordered, c.attribute_at.ensures.few)
+    omega (arith, nodes_fit c.attributes.at c.next_attribute.new.at (length c.args.items.now.nodes.now) c.in-Some.attribute c.in-Some.ensures.within, c.in-Some.ensures.later, c.in-Some.ensures.inside, c.attributes.invariant.spent, c.attributes.invariant.ordered, c.attribute_at.ensures.few)
 
 pub returns-in_err-attribute_at-clause-others : goal.returns-in_err-attribute_at-clause-others
 returns-in_err-attribute_at-clause-others c = others_kept _ _ _ c.attributes.invariant.others c.attribute_at.ensures.others
@@ -88,8 +88,8 @@ attributes-smaller c = omega (arith, c.in-Some.ensures.later, c.in-Some.ensures.
 
 pub attributes-preserved : goal.attributes-preserved
 attributes-preserved c =
-    let text = source c.args.text.now in
-    let nodes = c.args.nodes.now in
+    let text = source c.args.items.now.text.now in
+    let nodes = c.args.items.now.nodes.now in
     let (attributes, are) = c.attributes.invariant.there in
     let first = c.in-Some.ensures.some attributes are in
     let (settings, at, p, step, stands, same, parts) = c.attributes.invariant.some in
@@ -123,7 +123,7 @@ attributes-preserved c =
 pub returns-clause-read : goal.returns-clause-read
 returns-clause-read c attributes settings at p before are stands same is_bare =
     let h = c.attributes.invariant.so_far attributes settings at p before are stands same is_bare in
-    all_read (source c.args.text.now) c.args.nodes.now settings at c.args.step.standing p before c.attributes.at (length c.args.nodes.now) _ c.attributes.symbols _ _ c.attributes.terms _ c.attributes.session (attributes_read settings at attributes before p) h (c.in_default.ensures.none h.rest h.there)
+    all_read (source c.args.items.now.text.now) c.args.items.now.nodes.now settings at c.args.step.standing p before c.attributes.at (length c.args.items.now.nodes.now) _ c.attributes.symbols _ _ c.attributes.terms _ c.attributes.session (attributes_read settings at attributes before p) h (c.in_default.ensures.none h.rest h.there)
 
 pub returns-clause-few : goal.returns-clause-few
 returns-clause-few c = elim c.attributes.invariant.within [

@@ -1,5 +1,6 @@
 use Rattle.std.proofs.Common.{Ok, Err}
 use Rattle.std.proofs.lemmas.Result.{err_from_is_err_and}
+use Rattle.alethe_text.specs.ProofTexts.{performed}
 use Rattle.alethe_reader.proofs.TextCommands.{has_first, none_left, command_fault, command_read, performs_well, performs_not, ends_here, refused_here, some_first, found_in, some_shape}
 use Rattle.alethe_reader.proofs.text_reading.read_command.Goals as goal
 
@@ -29,12 +30,12 @@ returns-in_err-perform-clause-reads c settings p whole left session =
     let h = has_first settings c.args.in_list p whole _ _ _ _ _ (rw c.if-not-branch.false at c.in_ok-next_item.ensures.item) left in
     let shaped = command_read settings c.args.in_list p whole _ _ _ c.in_ok-command.command h (found_in _ _ _ (Ok c.in_ok-command.command) c.deref.ensures.value c.in_ok-command.ensures h.first h.here) in
     rw (e.1, e.2)
-    (performs_not settings c.args.in_list p whole h.others h.behind _ shaped.comes
+    (performs_not settings c.args.in_list p whole h.others h.behind (performed settings shaped.shape p) shaped.comes
     (c.in_err-perform.ensures.read shaped.shape settings p (rw c.deref-2.ensures.value shaped.says) session))
 
 pub returns-clause-reads : goal.returns-clause-reads
 returns-clause-reads c settings p whole left session =
     let h = has_first settings c.args.in_list p whole _ _ _ _ _ (rw c.if-not-branch.false at c.in_ok-next_item.ensures.item) left in
     let shaped = command_read settings c.args.in_list p whole _ _ _ c.in_ok-command.command h (found_in _ _ _ (Ok c.in_ok-command.command) c.deref.ensures.value c.in_ok-command.ensures h.first h.here) in
-    performs_well settings c.args.in_list p whole h.others h.behind _ h.left h.named.1 shaped.comes
+    performs_well settings c.args.in_list p whole h.others h.behind (performed settings shaped.shape p) h.left h.named.1 shaped.comes
     (c.in_ok-perform.ensures.read shaped.shape settings p (rw c.deref-2.ensures.value shaped.says) session)
