@@ -1,7 +1,5 @@
 -- What the nodes of a command say, and what it comes to.
-use Rattle.std.proofs.Common.{◌≡◌, ℕ, List, [], ◌∷◌, ap, subst}
-use Rattle.std.specs.List.{AllByRecursion}
-use Rattle.std.proofs.lemmas.List.Elements.{All-nil}
+use Rattle.std.proofs.Common.{◌≡◌, ℕ, List, ap, subst}
 use Rattle.rule_model.specs.RuleNames.{IsSymbolName}
 use Rattle.sexpr.specs.Items.{Items}
 use Rattle.text_items.specs.ItemShapes.{Name}
@@ -9,7 +7,7 @@ use Rattle.text_items.specs.NameNodes.{IsNameNode}
 use Rattle.text_items.specs.Stepping.{IsItemAt}
 use Rattle.text_items.specs.declared.nodes.Node.{Node}
 use Rattle.alethe_text.specs.Anchors.{anchor_read}
-use Rattle.alethe_text.specs.Commands.{Attribute, rule, premises, arguments, discharge, Argument, Command, step, anchor}
+use Rattle.alethe_text.specs.Commands.{Attribute, Argument, Command, step, anchor}
 use Rattle.alethe_text.specs.ProofTexts.{performed}
 use Rattle.alethe_text.specs.States.{ProofSettings, ProofState}
 use Rattle.alethe_text.specs.Steps.{assume_read, rule_word, step_read}

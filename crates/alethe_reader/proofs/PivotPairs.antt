@@ -1,8 +1,7 @@
 -- A term, and what stands behind it: where they end, and which pivot they are.
-use Rattle.std.proofs.Common.{◌≡◌, ◌≢◌, ℕ, ◌<◌, ◌≤◌, ◌+◌, ◌-◌, arith, length, Bool, true, false, List, [], ◌∷◌, ◌++◌, Option, Some, None, Result, Ok, Err, refl, sym, ap, subst, ◌∙◌}
+use Rattle.std.proofs.Common.{◌≡◌, ◌≢◌, ℕ, ◌<◌, ◌≤◌, arith, length, Bool, true, false, List, [], ◌∷◌, ◌++◌, Option, Some, None, Result, Ok, Err, refl, sym, ap, subst, ◌∙◌}
 use Rattle.std.proofs.lemmas.List.{append_assoc, append-nil}
 use Rattle.std.specs.Prelude.{⊤}
-use Rattle.std.specs.List.{AllZip}
 use Rattle.sexpr.specs.declared.causes.Refusal.{Refusal}
 use Rattle.sexpr.specs.Items.{Item, Items, no_items, item}
 use Rattle.sym_table.specs.Table.{Table, Keeps}
@@ -14,7 +13,7 @@ use Rattle.text_items.specs.declared.nodes.Node.{Node}
 use Rattle.text_items.specs.Nodes.{IsNode, AreNodes}
 use Rattle.text_items.specs.Stepping.{IsItemAt, IsItemNode, AreItemsFrom, AreSomeFrom, has_two, HasSecond}
 use Rattle.text_items.proofs.NodeSteps.{node_behind, node_inside, nodes_ordered, nodes_inside}
-use Rattle.problem_text.specs.Outcomes.{Outcome, done, going_on, and_then}
+use Rattle.problem_text.specs.Outcomes.{done, going_on, and_then}
 use Rattle.problem_text.specs.TypedTerms.{Typed}
 use Rattle.term_expansion.specs.declared.values.Value.{Value}
 use Rattle.term_names.specs.declared.faults.ReadFault.{ReadFault}
@@ -30,9 +29,8 @@ use Rattle.alethe_reader.specs.Arguments.{AreNamed}
 use Rattle.alethe_reader.specs.Pivots.{first_alone, EndsPair, truth_among, with_truth, pivot_read, one_pivot, both_lists, held_pivots, BothOrNeither, IsReadPivot}
 use Rattle.alethe_reader.specs.ReadTerms.{IsReadValue}
 use Rattle.alethe_reader.proofs.Answering.{stops, goes, answers, same_outcome}
-use Rattle.alethe_reader.proofs.StillRead.{keeps_give, keeps_then, keeps_term}
+use Rattle.alethe_reader.proofs.StillRead.{keeps_give, keeps_then}
 use Rattle.alethe_reader.proofs.StillReadCommands.{keeps_named_among}
-use Rattle.alethe_reader.proofs.NamedArguments.{and_then_then}
 
 -- where the two items end, or the one that there is
 module _ (source : List ℕ) (nodes : List Node) (k end : ℕ) (i : Item) (others : Items) where

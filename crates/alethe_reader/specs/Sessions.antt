@@ -6,7 +6,7 @@ use Rattle.term_model.specs.Terms.{Var, Term}
 use Rattle.term_pool.specs.Views.{TermsView}
 use Rattle.rule_model.specs.Scopes.{Nesting, outermost, inside, at}
 use Rattle.proof_store.specs.Meaning.{IsBindingOf, StandForItems}
-use Rattle.term_reader.specs.ProblemViews.{ReaderView, IsReaderOf}
+use Rattle.term_reader.specs.ProblemViews.{IsReaderOf}
 use Rattle.alethe_text.specs.ProofTerms.{place_in}
 use Rattle.alethe_text.specs.States.{ProofSettings, ProofState}
 use Rattle.alethe_reader.specs.Bound.{AreBound}

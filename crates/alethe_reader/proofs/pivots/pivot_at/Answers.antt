@@ -1,7 +1,6 @@
 -- The term, then what gets a name behind it.
 use Rattle.std.proofs.Common.{arith, refl}
 use Rattle.std.proofs.lemmas.Result.{err_from_is_err_and}
-use Rattle.sexpr.specs.Items.{item}
 use Rattle.sexpr.specs.Source.{source}
 use Rattle.term_reader.proofs.Staying.{adds_then}
 use Rattle.alethe_text.specs.ProofTerms.{place_in}
