@@ -15,6 +15,11 @@ file_at : (xs : List (String Global × Vec ℕ Global)) (k : ℕ) (d : String Gl
     → get_or (files_of xs) k e ≡ path_and_bytes (get_or xs k d)
 file_at xs k d e h = get_or-map path_and_bytes xs k d e h
 
+-- bytes that are the file at a place
+pub bytes_of-file : (xs : List (String Global × Vec ℕ Global)) (k : ℕ) (d : String Global × Vec ℕ Global) (bytes : List ℕ) → k < length (files_of xs)
+    → bytes ≡ (get_or xs k d).1.items → bytes ≡ bytes_of (files_of xs) k
+bytes_of-file xs k d bytes h is = is ∙ sym (ap (λ (file : List ℕ × List ℕ). file.1) (file_at xs k d ([], []) (simp length-map at h)))
+
 -- the files from one place on, beginning with the file there
 files_from : (xs : List (String Global × Vec ℕ Global)) (k : ℕ) (file : String Global × Vec ℕ Global) → k < length xs → file ≡ get_or xs k file
     → drop k (files_of xs) ≡ path_and_bytes file ∷ drop (k + 1) (files_of xs)
