@@ -1,4 +1,5 @@
 pub mod Files
 pub mod Gets
+pub mod Reading
 pub mod Rests
 pub mod Writing
