@@ -13,7 +13,10 @@ struct Case {
     form: &'static str,
 }
 
-const CASES: &[Case] = &[
+// The cases stand in several tables, each with a test of its own: to prove a test is dear where it names many constants.
+
+// Brackets, white space and comments, and texts with more than one fault.
+const BRACKETS: &[Case] = &[
     Case {
         text: b"",
         tokens: "",
@@ -105,6 +108,50 @@ const CASES: &[Case] = &[
         form: "open list 8",
     },
     Case {
+        text: b") 01",
+        tokens: "C0-1 bad byte 2",
+        form: "stray close 0",
+    },
+    Case {
+        text: b"\\ )",
+        tokens: "bad byte 0",
+        form: "bad byte 0",
+    },
+    Case {
+        text: b"01 )",
+        tokens: "bad byte 0",
+        form: "bad byte 0",
+    },
+    Case {
+        text: b"( 01",
+        tokens: "O0-1 bad byte 2",
+        form: "bad byte 2",
+    },
+    Case {
+        text: b"(step t1 (cl",
+        tokens: "O0-1 W1-5 W6-8 O9-10 W10-12",
+        form: "open list 0",
+    },
+    Case {
+        text: b"(step t1 (cl |p",
+        tokens: "O0-1 W1-5 W6-8 O9-10 W10-12 bad byte 13",
+        form: "bad byte 13",
+    },
+    Case {
+        text: b"(assume h1 q) (",
+        tokens: "O0-1 W1-7 W8-10 W11-12 C12-13 O14-15",
+        form: "open list 14",
+    },
+    Case {
+        text: b"(assume h1 01)",
+        tokens: "O0-1 W1-7 W8-10 bad byte 11",
+        form: "bad byte 11",
+    },
+];
+
+// Bytes that words have, and bytes that stand in strings, quoted symbols and comments alone.
+const BYTES: &[Case] = &[
+    Case {
         text: b"\"\x00\x0B\x0C\x7F\x80\xFF\"",
         tokens: "T0-8",
         form: "ok",
@@ -149,6 +196,55 @@ const CASES: &[Case] = &[
         tokens: "W0-2 bad byte 2",
         form: "bad byte 2",
     },
+    Case {
+        text: b"\\",
+        tokens: "bad byte 0",
+        form: "bad byte 0",
+    },
+    Case {
+        text: b"a\\",
+        tokens: "W0-1 bad byte 1",
+        form: "bad byte 1",
+    },
+    Case {
+        text: b"~!@$%^&*_-+=<>.?/:#",
+        tokens: "W0-19",
+        form: "ok",
+    },
+    Case {
+        text: b"AZaz09_",
+        tokens: "W0-7",
+        form: "ok",
+    },
+    Case {
+        text: b"'",
+        tokens: "bad byte 0",
+        form: "bad byte 0",
+    },
+    Case {
+        text: b"a,b",
+        tokens: "W0-1 bad byte 1",
+        form: "bad byte 1",
+    },
+    Case {
+        text: b"[x]",
+        tokens: "bad byte 0",
+        form: "bad byte 0",
+    },
+    Case {
+        text: b"x{",
+        tokens: "W0-1 bad byte 1",
+        form: "bad byte 1",
+    },
+    Case {
+        text: b"`",
+        tokens: "bad byte 0",
+        form: "bad byte 0",
+    },
+];
+
+// Strings and quoted symbols.
+const QUOTED: &[Case] = &[
     Case {
         text: b"\"\"",
         tokens: "T0-2",
@@ -264,51 +360,10 @@ const CASES: &[Case] = &[
         tokens: "Q0-3 Q3-6",
         form: "ok",
     },
-    Case {
-        text: b"\\",
-        tokens: "bad byte 0",
-        form: "bad byte 0",
-    },
-    Case {
-        text: b"a\\",
-        tokens: "W0-1 bad byte 1",
-        form: "bad byte 1",
-    },
-    Case {
-        text: b"~!@$%^&*_-+=<>.?/:#",
-        tokens: "W0-19",
-        form: "ok",
-    },
-    Case {
-        text: b"AZaz09_",
-        tokens: "W0-7",
-        form: "ok",
-    },
-    Case {
-        text: b"'",
-        tokens: "bad byte 0",
-        form: "bad byte 0",
-    },
-    Case {
-        text: b"a,b",
-        tokens: "W0-1 bad byte 1",
-        form: "bad byte 1",
-    },
-    Case {
-        text: b"[x]",
-        tokens: "bad byte 0",
-        form: "bad byte 0",
-    },
-    Case {
-        text: b"x{",
-        tokens: "W0-1 bad byte 1",
-        form: "bad byte 1",
-    },
-    Case {
-        text: b"`",
-        tokens: "bad byte 0",
-        form: "bad byte 0",
-    },
+];
+
+// Words: numerals, decimals, ratios and symbols.
+const WORDS: &[Case] = &[
     Case {
         text: b"0",
         tokens: "W0-1",
@@ -414,46 +469,6 @@ const CASES: &[Case] = &[
         tokens: "W0-2 W3-4 W5-9 W10-14",
         form: "ok",
     },
-    Case {
-        text: b") 01",
-        tokens: "C0-1 bad byte 2",
-        form: "stray close 0",
-    },
-    Case {
-        text: b"\\ )",
-        tokens: "bad byte 0",
-        form: "bad byte 0",
-    },
-    Case {
-        text: b"01 )",
-        tokens: "bad byte 0",
-        form: "bad byte 0",
-    },
-    Case {
-        text: b"( 01",
-        tokens: "O0-1 bad byte 2",
-        form: "bad byte 2",
-    },
-    Case {
-        text: b"(step t1 (cl",
-        tokens: "O0-1 W1-5 W6-8 O9-10 W10-12",
-        form: "open list 0",
-    },
-    Case {
-        text: b"(step t1 (cl |p",
-        tokens: "O0-1 W1-5 W6-8 O9-10 W10-12 bad byte 13",
-        form: "bad byte 13",
-    },
-    Case {
-        text: b"(assume h1 q) (",
-        tokens: "O0-1 W1-7 W8-10 W11-12 C12-13 O14-15",
-        form: "open list 14",
-    },
-    Case {
-        text: b"(assume h1 01)",
-        tokens: "O0-1 W1-7 W8-10 bad byte 11",
-        form: "bad byte 11",
-    },
 ];
 
 fn letter(kind: TokenKind) -> char {
@@ -514,8 +529,23 @@ fn check_cases(rt: &impl Abort, alloc: Global, cases: &[Case]) -> Result<(), Fai
 }
 
 #[test]
-fn texts_have_their_tokens_and_form(rt: HostRuntime) -> Result<(), Fail> {
-    check_cases(&rt, rt.alloc(), CASES)
+fn brackets_and_comments_have_their_tokens_and_form(rt: HostRuntime) -> Result<(), Fail> {
+    check_cases(&rt, rt.alloc(), BRACKETS)
+}
+
+#[test]
+fn bytes_have_their_tokens_and_form(rt: HostRuntime) -> Result<(), Fail> {
+    check_cases(&rt, rt.alloc(), BYTES)
+}
+
+#[test]
+fn strings_and_quoted_symbols_have_their_tokens_and_form(rt: HostRuntime) -> Result<(), Fail> {
+    check_cases(&rt, rt.alloc(), QUOTED)
+}
+
+#[test]
+fn words_have_their_tokens_and_form(rt: HostRuntime) -> Result<(), Fail> {
+    check_cases(&rt, rt.alloc(), WORDS)
 }
 
 #[test]
