@@ -83,9 +83,24 @@ fn a_steady_folder_starts_anew(rt: HostRuntime) -> Result<(), Fail> {
     Ok(())
 }
 
+// A sink whose writes take at most 16 bytes, and of which the write with this number fails.
+fn failing_sink(alloc: Global, failing: u64) -> Result<MemorySink, AllocError> {
+    let failing = vec![in alloc; failing]?;
+    Ok(MemorySink::new(16, failing))
+}
+
+fn expect_written(
+    rt: &impl Abort,
+    sink: &mut MemorySink,
+    expected: Result<(), OutStop>,
+    written: &[u8],
+) {
+    assert_eq!(rt; write_whole(sink, TEXT), expected);
+    assert_eq!(rt; sink.written(), written);
+}
+
 #[test]
 fn a_text_is_written_whole(rt: HostRuntime) -> Result<(), Fail> {
-    let alloc = rt.alloc();
     // Of three writes, of 16, 16 and 11 bytes, one may fail.
     let cases = [
         (3, Ok(()), TEXT.as_slice()),
@@ -97,9 +112,8 @@ fn a_text_is_written_whole(rt: HostRuntime) -> Result<(), Fail> {
         (0, Err(OutStop::Failed), b"".as_slice()),
     ];
     for (failing, expected, written) in cases {
-        let mut sink = MemorySink::new(16, vec![in alloc; failing]?);
-        assert_eq!(rt; write_whole(&mut sink, TEXT), expected, "{failing}");
-        assert_eq!(rt; sink.written(), written, "{failing}");
+        let mut sink = failing_sink(rt.alloc(), failing)?;
+        expect_written(&rt, &mut sink, expected, written);
         drop(sink);
     }
     Ok(())

@@ -18,5 +18,6 @@ pieces-preserved g c = record {
   content = c.in_ok-n.ensures.content ∙ c.pieces.invariant.content;
   may_ask = λ asked. (
     λ may. (c.pieces.invariant.may_ask asked).0 ((c.in_ok-n.ensures.may_ask asked).0 may),
-    λ may. (c.in_ok-n.ensures.may_ask asked).1 ((c.pieces.invariant.may_ask asked).1 may));
+    λ may. (c.in_ok-n.ensures.may_ask asked).1 ((c.pieces.invariant.may_ask asked).1 may),
+  );
 }
