@@ -64,15 +64,20 @@ fn place_cells(rt: &impl Abort, pool: &Pool, pass: &mut Pass) -> Result<(), Pool
     requires { IsPassOf pool.now pass.old }
 {
     let (zero, one) = (Ref::leaf(0), Ref::leaf(1));
-    assert!(rt; zero.is_leaf() && zero < one && one.number() == 1);
     let first = pool.intern(pass, one, zero)?;
     let second = pool.intern(pass, zero, one)?;
-    assert_eq!(rt; first.number(), (1 << 30) + 2481);
-    assert_eq!(rt; second.number(), (1 << 30) + 3639);
+    let numbers = (first.number(), second.number());
+    assert_eq!(rt; numbers, ((1 << 30) + 2481, (1 << 30) + 3639));
     let pair = pool.intern(pass, first, second)?;
-    assert!(rt; !pair.is_leaf());
-    assert_eq!(rt; pool.parts(pass, pair), (first, second));
-    assert_eq!(rt; pool.parts(pass, first), (one, zero));
-    assert_eq!(rt; pool.intern(pass, first, second)?, pair);
+    let parts = (pool.parts(pass, pair), pool.parts(pass, first));
+    assert_eq!(rt; parts, ((first, second), (one, zero)));
+    let again = pool.intern(pass, first, second)?;
+    assert!(rt; again == pair && !pair.is_leaf());
     Ok(())
+}
+
+#[test]
+fn leaves_are_in_order(rt: HostRuntime) {
+    let (zero, one) = (Ref::leaf(0), Ref::leaf(1));
+    assert!(rt; zero.is_leaf() && zero < one && one.number() == 1);
 }
