@@ -21,6 +21,7 @@ use Rattle.term_pool.specs.Views.{TermsView, RefersTo, ReferToAll, KnowsAll, Kee
 use Rattle.term_expansion.specs.Assigned.{term_of, assigned_all}
 use Rattle.term_expansion.specs.Expanding.{AreVariables, Says, SaysAll, IsSaid, AreSaid, replaced_each, HasPart, HasPartTerms, key_of, Done, HasBecomeBy, AreDone, IsExpansion, AreValuesGiven, ExpandsOne, PlacesOne, FillsOne, ExpandsAll, PlacesAll, FillsAll}
 use Rattle.term_expansion.specs.Free.{AddsLeaves}
+use Rattle.term_expansion.specs.LetWork.{IsLetWork}
 use Rattle.term_expansion.specs.Needs.{IsNeeded, Values, AreValuesOf, HasNeeds}
 use Rattle.rule_model.specs.Replacement.{Replacement, replaced_by, replaced, replaced_bindings}
 use Rattle.term_expansion.specs.declared.assignments.Assigned.{Assigned}
@@ -359,20 +360,7 @@ module _ (s : Table) (v : TermsView) (a : List Assigned) (r head : ℕ) (rs : Li
         made (replaced_each q (arguments_of t)) (replaced q t) (arguments_expanded w is expands t q refers says) (becomes t q refers)
 
 -- lets
-pub record IsLetWork (s : Table) (v : TermsView) (r body : ℕ) (gs ps : List ℕ) (t : Term) : Type 0 where
-  pub bindings : Bindings
-  pub inner : Term
-  pub is : t ≡ let_in bindings inner
-  pub vars : List ℕ
-  pub values : List ℕ
-  pub bound : AreBindings s v vars values bindings
-  pub inside : RefersTo s v body inner
-  pub leaves : List ℕ
-  pub needed : AddsLeaves s [] leaves (λ x. IsNeeded x inner)
-  pub given : AreValuesGiven leaves vars values gs ps
-  pub terms : HasGivenTerms s v bindings inner gs ps
-
-pub let_work : (s : Table) (v : TermsView) (r body : ℕ) (vars values leaves gs ps : List ℕ) (m : Values) → IsTable s → AreOne s v → ((t : Term) → RefersTo s v r t → IsLet t) → ((s : Table) (bs : Bindings) (u : Term) → RefersTo s v r (let_in bs u) → AreBindings s v vars values bs) → ((s : Table) (bs : Bindings) (u : Term) → RefersTo s v r (let_in bs u) → RefersTo s v body u) → HasNeeds s v body leaves → AreValuesOf m vars values → ((ks rs : List ℕ) → AreValuesOf m ks rs → AreValuesGiven leaves ks rs gs ps) → (t : Term) → RefersTo s v r t → IsLetWork s v r body gs ps t
+pub let_work : (s : Table) (v : TermsView) (r body : ℕ) (vars values leaves gs ps : List ℕ) (m : Values) → IsTable s → AreOne s v → ((t : Term) → RefersTo s v r t → IsLet t) → ((s : Table) (bs : Bindings) (u : Term) → RefersTo s v r (let_in bs u) → AreBindings s v vars values bs) → ((s : Table) (bs : Bindings) (u : Term) → RefersTo s v r (let_in bs u) → RefersTo s v body u) → HasNeeds s v body leaves → AreValuesOf m vars values → ((ks rs : List ℕ) → AreValuesOf m ks rs → AreValuesGiven leaves ks rs gs ps) → (t : Term) → RefersTo s v r t → IsLetWork s v body gs ps t
 let_work s v r body vars values leaves gs ps m table one is_let bindings bodies needs by_leaves given t refers =
     let (bs, u, e) = let_is t (is_let t refers) in
     let let_refers : RefersTo s v r (let_in bs u) = subst (λ (x : Term). RefersTo s v r x) e refers in
@@ -392,48 +380,55 @@ let_work s v r body vars values leaves gs ps m table one is_let bindings bodies 
       leaves = leaves;
       needed = needed;
       given = is_given;
-      terms = need.given-terms s v table vars values bs u bound leaves (need.leaves-needed s leaves u needed) gs ps is_given.are;
     }
 
-pub let_work_from : (s : Table) (v w x : TermsView) (r body : ℕ) (own_vars own_values vars values inside leaves gs ps : List ℕ) (m : Values) → IsTable s → w ≡ v → x ≡ w → AreOne s x → ((t : Term) → RefersTo s v r t → IsLet t) → ((s : Table) (bs : Bindings) (u : Term) → RefersTo s v r (let_in bs u) → AreBindings s v own_vars own_values bs) → ((s : Table) (bs : Bindings) (u : Term) → RefersTo s v r (let_in bs u) → RefersTo s v body u) → HasNeeds s w body inside → vars ≡ own_vars → values ≡ own_values → leaves ≡ inside → AreValuesOf m vars values → ((ks rs : List ℕ) → AreValuesOf m ks rs → AreValuesGiven leaves ks rs gs ps) → (t : Term) → RefersTo s v r t → IsLetWork s v r body gs ps t
+pub let_work_from : (s : Table) (v w x : TermsView) (r body : ℕ) (own_vars own_values vars values inside leaves gs ps : List ℕ) (m : Values) → IsTable s → w ≡ v → x ≡ w → AreOne s x → ((t : Term) → RefersTo s v r t → IsLet t) → ((s : Table) (bs : Bindings) (u : Term) → RefersTo s v r (let_in bs u) → AreBindings s v own_vars own_values bs) → ((s : Table) (bs : Bindings) (u : Term) → RefersTo s v r (let_in bs u) → RefersTo s v body u) → HasNeeds s w body inside → vars ≡ own_vars → values ≡ own_values → leaves ≡ inside → AreValuesOf m vars values → ((ks rs : List ℕ) → AreValuesOf m ks rs → AreValuesGiven leaves ks rs gs ps) → (t : Term) → RefersTo s v r t → IsLetWork s v body gs ps t
 let_work_from s v w x r body own_vars own_values vars values inside leaves gs ps m table e f one is_let bindings bodies needs same_vars same_values same_leaves by_leaves given =
     let_work s v r body vars values leaves gs ps m table (one_moved s v x (f ∙ e) one) is_let
     (λ z bs u refers. subst (λ (ks : List ℕ). AreBindings z v ks values bs) (sym same_vars) (subst (λ (rs : List ℕ). AreBindings z v own_vars rs bs) (sym same_values) (bindings z bs u refers)))
     bodies (needs_back s v w body inside leaves e same_leaves needs) by_leaves given
 
-module _ (s : Table) (v : TermsView) (a : List Assigned) (r body : ℕ) (gs ps : List ℕ) (table : IsTable s) (work : (t : Term) → RefersTo s v r t → IsLetWork s v r body gs ps t) where
-  says_let : (t : Term) (q : Replacement) (w : IsLetWork s v r body gs ps t) → Says s v a q t → Says s v a q (let_in w.bindings w.inner)
+module _ (s : Table) (v : TermsView) (a : List Assigned) (r body : ℕ) (gs ps : List ℕ) (table : IsTable s) (work : (t : Term) → RefersTo s v r t → IsLetWork s v body gs ps t) where
+  terms_of : (t : Term) (w : IsLetWork s v body gs ps t) → HasGivenTerms s v w.bindings w.inner gs ps
+  terms_of t w =
+      need.given-terms s v table w.vars w.values w.bindings w.inner w.bound w.leaves (need.leaves-needed s w.leaves w.inner w.needed) gs ps w.given.are
+
+  says_let : (t : Term) (q : Replacement) (w : IsLetWork s v body gs ps t) → Says s v a q t → Says s v a q (let_in w.bindings w.inner)
   says_let t q w says = subst (λ (x : Term). Says s v a q x) w.is says
 
   pub values_said : IsSaid s v a r → AreSaid s v a ps
   values_said h =
       let w = work h.means h.refers in
+      let g = terms_of h.means w in
       record {
-        means = w.terms.means;
-        refer = need.given-refer s v w.bindings w.inner gs ps w.terms.means w.terms.are;
+        means = g.means;
+        refer = need.given-refer s v w.bindings w.inner gs ps g.means g.are;
         puts = h.puts;
-        says = need.given-says s v v w.bindings w.inner gs ps w.terms.means a h.puts w.terms.are (says_let h.means h.puts w h.says);
+        says = need.given-says s v v w.bindings w.inner gs ps g.means a h.puts g.are (says_let h.means h.puts w h.says);
       }
 
   pub values_placed : (z : TermsView) → PlacesAll s v z a ps → PlacesOne s v z a r
   values_placed z h t q whole refers says part =
       let w = work t refers in
-      h w.terms.means q whole (need.given-refer s v w.bindings w.inner gs ps w.terms.means w.terms.are)
-      (need.given-says s v v w.bindings w.inner gs ps w.terms.means a q w.terms.are (says_let t q w says))
-      (need.given-parts s v w.bindings w.inner gs ps w.terms.means q whole w.terms.are (subst (λ (x : Term). HasPart s whole (replaced q x)) w.is part))
+      let g = terms_of t w in
+      h g.means q whole (need.given-refer s v w.bindings w.inner gs ps g.means g.are)
+      (need.given-says s v v w.bindings w.inner gs ps g.means a q g.are (says_let t q w says))
+      (need.given-parts s v w.bindings w.inner gs ps g.means q whole g.are (subst (λ (x : Term). HasPart s whole (replaced q x)) w.is part))
 
   pub values_full : (z : TermsView) → FillsAll s v z a ps → FillsOne s v z a r
   values_full z h t q whole refers says part =
       let w = work t refers in
-      h w.terms.means q whole (need.given-refer s v w.bindings w.inner gs ps w.terms.means w.terms.are)
-      (need.given-says s v v w.bindings w.inner gs ps w.terms.means a q w.terms.are (says_let t q w says))
-      (need.given-parts s v w.bindings w.inner gs ps w.terms.means q whole w.terms.are (subst (λ (x : Term). HasPart s whole (replaced q x)) w.is part))
+      let g = terms_of t w in
+      h g.means q whole (need.given-refer s v w.bindings w.inner gs ps g.means g.are)
+      (need.given-says s v v w.bindings w.inner gs ps g.means a q g.are (says_let t q w says))
+      (need.given-parts s v w.bindings w.inner gs ps g.means q whole g.are (subst (λ (x : Term). HasPart s whole (replaced q x)) w.is part))
 
   module _ (z : TermsView) (keeps : KeepsTerms v z) (is : List ℕ) (expands : ExpandsAll s v z a ps is) where
-    body_says : (t : Term) (q : Replacement) → (w : IsLetWork s v r body gs ps t) → Says s v a q t → Says s z (assigned_all gs is a) (replaced_bindings q w.bindings ++ q) w.inner
+    body_says : (t : Term) (q : Replacement) → (w : IsLetWork s v body gs ps t) → Says s v a q t → Says s z (assigned_all gs is a) (replaced_bindings q w.bindings ++ q) w.inner
     body_says t q w says =
-        need.inside-says s v z table (refers-grow s v z keeps) w.vars w.values w.bindings w.inner w.bound w.leaves w.needed gs ps w.given w.terms.means w.terms.are is a q (says_let t q w says)
-        (expands w.terms.means q (need.given-refer s v w.bindings w.inner gs ps w.terms.means w.terms.are) (need.given-says s v v w.bindings w.inner gs ps w.terms.means a q w.terms.are (says_let t q w says)))
+        let g = terms_of t w in
+        need.inside-says s v z table (refers-grow s v z keeps) w.vars w.values w.bindings w.inner w.bound w.leaves w.needed gs ps w.given g.means g.are is a q (says_let t q w says)
+        (expands g.means q (need.given-refer s v w.bindings w.inner gs ps g.means g.are) (need.given-says s v v w.bindings w.inner gs ps g.means a q g.are (says_let t q w says)))
 
     pub body_said : IsSaid s v a r → IsSaid s z (assigned_all gs is a) body
     body_said h =
@@ -445,7 +440,7 @@ module _ (s : Table) (v : TermsView) (a : List Assigned) (r body : ℕ) (gs ps :
           says = body_says h.means h.puts w h.says;
         }
 
-    let_becomes : (t : Term) (q : Replacement) (w : IsLetWork s v r body gs ps t) → replaced q t ≡ replaced (replaced_bindings q w.bindings ++ q) w.inner
+    let_becomes : (t : Term) (q : Replacement) (w : IsLetWork s v body gs ps t) → replaced q t ≡ replaced (replaced_bindings q w.bindings ++ q) w.inner
     unfolding replaced
     let_becomes t q w = ap (replaced q) w.is
 

@@ -5,3 +5,4 @@ pub mod Images
 pub mod PutFor
 pub mod Free
 pub mod Assigned
+pub mod LetWork

@@ -3,7 +3,7 @@
 //! What becomes of a cell is placed at once. So only what the answer has may be gone through: of what lets give
 //! variables just what their bodies need. What a cell has become is remembered by it and by what is put in for the
 //! variables that it needs, so a cell is gone through once for each distinct term that it becomes.
-ghost use Rattle.std.specs.Prelude.{◌≡◌, ◌≤◌, ◌^◌, ℕ, List, All, IfOk, IfErr, OnOk, length};
+ghost use Rattle.std.specs.Prelude.{◌≡◌, ◌≤◌, ◌-◌, ◌^◌, ℕ, List, All, IfOk, IfErr, OnOk, length};
 ghost use Rattle.sym_table.specs.Table.{Table};
 ghost use Rattle.term_model.specs.Terms.{Var, Term, variable};
 ghost use Rattle.term_pool.specs.Building.{IsAppliedLeaf};
@@ -11,7 +11,8 @@ ghost use Rattle.term_pool.specs.Reading.{arguments_of, IsLet};
 ghost use Rattle.term_pool.specs.Views.{TermsView, RefersTo, KeepsTerms};
 ghost use Rattle.term_pool.specs.declared.stop.TermStop.TheVariants as TermStop;
 ghost use Rattle.term_expansion.specs.Expanding.{IsSaid, AreSaid, ExpandsOne, PlacesOne, FillsOne, ExpandsAll, PlacesAll, FillsAll, key_of, IsExpansion, AreValuesGiven};
-ghost use Rattle.term_expansion.specs.Needs.{IsAtMost, AreValuesOf};
+ghost use Rattle.term_expansion.specs.Needs.{IsAtMost, AreNeeds, AreValuesOf};
+ghost use Rattle.term_expansion.specs.LetWork.{IsLetWork};
 
 use crate::assignments::{Assignments, assign, number_at, take_back, term_at};
 use crate::needs::{KnownNeeds, needs_of, values_by_leaves};
@@ -83,6 +84,45 @@ fn given(alloc: Global, values: &HashMap<u32, Ref>, leaves: &[u32]) -> Result<Gi
         }
     }
     Ok(given)
+}
+
+/// What is looked up of a let before anything becomes of it.
+#[derive(Drop)]
+struct LetWork {
+    body: Ref,
+    /// What the let gives those variables that its body needs.
+    given: GivenValues,
+}
+
+/// Looks up a let, which is no higher than `most`. All but the answer is let go before terms below it are expanded.
+fn let_work(
+    alloc: Global,
+    symbols: &Symbols,
+    terms: &mut Terms<'_>,
+    needs: &mut KnownNeeds,
+    most: u64,
+    r: Ref,
+) -> Result<LetWork, Memory>
+    requires is_let { (t : Term) → RefersTo symbols.now terms.old r t → IsLet t }
+    requires low { IsAtMost symbols.now terms.old most r }
+    requires needs { AreNeeds symbols.now terms.old needs.old.leaves }
+    ensures work { IfOk result (λ l. (t : Term) → RefersTo symbols.now terms.old r t → IsLetWork symbols.now terms.old l.body l.given.variables.items l.given.values.items t) }
+    ensures body_low { IfOk result (λ l. IsAtMost symbols.now terms.old (most - 1) l.body) }
+    ensures values_low { IfOk result (λ l. All (IsAtMost symbols.now terms.old (most - 1)) l.given.values.items) }
+    ensures one_each { IfOk result (λ l. length l.given.variables.items ≡ length l.given.values.items) }
+    ensures needs { OnOk result (AreNeeds symbols.now terms.old needs.new.leaves) }
+    ensures same { terms.new ≡ terms.old }
+{
+    let _leaves = symbols.count();
+    let parts = term_parts::let_parts(alloc, terms, r)?;
+    let inside = needs_of(symbols, terms, needs, most - 1, parts.body)?;
+    terms.equal_exactly_where_terms_are();
+    let values = values_by_leaves(alloc, &parts.variables, &parts.values)?;
+    let given = given(alloc, &values, &inside)?;
+    Ok(LetWork {
+        body: parts.body,
+        given,
+    })
 }
 
 /// What a term becomes, which is no higher than `most`.
@@ -202,16 +242,19 @@ fn expand_let(
 {
     let _leaves = symbols.count();
     let below = most - 1;
-    let parts = term_parts::let_parts(expansion.alloc, terms, r)?;
-    let inside = needs_of(symbols, terms, &mut expansion.needs, below, parts.body)?;
-    terms.equal_exactly_where_terms_are();
-    let values = values_by_leaves(expansion.alloc, &parts.variables, &parts.values)?;
-    let given = given(expansion.alloc, &values, &inside)?;
-    let list = expand_all(symbols, terms, expansion, below, &given.values)?;
+    let work = let_work(
+        expansion.alloc,
+        symbols,
+        terms,
+        &mut expansion.needs,
+        most,
+        r,
+    )?;
+    let list = expand_all(symbols, terms, expansion, below, &work.given.values)?;
     let outside = expansion.assignments.len();
-    assign(&mut expansion.assignments, &given.variables, &list)?;
+    assign(&mut expansion.assignments, &work.given.variables, &list)?;
     references_stay();
-    let body = expand(symbols, terms, expansion, below, parts.body)?;
+    let body = expand(symbols, terms, expansion, below, work.body)?;
     take_back(&mut expansion.assignments, outside)?;
     Ok(body)
 }

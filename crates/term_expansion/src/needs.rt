@@ -55,6 +55,17 @@ pub(crate) fn values_by_leaves(
     Ok(by_leaves)
 }
 
+/// Keeps what was found of a term, and answers it.
+fn note(needs: &mut KnownNeeds, r: Ref, found: &[u32]) -> Result<Vec<u32>, Memory>
+    ensures leaves { IfOk result (λ leaves. leaves.items ≡ found.now) }
+    ensures noted { OnOk result ((s : Table) (v : TermsView) → HasNeeds s v r found.now → AreNeeds s v needs.old.leaves → AreNeeds s v needs.new.leaves) }
+{
+    let kept = Vec::from_slice(needs.alloc, found)?;
+    let _ = needs.leaves.insert(r.number(), kept)?;
+    let leaves = Vec::from_slice(needs.alloc, found)?;
+    Ok(leaves)
+}
+
 /// The leaves of the variables that a term needs, which is no higher than `most`. What is found of it and of what it was
 /// gone through for is kept.
 ///
@@ -79,10 +90,7 @@ pub(crate) fn needs_of(
     }
     let mut found = IndexSet::new(needs.alloc);
     needs_anew(symbols, terms, needs, most, r, &mut found)?;
-    let kept = Vec::from_slice(needs.alloc, found.as_slice())?;
-    let _ = needs.leaves.insert(r.number(), kept)?;
-    let leaves = Vec::from_slice(needs.alloc, found.as_slice())?;
-    Ok(leaves)
+    note(needs, r, found.as_slice())
 }
 
 /// Adds the leaves of the variables that a term needs, by what stands at its top.

@@ -11,9 +11,8 @@ use Rattle.term_expansion.specs.declared.assignments.Assigned.{Assigned}
 use Rattle.term_expansion.proofs.AssignedLists.{assigned_same, outside_is_left, outside_within}
 use Rattle.term_expansion.proofs.Expansions as lemma
 use Rattle.term_expansion.proofs.Heights as heights
-use Rattle.term_expansion.proofs.Needing.{values_moved}
 use Rattle.term_expansion.proofs.NeedLemmas.{refers-grow, done-grow, needs-grow}
-use Rattle.term_expansion.proofs.TermParts.{refers_back, cell_no_variable, arguments_refer, is_let_term, head_within}
+use Rattle.term_expansion.proofs.TermParts.{refers_back, cell_no_variable, arguments_refer, head_within}
 use Rattle.term_expansion.proofs.expanding.+expanding.Goals as goal
 
 pub expand-returns-then-is_leaf-clause-value : goal.expand-returns-then-is_leaf-clause-value
@@ -294,38 +293,23 @@ expand_application-returns-clause-expansion t c =
 pub expand_let-overflow_sub-below : goal.expand_let-overflow_sub-below
 expand_let-overflow_sub-below t c = heights.positive c.args.symbols.now c.args.terms.now c.args.most c.args.r c.requires.low
 
-pub expand_let-let_parts-requires : goal.expand_let-let_parts-requires
-expand_let-let_parts-requires t c =
-    is_let_term c.args.symbols.now _ _ c.requires.is_let (lemma.is_term c.args.symbols.now c.args.terms.now c.args.expansion.now.assignments c.args.r c.requires.said)
-
-pub expand_let-needs_of-requires-clause-low : goal.expand_let-needs_of-requires-clause-low
-expand_let-needs_of-requires-clause-low t c =
-    heights.low_moved c.args.symbols.now c.args.terms.now c.let_parts.new.terms (c.args.most - 1) c.in_ok-parts.parts.body c.let_parts.ensures.same
-    (heights.body_low c.args.symbols.now c.args.terms.now c.args.most c.args.r c.in_ok-parts.parts.body c.requires.low c.requires.is_let c.in_ok-parts.ensures.body)
-
 pub expand_let-expand_all-requires : goal.expand_let-expand_all-requires
 expand_let-expand_all-requires t c =
     let s = c.args.symbols.now in
     let v = c.args.terms.now in
     let a = c.args.expansion.now.assignments in
-    let g = c.in_ok-given.given in
-    let p = c.in_ok-parts.parts in
+    let g = c.in_ok-work.work.given in
     let some : 1 ≤ c.args.most = heights.positive s v c.args.most c.args.r c.requires.low in
-    let by_leaves = values_moved c.in_ok-values.values c.deref.result.now p.variables.items c.deref-2.result.now p.values.items c.deref.ensures.value c.deref-2.ensures.value c.in_ok-values.ensures in
-    let same = c.needs_of.ensures.same ∙ c.let_parts.ensures.same in (
+    let same = c.let_work.ensures.same in (
       omega arith,
       (
-        heights.all_low_moved s v c.needs_of.new.terms (c.args.most - 1) g.values.items c.deref-4.result.now same c.deref-4.ensures.value
-            (heights.given_low s v c.args.most c.args.r p.variables.items p.values.items c.deref-3.result.now g.variables.items g.values.items c.requires.low c.requires.is_let c.in_ok-parts.ensures.bindings
-            (c.in_ok-given.ensures.given p.variables.items p.values.items by_leaves).are),
+        heights.all_low_moved s v c.let_work.new.terms (c.args.most - 1) g.values.items c.deref.result.now same c.deref.ensures.value c.in_ok-work.ensures.values_low,
         (
-          lemma.all_said_moved s v c.needs_of.new.terms a g.values.items c.deref-4.result.now same c.deref-4.ensures.value
-              (lemma.values_said s v a c.args.r c.in_ok-parts.parts.body g.variables.items g.values.items c.count-leaves.ensures.table (lemma.let_work_from c.args.symbols.now c.args.terms.now c.let_parts.new.terms c.needs_of.new.terms c.args.r c.in_ok-parts.parts.body c.in_ok-parts.parts.variables.items c.in_ok-parts.parts.values.items c.deref.result.now c.deref-2.result.now c.in_ok-inside.inside.items c.deref-3.result.now c.in_ok-given.given.variables.items c.in_ok-given.given.values.items c.in_ok-values.values
-              c.count-leaves.ensures.table c.let_parts.ensures.same c.needs_of.ensures.same (c.equal_exactly_where_terms_are.ensures c.args.symbols.now c.count-leaves.ensures.table) c.requires.is_let c.in_ok-parts.ensures.bindings c.in_ok-parts.ensures.body c.in_ok-inside.ensures.leaves
-              c.deref.ensures.value c.deref-2.ensures.value c.deref-3.ensures.value c.in_ok-values.ensures c.in_ok-given.ensures.given) c.requires.said),
+          lemma.all_said_moved s v c.let_work.new.terms a g.values.items c.deref.result.now same c.deref.ensures.value
+              (lemma.values_said s v a c.args.r c.in_ok-work.work.body g.variables.items g.values.items c.count-leaves.ensures.table c.in_ok-work.ensures.work c.requires.said),
           record {
-            needs = subst (λ (x : TermsView). AreNeeds s x c.needs_of.new.needs.leaves) (sym c.needs_of.ensures.same) c.in_ok-inside.ensures.needs;
-            done = lemma.are_done_moved s v c.needs_of.new.terms c.args.expansion.now.done same c.requires.expansion.done;
+            needs = subst (λ (x : TermsView). AreNeeds s x c.let_work.new.needs.leaves) (sym same) c.in_ok-work.ensures.needs;
+            done = lemma.are_done_moved s v c.let_work.new.terms c.args.expansion.now.done same c.requires.expansion.done;
           },
         ),
       ),
@@ -336,56 +320,48 @@ expand_let-returns-in_err-list-clause-placed t c =
     let s = c.args.symbols.now in
     let v = c.args.terms.now in
     let a = c.args.expansion.now.assignments in
-    let g = c.in_ok-given.given in
+    let g = c.in_ok-work.work.given in
     let z = c.expand_all.new.terms in
-    lemma.values_placed s v a c.args.r c.in_ok-parts.parts.body g.variables.items g.values.items c.count-leaves.ensures.table (lemma.let_work_from c.args.symbols.now c.args.terms.now c.let_parts.new.terms c.needs_of.new.terms c.args.r c.in_ok-parts.parts.body c.in_ok-parts.parts.variables.items c.in_ok-parts.parts.values.items c.deref.result.now c.deref-2.result.now c.in_ok-inside.inside.items c.deref-3.result.now c.in_ok-given.given.variables.items c.in_ok-given.given.values.items c.in_ok-values.values
-    c.count-leaves.ensures.table c.let_parts.ensures.same c.needs_of.ensures.same (c.equal_exactly_where_terms_are.ensures c.args.symbols.now c.count-leaves.ensures.table) c.requires.is_let c.in_ok-parts.ensures.bindings c.in_ok-parts.ensures.body c.in_ok-inside.ensures.leaves
-    c.deref.ensures.value c.deref-2.ensures.value c.deref-3.ensures.value c.in_ok-values.ensures c.in_ok-given.ensures.given) z
-    (lemma.all_placed_moved s v c.needs_of.new.terms z a g.values.items c.deref-4.result.now (c.needs_of.ensures.same ∙ c.let_parts.ensures.same) c.deref-4.ensures.value c.in_err-list.ensures.placed)
+    lemma.values_placed s v a c.args.r c.in_ok-work.work.body g.variables.items g.values.items c.count-leaves.ensures.table c.in_ok-work.ensures.work z
+    (lemma.all_placed_moved s v c.let_work.new.terms z a g.values.items c.deref.result.now c.let_work.ensures.same c.deref.ensures.value c.in_err-list.ensures.placed)
 
 pub expand_let-returns-in_err-list-clause-full : goal.expand_let-returns-in_err-list-clause-full
 expand_let-returns-in_err-list-clause-full t c =
     let s = c.args.symbols.now in
     let v = c.args.terms.now in
     let a = c.args.expansion.now.assignments in
-    let g = c.in_ok-given.given in
+    let g = c.in_ok-work.work.given in
     let z = c.expand_all.new.terms in
     let e = err_from_is_err_and c.from_residual-in_err-list.result c.from_residual-in_err-list.ensures.1 in
     rw (e.1, e.2) (λ full.
-    lemma.values_full s v a c.args.r c.in_ok-parts.parts.body g.variables.items g.values.items c.count-leaves.ensures.table (lemma.let_work_from c.args.symbols.now c.args.terms.now c.let_parts.new.terms c.needs_of.new.terms c.args.r c.in_ok-parts.parts.body c.in_ok-parts.parts.variables.items c.in_ok-parts.parts.values.items c.deref.result.now c.deref-2.result.now c.in_ok-inside.inside.items c.deref-3.result.now c.in_ok-given.given.variables.items c.in_ok-given.given.values.items c.in_ok-values.values
-    c.count-leaves.ensures.table c.let_parts.ensures.same c.needs_of.ensures.same (c.equal_exactly_where_terms_are.ensures c.args.symbols.now c.count-leaves.ensures.table) c.requires.is_let c.in_ok-parts.ensures.bindings c.in_ok-parts.ensures.body c.in_ok-inside.ensures.leaves
-    c.deref.ensures.value c.deref-2.ensures.value c.deref-3.ensures.value c.in_ok-values.ensures c.in_ok-given.ensures.given) z
-    (lemma.all_fill_moved s v c.needs_of.new.terms z a g.values.items c.deref-4.result.now (c.needs_of.ensures.same ∙ c.let_parts.ensures.same) c.deref-4.ensures.value (c.in_err-list.ensures.full full)))
+    lemma.values_full s v a c.args.r c.in_ok-work.work.body g.variables.items g.values.items c.count-leaves.ensures.table c.in_ok-work.ensures.work z
+    (lemma.all_fill_moved s v c.let_work.new.terms z a g.values.items c.deref.result.now c.let_work.ensures.same c.deref.ensures.value (c.in_err-list.ensures.full full)))
 
 pub expand_let-returns-in_err-assign-clause-placed : goal.expand_let-returns-in_err-assign-clause-placed
 expand_let-returns-in_err-assign-clause-placed t c =
     let s = c.args.symbols.now in
     let v = c.args.terms.now in
     let a = c.args.expansion.now.assignments in
-    let g = c.in_ok-given.given in
+    let g = c.in_ok-work.work.given in
     let z = c.expand_all.new.terms in
-    lemma.values_placed s v a c.args.r c.in_ok-parts.parts.body g.variables.items g.values.items c.count-leaves.ensures.table (lemma.let_work_from c.args.symbols.now c.args.terms.now c.let_parts.new.terms c.needs_of.new.terms c.args.r c.in_ok-parts.parts.body c.in_ok-parts.parts.variables.items c.in_ok-parts.parts.values.items c.deref.result.now c.deref-2.result.now c.in_ok-inside.inside.items c.deref-3.result.now c.in_ok-given.given.variables.items c.in_ok-given.given.values.items c.in_ok-values.values
-    c.count-leaves.ensures.table c.let_parts.ensures.same c.needs_of.ensures.same (c.equal_exactly_where_terms_are.ensures c.args.symbols.now c.count-leaves.ensures.table) c.requires.is_let c.in_ok-parts.ensures.bindings c.in_ok-parts.ensures.body c.in_ok-inside.ensures.leaves
-    c.deref.ensures.value c.deref-2.ensures.value c.deref-3.ensures.value c.in_ok-values.ensures c.in_ok-given.ensures.given) z
-    (lemma.all_placed_moved s v c.needs_of.new.terms z a g.values.items c.deref-4.result.now (c.needs_of.ensures.same ∙ c.let_parts.ensures.same) c.deref-4.ensures.value c.in_ok-list.ensures.placed)
+    lemma.values_placed s v a c.args.r c.in_ok-work.work.body g.variables.items g.values.items c.count-leaves.ensures.table c.in_ok-work.ensures.work z
+    (lemma.all_placed_moved s v c.let_work.new.terms z a g.values.items c.deref.result.now c.let_work.ensures.same c.deref.ensures.value c.in_ok-list.ensures.placed)
 
 pub expand_let-expand-requires : goal.expand_let-expand-requires
 expand_let-expand-requires t c =
     let s = c.args.symbols.now in
     let v = c.args.terms.now in
     let a = c.args.expansion.now.assignments in
-    let g = c.in_ok-given.given in
+    let g = c.in_ok-work.work.given in
     let z = c.expand_all.new.terms in
     let some : 1 ≤ c.args.most = heights.positive s v c.args.most c.args.r c.requires.low in
-    let keeps = subst (λ (x : TermsView). KeepsTerms x z) (c.needs_of.ensures.same ∙ c.let_parts.ensures.same) c.expand_all.ensures.keeps in (
+    let keeps = subst (λ (x : TermsView). KeepsTerms x z) c.let_work.ensures.same c.expand_all.ensures.keeps in (
       omega arith,
       (
-        heights.low_grow s v z (c.args.most - 1) c.in_ok-parts.parts.body keeps (heights.body_low s v c.args.most c.args.r c.in_ok-parts.parts.body c.requires.low c.requires.is_let c.in_ok-parts.ensures.body),
+        heights.low_grow s v z (c.args.most - 1) c.in_ok-work.work.body keeps c.in_ok-work.ensures.body_low,
         (
-          subst (λ (b : List Assigned). IsSaid s z b c.in_ok-parts.parts.body) (sym (c.in_ok-assign.ensures ∙ assigned_same c.deref-5.result.now c.in_ok-given.given.variables.items c.deref-6.result.now c.in_ok-list.list.items c.expand_all.new.expansion.assignments c.args.expansion.now.assignments c.deref-5.ensures.value c.deref-6.ensures.value c.in_ok-list.ensures.assignments))
-              (lemma.body_said s v a c.args.r c.in_ok-parts.parts.body g.variables.items g.values.items c.count-leaves.ensures.table (lemma.let_work_from c.args.symbols.now c.args.terms.now c.let_parts.new.terms c.needs_of.new.terms c.args.r c.in_ok-parts.parts.body c.in_ok-parts.parts.variables.items c.in_ok-parts.parts.values.items c.deref.result.now c.deref-2.result.now c.in_ok-inside.inside.items c.deref-3.result.now c.in_ok-given.given.variables.items c.in_ok-given.given.values.items c.in_ok-values.values
-              c.count-leaves.ensures.table c.let_parts.ensures.same c.needs_of.ensures.same (c.equal_exactly_where_terms_are.ensures c.args.symbols.now c.count-leaves.ensures.table) c.requires.is_let c.in_ok-parts.ensures.bindings c.in_ok-parts.ensures.body c.in_ok-inside.ensures.leaves
-              c.deref.ensures.value c.deref-2.ensures.value c.deref-3.ensures.value c.in_ok-values.ensures c.in_ok-given.ensures.given) z (subst (λ (x : TermsView). KeepsTerms x c.expand_all.new.terms) (c.needs_of.ensures.same ∙ c.let_parts.ensures.same) c.expand_all.ensures.keeps) c.in_ok-list.list.items (lemma.all_expand_moved c.args.symbols.now c.args.terms.now c.needs_of.new.terms c.expand_all.new.terms c.args.expansion.now.assignments c.in_ok-given.given.values.items c.deref-4.result.now c.in_ok-list.list.items (c.needs_of.ensures.same ∙ c.let_parts.ensures.same) c.deref-4.ensures.value c.in_ok-list.ensures.value) c.requires.said),
+          subst (λ (b : List Assigned). IsSaid s z b c.in_ok-work.work.body) (sym (c.in_ok-assign.ensures ∙ assigned_same c.deref-2.result.now c.in_ok-work.work.given.variables.items c.deref-3.result.now c.in_ok-list.list.items c.expand_all.new.expansion.assignments c.args.expansion.now.assignments c.deref-2.ensures.value c.deref-3.ensures.value c.in_ok-list.ensures.assignments))
+              (lemma.body_said s v a c.args.r c.in_ok-work.work.body g.variables.items g.values.items c.count-leaves.ensures.table c.in_ok-work.ensures.work z (subst (λ (x : TermsView). KeepsTerms x c.expand_all.new.terms) c.let_work.ensures.same c.expand_all.ensures.keeps) c.in_ok-list.list.items (lemma.all_expand_moved c.args.symbols.now c.args.terms.now c.let_work.new.terms c.expand_all.new.terms c.args.expansion.now.assignments c.in_ok-work.work.given.values.items c.deref.result.now c.in_ok-list.list.items c.let_work.ensures.same c.deref.ensures.value c.in_ok-list.ensures.value) c.requires.said),
           record { needs = c.in_ok-list.ensures.expansion.needs; done = c.in_ok-list.ensures.expansion.done },
         ),
       ),
@@ -396,77 +372,67 @@ expand_let-returns-in_err-body-clause-placed t c =
     let s = c.args.symbols.now in
     let v = c.args.terms.now in
     let a = c.args.expansion.now.assignments in
-    let g = c.in_ok-given.given in
+    let g = c.in_ok-work.work.given in
     let z = c.expand_all.new.terms in
     let y = c.expand.new.terms in
-    lemma.let_placed s v a c.args.r c.in_ok-parts.parts.body g.variables.items g.values.items c.count-leaves.ensures.table (lemma.let_work_from c.args.symbols.now c.args.terms.now c.let_parts.new.terms c.needs_of.new.terms c.args.r c.in_ok-parts.parts.body c.in_ok-parts.parts.variables.items c.in_ok-parts.parts.values.items c.deref.result.now c.deref-2.result.now c.in_ok-inside.inside.items c.deref-3.result.now c.in_ok-given.given.variables.items c.in_ok-given.given.values.items c.in_ok-values.values
-    c.count-leaves.ensures.table c.let_parts.ensures.same c.needs_of.ensures.same (c.equal_exactly_where_terms_are.ensures c.args.symbols.now c.count-leaves.ensures.table) c.requires.is_let c.in_ok-parts.ensures.bindings c.in_ok-parts.ensures.body c.in_ok-inside.ensures.leaves
-    c.deref.ensures.value c.deref-2.ensures.value c.deref-3.ensures.value c.in_ok-values.ensures c.in_ok-given.ensures.given) z (subst (λ (x : TermsView). KeepsTerms x c.expand_all.new.terms) (c.needs_of.ensures.same ∙ c.let_parts.ensures.same) c.expand_all.ensures.keeps) c.in_ok-list.list.items (lemma.all_expand_moved c.args.symbols.now c.args.terms.now c.needs_of.new.terms c.expand_all.new.terms c.args.expansion.now.assignments c.in_ok-given.given.values.items c.deref-4.result.now c.in_ok-list.list.items (c.needs_of.ensures.same ∙ c.let_parts.ensures.same) c.deref-4.ensures.value c.in_ok-list.ensures.value) y c.expand.ensures.keeps
-    (lemma.all_placed_moved s v c.needs_of.new.terms z a g.values.items c.deref-4.result.now (c.needs_of.ensures.same ∙ c.let_parts.ensures.same) c.deref-4.ensures.value c.in_ok-list.ensures.placed)
-    (subst (λ (b : List Assigned). PlacesOne s z y b c.in_ok-parts.parts.body) (c.in_ok-assign.ensures ∙ assigned_same c.deref-5.result.now c.in_ok-given.given.variables.items c.deref-6.result.now c.in_ok-list.list.items c.expand_all.new.expansion.assignments c.args.expansion.now.assignments c.deref-5.ensures.value c.deref-6.ensures.value c.in_ok-list.ensures.assignments) c.in_err-body.ensures.placed)
+    lemma.let_placed s v a c.args.r c.in_ok-work.work.body g.variables.items g.values.items c.count-leaves.ensures.table c.in_ok-work.ensures.work z (subst (λ (x : TermsView). KeepsTerms x c.expand_all.new.terms) c.let_work.ensures.same c.expand_all.ensures.keeps) c.in_ok-list.list.items (lemma.all_expand_moved c.args.symbols.now c.args.terms.now c.let_work.new.terms c.expand_all.new.terms c.args.expansion.now.assignments c.in_ok-work.work.given.values.items c.deref.result.now c.in_ok-list.list.items c.let_work.ensures.same c.deref.ensures.value c.in_ok-list.ensures.value) y c.expand.ensures.keeps
+    (lemma.all_placed_moved s v c.let_work.new.terms z a g.values.items c.deref.result.now c.let_work.ensures.same c.deref.ensures.value c.in_ok-list.ensures.placed)
+    (subst (λ (b : List Assigned). PlacesOne s z y b c.in_ok-work.work.body) (c.in_ok-assign.ensures ∙ assigned_same c.deref-2.result.now c.in_ok-work.work.given.variables.items c.deref-3.result.now c.in_ok-list.list.items c.expand_all.new.expansion.assignments c.args.expansion.now.assignments c.deref-2.ensures.value c.deref-3.ensures.value c.in_ok-list.ensures.assignments) c.in_err-body.ensures.placed)
 
 pub expand_let-returns-in_err-body-clause-full : goal.expand_let-returns-in_err-body-clause-full
 expand_let-returns-in_err-body-clause-full t c =
     let s = c.args.symbols.now in
     let v = c.args.terms.now in
     let a = c.args.expansion.now.assignments in
-    let g = c.in_ok-given.given in
+    let g = c.in_ok-work.work.given in
     let z = c.expand_all.new.terms in
     let y = c.expand.new.terms in
     let e = err_from_is_err_and c.from_residual-in_err-body.result c.from_residual-in_err-body.ensures.1 in
     rw (e.1, e.2) (λ full.
-    lemma.let_full s v a c.args.r c.in_ok-parts.parts.body g.variables.items g.values.items c.count-leaves.ensures.table (lemma.let_work_from c.args.symbols.now c.args.terms.now c.let_parts.new.terms c.needs_of.new.terms c.args.r c.in_ok-parts.parts.body c.in_ok-parts.parts.variables.items c.in_ok-parts.parts.values.items c.deref.result.now c.deref-2.result.now c.in_ok-inside.inside.items c.deref-3.result.now c.in_ok-given.given.variables.items c.in_ok-given.given.values.items c.in_ok-values.values
-    c.count-leaves.ensures.table c.let_parts.ensures.same c.needs_of.ensures.same (c.equal_exactly_where_terms_are.ensures c.args.symbols.now c.count-leaves.ensures.table) c.requires.is_let c.in_ok-parts.ensures.bindings c.in_ok-parts.ensures.body c.in_ok-inside.ensures.leaves
-    c.deref.ensures.value c.deref-2.ensures.value c.deref-3.ensures.value c.in_ok-values.ensures c.in_ok-given.ensures.given) z (subst (λ (x : TermsView). KeepsTerms x c.expand_all.new.terms) (c.needs_of.ensures.same ∙ c.let_parts.ensures.same) c.expand_all.ensures.keeps) c.in_ok-list.list.items (lemma.all_expand_moved c.args.symbols.now c.args.terms.now c.needs_of.new.terms c.expand_all.new.terms c.args.expansion.now.assignments c.in_ok-given.given.values.items c.deref-4.result.now c.in_ok-list.list.items (c.needs_of.ensures.same ∙ c.let_parts.ensures.same) c.deref-4.ensures.value c.in_ok-list.ensures.value) y
-    (subst (λ (b : List Assigned). FillsOne s z y b c.in_ok-parts.parts.body) (c.in_ok-assign.ensures ∙ assigned_same c.deref-5.result.now c.in_ok-given.given.variables.items c.deref-6.result.now c.in_ok-list.list.items c.expand_all.new.expansion.assignments c.args.expansion.now.assignments c.deref-5.ensures.value c.deref-6.ensures.value c.in_ok-list.ensures.assignments) (c.in_err-body.ensures.full full)))
+    lemma.let_full s v a c.args.r c.in_ok-work.work.body g.variables.items g.values.items c.count-leaves.ensures.table c.in_ok-work.ensures.work z (subst (λ (x : TermsView). KeepsTerms x c.expand_all.new.terms) c.let_work.ensures.same c.expand_all.ensures.keeps) c.in_ok-list.list.items (lemma.all_expand_moved c.args.symbols.now c.args.terms.now c.let_work.new.terms c.expand_all.new.terms c.args.expansion.now.assignments c.in_ok-work.work.given.values.items c.deref.result.now c.in_ok-list.list.items c.let_work.ensures.same c.deref.ensures.value c.in_ok-list.ensures.value) y
+    (subst (λ (b : List Assigned). FillsOne s z y b c.in_ok-work.work.body) (c.in_ok-assign.ensures ∙ assigned_same c.deref-2.result.now c.in_ok-work.work.given.variables.items c.deref-3.result.now c.in_ok-list.list.items c.expand_all.new.expansion.assignments c.args.expansion.now.assignments c.deref-2.ensures.value c.deref-3.ensures.value c.in_ok-list.ensures.assignments) (c.in_err-body.ensures.full full)))
 
 pub expand_let-take_back-requires : goal.expand_let-take_back-requires
 expand_let-take_back-requires t c =
-    outside_within c.deref-5.result.now c.deref-6.result.now c.expand_all.new.expansion.assignments c.expand.new.expansion.assignments c.len-outside.result (c.in_ok-body.ensures.assignments ∙ c.in_ok-assign.ensures) c.len-outside.ensures
+    outside_within c.deref-2.result.now c.deref-3.result.now c.expand_all.new.expansion.assignments c.expand.new.expansion.assignments c.len-outside.result (c.in_ok-body.ensures.assignments ∙ c.in_ok-assign.ensures) c.len-outside.ensures
 
 pub expand_let-returns-in_err-take_back-clause-placed : goal.expand_let-returns-in_err-take_back-clause-placed
 expand_let-returns-in_err-take_back-clause-placed t c =
     let s = c.args.symbols.now in
     let v = c.args.terms.now in
     let a = c.args.expansion.now.assignments in
-    let g = c.in_ok-given.given in
+    let g = c.in_ok-work.work.given in
     let z = c.expand_all.new.terms in
     let y = c.expand.new.terms in
-    lemma.let_placed s v a c.args.r c.in_ok-parts.parts.body g.variables.items g.values.items c.count-leaves.ensures.table (lemma.let_work_from c.args.symbols.now c.args.terms.now c.let_parts.new.terms c.needs_of.new.terms c.args.r c.in_ok-parts.parts.body c.in_ok-parts.parts.variables.items c.in_ok-parts.parts.values.items c.deref.result.now c.deref-2.result.now c.in_ok-inside.inside.items c.deref-3.result.now c.in_ok-given.given.variables.items c.in_ok-given.given.values.items c.in_ok-values.values
-    c.count-leaves.ensures.table c.let_parts.ensures.same c.needs_of.ensures.same (c.equal_exactly_where_terms_are.ensures c.args.symbols.now c.count-leaves.ensures.table) c.requires.is_let c.in_ok-parts.ensures.bindings c.in_ok-parts.ensures.body c.in_ok-inside.ensures.leaves
-    c.deref.ensures.value c.deref-2.ensures.value c.deref-3.ensures.value c.in_ok-values.ensures c.in_ok-given.ensures.given) z (subst (λ (x : TermsView). KeepsTerms x c.expand_all.new.terms) (c.needs_of.ensures.same ∙ c.let_parts.ensures.same) c.expand_all.ensures.keeps) c.in_ok-list.list.items (lemma.all_expand_moved c.args.symbols.now c.args.terms.now c.needs_of.new.terms c.expand_all.new.terms c.args.expansion.now.assignments c.in_ok-given.given.values.items c.deref-4.result.now c.in_ok-list.list.items (c.needs_of.ensures.same ∙ c.let_parts.ensures.same) c.deref-4.ensures.value c.in_ok-list.ensures.value) y c.expand.ensures.keeps
-    (lemma.all_placed_moved s v c.needs_of.new.terms z a g.values.items c.deref-4.result.now (c.needs_of.ensures.same ∙ c.let_parts.ensures.same) c.deref-4.ensures.value c.in_ok-list.ensures.placed)
-    (subst (λ (b : List Assigned). PlacesOne s z y b c.in_ok-parts.parts.body) (c.in_ok-assign.ensures ∙ assigned_same c.deref-5.result.now c.in_ok-given.given.variables.items c.deref-6.result.now c.in_ok-list.list.items c.expand_all.new.expansion.assignments c.args.expansion.now.assignments c.deref-5.ensures.value c.deref-6.ensures.value c.in_ok-list.ensures.assignments) c.in_ok-body.ensures.placed)
+    lemma.let_placed s v a c.args.r c.in_ok-work.work.body g.variables.items g.values.items c.count-leaves.ensures.table c.in_ok-work.ensures.work z (subst (λ (x : TermsView). KeepsTerms x c.expand_all.new.terms) c.let_work.ensures.same c.expand_all.ensures.keeps) c.in_ok-list.list.items (lemma.all_expand_moved c.args.symbols.now c.args.terms.now c.let_work.new.terms c.expand_all.new.terms c.args.expansion.now.assignments c.in_ok-work.work.given.values.items c.deref.result.now c.in_ok-list.list.items c.let_work.ensures.same c.deref.ensures.value c.in_ok-list.ensures.value) y c.expand.ensures.keeps
+    (lemma.all_placed_moved s v c.let_work.new.terms z a g.values.items c.deref.result.now c.let_work.ensures.same c.deref.ensures.value c.in_ok-list.ensures.placed)
+    (subst (λ (b : List Assigned). PlacesOne s z y b c.in_ok-work.work.body) (c.in_ok-assign.ensures ∙ assigned_same c.deref-2.result.now c.in_ok-work.work.given.variables.items c.deref-3.result.now c.in_ok-list.list.items c.expand_all.new.expansion.assignments c.args.expansion.now.assignments c.deref-2.ensures.value c.deref-3.ensures.value c.in_ok-list.ensures.assignments) c.in_ok-body.ensures.placed)
 
 pub expand_let-returns-clause-value : goal.expand_let-returns-clause-value
 expand_let-returns-clause-value t c =
     let s = c.args.symbols.now in
     let v = c.args.terms.now in
     let a = c.args.expansion.now.assignments in
-    let g = c.in_ok-given.given in
+    let g = c.in_ok-work.work.given in
     let z = c.expand_all.new.terms in
     let y = c.expand.new.terms in
-    lemma.let_expanded s v a c.args.r c.in_ok-parts.parts.body g.variables.items g.values.items c.count-leaves.ensures.table (lemma.let_work_from c.args.symbols.now c.args.terms.now c.let_parts.new.terms c.needs_of.new.terms c.args.r c.in_ok-parts.parts.body c.in_ok-parts.parts.variables.items c.in_ok-parts.parts.values.items c.deref.result.now c.deref-2.result.now c.in_ok-inside.inside.items c.deref-3.result.now c.in_ok-given.given.variables.items c.in_ok-given.given.values.items c.in_ok-values.values
-    c.count-leaves.ensures.table c.let_parts.ensures.same c.needs_of.ensures.same (c.equal_exactly_where_terms_are.ensures c.args.symbols.now c.count-leaves.ensures.table) c.requires.is_let c.in_ok-parts.ensures.bindings c.in_ok-parts.ensures.body c.in_ok-inside.ensures.leaves
-    c.deref.ensures.value c.deref-2.ensures.value c.deref-3.ensures.value c.in_ok-values.ensures c.in_ok-given.ensures.given) z (subst (λ (x : TermsView). KeepsTerms x c.expand_all.new.terms) (c.needs_of.ensures.same ∙ c.let_parts.ensures.same) c.expand_all.ensures.keeps) c.in_ok-list.list.items (lemma.all_expand_moved c.args.symbols.now c.args.terms.now c.needs_of.new.terms c.expand_all.new.terms c.args.expansion.now.assignments c.in_ok-given.given.values.items c.deref-4.result.now c.in_ok-list.list.items (c.needs_of.ensures.same ∙ c.let_parts.ensures.same) c.deref-4.ensures.value c.in_ok-list.ensures.value) y c.in_ok-body.body
-    (subst (λ (b : List Assigned). ExpandsOne s z y b c.in_ok-parts.parts.body c.in_ok-body.body) (c.in_ok-assign.ensures ∙ assigned_same c.deref-5.result.now c.in_ok-given.given.variables.items c.deref-6.result.now c.in_ok-list.list.items c.expand_all.new.expansion.assignments c.args.expansion.now.assignments c.deref-5.ensures.value c.deref-6.ensures.value c.in_ok-list.ensures.assignments) c.in_ok-body.ensures.value)
+    lemma.let_expanded s v a c.args.r c.in_ok-work.work.body g.variables.items g.values.items c.count-leaves.ensures.table c.in_ok-work.ensures.work z (subst (λ (x : TermsView). KeepsTerms x c.expand_all.new.terms) c.let_work.ensures.same c.expand_all.ensures.keeps) c.in_ok-list.list.items (lemma.all_expand_moved c.args.symbols.now c.args.terms.now c.let_work.new.terms c.expand_all.new.terms c.args.expansion.now.assignments c.in_ok-work.work.given.values.items c.deref.result.now c.in_ok-list.list.items c.let_work.ensures.same c.deref.ensures.value c.in_ok-list.ensures.value) y c.in_ok-body.body
+    (subst (λ (b : List Assigned). ExpandsOne s z y b c.in_ok-work.work.body c.in_ok-body.body) (c.in_ok-assign.ensures ∙ assigned_same c.deref-2.result.now c.in_ok-work.work.given.variables.items c.deref-3.result.now c.in_ok-list.list.items c.expand_all.new.expansion.assignments c.args.expansion.now.assignments c.deref-2.ensures.value c.deref-3.ensures.value c.in_ok-list.ensures.assignments) c.in_ok-body.ensures.value)
 
 pub expand_let-returns-clause-placed : goal.expand_let-returns-clause-placed
 expand_let-returns-clause-placed t c =
     let s = c.args.symbols.now in
     let v = c.args.terms.now in
     let a = c.args.expansion.now.assignments in
-    let g = c.in_ok-given.given in
+    let g = c.in_ok-work.work.given in
     let z = c.expand_all.new.terms in
     let y = c.expand.new.terms in
-    lemma.let_placed s v a c.args.r c.in_ok-parts.parts.body g.variables.items g.values.items c.count-leaves.ensures.table (lemma.let_work_from c.args.symbols.now c.args.terms.now c.let_parts.new.terms c.needs_of.new.terms c.args.r c.in_ok-parts.parts.body c.in_ok-parts.parts.variables.items c.in_ok-parts.parts.values.items c.deref.result.now c.deref-2.result.now c.in_ok-inside.inside.items c.deref-3.result.now c.in_ok-given.given.variables.items c.in_ok-given.given.values.items c.in_ok-values.values
-    c.count-leaves.ensures.table c.let_parts.ensures.same c.needs_of.ensures.same (c.equal_exactly_where_terms_are.ensures c.args.symbols.now c.count-leaves.ensures.table) c.requires.is_let c.in_ok-parts.ensures.bindings c.in_ok-parts.ensures.body c.in_ok-inside.ensures.leaves
-    c.deref.ensures.value c.deref-2.ensures.value c.deref-3.ensures.value c.in_ok-values.ensures c.in_ok-given.ensures.given) z (subst (λ (x : TermsView). KeepsTerms x c.expand_all.new.terms) (c.needs_of.ensures.same ∙ c.let_parts.ensures.same) c.expand_all.ensures.keeps) c.in_ok-list.list.items (lemma.all_expand_moved c.args.symbols.now c.args.terms.now c.needs_of.new.terms c.expand_all.new.terms c.args.expansion.now.assignments c.in_ok-given.given.values.items c.deref-4.result.now c.in_ok-list.list.items (c.needs_of.ensures.same ∙ c.let_parts.ensures.same) c.deref-4.ensures.value c.in_ok-list.ensures.value) y c.expand.ensures.keeps
-    (lemma.all_placed_moved s v c.needs_of.new.terms z a g.values.items c.deref-4.result.now (c.needs_of.ensures.same ∙ c.let_parts.ensures.same) c.deref-4.ensures.value c.in_ok-list.ensures.placed)
-    (subst (λ (b : List Assigned). PlacesOne s z y b c.in_ok-parts.parts.body) (c.in_ok-assign.ensures ∙ assigned_same c.deref-5.result.now c.in_ok-given.given.variables.items c.deref-6.result.now c.in_ok-list.list.items c.expand_all.new.expansion.assignments c.args.expansion.now.assignments c.deref-5.ensures.value c.deref-6.ensures.value c.in_ok-list.ensures.assignments) c.in_ok-body.ensures.placed)
+    lemma.let_placed s v a c.args.r c.in_ok-work.work.body g.variables.items g.values.items c.count-leaves.ensures.table c.in_ok-work.ensures.work z (subst (λ (x : TermsView). KeepsTerms x c.expand_all.new.terms) c.let_work.ensures.same c.expand_all.ensures.keeps) c.in_ok-list.list.items (lemma.all_expand_moved c.args.symbols.now c.args.terms.now c.let_work.new.terms c.expand_all.new.terms c.args.expansion.now.assignments c.in_ok-work.work.given.values.items c.deref.result.now c.in_ok-list.list.items c.let_work.ensures.same c.deref.ensures.value c.in_ok-list.ensures.value) y c.expand.ensures.keeps
+    (lemma.all_placed_moved s v c.let_work.new.terms z a g.values.items c.deref.result.now c.let_work.ensures.same c.deref.ensures.value c.in_ok-list.ensures.placed)
+    (subst (λ (b : List Assigned). PlacesOne s z y b c.in_ok-work.work.body) (c.in_ok-assign.ensures ∙ assigned_same c.deref-2.result.now c.in_ok-work.work.given.variables.items c.deref-3.result.now c.in_ok-list.list.items c.expand_all.new.expansion.assignments c.args.expansion.now.assignments c.deref-2.ensures.value c.deref-3.ensures.value c.in_ok-list.ensures.assignments) c.in_ok-body.ensures.placed)
 
 pub expand_let-returns-clause-assignments : goal.expand_let-returns-clause-assignments
 expand_let-returns-clause-assignments t c =
-    outside_is_left c.deref-5.result.now c.deref-6.result.now c.expand_all.new.expansion.assignments c.expand.new.expansion.assignments c.take_back.new.assignments c.len-outside.result (c.in_ok-body.ensures.assignments ∙ c.in_ok-assign.ensures) c.len-outside.ensures
+    outside_is_left c.deref-2.result.now c.deref-3.result.now c.expand_all.new.expansion.assignments c.expand.new.expansion.assignments c.take_back.new.assignments c.len-outside.result (c.in_ok-body.ensures.assignments ∙ c.in_ok-assign.ensures) c.len-outside.ensures
     c.in_ok-take_back.ensures
     ∙ c.in_ok-list.ensures.assignments

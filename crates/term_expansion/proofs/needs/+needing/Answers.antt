@@ -1,7 +1,7 @@
 -- What a term needs, by what stands at its top.
 use Rattle.std.proofs.Common.{◌≡◌, ◌∙◌, ◌-◌, ◌≤◌, [], get_or, take, refl, sym, subst, arith}
 use Rattle.std.proofs.lemmas.List.{take_all, take_more}
-use Rattle.std.proofs.lemmas.Result.{on_ok_weaker}
+use Rattle.std.proofs.lemmas.Result.{IfOk-weaker, on_ok_weaker}
 use Rattle.term_model.specs.Terms.{Term}
 use Rattle.term_pool.specs.Reading.{arguments_of}
 use Rattle.term_pool.specs.Views.{RefersTo}
@@ -22,15 +22,19 @@ add_needs_of-returns-clause-adds t c =
     (subst (λ ks. AddsUnbound ks [] c.args.found.now.keys c.add_all.new.found.keys) c.deref.ensures.value adds) refers)
     c.add_all.ensures
 
+pub needs_of-returns-clause-leaves : goal.needs_of-returns-clause-leaves
+needs_of-returns-clause-leaves t c =
+    IfOk-weaker c.note.result _ _ (λ leaves same.
+    lemma.needs-found c.args.symbols.now c.args.terms.now c.args.r c.new-found.result.keys c.needs_anew.new.found.keys leaves.items c.new-found.ensures.empty (same ∙ c.as_slice.ensures.keys)
+    (heights.is_term c.args.symbols.now c.args.terms.now c.args.most c.args.r c.requires.low) c.in_ok-needs_anew.ensures.adds)
+    c.note.ensures.leaves
+
 pub needs_of-returns-clause-needs : goal.needs_of-returns-clause-needs
 needs_of-returns-clause-needs t c =
     let s = c.args.symbols.now in
     let v = c.args.terms.now in
-    let kept = c.in_ok-kept.kept in
-    lemma.needs-more s v c.needs_anew.new.needs.leaves c.insert.new.self c.number-2.result kept c.in_ok-insert.ensures.updates.0
-    (subst (λ r. HasNeeds s v r kept.items) (sym c.number-2.ensures.number)
-    (lemma.needs-found s v c.args.r c.new-found.result.keys c.needs_anew.new.found.keys kept.items c.new-found.ensures.empty (c.in_ok-kept.ensures.items ∙ c.as_slice.ensures.keys) (heights.is_term s v c.args.most c.args.r c.requires.low) c.in_ok-needs_anew.ensures.adds))
-    c.in_ok-needs_anew.ensures.needs
+    let right = lemma.needs-found s v c.args.r c.new-found.result.keys c.needs_anew.new.found.keys c.as_slice.result.now c.new-found.ensures.empty c.as_slice.ensures.keys (heights.is_term s v c.args.most c.args.r c.requires.low) c.in_ok-needs_anew.ensures.adds in
+    on_ok_weaker c.note.result (λ noted. noted s v right c.in_ok-needs_anew.ensures.needs) c.note.ensures.noted
 
 pub needs_anew-needs_of_let-requires : goal.needs_anew-needs_of_let-requires
 needs_anew-needs_of_let-requires t c = (
