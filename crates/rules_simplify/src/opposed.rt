@@ -1,6 +1,6 @@
 //! Terms that stand in a list both behind an even and behind an odd number of negations.
 
-ghost use Rattle.std.specs.Prelude.{◌≡◌, ◌↔◌, List, All, IsTrue, IfOk, OnOk};
+ghost use Rattle.std.specs.Prelude.{◌≡◌, ◌↔◌, [], List, All, IsTrue, IfOk, OnOk};
 ghost use Rattle.term_model.specs.Terms.{Term};
 ghost use Rattle.term_pool.specs.Nots.{IsStripped};
 ghost use Rattle.term_pool.specs.Views.{IsTerm, RefersTo, ReferToAll};
@@ -48,6 +48,32 @@ fn strip(symbols: &Symbols, terms: &mut Terms<'_>, r: Ref) -> (Ref, bool)
     terms.strip_not(symbols, r)
 }
 
+/// Whether two items of a list are one term, one behind an even and the other behind an odd number of negations. The
+/// sets, which are empty at first, get what stands behind an even and behind an odd number.
+fn meets_opposed(
+    symbols: &Symbols,
+    terms: &mut Terms<'_>,
+    list: &[Slot],
+    even: &mut IndexSet<u32>,
+    odd: &mut IndexSet<u32>,
+) -> Result<bool, Memory>
+    requires list { All (IsTerm symbols.now terms.old) list.now }
+    requires even { even.old.keys ≡ [] }
+    requires odd { odd.old.keys ≡ [] }
+    ensures opposed { IfOk result (λ yes. (ts : List Term) → ReferToAll symbols.now terms.old list.now ts → IsTrue yes ↔ AreOpposed ts) }
+    ensures same { terms.new ≡ terms.old }
+{
+    let _leaves = symbols.count();
+    terms.equal_exactly_where_terms_are();
+    for item in list {
+        let (bare, negated) = strip(symbols, terms, item.get());
+        if is_met_otherwise(even, odd, bare, negated)? {
+            return Ok(true);
+        }
+    }
+    Ok(false)
+}
+
 /// Whether two items of a list are one term, one behind an even and the other behind an odd number of negations. Takes
 /// memory for each item.
 pub(crate) fn has_opposed(
@@ -60,15 +86,7 @@ pub(crate) fn has_opposed(
     ensures opposed { IfOk result (λ yes. (ts : List Term) → ReferToAll symbols.now terms.old list.now ts → IsTrue yes ↔ AreOpposed ts) }
     ensures same { terms.new ≡ terms.old }
 {
-    let _leaves = symbols.count();
-    terms.equal_exactly_where_terms_are();
     let mut even = IndexSet::new(alloc);
     let mut odd = IndexSet::new(alloc);
-    for item in list {
-        let (bare, negated) = strip(symbols, terms, item.get());
-        if is_met_otherwise(&mut even, &mut odd, bare, negated)? {
-            return Ok(true);
-        }
-    }
-    Ok(false)
+    meets_opposed(symbols, terms, list, &mut even, &mut odd)
 }

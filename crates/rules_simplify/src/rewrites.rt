@@ -379,6 +379,29 @@ fn reaches(
     Ok(false)
 }
 
+/// Whether a term is what any row of a table makes of an application, or is reached from it by the chain of first rows.
+/// The application is scratch then.
+fn simplifies_at(
+    alloc: Global,
+    symbols: &Symbols,
+    terms: &mut Terms<'_>,
+    table: Simplification,
+    at: &mut Application,
+    right: Ref,
+) -> Result<bool, Memory>
+    requires at { IsSomeAt symbols.now terms.old at.old }
+    requires right { IsTerm symbols.now terms.old right }
+    ensures simplifies { IfOk result (λ yes. (t u : Term) → StandsForApplication symbols.now terms.old at.old t → RefersTo symbols.now terms.old right u →
+        IsTrue yes ↔ Simplifies (rows_of table) t u) }
+    ensures same { terms.new ≡ terms.old }
+{
+    let mut stack: Scratch = SmallVec::new(alloc);
+    if any_rewrites(symbols, terms, table, at, right, &mut stack)? {
+        return Ok(true);
+    }
+    reaches(alloc, symbols, terms, table, at, right)
+}
+
 /// Whether a term is what any row of a table makes of another, or is reached from it by the chain of first rows.
 pub(crate) fn simplifies(
     alloc: Global,
@@ -394,7 +417,6 @@ pub(crate) fn simplifies(
         IsTrue yes ↔ Simplifies (rows_of table) t u) }
     ensures same { terms.new ≡ terms.old }
 {
-    let mut stack: Scratch = SmallVec::new(alloc);
     let mut at = Application {
         op: Op::Not,
         arguments: SmallVec::new(alloc),
@@ -402,8 +424,5 @@ pub(crate) fn simplifies(
     if !open(symbols, terms, table, left, &mut at)? {
         return Ok(false);
     }
-    if any_rewrites(symbols, terms, table, &at, right, &mut stack)? {
-        return Ok(true);
-    }
-    reaches(alloc, symbols, terms, table, &mut at, right)
+    simplifies_at(alloc, symbols, terms, table, &mut at, right)
 }

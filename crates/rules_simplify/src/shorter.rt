@@ -1,6 +1,6 @@
 //! Lists of arguments that are shortened.
 
-ghost use Rattle.std.specs.Prelude.{◌≡◌, ◌↔◌, List, All, Contains, IsTrue, IfOk};
+ghost use Rattle.std.specs.Prelude.{◌≡◌, ◌↔◌, [], List, All, Contains, IsTrue, IfOk, OnOk};
 ghost use Rattle.term_model.specs.Terms.{Term};
 ghost use Rattle.term_pool.specs.Views.{IsTerm, RefersTo, ReferToAll};
 ghost use Rattle.rules_simplify.specs.Joins.{AreOnceEach, AreWithout, constant, IsMet};
@@ -69,6 +69,30 @@ fn meet(met: &mut IndexSet<u32>, r: Ref) -> Result<bool, Memory>
     Ok(new)
 }
 
+/// Pushes a list without later repeats. The set and the stack are empty at first, and get the same items.
+fn push_once_each(
+    symbols: &Symbols,
+    terms: &Terms<'_>,
+    list: &[Slot],
+    seen: &mut IndexSet<u32>,
+    kept: &mut Scratch,
+) -> Result<(), Memory>
+    requires seen { seen.old.keys ≡ [] }
+    requires kept { kept.old.items ≡ [] }
+    ensures { OnOk result ((ts : List Term) → ReferToAll symbols.now terms.now list.now ts →
+        AreOnceEach symbols.now terms.now ts kept.new.items) }
+{
+    let _leaves = symbols.count();
+    terms.equal_exactly_where_terms_are();
+    for item in list {
+        if !meet(seen, item.get())? {
+            continue;
+        }
+        push(kept, item.get())?;
+    }
+    Ok(())
+}
+
 /// A list without later repeats. Takes memory for each item.
 pub(crate) fn once_each(
     alloc: Global,
@@ -79,15 +103,8 @@ pub(crate) fn once_each(
     ensures { IfOk result (λ kept. (ts : List Term) → ReferToAll symbols.now terms.now list.now ts →
         AreOnceEach symbols.now terms.now ts kept.items) }
 {
-    let _leaves = symbols.count();
-    terms.equal_exactly_where_terms_are();
     let mut seen = IndexSet::new(alloc);
     let mut kept: Scratch = SmallVec::new(alloc);
-    for item in list {
-        if !meet(&mut seen, item.get())? {
-            continue;
-        }
-        push(&mut kept, item.get())?;
-    }
+    push_once_each(symbols, terms, list, &mut seen, &mut kept)?;
     Ok(kept)
 }

@@ -2,7 +2,7 @@ use Rattle.std.proofs.Common.{◌≡◌, List, take}
 use Rattle.term_model.specs.Terms.{Term}
 use Rattle.term_pool.specs.Views.{ReferToAll}
 use Rattle.rules_simplify.specs.Joins.{AreOnceEach}
-use Rattle.rules_simplify.proofs.shorter.once_each.Given as goal
+use Rattle.rules_simplify.proofs.shorter.push_once_each.Given as goal
 
 abbrev pub invariant-loop-item : goal.invariant-loop-item
 invariant-loop-item l = record {

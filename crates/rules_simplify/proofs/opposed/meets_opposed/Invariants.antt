@@ -2,7 +2,7 @@ use Rattle.std.proofs.Common.{◌≡◌, List, take}
 use Rattle.term_model.specs.Terms.{Term}
 use Rattle.term_pool.specs.Views.{ReferToAll}
 use Rattle.rules_simplify.proofs.OpposedLemmas.{IsNoted}
-use Rattle.rules_simplify.proofs.opposed.has_opposed.Given as goal
+use Rattle.rules_simplify.proofs.opposed.meets_opposed.Given as goal
 
 abbrev pub invariant-loop-item : goal.invariant-loop-item
 invariant-loop-item l = record {

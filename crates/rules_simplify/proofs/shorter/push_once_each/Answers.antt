@@ -1,11 +1,11 @@
 use Rattle.std.proofs.Common.{sym, ◌∙◌}
 use Rattle.rules_simplify.proofs.ShorterLemmas.{once_start, keys_again, keys_first, met_before, met_now, all_once}
-use Rattle.rules_simplify.proofs.shorter.once_each.Goals as goal
+use Rattle.rules_simplify.proofs.shorter.push_once_each.Goals as goal
 
 pub loop-item-init : goal.loop-item-init
 loop-item-init c = record {
-  same = c.new-seen.ensures.empty ∙ sym c.new-kept.ensures.items;
-  kept = λ ts refer. once_start c.args.symbols.now c.args.terms.now ts _ c.new-kept.ensures.items;
+  same = c.requires.seen ∙ sym c.requires.kept;
+  kept = λ ts refer. once_start c.args.symbols.now c.args.terms.now ts _ c.requires.kept;
 }
 
 pub loop-item-preserved-then-not-branch : goal.loop-item-preserved-then-not-branch

@@ -1,10 +1,10 @@
 use Rattle.std.proofs.Common.{◌∙◌, refl}
 use Rattle.rules_simplify.proofs.OpposedItems.{found, not_found, nowhere}
 use Rattle.rules_simplify.proofs.OpposedLemmas.{noted_start}
-use Rattle.rules_simplify.proofs.opposed.has_opposed.Goals as goal
+use Rattle.rules_simplify.proofs.opposed.meets_opposed.Goals as goal
 
 pub loop-item-init : goal.loop-item-init
-loop-item-init c = record { same = refl; noted = λ ts refer. noted_start c.args.symbols.now c.args.terms.now _ _ c.new-even.ensures.empty c.new-odd.ensures.empty }
+loop-item-init c = record { same = refl; noted = λ ts refer. noted_start c.args.symbols.now c.args.terms.now _ _ c.requires.even c.requires.odd }
 
 pub returns-then-branch-clause-opposed : goal.returns-then-branch-clause-opposed
 returns-then-branch-clause-opposed c ts refer =
