@@ -102,7 +102,7 @@ fn is_open(draft: &Draft, id: &[u8]) -> bool
 }
 
 /// Adds a step that closes nothing.
-#[tactic(auto, using(crate::proofs::WritingLemmas::stand_writes, crate::proofs::WritingLemmas::draft_index, crate::proofs::WritingLemmas::here_within))]
+#[tactic(auto, using(crate::proofs::WritingLemmas::draft_index, crate::proofs::WritingLemmas::here_within))]
 fn stand(draft: &mut Draft, step: NewCommand<'_>) -> Result<u32, Memory>
     requires draft { IsDraft draft.old (proof_of draft.old) }
     requires shut { is_open_id (proof_of draft.old).nesting step.id.now ≡ false }
