@@ -2,8 +2,11 @@ use Rattle.std.proofs.Common.{refl, sym}
 use Rattle.std.proofs.lemmas.Bool.{OnTrue_at, OnFalse_at}
 use Rattle.rules_simplify.specs.Tables.{rows_of}
 use Rattle.rules_simplify.proofs.ChainLemmas.{first_is_any}
-use Rattle.rules_simplify.proofs.StepLemmas.{next_term, step_is, part_settled, part_refers, next_sorted, over_at, over_missing, negation_settled, negation_at, negation_ends, conjoins_to}
+use Rattle.rules_simplify.proofs.StepLemmas.{next_term, step_is, ends_here, part_settled, part_refers, next_sorted, over_at, over_missing, negation_settled, negation_at, negation_ends, conjoins_to}
 use Rattle.rules_simplify.proofs.rewrites.advance.Goals as goal
+
+pub returns-in-Ends-clause-step : goal.returns-in-Ends-clause-step
+returns-in-Ends-clause-step c t is = ends_here c.args.symbols.now c.args.terms.now (rows_of c.args.table) c.args.fit.now t is c.in-Ends.is
 
 pub returns-in_default-clause-step : goal.returns-in_default-clause-step
 returns-in_default-clause-step c t is =
