@@ -16,7 +16,7 @@ use Rattle.linear_forms.specs.Graphs.{IsItem, IsGraph, AddsEntry, IsItemBelow, M
 use Rattle.linear_forms.specs.Memos.{number_remembered}
 use Rattle.linear_forms.specs.Visits.{HasCellParts, IsListPart}
 use Rattle.linear_forms.proofs.Graphing.{settled_graph, settled_found, settled_met, settled_grows}
-use Rattle.linear_forms.proofs.Meaning.{list_is_cell}
+use Rattle.linear_forms.proofs.Meaning.{list_is_cell, list_parts}
 use Rattle.linear_forms.proofs.Visited.{parts_of, first_below, leaf_visited, deeper}
 use Rattle.linear_forms.proofs.Walking.{same_item}
 
@@ -54,6 +54,12 @@ module _ (s : Table) (v : TermsView) where
     -- the first term of a list is met, or wants a visit of its own
     list_cell_parts : (list a b : ℕ) → IsItem s v (ListItem list) → ((x y : Tree) → Knows v.pass list (cell x y) → Knows v.pass a x) → ((x y : Tree) → Knows v.pass list (cell x y) → Knows v.pass b y) → HasCellParts v.pass list a b
     list_cell_parts list a b item = parts_of v.pass list a b (list_is_cell s v table one parts list item.terms item.meant)
+
+    -- what stands first in it is a term
+    pub first_is_term : (list a b : ℕ) → IsItem s v (ListItem list) → ((x y : Tree) → Knows v.pass list (cell x y) → Knows v.pass a x) → ((x y : Tree) → Knows v.pass list (cell x y) → Knows v.pass b y) → IsTerm s v a
+    first_is_term list a b item first second =
+        let p = list_parts s v table one parts list a b item.terms item.meant (list_cell_parts list a b item first second) in
+        record { means = p.first; refers = p.one }
 
     pub list_met : (old new : Graph) (list a b : ℕ) (found : Option Found) → IsItem s v (ListItem list) → ((x y : Tree) → Knows v.pass list (cell x y) → Knows v.pass a x) → ((x y : Tree) → Knows v.pass list (cell x y) → Knows v.pass b y) → MeetsTerm s v old new a found → MeetsParts s v old new (ListItem list)
     list_met old new list a b found item first second h =

@@ -1,5 +1,17 @@
-use Rattle.linear_forms.proofs.Meeting.{list_met, first_unmet}
+use Rattle.linear_forms.proofs.Meeting.{first_is_term, list_met, first_unmet}
 use Rattle.linear_forms.proofs.visiting.look_list.Goals as goal
+
+pub meet-requires-clause-term : goal.meet-requires-clause-term
+meet-requires-clause-term c =
+    rw c.cell_parts-first.ensures.same
+    (first_is_term c.args.symbols.now c.args.terms.now c.count-leaves.ensures.table c.one_to_one.ensures c.parts_of_trees.ensures
+    c.args.list c.cell_parts-first.result.0 c.cell_parts-first.result.1 c.requires.list c.cell_parts-first.ensures.first c.cell_parts-first.ensures.second)
+
+pub meet-requires-2-clause-term : goal.meet-requires-2-clause-term
+meet-requires-2-clause-term c =
+    rw c.cell_parts-first.ensures.same
+    (first_is_term c.args.symbols.now c.args.terms.now c.count-leaves.ensures.table c.one_to_one.ensures c.parts_of_trees.ensures
+    c.args.list c.cell_parts-first.result.0 c.cell_parts-first.result.1 c.requires.list c.cell_parts-first.ensures.first c.cell_parts-first.ensures.second)
 
 pub returns-in-None-clause-graph : goal.returns-in-None-clause-graph
 returns-in-None-clause-graph c =
