@@ -1,7 +1,7 @@
 -- Lists that are put at a place, and what stands before it.
-use Rattle.std.proofs.Common.{◌≡◌, ◌≤◌, ◌<◌, ◌+◌, ℕ, zero, suc, List, [], ◌∷◌, ◌++◌, length, take, slice_get, slice_index_or, Some, refl, sym, ◌∙◌, ap, arith}
-use Rattle.std.proofs.lemmas.List.{length-append, length-take-le, take-append-le, take-take}
-use Rattle.std.proofs.Math.Seq.{take-length}
+use Rattle.std.proofs.Common.{◌≡◌, ◌≤◌, ◌<◌, ℕ, zero, suc, List, [], ◌∷◌, ◌++◌, length, take, slice_get, slice_index_or, Some, refl, sym, ◌∙◌, ap, subst, arith}
+use Rattle.std.proofs.lemmas.List.{length-append, length-take-le, take-take}
+use Rattle.proof_store.specs.Lists.{SameBelow}
 
 -- what is pushed stands last, and what stood before stays
 pub slice_get_last : {X : Type 0} (xs : List X) (x : X) → slice_get (xs ++ x ∷ []) (length xs) ≡ Some x
@@ -44,3 +44,33 @@ get_agreed n xs ys d k e h = sym (get_taken n ys d k h) ∙ (ap (λ zs. slice_in
 
 pub get_from_slice_get : {X : Type 0} (xs : List X) (k : ℕ) (x d : X) → slice_get xs k ≡ Some x → slice_index_or xs k d ≡ x
 get_from_slice_get xs k x d e = Rattle.std.proofs.lemmas.Option.get_or_from_slice_get xs k x d e
+
+-- behind all lists stand empty ones
+pub get_behind : {X : Type 0} (ls : List (List X)) (k : ℕ) → length ls ≤ k → slice_index_or ls k [] ≡ []
+get_behind [] k h = refl
+get_behind (l ∷ ls) zero h = absurd (omega arith)
+get_behind (l ∷ ls) (suc k) h = get_behind ls k (omega arith)
+
+-- lists that are cut, and what is put behind them
+pub get_cut : {X : Type 0} (i : ℕ) (ls : List (List X)) → slice_index_or (take i ls) i [] ≡ []
+get_cut zero ls = refl
+get_cut (suc i) [] = refl
+get_cut (suc i) (l ∷ ls) = get_cut i ls
+
+pub same_cut : {X : Type 0} (i : ℕ) (ls : List (List X)) → SameBelow i ls (take i ls)
+same_cut i ls k h = get_agreed i ls (take i ls) [] k (take_same i ls) h
+
+pub same_put : {X : Type 0} (i : ℕ) (old new : List (List X)) → SameBelow i (take i old) new → SameBelow i old new
+same_put i old new same k h = same k h ∙ same_cut i old k h
+
+-- a list that is put behind those that are as before
+pub get_put_behind : {X : Type 0} (i : ℕ) (ls : List (List X)) (l : List X) → length ls ≡ i → slice_index_or (ls ++ l ∷ []) i [] ≡ l
+get_put_behind i ls l e = get_from_slice_get (ls ++ l ∷ []) i l [] (subst (λ k. slice_get (ls ++ l ∷ []) k ≡ Some l) e (slice_get_last ls l))
+
+pub same_put_behind : {X : Type 0} (i : ℕ) (old ls : List (List X)) (l : List X) → length ls ≡ i → SameBelow i old ls → SameBelow i old (ls ++ l ∷ [])
+same_put_behind i old ls l e same k h = kept ls l k (rw e h) ∙ same k h
+  where
+    kept : {X : Type 0} (ls : List (List X)) (l : List X) (k : ℕ) → k < length ls → slice_index_or (ls ++ l ∷ []) k [] ≡ slice_index_or ls k []
+    kept [] l k h = absurd (omega arith)
+    kept (x ∷ ls) l zero h = refl
+    kept (x ∷ ls) l (suc k) h = kept ls l k (omega arith)

@@ -1,8 +1,8 @@
 -- Lists that stand end to end.
-use Rattle.std.proofs.Common.{◌≡◌, ◌≤◌, ◌<◌, ◌-◌, ◌+◌, ℕ, zero, suc, List, [], ◌∷◌, ◌++◌, length, take, drop, slice_get, slice_index, Some, refl, sym, ◌∙◌, ap, arith}
-use Rattle.std.proofs.lemmas.List.{length-append, length-drop, length-take-le, drop-append-le, take-append-le, drop-take, take-take}
+use Rattle.std.proofs.Common.{◌≡◌, ◌≤◌, ◌<◌, ◌-◌, ◌+◌, ℕ, zero, suc, List, [], ◌∷◌, ◌++◌, length, take, drop, replicate, slice_get, slice_index, slice_index_or, Some, refl, sym, ◌∙◌, ap, arith}
+use Rattle.std.proofs.lemmas.List.{length-append, length-replicate, length-drop, length-take-le, drop-append-le, take-append-le, drop-take, take-take}
 use Rattle.std.proofs.Math.Seq.{take-length, drop-append_seam}
-use Rattle.proof_store.specs.Lists.{parts, start_of, AreListEnds}
+use Rattle.proof_store.specs.Lists.{parts, start_of, AreListEnds, filled, SameBelow}
 
 -- as many lists as ends
 pub parts_count : {X : Type 0} (start : ℕ) (es : List ℕ) (xs : List X) → length (parts start es xs) ≡ length es
@@ -88,3 +88,56 @@ parts_take start (e ∷ es) xs (suc i) h l =
 
 pub ends_cut : {X : Type 0} (es : List ℕ) (xs : List X) (i : ℕ) → AreListEnds 0 es (length xs) → i ≤ length es → AreListEnds 0 (take i es) (length (take (start_of 0 es i) xs))
 ends_cut es xs i h l = rw (length-take-le (start_of 0 es i) xs (starts_within 0 es (length xs) i h l)) (ends_take 0 es (length xs) i h l)
+
+pub parts_all : {X : Type 0} (start : ℕ) (es : List ℕ) (xs : List X) (i : ℕ) → length es ≤ i → parts start es xs ≡ take i (parts start es xs)
+parts_all start [] xs zero h = refl
+parts_all start [] xs (suc i) h = refl
+parts_all start (e ∷ es) xs zero h = absurd (omega arith)
+parts_all start (e ∷ es) xs (suc i) h = ap (λ t. take (e - start) (drop start xs) ∷ t) (parts_all e es xs i (omega arith))
+
+pub count_cut : (es : List ℕ) (i : ℕ) → i ≤ length es → length (take i es) ≤ i
+count_cut es i h = rw (length-take-le i es h) (omega arith)
+
+-- the last one ends where the items do
+pub last_ends : (es : List ℕ) (end : ℕ) → AreListEnds 0 es end → 0 < length es → slice_index es (length es - 1) ≡ end
+last_ends es end h some = from 0 es end h some
+  where
+    from : (start : ℕ) (es : List ℕ) (end : ℕ) → AreListEnds start es end → 0 < length es → slice_index es (length es - 1) ≡ end
+    from start [] end h some = absurd (omega arith)
+    from start (e ∷ []) end h some = h.1
+    from start (e ∷ f ∷ es) end h some =
+        let rest = from e (f ∷ es) end h.1 (omega arith) in
+        let there : length (e ∷ f ∷ es) - 1 ≡ suc (length (f ∷ es) - 1) = omega arith in
+        rw there rest
+
+-- empty lists behind all others
+pub is_filled : (i : ℕ) (es : List ℕ) (last end : ℕ) → length es ≤ i → last ≡ end → take i es ++ replicate (i - length es) last ≡ filled i es end
+is_filled i es last end l same = rw (same, whole i es l) refl
+  where
+    whole : (i : ℕ) (es : List ℕ) → length es ≤ i → take i es ≡ es
+    whole zero [] l = refl
+    whole (suc i) [] l = refl
+    whole zero (e ∷ es) l = absurd (omega arith)
+    whole (suc i) (e ∷ es) l = ap (λ t. e ∷ t) (whole i es (omega arith))
+
+pub filled_ends : (i : ℕ) (es : List ℕ) (end : ℕ) → AreListEnds 0 es end → AreListEnds 0 (filled i es end) end
+filled_ends i es end h = from 0 es end (i - length es) h
+  where
+    from : (start : ℕ) (es : List ℕ) (end n : ℕ) → AreListEnds start es end → AreListEnds start (es ++ replicate n end) end
+    from start [] end zero h = h
+    from start [] end (suc n) h = (omega arith, from end [] end n refl)
+    from start (e ∷ es) end n h = (h.0, from e es end n h.1)
+
+pub filled_parts : {X : Type 0} (i : ℕ) (es : List ℕ) (xs : List X) → AreListEnds 0 es (length xs) → SameBelow i (parts 0 es xs) (parts 0 (filled i es (length xs)) xs)
+filled_parts i es xs h k l = from 0 es xs (i - length es) k h
+  where
+    from : {X : Type 0} (start : ℕ) (es : List ℕ) (xs : List X) (n k : ℕ) → AreListEnds start es (length xs) → slice_index_or (parts start (es ++ replicate n (length xs)) xs) k [] ≡ slice_index_or (parts start es xs) k []
+    from start [] xs zero k h = refl
+    from start [] xs (suc n) zero h = let none : length xs - start ≡ 0 = omega arith in rw none refl
+    from start [] xs (suc n) (suc k) h = from (length xs) [] xs n k refl
+    from start (e ∷ es) xs n zero h = refl
+    from start (e ∷ es) xs n (suc k) h = from e es xs n k h.1
+
+pub filled_count : {X : Type 0} (i : ℕ) (es : List ℕ) (xs : List X) (end : ℕ) → length es ≤ i → length (parts 0 (filled i es end) xs) ≡ i
+filled_count i es xs end h =
+    parts_count 0 (filled i es end) xs ∙ (length-append es (replicate (i - length es) end) ∙ rw (length-replicate (i - length es) end) (omega arith))

@@ -1,5 +1,5 @@
 -- What is kept of commands, row by row.
-use Rattle.std.proofs.Common.{◌≡◌, ◌≤◌, ◌<◌, ◌+◌, ◌-◌, ◌^◌, ℕ, zero, suc, Bool, true, false, List, [], ◌∷◌, ◌++◌, length, take, slice_get, slice_index_or, get_or, Option, Some, None, is_some, refl, sym, ◌∙◌, ap, subst, arith, if◌then◌else◌}
+use Rattle.std.proofs.Common.{◌≡◌, ◌≤◌, ◌<◌, ◌+◌, ◌-◌, ◌^◌, ℕ, zero, suc, Bool, true, false, List, [], ◌∷◌, ◌++◌, length, slice_get, slice_index_or, get_or, Option, Some, None, is_some, refl, ◌∙◌, ap, subst, arith, if◌then◌else◌}
 use Rattle.std.specs.Borrow.{Bor}
 use Rattle.std.specs.Option.{option_map, unwrap_or}
 use Rattle.std.specs.List.{AllByRecursion}
@@ -34,25 +34,25 @@ some_row (row ∷ rows) zero h = (row, refl)
 some_row (row ∷ rows) (suc i) h = some_row rows i (omega arith)
 
 -- what it has in a list of its own
-list_has : {X : Type 0} (f : Stored → List X) (lists : List (List X)) (columns : Columns) (names : List (List ℕ)) (rows : List Row) (i : ℕ) (x : List X) → ((row : Row) → f (stored_at columns names i row) ≡ slice_index_or lists i []) → i < length rows → slice_get lists i ≡ Some x → option_map f (slice_get (stored_from columns names 0 rows) i) ≡ Some x
+list_has : {X : Type 0} (f : Stored → List X) (lists : List (List X)) (columns : Columns) (names : List (List ℕ)) (rows : List Row) (i : ℕ) (x : List X) → ((row : Row) → f (stored_at columns names i row) ≡ slice_index_or lists i []) → i < length rows → slice_index_or lists i [] ≡ x → option_map f (slice_get (stored_from columns names 0 rows) i) ≡ Some x
 list_has f lists columns names rows i x is h at =
     let row = some_row rows i h in
-    row_has f columns names rows i row.0 row.1 ∙ ap Some (is row.0 ∙ get_from_slice_get lists i x [] at)
+    row_has f columns names rows i row.0 row.1 ∙ ap Some (is row.0 ∙ at)
 
 module _ (columns : Columns) (names : List (List ℕ)) (rows : List Row) (i : ℕ) where
   pub kept_id : (x : List ℕ) → i < length rows → slice_get columns.ids i ≡ Some x → option_map (λ s. s.id) (slice_get (stored_from columns names 0 rows) i) ≡ Some x
-  kept_id x h at = list_has (λ s. s.id) columns.ids columns names rows i x (λ row. refl) h at
+  kept_id x h at = list_has (λ s. s.id) columns.ids columns names rows i x (λ row. refl) h (get_from_slice_get columns.ids i x [] at)
 
   pub kept_clause : (x : List ℕ) → i < length rows → slice_get columns.clauses i ≡ Some x → option_map (λ s. s.clause) (slice_get (stored_from columns names 0 rows) i) ≡ Some x
-  kept_clause x h at = list_has (λ s. s.clause) columns.clauses columns names rows i x (λ row. refl) h at
+  kept_clause x h at = list_has (λ s. s.clause) columns.clauses columns names rows i x (λ row. refl) h (get_from_slice_get columns.clauses i x [] at)
 
   pub kept_premises : (x : List ℕ) → i < length rows → slice_get columns.premises i ≡ Some x → option_map (λ s. s.premises) (slice_get (stored_from columns names 0 rows) i) ≡ Some x
-  kept_premises x h at = list_has (λ s. s.premises) columns.premises columns names rows i x (λ row. refl) h at
+  kept_premises x h at = list_has (λ s. s.premises) columns.premises columns names rows i x (λ row. refl) h (get_from_slice_get columns.premises i x [] at)
 
-  pub kept_discharged : (x : List ℕ) → i < length rows → slice_get columns.discharged i ≡ Some x → option_map (λ s. s.discharged) (slice_get (stored_from columns names 0 rows) i) ≡ Some x
+  pub kept_discharged : (x : List ℕ) → i < length rows → slice_index_or columns.discharged i [] ≡ x → option_map (λ s. s.discharged) (slice_get (stored_from columns names 0 rows) i) ≡ Some x
   kept_discharged x h at = list_has (λ s. s.discharged) columns.discharged columns names rows i x (λ row. refl) h at
 
-  pub kept_pivots : (x : List (ℕ × Bool)) → i < length rows → slice_get columns.pivots i ≡ Some x → option_map (λ s. s.pivots) (slice_get (stored_from columns names 0 rows) i) ≡ Some x
+  pub kept_pivots : (x : List (ℕ × Bool)) → i < length rows → slice_index_or columns.pivots i [] ≡ x → option_map (λ s. s.pivots) (slice_get (stored_from columns names 0 rows) i) ≡ Some x
   kept_pivots x h at = list_has (λ s. s.pivots) columns.pivots columns names rows i x (λ row. refl) h at
 
   pub row_rule : (row : Row) → slice_get rows i ≡ Some row → option_map (λ s. s.rule) (slice_get (stored_from columns names 0 rows) i) ≡ Some row.rule
@@ -64,8 +64,8 @@ module _ (columns : Columns) (names : List (List ℕ)) (rows : List Row) (i : �
   pub row_closes : (row : Row) → slice_get rows i ≡ Some row → option_map (λ s. s.closes) (slice_get (stored_from columns names 0 rows) i) ≡ Some row.closes
   row_closes row at = row_has (λ s. s.closes) columns names rows i row at
 
-  pub some_ratios : (row : Row) (x : List Ratio) → slice_get rows i ≡ Some row → row.has_ratios ≡ true → slice_get columns.ratios i ≡ Some x → option_map (λ s. s.ratios) (slice_get (stored_from columns names 0 rows) i) ≡ Some (Some x)
-  some_ratios row x at has is = row_has (λ s. s.ratios) columns names rows i row at ∙ ap Some (rw has (ap Some (get_from_slice_get columns.ratios i x [] is)))
+  pub some_ratios : (row : Row) (x : List Ratio) → slice_get rows i ≡ Some row → row.has_ratios ≡ true → slice_index_or columns.ratios i [] ≡ x → option_map (λ s. s.ratios) (slice_get (stored_from columns names 0 rows) i) ≡ Some (Some x)
+  some_ratios row x at has is = row_has (λ s. s.ratios) columns names rows i row at ∙ ap Some (rw has (ap Some is))
 
   pub no_ratios : (row : Row) → slice_get rows i ≡ Some row → row.has_ratios ≡ false → option_map (λ s. s.ratios) (slice_get (stored_from columns names 0 rows) i) ≡ Some None
   no_ratios row at has = row_has (λ s. s.ratios) columns names rows i row at ∙ ap Some (rw has refl)
@@ -102,9 +102,9 @@ stored_stays n columns next names more k row a keeps has h =
       get_agreed n columns.ids next.ids [] k a.ids h,
       get_agreed n columns.clauses next.clauses [] k a.clauses h,
       get_agreed n columns.premises next.premises [] k a.premises h,
-      get_agreed n columns.discharged next.discharged [] k a.discharged h,
-      get_agreed n columns.pivots next.pivots [] k a.pivots h,
-      get_agreed n columns.ratios next.ratios [] k a.ratios h,
+      a.discharged k h,
+      a.pivots k h,
+      a.ratios k h,
     ) refl
 
 stored_same : (n : ℕ) (columns next : Columns) (names more : List (List ℕ)) (k : ℕ) (rows : List Row) → AgreesTo n columns next → KeepsNames names more → AllByRecursion (HasName names) rows → k + length rows ≤ n → stored_from next more k rows ≡ stored_from columns names k rows
@@ -127,9 +127,9 @@ stored_new columns names n name c has is =
       get_from_slice_get columns.ids n c.id.now [] has.ids,
       get_from_slice_get columns.clauses n c.clause.now [] has.clauses,
       get_from_slice_get columns.premises n c.premises.now [] has.premises,
-      get_from_slice_get columns.discharged n c.discharged.now [] has.discharged,
-      get_from_slice_get columns.pivots n c.pivots.now [] has.pivots,
-      get_from_slice_get columns.ratios n (unwrap_or (option_map (λ (qs : Bor (List Ratio)). qs.now) c.ratios) []) [] has.ratios,
+      has.discharged,
+      has.pivots,
+      has.ratios,
       ratios c.ratios,
     ) refl
   where
@@ -152,9 +152,6 @@ long_push columns rows row c has = rw (length-append rows (row ∷ [])) (record 
   ids = let h = slice_get_within columns.ids (length rows) _ has.ids in omega arith;
   clauses = let h = slice_get_within columns.clauses (length rows) _ has.clauses in omega arith;
   premises = let h = slice_get_within columns.premises (length rows) _ has.premises in omega arith;
-  discharged = let h = slice_get_within columns.discharged (length rows) _ has.discharged in omega arith;
-  pivots = let h = slice_get_within columns.pivots (length rows) _ has.pivots in omega arith;
-  ratios = let h = slice_get_within columns.ratios (length rows) _ has.ratios in omega arith;
 })
 
 pub named_push : (names more : List (List ℕ)) (rows : List Row) (c : NewCommand) (name : ℕ) → KeepsNames names more → (is_unknown c.rule ≡ true → name < length more) → AllByRecursion (HasName names) rows → AllByRecursion (HasName more) (rows ++ row_of c name ∷ [])

@@ -1,10 +1,11 @@
 -- Private. What is kept of commands: what a command has, and where it was reached.
-use Rattle.std.specs.Prelude.{◌≡◌, ◌<◌, ◌≤◌, ◌^◌, ℕ, suc, Bool, true, false, List, [], ◌∷◌, length, take, slice_get, slice_index_or, Option, Some, None, if◌then◌else◌}
+use Rattle.std.specs.Prelude.{◌≡◌, ◌<◌, ◌≤◌, ◌^◌, ℕ, suc, Bool, true, List, [], ◌∷◌, length, take, slice_get, slice_index_or, Option, Some, None, if◌then◌else◌}
 use Rattle.std.specs.Borrow.{Bor}
 use Rattle.std.specs.List.{AllByRecursion}
 use Rattle.std.specs.Option.{option_map, unwrap_or}
 use Rattle.rule_model.specs.declared.rules.Rule.{Rule}
 use Rattle.rule_model.specs.RuleNames.{word_of, is_unknown}
+use Rattle.proof_store.specs.Lists.{SameBelow}
 use Rattle.proof_store.specs.declared.answers.Ratio.{Ratio}
 use Rattle.proof_store.specs.declared.commands.Row.{Row}
 use Rattle.proof_store.specs.declared.commands.Columns.{Columns}
@@ -76,34 +77,31 @@ stored c = record {
   fresh = c.fresh;
 }
 
--- each list has n lists or more
+-- the lists that each command has number n or more; of the others an empty one need not stand
 pub record IsLong (n : ℕ) (columns : Columns) : Type 0 where
   pub ids : n ≤ length columns.ids
   pub clauses : n ≤ length columns.clauses
   pub premises : n ≤ length columns.premises
-  pub discharged : n ≤ length columns.discharged
-  pub pivots : n ≤ length columns.pivots
-  pub ratios : n ≤ length columns.ratios
 
 -- the first n are the same
 pub record AgreesTo (n : ℕ) (old new : Columns) : Type 0 where
   pub ids : take n new.ids ≡ take n old.ids
   pub clauses : take n new.clauses ≡ take n old.clauses
   pub premises : take n new.premises ≡ take n old.premises
-  pub discharged : take n new.discharged ≡ take n old.discharged
-  pub pivots : take n new.pivots ≡ take n old.pivots
-  pub ratios : take n new.ratios ≡ take n old.ratios
+  pub discharged : SameBelow n old.discharged new.discharged
+  pub pivots : SameBelow n old.pivots new.pivots
+  pub ratios : SameBelow n old.ratios new.ratios
 
 -- the command's lists stand at place n
 pub record HasAt (n : ℕ) (columns : Columns) (c : NewCommand) : Type 0 where
   pub ids : slice_get columns.ids n ≡ Some c.id.now
   pub clauses : slice_get columns.clauses n ≡ Some c.clause.now
   pub premises : slice_get columns.premises n ≡ Some c.premises.now
-  pub discharged : slice_get columns.discharged n ≡ Some c.discharged.now
-  pub pivots : slice_get columns.pivots n ≡ Some c.pivots.now
-  pub ratios : slice_get columns.ratios n ≡ Some (unwrap_or (option_map (λ (qs : Bor (List Ratio)). qs.now) c.ratios) [])
+  pub discharged : slice_index_or columns.discharged n [] ≡ c.discharged.now
+  pub pivots : slice_index_or columns.pivots n [] ≡ c.pivots.now
+  pub ratios : slice_index_or columns.ratios n [] ≡ unwrap_or (option_map (λ (qs : Bor (List Ratio)). qs.now) c.ratios) []
 
--- there are lists for each row, and a name for each row whose rule is unknown; there are fewer names than 2^32, and rows
+-- there are the lists of each row, and a name for each row whose rule is unknown; there are fewer names than 2^32, and rows
 pub record AreInStep (rows : List Row) (columns : Columns) (names : List (List ℕ)) : Type 0 where
   pub long : IsLong (length rows) columns
   pub named : AllByRecursion (HasName names) rows

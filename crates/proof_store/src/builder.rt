@@ -18,7 +18,8 @@ use std::marker::Model;
 /// A proof as far as it is written. Contracts see the scope that is written, as far as that is done, and where it
 /// stands. After a refusal it is as before.
 ///
-/// A call costs what it is handed. It keeps the allocator that it was made with.
+/// All calls together cost what they are handed; one alone may cost as much as all before it, as vectors grow. It keeps
+/// the allocator that it was made with.
 #[derive(Drop)]
 pub struct ProofBuilder {
     draft: Draft,

@@ -32,7 +32,8 @@ struct Row {
     fresh: u32,
 }
 
-/// The lists of the commands, each by the command's index.
+/// The lists of the commands, each by the command's index. Those of the last three kinds are mostly empty, and an empty one
+/// behind all others of its kind does not stand.
 #[derive(Drop)]
 struct Columns {
     ids: Lists<u8>,
@@ -43,8 +44,10 @@ struct Columns {
     ratios: Lists<Ratio>,
 }
 
-/// The commands of a proof in file order. A command takes 40 bytes beside its id and the items of its other lists: its row
-/// of 16, and 4 for the end of each of its six lists. Vectors double as they grow, so at most twice that is reserved.
+/// The commands of a proof in file order. A command takes 28 bytes beside its id and the items of its other lists: its row
+/// of 16, and 4 for the end of its id, of its clause and of its premises. Few commands have discharged assumes, pivots or
+/// coefficients: of each of these three kinds there are ends, of 4 bytes, up to the last command that has some, so 12 bytes
+/// more at most. Vectors double as they grow, so at most twice that is reserved.
 #[derive(Drop)]
 pub(crate) struct Commands {
     rows: Vec<Row>,
@@ -105,11 +108,11 @@ fn put(columns: &mut Columns, n: usize, command: &NewCommand<'_>) -> Result<(), 
     columns.ids.put(n, command.id)?;
     columns.clauses.put(n, command.clause)?;
     columns.premises.put(n, command.premises)?;
-    columns.discharged.put(n, command.discharged)?;
-    columns.pivots.put(n, command.pivots)?;
+    columns.discharged.put_if_any(n, command.discharged)?;
+    columns.pivots.put_if_any(n, command.pivots)?;
     match command.ratios {
-        Some(ratios) => columns.ratios.put(n, ratios),
-        None => columns.ratios.put(n, &[]),
+        Some(ratios) => columns.ratios.put_if_any(n, ratios),
+        None => columns.ratios.put_if_any(n, &[]),
     }
 }
 
@@ -226,7 +229,7 @@ impl Commands {
         requires { i < length self.now }
         ensures { option_map (λ s. s.discharged) (slice_get self.now i) ≡ Some result.now }
     {
-        self.columns.discharged.get(i)
+        self.columns.discharged.get_or_empty(i)
     }
 
     /// Its pivots.
@@ -235,7 +238,7 @@ impl Commands {
         requires { i < length self.now }
         ensures { option_map (λ s. s.pivots) (slice_get self.now i) ≡ Some result.now }
     {
-        self.columns.pivots.get(i)
+        self.columns.pivots.get_or_empty(i)
     }
 
     /// Its coefficients, where it has a list of them.
@@ -245,7 +248,7 @@ impl Commands {
         ensures { option_map (λ s. s.ratios) (slice_get self.now i) ≡ Some (option_map (λ (qs : Bor (List Ratio)). qs.now) result) }
     {
         if row_at(&self.rows, i).has_ratios {
-            Some(self.columns.ratios.get(i))
+            Some(self.columns.ratios.get_or_empty(i))
         } else {
             None
         }

@@ -1,7 +1,7 @@
 //! Lists of lists, kept end to end.
 
-ghost use Rattle.std.specs.Prelude.{◌≡◌, ◌+◌, ◌^◌, ◌<◌, ◌≤◌, ◌++◌, [], ◌∷◌, length, take, slice_get, Some, false, OnOk, OnErr};
-ghost use Rattle.proof_store.specs.Lists.{parts, start_of, AreListEnds};
+ghost use Rattle.std.specs.Prelude.{◌≡◌, ◌+◌, ◌^◌, ◌<◌, ◌≤◌, ◌++◌, [], ◌∷◌, length, take, slice_get, slice_index_or, ℕ, Some, false, OnOk, OnErr};
+ghost use Rattle.proof_store.specs.Lists.{parts, start_of, AreListEnds, filled, SameBelow};
 
 use pair_pool::Memory;
 use std::alloc::{AllocError, Global};
@@ -11,7 +11,8 @@ use std::marker::Model;
 const MOST_ITEMS: usize = 4_294_967_295;
 
 /// Lists that are only added to: their items stand end to end in one vector, and another has the end of each. A list
-/// takes 4 bytes beside its items, of which there are at most 2^32 - 1 in all, and adding one grows each vector at most once.
+/// takes 4 bytes beside its items, of which there are at most 2^32 - 1 in all. Adding one grows each vector at most once,
+/// and that of the ends once more where empty lists are put before it.
 #[derive(Drop)]
 pub(crate) struct Lists<T: Copy + Drop> {
     items: Vec<T>,
@@ -51,13 +52,16 @@ fn part<'a, T: Copy + Drop>(items: &'a [T], ends: &[u32], i: usize) -> &'a [T]
 }
 
 /// Takes away the lists from place `i` on.
-#[tactic(auto, using(crate::proofs::Parts::parts_take, crate::proofs::Parts::ends_cut))]
+#[tactic(auto, using(crate::proofs::Parts::parts_take, crate::proofs::Parts::parts_all, crate::proofs::Parts::ends_cut, crate::proofs::Parts::count_cut))]
 fn cut<T: Copy + Drop>(items: &mut Vec<T>, ends: &mut Vec<u32>, i: usize)
-    requires ends { AreListEnds 0 ends.old.items (length items.old.items) }
-    requires there { i ≤ length ends.old.items }
+    requires { AreListEnds 0 ends.old.items (length items.old.items) }
     ensures ends { AreListEnds 0 ends.new.items (length items.new.items) }
     ensures parts { parts 0 ends.new.items items.new.items ≡ take i (parts 0 ends.old.items items.old.items) }
+    ensures count { length ends.new.items ≤ i }
 {
+    if i >= ends.len() {
+        return;
+    }
     let end = start(ends, i);
     ends.truncate(i);
     items.truncate(end);
@@ -99,6 +103,48 @@ fn add<T: Copy + Drop>(items: &mut Vec<T>, ends: &mut Vec<u32>, list: &[T]) -> R
     Ok(())
 }
 
+/// Where the last list ends.
+#[tactic(auto, using(crate::proofs::Parts::last_ends))]
+fn last_end(ends: &[u32]) -> u32
+    ensures { (end : ℕ) → AreListEnds 0 ends.now end → result ≡ end }
+{
+    if ends.is_empty() {
+        0
+    } else {
+        ends[ends.len() - 1]
+    }
+}
+
+/// Puts empty lists behind all others until there are `i`: each ends where the last one does.
+#[tactic(auto, using(crate::proofs::Parts::is_filled))]
+fn fill(ends: &mut Vec<u32>, i: usize) -> Result<(), Memory>
+    requires { length ends.old.items ≤ i }
+    ensures filled { OnOk result ((end : ℕ) → AreListEnds 0 ends.old.items end → ends.new.items ≡ filled i ends.old.items end) }
+    ensures refused { OnErr result (ends.new.items ≡ ends.old.items) }
+{
+    let end = last_end(ends);
+    ends.resize(i, end)?;
+    Ok(())
+}
+
+/// Adds a list at place `i`, behind empty ones where fewer lists are there.
+#[tactic(auto, using(crate::proofs::Parts::filled_ends, crate::proofs::Parts::filled_parts, crate::proofs::Parts::filled_count, crate::proofs::ListLemmas::get_put_behind, crate::proofs::ListLemmas::same_put_behind))]
+fn add_at<T: Copy + Drop>(
+    items: &mut Vec<T>,
+    ends: &mut Vec<u32>,
+    i: usize,
+    list: &[T],
+) -> Result<(), Memory>
+    requires ends { AreListEnds 0 ends.old.items (length items.old.items) }
+    requires fewer { length ends.old.items ≤ i }
+    ensures ends { AreListEnds 0 ends.new.items (length items.new.items) }
+    ensures put { OnOk result (slice_index_or (parts 0 ends.new.items items.new.items) i [] ≡ list.now) }
+    ensures agrees { SameBelow i (parts 0 ends.old.items items.old.items) (parts 0 ends.new.items items.new.items) }
+{
+    fill(ends, i)?;
+    add(items, ends, list)
+}
+
 impl<T: Copy + Drop> Lists<T> {
     /// No lists.
     pub(crate) fn new(alloc: Global) -> Lists<T>
@@ -129,5 +175,32 @@ impl<T: Copy + Drop> Lists<T> {
     {
         cut(&mut self.items, &mut self.ends, i);
         add(&mut self.items, &mut self.ends, list)
+    }
+
+    /// The list at place `i`, which is empty behind the last one.
+    #[tactic(auto, using(crate::proofs::Parts::parts_count, crate::proofs::ListLemmas::get_from_slice_get, crate::proofs::ListLemmas::get_behind))]
+    pub(crate) fn get_or_empty(&self, i: usize) -> &[T]
+        ensures { slice_index_or self.now i [] ≡ result.now }
+    {
+        if i < self.ends.len() {
+            part(&self.items, &self.ends, i)
+        } else {
+            &[]
+        }
+    }
+
+    /// Puts a list at place `i`, for `get_or_empty`, and takes away what stood there and behind it, the list itself where it
+    /// is refused. An empty one takes no end, so that lists that are mostly empty cost little; one that is not empty is put
+    /// behind empty ones up to its place. Where lists are put at places that only go up, no place is filled so twice.
+    #[tactic(auto, using(crate::proofs::Parts::parts_count, crate::proofs::ListLemmas::get_cut, crate::proofs::ListLemmas::same_cut, crate::proofs::ListLemmas::same_put))]
+    pub(crate) fn put_if_any(&mut self, i: usize, list: &[T]) -> Result<(), Memory>
+        ensures put { OnOk result (slice_index_or self.new i [] ≡ list.now) }
+        ensures agrees { SameBelow i self.old self.new }
+    {
+        cut(&mut self.items, &mut self.ends, i);
+        match list {
+            [] => Ok(()),
+            _ => add_at(&mut self.items, &mut self.ends, i, list),
+        }
     }
 }
