@@ -3,3 +3,4 @@ pub mod StatusLemmas
 pub mod AssumeLemmas
 pub mod ListLemmas
 pub mod Growing
+pub mod AheadLemmas

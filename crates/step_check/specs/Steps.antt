@@ -1,8 +1,7 @@
 -- Private. What is said of one command: how its rule is judged, and its status, whatever it stands for.
-use Rattle.std.specs.Prelude.{◌≡◌, ◌↔◌, ◌<◌, ℕ, slice_index_or, List, All, Bool, true, false, Option, Some, None, IsTrue, ⊤}
+use Rattle.std.specs.Prelude.{◌≡◌, ◌↔◌, ◌<◌, ℕ, slice_index_or, List, All, Bool, true, false, Option, Some, None, IsTrue}
 use Rattle.std.specs.List.{AllZip}
 use Rattle.sym_table.specs.Table.{Table}
-use Rattle.term_model.specs.Flips.{EqualUpToFlips}
 use Rattle.term_model.specs.Terms.{Var, Term}
 use Rattle.term_pool.specs.Views.{TermsView, RefersTo, ReferToAll}
 use Rattle.rule_model.specs.declared.rules.Rule.{Rule}
@@ -11,7 +10,7 @@ use Rattle.rule_model.specs.declared.rules.StepCause.{StepCause}
 use Rattle.rule_model.specs.declared.statuses.Status.{Status}
 use Rattle.rule_model.specs.Conditions.{IsMetAt, IsTooWideAt}
 use Rattle.rule_model.specs.Proofs.{ProofItems}
-use Rattle.rule_model.specs.Statuses.{Kind as KindOfRule, assumed, hole, unknown, conditional, kind_of_rule, IsAsserted, MayAssume, IsStatusAt}
+use Rattle.rule_model.specs.Statuses.{Kind as KindOfRule, hole, unknown, conditional, kind_of_rule, IsAsserted, MayAssume, IsStatusAt}
 use Rattle.proof_store.specs.declared.answers.Answer.{Answer}
 use Rattle.proof_store.specs.Meaning.{StandForItems}
 use Rattle.term_reader.specs.declared.flags.Flags.{Flags}

@@ -14,6 +14,7 @@ ghost use Rattle.flip_keys.specs.Assertions.{references_of, AreAssertionsReady};
 ghost use Rattle.proof_contexts.specs.OpenAnchors.{AreKept};
 ghost use Rattle.step_check.specs.Statuses.{AreAsserted, AreStatusesOf, LacksRoomForPlaced, PlacesOnly};
 
+use crate::looking_ahead::Ahead;
 use crate::steps::{Kept, Rules, Subject, status_at};
 use flip_keys::Assertions;
 use pair_pool::{Memory, Ref};
@@ -115,6 +116,7 @@ pub fn statuses(
         arithmetic: rules_arith::Scratch::new(alloc),
     };
     let mut kept = Kept {
+        ahead: Ahead::new(alloc),
         rules,
         asserted,
         scopes,

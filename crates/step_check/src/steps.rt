@@ -20,6 +20,7 @@ ghost use Rattle.step_check.specs.Steps.{IsOfFamily, IsStatusOf, IsStatusOfAnswe
 use crate::assumes::are_asserted;
 use crate::families::{Family, is_reflexivity};
 use crate::kinds::{Kind, kind_of};
+use crate::looking_ahead::Ahead;
 use flip_keys::{Assertions, keys_stay};
 use pair_pool::Memory;
 use proof_contexts::{OpenScopes, commands_stand_in_scopes};
@@ -53,6 +54,7 @@ pub(crate) struct Rules {
 /// What a check keeps from step to step.
 #[derive(Drop)]
 pub(crate) struct Kept {
+    pub(crate) ahead: Ahead,
     pub(crate) rules: Rules,
     pub(crate) asserted: Assertions,
     pub(crate) scopes: OpenScopes,
@@ -246,7 +248,7 @@ fn status_of_refl(
 }
 
 /// The status of the command at an index.
-pub(crate) fn status_at(
+fn status_of_command(
     subject: &Subject<'_>,
     i: u32,
     kept: &mut Kept,
@@ -271,4 +273,29 @@ pub(crate) fn status_at(
     } else {
         status_of_other(subject, i, &mut kept.rules, &mut kept.asserted, terms)
     }
+}
+
+/// The status of the command at an index, where those before it were asked for first: cells of some commands are looked at
+/// before the first of these.
+pub(crate) fn status_at(
+    subject: &Subject<'_>,
+    i: u32,
+    kept: &mut Kept,
+    terms: &mut Terms<'_>,
+) -> Result<Status, RuleStop>
+    requires index { i < commands_in subject.now.proof.now }
+    requires kept { AreKept subject.now.symbols.now terms.old subject.now.proof.now kept.old.scopes }
+    requires ready { AreAssertionsReady terms.old kept.old.asserted }
+    requires short { IsShort subject.now.proof.now }
+    requires sorted { (of : ProofItems Var Term) → StandForItems subject.now.symbols.now terms.old subject.now.proof.now of → IsClauseOfTruths (clause_at of i) }
+    ensures status { IfOk result (λ status. IsStatusOf subject.now.flags subject.now.symbols.now terms.old (references_of kept.old.asserted) subject.now.proof.now i status) }
+    ensures placed { PlacesOnly subject.now.symbols.now terms.old terms.new subject.now.proof.now }
+    ensures full { IfErr result (λ stop. stop ≡ RuleStop.PoolFull → LacksRoomForPlaced subject.now.symbols.now terms.old terms.new subject.now.proof.now) }
+    ensures references { references_of kept.new.asserted ≡ references_of kept.old.asserted }
+    ensures ready { OnOk result (AreAssertionsReady terms.new kept.new.asserted) }
+    ensures keeps { KeepsTerms terms.old terms.new }
+    ensures kept { AreKept subject.now.symbols.now terms.new subject.now.proof.now kept.new.scopes }
+{
+    kept.ahead.look(subject.proof, i, terms)?;
+    status_of_command(subject, i, kept, terms)
 }
