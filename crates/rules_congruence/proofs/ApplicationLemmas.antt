@@ -2,12 +2,13 @@
 use Rattle.std.proofs.Common.{◌≡◌, ◌≢◌, ℕ, List, [], ◌∷◌, length, refl, sym, ap, ◌∙◌, subst, arith, Some}
 use Rattle.rule_model.proofs.ArgumentLists.{list_of-terms_of}
 use Rattle.rule_model.specs.Congruence.{Head, operator, function, applied}
+use Rattle.schema_match.specs.Arguments.{HasSoMany}
 use Rattle.sym_table.specs.Leaf.{Leaf}
 use Rattle.sym_table.specs.Table.{Table, IsTable, IsLeaf}
 use Rattle.term_model.specs.Terms.{Fun, Term, Terms, numeral, variable, operation, call, let_in, no_terms, term, list_of, terms_of}
 use Rattle.term_pool.specs.Reading.{arguments_of, IsLet}
-use Rattle.term_pool.specs.Views.{TermsView, RefersTo, ReferToAll}
-use Rattle.rules_congruence.specs.Applications.{leaf_of, HasHead, AreApplied}
+use Rattle.term_pool.specs.Views.{TermsView, RefersTo, ReferToAll, IsTerm}
+use Rattle.rules_congruence.specs.Applications.{leaf_of, HasHead, IsNoLetTerm, AreApplied}
 use Rattle.rules_congruence.specs.Steps.{ReferTo}
 use Rattle.rules_congruence.proofs.Referring.{zip_none, none_zip}
 
@@ -78,12 +79,28 @@ refer_all s v [] (t ∷ ts) h = absurd h
 refer_all s v (r ∷ rs) [] h = absurd h
 refer_all s v (r ∷ rs) (t ∷ ts) h = (h.0, refer_all s v rs ts h.1)
 
+pub refer_none : (s : Table) (v : TermsView) (rs : List ℕ) (ts : List Term) → rs ≡ [] → length ts ≡ 0 → ReferTo s v rs ts
+refer_none s v rs [] empty none = rw empty tt
+refer_none s v rs (t ∷ ts) empty none = absurd (omega (arith, none))
+
+-- a term that is no let has as many arguments as are counted
+pub so_many : (s : Table) (v : TermsView) (r n : ℕ) → IsNoLetTerm s v r → ((z : Table) (t : Term) → RefersTo z v r t → (IsLet t → ⊥) → n ≡ length (arguments_of t)) → HasSoMany v r n
+so_many s v r n is count = record {
+  symbols = s;
+  means = is.means;
+  refers = is.refers;
+  many = sym (count s is.means is.refers is.no_let);
+}
+
 pub head_is_no_let : (s : Table) (k : ℕ) (t : Term) → HasHead s k t → IsLet t → ⊥
 head_is_no_let s k (numeral n) h is = is
 head_is_no_let s k (variable x) h is = is
 head_is_no_let s k (operation op ts) h is = is
 head_is_no_let s k (call f ts) h is = is
 head_is_no_let s k (let_in bs u) h is = h
+
+pub no_let_term : (s : Table) (v : TermsView) (r k : ℕ) → (is : IsTerm s v r) → HasHead s k is.means → IsNoLetTerm s v r
+no_let_term s v r k is head = record { means = is.means; refers = is.refers; no_let = head_is_no_let s k is.means head }
 
 pub no_argument : (s : Table) (v : TermsView) (rs : List ℕ) (head : Head) (ts : List Term) (t : Term) → length rs ≡ 0 → t ≡ applied head ts → ReferTo s v rs (arguments_of t) → ts ≡ []
 no_argument s v [] head ts t empty e refer = sym (arguments_are head ts t e) ∙ none_zip (RefersTo s v) (arguments_of t) refer

@@ -1,5 +1,5 @@
 -- A step of a proof: the clauses of its premises, its own, and its rule.
-use Rattle.std.proofs.Common.{◌≡◌, ◌≢◌, ◌↔◌, ℕ, zero, suc, ◌+◌, ◌<◌, List, [], ◌∷◌, ◌++◌, Bool, length, map, get_or, take, slice_get, Some, IsTrue, refl, sym, ◌∙◌, ap, subst, arith}
+use Rattle.std.proofs.Common.{◌≡◌, ◌≢◌, ◌↔◌, ℕ, zero, suc, ◌+◌, ◌<◌, ◌≤◌, List, [], ◌∷◌, ◌++◌, Bool, length, map, get_or, take, slice_get, Some, IsTrue, refl, sym, ◌∙◌, ap, subst, arith}
 use Rattle.std.specs.Borrow.{Bor}
 use Rattle.std.specs.Option.{option_map_or}
 use Rattle.std.proofs.lemmas.List.{get_or_default, map_push, map_more}
@@ -47,6 +47,19 @@ clauses_more f js k list p below here before =
     ∙ ap (λ (xs : List (List ℕ)). xs ++ p.now ∷ []) before
     ∙ ap (λ (x : List ℕ). map f (take k js) ++ x ∷ []) here
     ∙ sym (map_more f js k 0 below)
+
+-- the clauses of one premise, and of two
+pub one_clause : (f : ℕ → List ℕ) (js ks : List ℕ) (p : List ℕ) → 1 ≤ length js → length js < 2 → js ≡ ks → p ≡ f (get_or js 0 0) → p ∷ [] ≡ map f ks
+one_clause f [] ks p many few is here = absurd (omega (arith, many))
+one_clause f (j ∷ []) ks p many few is here = subst (λ xs. p ∷ [] ≡ map f xs) is (ap (λ x. x ∷ []) here)
+one_clause f (j ∷ k ∷ js) ks p many few is here = absurd (omega (arith, few))
+
+pub two_clauses : (f : ℕ → List ℕ) (js ks : List ℕ) (p q : List ℕ) → 2 ≤ length js → length js < 3 → js ≡ ks → p ≡ f (get_or js 0 0) → q ≡ f (get_or js 1 0) → p ∷ q ∷ [] ≡ map f ks
+two_clauses f [] ks p q many few is here there = absurd (omega (arith, many))
+two_clauses f (j ∷ []) ks p q many few is here there = absurd (omega (arith, many))
+two_clauses f (j ∷ k ∷ []) ks p q many few is here there =
+    subst (λ xs. p ∷ q ∷ [] ≡ map f xs) is (rw (here, there) refl)
+two_clauses f (j ∷ k ∷ l ∷ js) ks p q many few is here there = absurd (omega (arith, few))
 
 module _ (s : Table) (v : TermsView) where
   pub are_terms : (rs : List ℕ) (ts : List Term) → ReferTo s v rs ts → AreTerms s v rs

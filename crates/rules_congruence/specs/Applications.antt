@@ -5,9 +5,9 @@ use Rattle.sym_table.specs.Leaf.{Leaf}
 use Rattle.sym_table.specs.Table.{Table, IsLeaf}
 use Rattle.term_model.specs.Terms.{Term}
 use Rattle.term_pool.specs.Building.{IsAppliedLeaf}
-use Rattle.term_pool.specs.Reading.{arguments_of}
+use Rattle.term_pool.specs.Reading.{arguments_of, IsLet}
 use Rattle.term_pool.specs.StandsFor.{function_leaf}
-use Rattle.term_pool.specs.Views.{TermsView}
+use Rattle.term_pool.specs.Views.{TermsView, RefersTo}
 use Rattle.rules_congruence.specs.Steps.{ReferTo}
 
 -- the symbol of a head
@@ -18,6 +18,12 @@ leaf_of (function f) = function_leaf f
 -- the term is the leaf's symbol, applied to its arguments
 abbrev pub HasHead : Table → ℕ → Term → Type 0
 HasHead s k t = IsAppliedLeaf s k (arguments_of t) t
+
+-- the reference stands for a term that is no let
+pub record IsNoLetTerm (s : Table) (v : TermsView) (r : ℕ) : Type 0 where
+  pub means : Term
+  pub refers : RefersTo s v r means
+  pub no_let : IsLet means → ⊥
 
 -- the terms are applications of the head of this leaf, the first to one argument or more, and the references stand for
 -- their arguments

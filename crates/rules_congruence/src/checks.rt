@@ -120,7 +120,46 @@ fn meets(
     }
 }
 
-/// Whether the clauses of the step at an index meet its rule, whatever scope it closes.
+/// The step at an index of a proof, to be judged in a mode.
+#[derive(Clone, Copy)]
+struct Step<'a> {
+    proof: &'a Proof,
+    i: u32,
+    mode: Mode,
+}
+
+/// Whether the clauses of a step meet its rule, where those of its premises are at hand.
+fn meets_by(
+    alloc: Global,
+    symbols: &Symbols,
+    terms: &mut Terms<'_>,
+    step: Step<'_>,
+    premises: &[&[Ref]],
+) -> Result<bool, Memory>
+    requires index { step.i < commands_in step.proof.now }
+    requires equality { IsOfEquality (rule_at step.proof.now step.i) }
+    requires stand { StandForSome symbols.now terms.old step.proof.now }
+    requires sorted { (of : ProofItems Var Term) → StandForItems symbols.now terms.old step.proof.now of → IsClauseOfTruths (clause_at of step.i) }
+    requires premises { clauses_of premises.now ≡ map (clause_at step.proof.now) (premises_at step.proof.now step.i) }
+    ensures meets { IfOk result (λ yes. (of : ProofItems Var Term) → StandForItems symbols.now terms.old step.entry.proof.now of → IsTrue yes ↔ Met (judged_at step.entry.mode of step.entry.i)) }
+    ensures same { terms.new ≡ terms.old }
+{
+    commands_correspond();
+    terms_correspond();
+    let clause = step.proof.clause(step.i);
+    let rule = step.proof.rule(step.i);
+    meets(
+        alloc,
+        step.mode,
+        rule,
+        symbols,
+        terms,
+        Clauses { premises, clause },
+    )
+}
+
+/// Whether the clauses of the step at an index meet its rule, whatever scope it closes. The clauses of one premise or two,
+/// as most steps have, need no list from the allocator.
 fn meets_at(
     alloc: Global,
     proof: &Proof,
@@ -136,20 +175,19 @@ fn meets_at(
     ensures meets { IfOk result (λ yes. (of : ProofItems Var Term) → StandForItems symbols.now terms.old proof.now of → IsTrue yes ↔ Met (judged_at mode of i)) }
     ensures same { terms.new ≡ terms.old }
 {
-    commands_correspond();
-    terms_correspond();
-    let list = premises_of(alloc, proof, i)?;
-    let premises = list.as_slice();
-    let clause = proof.clause(i);
-    let rule = proof.rule(i);
-    meets(
-        alloc,
-        mode,
-        rule,
-        symbols,
-        terms,
-        Clauses { premises, clause },
-    )
+    let _commands = proof.count();
+    let step = Step { proof, i, mode };
+    match proof.premises(i) {
+        [one] => meets_by(alloc, symbols, terms, step, &[proof.clause(*one)]),
+        [one, two] => {
+            let both = [proof.clause(*one), proof.clause(*two)];
+            meets_by(alloc, symbols, terms, step, &both)
+        }
+        _ => {
+            let list = premises_of(alloc, proof, i)?;
+            meets_by(alloc, symbols, terms, step, &list)
+        }
+    }
 }
 
 /// Whether the step at an index meets the condition of its rule (Alethe specification, "List of rules"): `symm`,

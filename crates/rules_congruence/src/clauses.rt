@@ -4,6 +4,7 @@ ghost use Rattle.std.specs.Prelude.{◌≡◌, ◌≢◌, ◌++◌, ◌<◌, ℕ
 ghost use Rattle.rules_congruence.specs.Clauses.{IsOneUnit, IsNoUnit, IsLone, clauses_of};
 
 use pair_pool::Ref;
+use schema_match::Slot;
 
 /// The literal of a clause that has one.
 pub(crate) fn literal(clause: &[Ref]) -> Option<Ref>
@@ -70,9 +71,9 @@ pub(crate) fn denying_two<'a>(
 }
 
 /// The reference at a place.
-pub(crate) fn item(list: &[Ref], place: usize) -> Ref
+pub(crate) fn item(list: &[Slot], place: usize) -> Ref
     requires { place < length list.now }
     ensures { (d : ℕ) → slice_index_or list.now place d ≡ result }
 {
-    list[place]
+    list[place].get()
 }

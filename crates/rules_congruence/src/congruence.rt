@@ -15,6 +15,7 @@ use crate::applications::Applications;
 use crate::clauses::item;
 use crate::links::{Link, has};
 use pair_pool::{Memory, Ref};
+use schema_match::Slot;
 use std::alloc::Global;
 use sym_table::Symbols;
 use term_model::Op;
@@ -49,8 +50,8 @@ fn are_linked(
     symbols: &Symbols,
     terms: &mut Terms<'_>,
     links: &[Link],
-    lefts: &[Ref],
-    rights: &[Ref],
+    lefts: &[Slot],
+    rights: &[Slot],
 ) -> Result<bool, Memory>
     requires rising { IsNonDecreasingBy link_rank links.now }
     requires small { AreSmall links.now }
@@ -79,14 +80,14 @@ fn are_linked(
 }
 
 /// The two items of a list that has two.
-fn two(list: &[Ref]) -> Option<(Ref, Ref)>
+fn two(list: &[Slot]) -> Option<(Ref, Ref)>
     ensures two { IfSome result (λ p. list.now ≡ p.0 ∷ p.1 ∷ []) }
     ensures other { IfNone result ((a b : ℕ) → list.now ≢ a ∷ b ∷ []) }
 {
     let [first, second] = list else {
         return None;
     };
-    Some((*first, *second))
+    Some((first.get(), second.get()))
 }
 
 /// The sides of two equalities of two terms.

@@ -5,6 +5,7 @@ ghost use Rattle.std.specs.List.Sorted.{IsNonDecreasingBy};
 ghost use Rattle.rules_congruence.specs.Links.{link, link_rank, AreSmall, IsTableOf, IsFirstFrom, links_of};
 ghost use Rattle.rules_congruence.specs.declared.links.Link.{Link};
 
+use crate::sides::Sides;
 use pair_pool::{Memory, Ref};
 use std::alloc::Global;
 
@@ -37,19 +38,19 @@ fn add(links: &mut Vec<Link>, sides: (Ref, Ref)) -> Result<(), Memory>
 }
 
 /// The equalities in both directions, in their order.
-fn both_ways(alloc: Global, pairs: &[(Ref, Ref)]) -> Result<Vec<Link>, Memory>
+fn both_ways(alloc: Global, pairs: &[Sides]) -> Result<Vec<Link>, Memory>
     ensures links { IfOk result (λ links. links.items ≡ links_of pairs.now) }
     ensures small { IfOk result (λ links. AreSmall links.items) }
 {
     let mut links = Vec::new(alloc);
     for sides in pairs {
-        add(&mut links, *sides)?;
+        add(&mut links, sides.get())?;
     }
     Ok(links)
 }
 
 /// The table of these equalities.
-pub(crate) fn table_of(alloc: Global, pairs: &[(Ref, Ref)]) -> Result<Vec<Link>, Memory>
+pub(crate) fn table_of(alloc: Global, pairs: &[Sides]) -> Result<Vec<Link>, Memory>
     ensures { IfOk result (λ links. IsTableOf pairs.now links.items) }
 {
     let mut links = both_ways(alloc, pairs)?;

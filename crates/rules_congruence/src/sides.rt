@@ -8,16 +8,62 @@ ghost use Rattle.rules_congruence.specs.Steps.{ReferTo, ReferToClauses, AreTerms
 
 use crate::clauses::literal;
 use pair_pool::{Memory, Ref};
+use smallvec::SmallVec;
 use std::alloc::Global;
+use std::marker::Model;
 use sym_table::Symbols;
 use term_parts::{denied_sides, sides_of};
 use term_pool::Terms;
 
+/// The sides of an equality in a list. Contracts see the pair of their references.
+#[derive(Clone, Copy)]
+pub(crate) struct Sides {
+    left: Ref,
+    right: Ref,
+}
+
+impl Model for Sides {
+    ghost use Rattle.std.specs.Prelude.{ℕ};
+
+    ghost Value = { ℕ × ℕ };
+
+    ghost view = { λ s. (s.left, s.right) };
+
+    ghost inverse = { λ p. record { left = p.0; right = p.1 } };
+}
+
+impl Default for Sides {
+    fn default() -> Sides {
+        Sides {
+            left: Ref::leaf(0),
+            right: Ref::leaf(0),
+        }
+    }
+}
+
+impl Sides {
+    /// Both sides.
+    pub(crate) fn get(self) -> (Ref, Ref)
+        ensures { result ≡ self }
+    {
+        (self.left, self.right)
+    }
+}
+
+/// Puts the sides of an equality at the end of a list.
+fn push(pairs: &mut SmallVec<Sides, 4>, sides: (Ref, Ref)) -> Result<(), Memory>
+    ensures { OnOk result (pairs.new.items ≡ pairs.old.items ++ sides ∷ []) }
+{
+    let (left, right) = sides;
+    pairs.push(Sides { left, right })?;
+    Ok(())
+}
+
 /// The equalities that a step may use.
 #[derive(Drop)]
 pub(crate) struct Given {
-    /// Their sides, in order.
-    pub(crate) pairs: Vec<(Ref, Ref)>,
+    /// Their sides, in order. Up to four of them take no memory.
+    pub(crate) pairs: SmallVec<Sides, 4>,
     /// Whether there is nothing beside them.
     pub(crate) only: bool,
 }
@@ -42,7 +88,7 @@ impl Given {
         ensures only { result.only ≡ true }
     {
         Given {
-            pairs: Vec::new(alloc),
+            pairs: SmallVec::new(alloc),
             only: true,
         }
     }
@@ -64,8 +110,7 @@ impl Given {
             self.only = false;
             return Ok(());
         };
-        self.pairs.push(sides)?;
-        Ok(())
+        push(&mut self.pairs, sides)
     }
 }
 
@@ -108,7 +153,7 @@ pub(crate) fn denied(
         let Some(sides) = denied_sides(symbols, terms, *literal) else {
             return Ok(None);
         };
-        given.pairs.push(sides)?;
+        push(&mut given.pairs, sides)?;
     }
     Ok(Some(given))
 }

@@ -11,7 +11,7 @@ ghost use Rattle.rules_congruence.specs.Steps.{ReferTo, ReferToClauses, AreTerms
 ghost use Rattle.rules_congruence.specs.declared.uses.Uses.TheVariants as Uses;
 ghost use Rattle.rules_congruence.specs.Uses.{Together};
 
-use crate::applications::{Applications, take_apart};
+use crate::applications::Applications;
 use crate::clauses::{denying, literal};
 use crate::congruence::hang;
 use crate::links::table_of;
@@ -97,9 +97,10 @@ pub(crate) fn are_congruent(
         RefersTo symbols.now terms.old sides.0 t → RefersTo symbols.now terms.old sides.1 u → IsTrue yes ↔ AreCongruent (Together uses) ps t u) }
     ensures same { terms.new ≡ terms.old }
 {
-    let Some(both) = take_apart(alloc, symbols, terms, sides.0, sides.1)? else {
+    let mut both = Applications::none(alloc);
+    if !both.read(symbols, terms, sides.0, sides.1)? {
         return Ok(false);
-    };
+    }
     together(alloc, uses, symbols, terms, given, &both)
 }
 

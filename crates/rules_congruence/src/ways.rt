@@ -8,20 +8,22 @@ ghost use Rattle.rules_congruence.specs.Pairs.{AreEnds, IsPath};
 ghost use Rattle.rules_congruence.specs.Ways.{IsNear, Inserts, AddsEnds};
 
 use crate::links::{Link, first_from, link_at, table_of};
+use crate::sides::Sides;
 use indexmap::IndexSet;
 use pair_pool::{Memory, Ref};
 use std::alloc::Global;
 
 /// Whether each pair begins where the one before it ends, from one reference to another.
-pub(crate) fn is_path(pairs: &[(Ref, Ref)], from: Ref, to: Ref) -> bool
+pub(crate) fn is_path(pairs: &[Sides], from: Ref, to: Ref) -> bool
     ensures { IsTrue result ↔ IsPath pairs.now from to }
 {
     let mut at = from;
     for sides in pairs {
-        if sides.0.number() != at.number() {
+        let (left, right) = sides.get();
+        if left.number() != at.number() {
             return false;
         }
-        at = sides.1;
+        at = right;
     }
     at.number() == to.number()
 }
@@ -77,7 +79,7 @@ fn reaches(alloc: Global, links: &[Link], from: Ref, to: Ref) -> Result<bool, Me
 /// Whether pairs, each in either direction and in any order, lead from one reference to another.
 pub(crate) fn is_connected(
     alloc: Global,
-    pairs: &[(Ref, Ref)],
+    pairs: &[Sides],
     from: Ref,
     to: Ref,
 ) -> Result<bool, Memory>

@@ -1,38 +1,28 @@
-use Rattle.std.proofs.Common.{◌∙◌, ap, sym, subst}
-use Rattle.std.proofs.lemmas.Result.{IfOk-weaker}
-use Rattle.rule_model.specs.Congruence.{IsOfEquality}
-use Rattle.rules_congruence.specs.Clauses.{clauses_of}
-use Rattle.rules_congruence.proofs.PredicateLemmas.{are_truths}
-use Rattle.rules_congruence.proofs.StepLemmas.{are_clauses, step_refers, met_by}
+use Rattle.std.proofs.Common.{◌<◌, length, arith}
+use Rattle.rule_model.specs.Reading.{clause_at}
+use Rattle.rules_congruence.proofs.StepLemmas.{premise_within, one_clause, two_clauses}
 use Rattle.rules_congruence.proofs.checks.meets_at.Goals as goal
 
-pub meets-requires-clause-premises : goal.meets-requires-clause-premises
-meets-requires-clause-premises c =
-    let s = c.args.symbols.now in
-    let v = c.args.terms.now in
-    let refs = c.args.proof.now in
-    let i = c.args.i in
-    let step = step_refers s v refs c.requires.stand.proof i c.as_slice-premises.result.now c.clause-clause.result.now (λ j. c.terms_correspond.ensures.clause s v refs c.requires.stand.proof j c.requires.stand.stand)
-    (c.commands_correspond.ensures.premises s v refs c.requires.stand.proof i c.requires.stand.stand) (ap clauses_of c.as_slice-premises.ensures.value ∙ c.in_ok-list.ensures) c.clause-clause.ensures in
-    are_clauses s v _ _ step.0
+pub clause-requires : goal.clause-requires
+clause-requires c =
+    rw c.premises.ensures
+    (premise_within c.args.proof.now c.args.i 0 c.count-commands.ensures.well_formed c.requires.index (rw c.premises.ensures at c.in-len1.len_at_least))
 
-pub meets-requires-clause-clause : goal.meets-requires-clause-clause
-meets-requires-clause-clause c =
-    let s = c.args.symbols.now in
-    let v = c.args.terms.now in
-    let refs = c.args.proof.now in
-    let i = c.args.i in
-    let step = step_refers s v refs c.requires.stand.proof i c.as_slice-premises.result.now c.clause-clause.result.now (λ j. c.terms_correspond.ensures.clause s v refs c.requires.stand.proof j c.requires.stand.stand)
-    (c.commands_correspond.ensures.premises s v refs c.requires.stand.proof i c.requires.stand.stand) (ap clauses_of c.as_slice-premises.ensures.value ∙ c.in_ok-list.ensures) c.clause-clause.ensures in
-    are_truths s v _ _ step.1 (c.requires.sorted c.requires.stand.proof c.requires.stand.stand)
+pub meets_by-requires-clause-premises : goal.meets_by-requires-clause-premises
+meets_by-requires-clause-premises c =
+    one_clause (clause_at c.args.proof.now) c.premises.result.now _ _ c.in-len1.len_at_least c.in-len1.len_below c.premises.ensures c.clause.ensures
 
-pub returns-clause-meets : goal.returns-clause-meets
-returns-clause-meets c =
-    IfOk-weaker c.meets.result _ _ (λ b test of stand.
-    let s = c.args.symbols.now in
-    let v = c.args.terms.now in
-    let refs = c.args.proof.now in
-    let i = c.args.i in
-    let step = step_refers s v refs of i c.as_slice-premises.result.now c.clause-clause.result.now (λ j. c.terms_correspond.ensures.clause s v refs of j stand)
-    (c.commands_correspond.ensures.premises s v refs of i stand) (ap clauses_of c.as_slice-premises.ensures.value ∙ c.in_ok-list.ensures) c.clause-clause.ensures in
-    met_by c.args.mode of i c.rule-rule.result b (c.rule-rule.ensures ∙ c.commands_correspond.ensures.rule s v refs of i stand) (subst IsOfEquality (sym c.rule-rule.ensures) c.requires.equality) (test _ _ step.0 step.1)) c.meets.ensures.met
+pub clause-requires-in-len2 : goal.clause-requires-in-len2
+clause-requires-in-len2 c =
+    let many = c.in-len2.len_at_least in
+    let some : 0 < length c.premises.result.now = omega (arith, many) in
+    rw c.premises.ensures (premise_within c.args.proof.now c.args.i 0 c.count-commands.ensures.well_formed c.requires.index (rw c.premises.ensures at some))
+
+pub clause-requires-in-len2-2 : goal.clause-requires-in-len2-2
+clause-requires-in-len2-2 c =
+    rw c.premises.ensures
+    (premise_within c.args.proof.now c.args.i 1 c.count-commands.ensures.well_formed c.requires.index (rw c.premises.ensures at c.in-len2.len_at_least))
+
+pub meets_by-requires-in-len2-clause-premises : goal.meets_by-requires-in-len2-clause-premises
+meets_by-requires-in-len2-clause-premises c =
+    two_clauses (clause_at c.args.proof.now) c.premises.result.now _ _ _ c.in-len2.len_at_least c.in-len2.len_below c.premises.ensures c.clause-in-len2.ensures c.clause-in-len2-2.ensures

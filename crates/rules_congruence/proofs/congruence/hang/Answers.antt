@@ -11,7 +11,7 @@ use Rattle.rules_congruence.proofs.congruence.hang.Goals as goal
 
 pub returns-in_default-clause-linked : goal.returns-in_default-clause-linked
 returns-in_default-clause-linked c ps t u tells a =
-    let zip = (rw (c.deref.ensures.value, c.deref-2.ensures.value) at c.in_ok-are_linked.ensures.linked) ps a.ts a.us tells a.left a.right in
+    let zip = (rw (c.deref.ensures, c.deref-2.ensures) at c.in_ok-are_linked.ensures.linked) ps a.ts a.us tells a.left a.right in
     false_is (not_linked a.head ps a.ts a.us (λ h. let clash = sym c.if-branch.false ∙ zip.1 h in cc)
     (not_crossed c.args.symbols.now c.args.terms.now c.args.both.now.head c.args.both.now.left.items c.args.both.now.right.items t u ps a c.in_default.ensures.other))
 
@@ -21,7 +21,7 @@ returns-clause-linked c =
     (λ yes. (ps : List (List Term)) (t u : Term) → TellsSides c.args.symbols.now c.args.terms.now c.args.links.now ps → (a : AreApplied c.args.symbols.now c.args.terms.now c.args.both.now.head c.args.both.now.left.items c.args.both.now.right.items t u) → IsTrue yes ↔ AreLinked a.head ps a.ts a.us)
     c.are_crosswise.result
     (λ yes h ps t u tells a.
-    let zip = (rw (c.deref.ensures.value, c.deref-2.ensures.value) at c.in_ok-are_linked.ensures.linked) ps a.ts a.us tells a.left a.right in
+    let zip = (rw (c.deref.ensures, c.deref-2.ensures) at c.in_ok-are_linked.ensures.linked) ps a.ts a.us tells a.left a.right in
     linked_or_crossed a.head ps a.ts a.us (λ z. let clash = sym c.if-branch.false ∙ zip.1 z in cc)
     (crossed_by c.args.symbols.now c.args.terms.now c.args.both.now.head c.args.both.now.left.items c.args.both.now.right.items t u ps a c.in-Some.pairs c.in-Some.ensures.pairs
     (λ x y z w one two three four. h ps x y z w tells one two three four)))

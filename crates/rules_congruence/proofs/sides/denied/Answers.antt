@@ -14,7 +14,7 @@ pub loop-literal-preserved : goal.loop-literal-preserved
 loop-literal-preserved c = (
   c.denied_sides.ensures.same ∙ c.loop-literal.invariant.0,
   c.loop-literal.invariant.1,
-  rw c.in_ok-push.ensures.items
+  rw c.in_ok-push.ensures
       (denied_next c.args.symbols.now c.args.terms.now c.args.literals.now c.loop-literal.literal-index _ c.loop-literal.given.pairs.items c.in-Some.sides
       c.loop-literal-test.true c.literal-item.is c.loop-literal.invariant.2 (rw c.loop-literal.invariant.0 at c.in-Some.ensures.sides)),
 )

@@ -26,5 +26,5 @@ returns-clause-together c =
     (λ yes. (ps : List (List Term)) (t u : Term) → IsGiven s v c.args.given.now.pairs.items c.args.given.now.only ps → (a : AreApplied s v c.args.both.now.head c.args.both.now.left.items c.args.both.now.right.items t u) → IsTrue yes ↔ AreLinked a.head ps a.ts a.us)
     c.hang.result
     (λ yes h ps t u given a. h ps t u
-    (sides_told s v (c.equal_exactly_where_terms_are.ensures s c.count-leaves.ensures.table) c.args.given.now.pairs.items c.args.given.now.only ps c.in_ok-links.links.items given (rw c.deref.ensures.value at c.in_ok-links.ensures)) a)
+    (sides_told s v (c.equal_exactly_where_terms_are.ensures s c.count-leaves.ensures.table) c.args.given.now.pairs.items c.args.given.now.only ps c.in_ok-links.links.items given (rw c.deref.ensures at c.in_ok-links.ensures)) a)
     (rw c.deref-2.ensures.value at c.hang.ensures.linked)
