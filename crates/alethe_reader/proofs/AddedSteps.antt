@@ -122,14 +122,14 @@ module _ (s : Table) (v : TermsView) (settings : ProofSettings) (d : Session) (n
   has_rule = rule_same s v step of is h.named
 
   -- it stands in the scope that is written
-  may_stand : (o : Option OpenAnchor) → IsClosing d.ids p of.id h.here o → is_open_id p.scope.nesting of.id ≡ false → MayStand d.builder.nesting d.builder.items step
+  may_stand : (o : Option OpenAnchor) → IsClosing d.ids.used p of.id h.here o → is_open_id p.scope.nesting of.id ≡ false → MayStand d.builder.nesting d.builder.items step
   may_stand (Some a) c e = absurd (no_both (is_open_id p.scope.nesting of.id) c.0 e)
     where
       no_both : (b : Bool) → b ≡ true → b ≡ false → ⊥
       no_both b x y = absurd (cc)
   may_stand None c e = record {
     id = unused_new d.builder step.id (subst IsSymbolName (sym is.id) c.3.symbol)
-        (subst (λ us. IsUnused us step.id) h.written.ids (subst (IsUnused d.ids) (sym is.id) c.2));
+        (subst (λ us. IsUnused us step.id) h.written.ids (subst (IsUnused d.ids.used) (sym is.id) c.2));
     rule = has_rule;
     premises = subst (All (Contains (visible d.builder.nesting d.builder.items))) (sym is.premises)
         (subst (λ (cs : List Sight). AreSeen cs of.premises) (sym (seen_same s v d.builder.nesting p.scope.nesting d.builder.items p.scope.items h.written.nesting h.written.items))
@@ -138,7 +138,7 @@ module _ (s : Table) (v : TermsView) (settings : ProofSettings) (d : Session) (n
   }
 
   -- it closes the scope that is written
-  may_close : (o : Option OpenAnchor) → IsClosing d.ids p of.id h.here o → is_open_id p.scope.nesting of.id ≡ true → MayCloseHere d.builder.nesting d.builder.items step
+  may_close : (o : Option OpenAnchor) → IsClosing d.ids.used p of.id h.here o → is_open_id p.scope.nesting of.id ≡ true → MayCloseHere d.builder.nesting d.builder.items step
   may_close None c e = absurd (no_both (is_open_id p.scope.nesting of.id) e c.0)
     where
       no_both : (b : Bool) → b ≡ true → b ≡ false → ⊥
@@ -169,7 +169,7 @@ module _ (s : Table) (v : TermsView) (settings : ProofSettings) (d : Session) (n
   }
 
   -- what is written behind it, where it stands in the scope
-  written_here : (e : Session) → is_open_id p.scope.nesting of.id ≡ false → e.builder ≡ take_step d.builder step → e.ids ≡ d.ids ++ in_use step.id role.Step (next_index d.builder) ∷ [] → e.anchors ≡ d.anchors → e.bound ≡ d.bound
+  written_here : (e : Session) → is_open_id p.scope.nesting of.id ≡ false → e.builder ≡ take_step d.builder step → e.ids.used ≡ d.ids.used ++ in_use step.id role.Step (next_index d.builder) ∷ [] → e.anchors ≡ d.anchors → e.bound ≡ d.bound
       → IsWritten s v e (steps.with_step of p)
   written_here e not_open built used anchors bound =
       subst (IsWritten s v e) (sym scoped) (record {
@@ -193,7 +193,7 @@ module _ (s : Table) (v : TermsView) (settings : ProofSettings) (d : Session) (n
 
   -- and where it closes the scope
   written_around : (e : Session) (a : OpenAnchor) → is_open_id p.scope.nesting of.id ≡ true → IsAnchorOf p.scope.nesting a → e.builder ≡ take_step d.builder step
-      → e.ids ≡ take a.ids d.ids ++ in_use step.id role.Step (next_index d.builder) ∷ []
+      → e.ids.used ≡ take a.ids d.ids.used ++ in_use step.id role.Step (next_index d.builder) ∷ []
       → ((front : List OpenAnchor) (last : OpenAnchor) → d.anchors.items ≡ front ++ last ∷ [] → e.anchors.items ≡ front)
       → ((around : Nesting Var Term) (before : ProofItems Var Term) (other : Anchor Var Term) → a.variables ≡ length other.bindings → AreBound s v d.bound (inside around before other) → AreBound s v e.bound around)
       → IsWritten s v e (steps.with_step of p)
@@ -242,7 +242,7 @@ module _ (s : Table) (v : TermsView) (settings : ProofSettings) (d : Session) (n
           both x y z w = cc
 
   -- where the reader stands then
-  place_after : (o : Option OpenAnchor) → IsClosing d.ids p of.id h.here o → h.here.nesting ≡ (steps.with_step of p).scope.nesting
+  place_after : (o : Option OpenAnchor) → IsClosing d.ids.used p of.id h.here o → h.here.nesting ≡ (steps.with_step of p).scope.nesting
   place_after None c = ap (λ (here : Standing). here.nesting) c.1 ∙ ap (λ b. (if b then close_scope p.scope.nesting p.scope.items of else add_step p.scope of).nesting) (sym c.0)
   place_after (Some a) c = ap (λ (here : Standing). here.nesting) c.1 ∙ (go p.scope.nesting ∙ ap (λ b. (if b then close_scope p.scope.nesting p.scope.items of else add_step p.scope of).nesting) (sym c.0))
     where
@@ -258,29 +258,29 @@ module _ (s : Table) (v : TermsView) (settings : ProofSettings) (d : Session) (n
     written = written;
   }
 
-  pub added_here : (e : Session) → e.strict ≡ d.strict → n.closes ≡ None → e.reader ≡ d.reader → e.builder ≡ take_step d.builder step → e.ids ≡ d.ids ++ in_use step.id role.Step (next_index d.builder) ∷ [] → e.anchors ≡ d.anchors → e.bound ≡ d.bound
+  pub added_here : (e : Session) → e.strict ≡ d.strict → n.closes ≡ None → e.reader ≡ d.reader → e.builder ≡ take_step d.builder step → e.ids.used ≡ d.ids.used ++ in_use step.id role.Step (next_index d.builder) ∷ [] → e.anchors ≡ d.anchors → e.bound ≡ d.bound
       → IsProofSession s v settings e (steps.with_step of p)
-  added_here e strict none same built used anchors bound = is_session e strict same (written_here e (subst (IsClosing d.ids p of.id h.here) none h.closes).0 built used anchors bound)
+  added_here e strict none same built used anchors bound = is_session e strict same (written_here e (subst (IsClosing d.ids.used p of.id h.here) none h.closes).0 built used anchors bound)
 
   pub added_around : (e : Session) (a : OpenAnchor) → e.strict ≡ d.strict → n.closes ≡ Some a → e.reader ≡ d.reader → e.builder ≡ take_step d.builder step
-      → e.ids ≡ take a.ids d.ids ++ in_use step.id role.Step (next_index d.builder) ∷ []
+      → e.ids.used ≡ take a.ids d.ids.used ++ in_use step.id role.Step (next_index d.builder) ∷ []
       → ((front : List OpenAnchor) (last : OpenAnchor) → d.anchors.items ≡ front ++ last ∷ [] → e.anchors.items ≡ front)
       → ((around : Nesting Var Term) (before : ProofItems Var Term) (other : Anchor Var Term) → a.variables ≡ length other.bindings → AreBound s v d.bound (inside around before other) → AreBound s v e.bound around)
       → IsProofSession s v settings e (steps.with_step of p)
   added_around e a strict some same built used popped left =
-      let closes = subst (IsClosing d.ids p of.id h.here) some h.closes in
+      let closes = subst (IsClosing d.ids.used p of.id h.here) some h.closes in
       is_session e strict same (written_around e a closes.0 closes.2 built used popped left)
 
   -- its id is not in use where it is put in use
-  pub unused_here : n.closes ≡ None → IsUnused d.ids step.id
-  unused_here none = subst (IsUnused d.ids) (sym is.id) (subst (IsClosing d.ids p of.id h.here) none h.closes).2
+  pub unused_here : n.closes ≡ None → IsUnused d.ids.used step.id
+  unused_here none = subst (IsUnused d.ids.used) (sym is.id) (subst (IsClosing d.ids.used p of.id h.here) none h.closes).2
 
-  pub unused_around : (a : OpenAnchor) → n.closes ≡ Some a → IsUnused (take a.ids d.ids) step.id
-  unused_around a some = subst (IsUnused (take a.ids d.ids)) (sym is.id) (subst (IsClosing d.ids p of.id h.here) some h.closes).3
+  pub unused_around : (a : OpenAnchor) → n.closes ≡ Some a → IsUnused (take a.ids d.ids.used) step.id
+  unused_around a some = subst (IsUnused (take a.ids d.ids.used)) (sym is.id) (subst (IsClosing d.ids.used p of.id h.here) some h.closes).3
 
   -- the anchor that is left binds so many variables
   pub variables_left : (a : OpenAnchor) → n.closes ≡ Some a → a.variables ≡ length (own_bindings p.scope.nesting)
-  variables_left a some = go p.scope.nesting (subst (IsClosing d.ids p of.id h.here) some h.closes).2
+  variables_left a some = go p.scope.nesting (subst (IsClosing d.ids.used p of.id h.here) some h.closes).2
     where
       go : (m : Nesting Var Term) → IsAnchorOf m a → a.variables ≡ length (own_bindings m)
       go outermost k = absurd k

@@ -134,7 +134,7 @@ module _ (settings : ProofSettings) (place : ℕ) (n : Name) (others : List Argu
         before = written_stays s z v w table terms e p session.written
 
         -- the anchor may be opened where the proof is written
-        pub may_open : (id : List ℕ) → IsSymbolName id → IsUnused e.ids id → MayOpen e.builder.nesting e.builder.items (anchor_with id b.opened.items)
+        pub may_open : (id : List ℕ) → IsSymbolName id → IsUnused e.ids.used id → MayOpen e.builder.nesting e.builder.items (anchor_with id b.opened.items)
         may_open id symbol unused =
             let k = h.answer.after in
             let bs = h.answer.value in
@@ -149,9 +149,9 @@ module _ (settings : ProofSettings) (place : ℕ) (n : Name) (others : List Argu
             }
 
         -- The scope is opened, its id put in use, and its variables in scope.
-        pub is_opened : (d : Session) (ids variables : ℕ) → ids ≡ length e.ids → variables ≡ length b.opened.items
+        pub is_opened : (d : Session) (ids variables : ℕ) → ids ≡ length e.ids.used → variables ≡ length b.opened.items
             → ((sc : Script) (at : Place) (bs : List (Var × Term)) → AllZip (IsBindingOf z w) b.opened.items bs → IsReaderOf z w r sc at → IsReaderOf z w d.reader sc (record at { scope = entered (length bs) bs at.scope }))
-            → d.builder ≡ open_anchor e.builder (anchor_with n.name b.opened.items) → d.ids ≡ e.ids ++ in_use n.name Anchor (next_scope e.builder) ∷ []
+            → d.builder ≡ open_anchor e.builder (anchor_with n.name b.opened.items) → d.ids.used ≡ e.ids.used ++ in_use n.name Anchor (next_scope e.builder) ∷ []
             → d.anchors.items ≡ e.anchors.items ++ record { place = place; ids = ids; variables = variables } ∷ [] → d.bound ≡ b → d.strict ≡ e.strict
             → AnswersAs z v w (StandsAfter z w settings d) (anchor_read settings place n others p) (Ok tt)
         is_opened d ids variables ids_are variables_are enters built used anchors bound strict =

@@ -23,6 +23,7 @@ use Rattle.alethe_text.specs.Commands.{Argument, argument_fault, each_argument_f
 use Rattle.alethe_text.specs.ProofTerms.{place_in}
 use Rattle.alethe_text.specs.States.{ProofSettings, ProofState, Reading, ◌>>=◌, give}
 use Rattle.alethe_reader.specs.Answers.{WasRead, AnswersAs}
+use Rattle.alethe_reader.specs.Ids.{IdsView}
 use Rattle.alethe_reader.specs.KeptReads.{KeepsRead}
 use Rattle.alethe_reader.specs.Bound.{AreBound}
 use Rattle.alethe_reader.specs.Opening.{IsOpening, IsSameScope, IsArgumentRead, AreArgumentsRead}
@@ -127,8 +128,8 @@ module _ (source : List ℕ) (nodes : List Node) (first : ℕ) (s : Table) (v : 
       here = are;
       opening = record {
         reader = reader;
-        names = ap (Rattle.std.proofs.Common.map (λ u. u.id)) names ∙ (bound.names ∙ sym (append-nil (bound_names p.scope.nesting)));
-        judged = λ name. ap (λ ns. Rattle.problem_text.specs.Words.is_among ns name) (sym (ap (Rattle.std.proofs.Common.map (λ u. u.id)) names ∙ bound.names));
+        names = ap (λ (x : IdsView). Rattle.std.proofs.Common.map (λ u. u.id) x.used) names ∙ (bound.names ∙ sym (append-nil (bound_names p.scope.nesting)));
+        judged = λ name. ap (λ ns. Rattle.problem_text.specs.Words.is_among ns name) (sym (ap (λ (x : IdsView). Rattle.std.proofs.Common.map (λ u. u.id) x.used) names ∙ bound.names));
         images = rw images (subst (λ qs. Rattle.std.specs.List.AllZip (Rattle.proof_store.specs.Meaning.IsBindingOf s v) d.images.items qs) (sym (append-nil (Rattle.alethe_reader.specs.Bound.images_in p.scope.nesting))) bound.images);
         opened = rw opened tt;
         apart = bound.apart;

@@ -147,17 +147,17 @@ module _ (settings : ProofSettings) (earlier : List (List ℕ)) (place : ℕ) (x
 
 -- The argument's variable joins those that were read.
 module _ (s z : Table) (v w : TermsView) (settings : ProofSettings) (adds : AddsNoSymbols s z) (terms : KeepsTerms v w) (earlier : List (List ℕ)) (bs : List (Var × Term)) (p q : ProofState) (d e : BoundVariables) (r t : ReaderView) (opening : IsOpening s v settings r d earlier bs p) (same : IsSameScope p q) where
-  pub opens_more : (b : Var × Term) (name : List ℕ) (leaf term image : ℕ) → IsReaderOf z w t q.script (place_in settings p.scope.nesting) → b.0.name ≡ name → is_among (map (λ u. u.id) d.names) name ≡ false
+  pub opens_more : (b : Var × Term) (name : List ℕ) (leaf term image : ℕ) → IsReaderOf z w t q.script (place_in settings p.scope.nesting) → b.0.name ≡ name → is_among (map (λ u. u.id) d.names.used) name ≡ false
       → IsLeaf z leaf (variable_leaf b.0) → RefersTo z w term b.1 → RefersTo z w image (image_of p.scope.nesting b.1)
-      → map (λ u. u.id) e.names ≡ map (λ u. u.id) d.names ++ name ∷ [] → e.images.items ≡ d.images.items ++ (leaf, image) ∷ [] → e.opened.items ≡ d.opened.items ++ (leaf, term) ∷ []
+      → map (λ u. u.id) e.names.used ≡ map (λ u. u.id) d.names.used ++ name ∷ [] → e.images.items ≡ d.images.items ++ (leaf, image) ∷ [] → e.opened.items ≡ d.opened.items ++ (leaf, term) ∷ []
       → IsOpening z w settings t e (b.0.name ∷ earlier) (bs ++ b ∷ []) q
   opens_more b name leaf term image reader named free is term_there image_there names images_are opened_are = record {
     reader = rw same.scope reader;
     names = rw same.scope (names ∙ (ap (λ ns. ns ++ name ∷ []) opening.names ∙ (ap (λ n. (bound_names p.scope.nesting ++ map (λ c. c.0.name) bs) ++ n ∷ []) (sym named)
         ∙ (append_assoc (bound_names p.scope.nesting) (map (λ c. c.0.name) bs) (b.0.name ∷ []) ∙ ap (λ ns. bound_names p.scope.nesting ++ ns) (sym (map-append (λ c. c.0.name) bs (b ∷ [])))))));
     judged = rw same.scope (λ n.
-        judged_more earlier (bound_names p.scope.nesting) (map (λ u. u.id) d.names) b.0.name n (opening.judged n)
-        ∙ ap (λ ns. is_among ns n) (ap (λ m. map (λ u. u.id) d.names ++ m ∷ []) named ∙ sym names));
+        judged_more earlier (bound_names p.scope.nesting) (map (λ u. u.id) d.names.used) b.0.name n (opening.judged n)
+        ∙ ap (λ ns. is_among ns n) (ap (λ m. map (λ u. u.id) d.names.used ++ m ∷ []) named ∙ sym names));
     images = rw (same.scope, images_are) (subst (λ qs. AllZip (IsBindingOf z w) (d.images.items ++ (leaf, image) ∷ []) qs) list_of_images
         (all_zipped_more (IsBindingOf z w) d.images.items (images_in p.scope.nesting ++ put_in_each (images (open_anchors p.scope.nesting)) bs) (leaf, image) (b.0, image_of p.scope.nesting b.1)
         (bindings_stay s z v w adds.keeps terms d.images.items (images_in p.scope.nesting ++ put_in_each (images (open_anchors p.scope.nesting)) bs) opening.images)
@@ -174,8 +174,8 @@ module _ (s z : Table) (v w : TermsView) (settings : ProofSettings) (adds : Adds
 
 -- The variable has its leaf, and joins those that were read.
 module _ (s z y : Table) (v w : TermsView) (settings : ProofSettings) (earlier : List (List ℕ)) (bs : List (Var × Term)) (p : ProofState) (d e : BoundVariables) (r t : ReaderView) (opening : IsOpening s v settings r d earlier bs p) (symbols : AddsNoSymbols s z) (added : AddsNoSymbols z y) (terms : KeepsTerms v w) where
-  pub argument_done : {o : Outcome ProofState (Var × Term)} (n name : List ℕ) (c : Value) (leaf image : ℕ) → n ≡ name → is_among (map (λ u. u.id) d.names) n ≡ false → IsLeaf y leaf (variable_leaf (record { name = n; sort = c.sort }))
-      → map (λ u. u.id) e.names ≡ map (λ u. u.id) d.names ++ n ∷ [] → e.images.items ≡ d.images.items ++ (leaf, image) ∷ [] → e.opened.items ≡ d.opened.items ++ (leaf, c.term) ∷ []
+  pub argument_done : {o : Outcome ProofState (Var × Term)} (n name : List ℕ) (c : Value) (leaf image : ℕ) → n ≡ name → is_among (map (λ u. u.id) d.names.used) n ≡ false → IsLeaf y leaf (variable_leaf (record { name = n; sort = c.sort }))
+      → map (λ u. u.id) e.names.used ≡ map (λ u. u.id) d.names.used ++ n ∷ [] → e.images.items ≡ d.images.items ++ (leaf, image) ∷ [] → e.opened.items ≡ d.opened.items ++ (leaf, c.term) ∷ []
       → AnswersAs z v w (IsVariableRead z w settings t name c p) o (Ok image) → AnswersAs y v w (IsArgumentRead y w settings t e earlier bs p) o (Ok tt)
   argument_done n name c leaf image same free is names images opened h =
       ends_so (IsArgumentRead y w settings t e earlier bs p) tt added.keeps h (λ b q k. record { opening = joined b q k; same = k.same })
@@ -207,11 +207,11 @@ module _ (s : Table) (v : TermsView) (settings : ProofSettings) (r : ReaderView)
   outer_images = zip_front (IsBindingOf s v) d.images.items (images_in p.scope.nesting) (put_in_each (images (open_anchors p.scope.nesting)) bs) (length d.images.items - length d.opened.items) (omega (arith, images_long, opened_long)) h.images
 
   -- what is judged of the name and the sort, and the reader behind the name
-  pub judged_here : (n : Named) (x : Name) → is_named n ≡ x → (result : Result ⊤ Refusal) → IsNameJudged (is_built_in n.name.now) (is_among (map (λ u. u.id) d.names) n.name.now) n.place result
+  pub judged_here : (n : Named) (x : Name) → is_named n ≡ x → (result : Result ⊤ Refusal) → IsNameJudged (is_built_in n.name.now) (is_among (map (λ u. u.id) d.names.used) n.name.now) n.place result
       → IsNameJudged (is_built_in x.name) (is_among earlier x.name || is_among (bound_names p.scope.nesting) x.name) x.place result
   judged_here n x same result k =
       subst (λ b. IsNameJudged (is_built_in x.name) b x.place result) (sym (h.judged x.name))
-      (subst (λ (y : Name). IsNameJudged (is_built_in y.name) (is_among (map (λ u. u.id) d.names) y.name) y.place result) same k)
+      (subst (λ (y : Name). IsNameJudged (is_built_in y.name) (is_among (map (λ u. u.id) d.names.used) y.name) y.place result) same k)
 
   pub given_here : (o : Option Item) (result : Result (Option Sort) Refusal) → result ≡ sort_given s.sorts o → sort_given p.script.sorts o ≡ result
   given_here o result e = ap (λ sorts. sort_given sorts o) (sym h.reader.idle.script.sorts) ∙ sym e

@@ -56,7 +56,7 @@ module _ (settings : ProofSettings) (n : Name) (i : Item) (p : ProofState) where
 
       -- the assume is added, and its id put in use
       pub is_assumed : (s : Table) (e : Session) → IsProofSession s v settings e p → Keeps s z → KeepsTerms v w
-          → d.builder ≡ add_assume e.builder n.name c → d.ids ≡ e.ids ++ in_use n.name Assume (next_index e.builder) ∷ [] → d.anchors ≡ e.anchors → d.bound ≡ e.bound → d.strict ≡ e.strict
+          → d.builder ≡ add_assume e.builder n.name c → d.ids.used ≡ e.ids.used ++ in_use n.name Assume (next_index e.builder) ∷ [] → d.anchors ≡ e.anchors → d.bound ≡ e.bound → d.strict ≡ e.strict
           → AnswersAs z v w (StandsAfter z w settings d) (assume_read settings n i p) (Ok tt)
       is_assumed s e session table terms built used anchors bound strict =
           same_outcome (judged (Ok tt) new_id)

@@ -28,6 +28,7 @@ use Rattle.alethe_text.specs.Arguments.{takes_coefficients, takes_pivots, named_
 use Rattle.alethe_text.specs.Coefficients.{coefficients_from}
 use Rattle.alethe_text.specs.Commands.{Attribute, rule, premises, arguments, discharge}
 use Rattle.alethe_text.specs.Ids as text
+use Rattle.alethe_reader.specs.Ids.{IdsView}
 use Rattle.alethe_text.specs.ProofTerms.{place_in}
 use Rattle.alethe_text.specs.States.{ProofSettings, ProofState, Reading, ◌>>=◌, give, given, demand}
 use Rattle.alethe_text.specs.Steps.{attribute_read, attributes_read}
@@ -181,8 +182,8 @@ pub record AreSoFar (source : List ℕ) (nodes : List Node) (settings : ProofSet
 pub stands_still : (s : Table) (v : TermsView) (settings : ProofSettings) (at : text.Standing) (standing : Standing) (d e : Session) (p : ProofState) → StandsAt s v settings at d standing p → e.ids ≡ d.ids → e.reader ≡ d.reader → e.strict ≡ d.strict → StandsAt s v settings at e standing p
 stands_still s v settings at standing d e p h ids reader strict = record {
   strict = h.strict ∙ sym strict;
-  sees = subst (λ us. IsReach us standing.premises at.sees) (sym ids) h.sees;
-  discharges = subst (λ us. IsReach us standing.discharges at.discharges) (sym ids) h.discharges;
+  sees = subst (λ (x : IdsView). IsReach x.used standing.premises at.sees) (sym ids) h.sees;
+  discharges = subst (λ (x : IdsView). IsReach x.used standing.discharges at.discharges) (sym ids) h.discharges;
   reader = subst (λ (r : ReaderView). IsReaderOf s v r p.script (place_in settings at.nesting)) (sym reader) h.reader;
 }
 
@@ -243,8 +244,8 @@ module _ (source : List ℕ) (nodes : List Node) (settings : ProofSettings) (at 
             comes = splits ∙ ap (λ (o : Outcome ProofState (Step Term)). and_then o (attributes_read settings at f.others)) a.comes;
             stands = record {
               strict = h.stands.strict ∙ sym others.strict;
-              sees = subst (λ us. IsReach us standing.premises at.sees) (sym others.ids) h.stands.sees;
-              discharges = subst (λ us. IsReach us standing.discharges at.discharges) (sym others.ids) h.stands.discharges;
+              sees = subst (λ (x : IdsView). IsReach x.used standing.premises at.sees) (sym others.ids) h.stands.sees;
+              discharges = subst (λ (x : IdsView). IsReach x.used standing.discharges at.discharges) (sym others.ids) h.stands.discharges;
               reader = a.after.behind.reader;
             };
             read = record {
@@ -294,7 +295,7 @@ pub stands_on : (s z : Table) (v w : TermsView) (settings : ProofSettings) (at :
     → StandsAt z w settings at e standing q
 stands_on s z v w settings at standing d e p q h others reader = record {
   strict = h.strict ∙ sym others.strict;
-  sees = subst (λ us. IsReach us standing.premises at.sees) (sym others.ids) h.sees;
-  discharges = subst (λ us. IsReach us standing.discharges at.discharges) (sym others.ids) h.discharges;
+  sees = subst (λ (x : IdsView). IsReach x.used standing.premises at.sees) (sym others.ids) h.sees;
+  discharges = subst (λ (x : IdsView). IsReach x.used standing.discharges at.discharges) (sym others.ids) h.discharges;
   reader = reader;
 }

@@ -102,9 +102,9 @@ module _ (s : Table) (v : TermsView) (d : BoundVariables) where
 
   pub bound_left : (e : BoundVariables) (left : ℕ) (around : Nesting Var Term) (before : ProofItems Var Term) (anchor : Anchor Var Term)
       → left ≡ length d.images.items - length anchor.bindings → AreBound s v d (inside around before anchor)
-      → e.names ≡ take left d.names → e.images.items ≡ take left d.images.items → AreBound s v e around
+      → e.names.used ≡ take left d.names.used → e.images.items ≡ take left d.images.items → AreBound s v e around
   bound_left e left around before anchor is h names same = record {
-    names = ap (map (λ u. u.id)) names ∙ (sym (take-map (λ u. u.id) left d.names)
+    names = ap (map (λ u. u.id)) names ∙ (sym (take-map (λ u. u.id) left d.names.used)
         ∙ (ap (take left) (h.names ∙ map-append (λ b. b.0.name) (open_bindings around) anchor.bindings)
         ∙ take_at (bound_names around) (map (λ b. b.0.name) anchor.bindings) left (sym (many ∙ images_many around))));
     images = subst (λ xs. AllZip (IsBindingOf s v) xs (images_in around)) (sym same)

@@ -1,5 +1,5 @@
 -- Ids in use by the numbers of their names.
-use Rattle.std.proofs.Common.{◌≡◌, ◌≢◌, ◌⊎◌, inl, inr, ℕ, zero, suc, ◌+◌, ◌<◌, ◌≤◌, List, [], ◌∷◌, ◌++◌, length, take, set, position, slice_get, slice_index_or, get_or, Option, Some, None, option_map, refl, sym, ◌∙◌, ap, subst, arith}
+use Rattle.std.proofs.Common.{◌≡◌, ◌≢◌, ◌⊎◌, inl, inr, ℕ, zero, suc, ◌+◌, ◌<◌, List, [], ◌∷◌, ◌++◌, length, take, set, position, slice_get, slice_index_or, get_or, Option, Some, None, option_map, refl, sym, ◌∙◌, ap, subst, arith}
 use Rattle.std.specs.Str.{bytes_eq}
 use Rattle.std.proofs.lemmas.List.{length-set, length_push, get_or_append_left, get_or-set_same, get_or-set_other}
 use Rattle.std.proofs.lemmas.Option.{slice_get-map, slice_get_within, slice_get-get_or, get_or_from_slice_get}
@@ -8,8 +8,8 @@ use Rattle.name_set.specs.Names.{StandOnce}
 use Rattle.term_names.proofs.HeldVariables.{at_place}
 use Rattle.alethe_reader.specs.declared.ids.Held.{Held}
 use Rattle.alethe_reader.specs.declared.ids.Found.{Found}
-use Rattle.alethe_reader.specs.Ids.{Used, IsUnused, IsUsedAt}
-use Rattle.alethe_reader.specs.HeldIds.{used_by, used, IsLatest}
+use Rattle.alethe_reader.specs.Ids.{Used, IsUnused, IsUsedAt, IsIdFound}
+use Rattle.alethe_reader.specs.HeldIds.{used_by, used, IsLatest, IsHeldOf}
 
 -- what stands at a place of the ids in use
 record StandsAt (names : List (List ℕ)) (held : List Held) (k : ℕ) (u : Used) : Type 0 where
@@ -57,24 +57,7 @@ module _ (names : List (List ℕ)) (latest : List ℕ) (held : List Held) (id : 
   latest_read n place numbered e =
       read_at latest n place (subst (λ m. n < m) inv.one_each (slice_get_within names n id (at_place names n id numbered))) e
 
-  pub left_place : (n place : ℕ) → position (bytes_eq id) names ≡ Some n → slice_get latest n ≡ Some place → length held ≤ place → IsUnused (used names held) id
-  left_place n place numbered at past k u e same =
-      let l = latest_place n k u numbered e same in
-      let within = slice_get_within held k l.0 l.1 in
-      let equal : Some k ≡ Some place = sym l.3 ∙ at in
-      let eq : k ≡ place = cc in
-      absurd (omega (arith, within, past, eq))
-
-  pub other_name : (n place : ℕ) (h : Held) → position (bytes_eq id) names ≡ Some n → slice_get latest n ≡ Some place → slice_get held place ≡ Some h → h.name ≢ n → IsUnused (used names held) id
-  other_name n place h numbered at there differs k u e same =
-      let l = latest_place n k u numbered e same in
-      let equal : Some k ≡ Some place = sym l.3 ∙ at in
-      let eq : k ≡ place = cc in
-      let here : Some l.0 ≡ Some h = sym l.1 ∙ (ap (slice_get held) eq ∙ there) in
-      let f : l.0 ≡ h = cc in
-      absurd (differs (sym (ap (λ (h : Held). h.name) f) ∙ l.2))
-
-  pub same_name : (f : Found) (n : ℕ) (h : Held) → position (bytes_eq id) names ≡ Some n → slice_get latest n ≡ Some f.place → slice_get held f.place ≡ Some h → h.name ≡ n → f.role ≡ h.role → f.number ≡ h.number → IsUsedAt (used names held) id f
+  same_name : (f : Found) (n : ℕ) (h : Held) → position (bytes_eq id) names ≡ Some n → slice_get latest n ≡ Some f.place → slice_get held f.place ≡ Some h → h.name ≡ n → f.role ≡ h.role → f.number ≡ h.number → IsUsedAt (used names held) id f
   same_name f n h numbered at there equal role number = record {
     here = slice_get-map (used_by names) held f.place ∙ (ap (option_map (used_by names)) there ∙ ap Some whole);
     alone = λ k u e same.
@@ -88,6 +71,16 @@ module _ (names : List (List ℕ)) (latest : List ℕ) (held : List Held) (id : 
 
       whole : used_by names h ≡ record { id = id; role = f.role; number = f.number }
       whole = let e = name in let g = role in let i = number in cc
+
+  -- the id is in use where its name is that of what stands at the place at which the name was in use last
+  pub held_found : (n place : ℕ) (o : Option Found) → position (bytes_eq id) names ≡ Some n → slice_get latest n ≡ Some place → IsHeldOf held place n o → IsIdFound (used names held) id o
+  held_found n place None numbered at none = λ k u e same.
+      let l = latest_place n k u numbered e same in
+      let equal : Some k ≡ Some place = sym l.3 ∙ at in
+      let eq : k ≡ place = cc in
+      absurd (none l.0 (subst (λ j. slice_get held j ≡ Some l.0) eq l.1) l.2)
+  held_found n place (Some f) numbered at h =
+      same_name f n (record { name = n; role = f.role; number = f.number }) numbered (at ∙ ap Some (sym h.0)) (ap (slice_get held) h.0 ∙ h.1) refl refl refl
 
 -- leaving: the first of the ids in use stay
 slice_get_taken : {X : Type 0} (n : ℕ) (xs : List X) (k : ℕ) (x : X) → slice_get (take n xs) k ≡ Some x → slice_get xs k ≡ Some x

@@ -43,7 +43,7 @@ abbrev pub settings_with : Flags → ProofSettings
 settings_with flags = record { replaces_lets = flags.expand_lets; is_strict = flags.strict }
 
 -- nothing was read of a proof
-pub is_new : (s : Table) (v : TermsView) (settings : ProofSettings) (d : Session) (before : Script) → settings.is_strict ≡ d.strict → d.builder ≡ unwritten → d.ids ≡ [] → d.anchors.items ≡ []
+pub is_new : (s : Table) (v : TermsView) (settings : ProofSettings) (d : Session) (before : Script) → settings.is_strict ≡ d.strict → d.builder ≡ unwritten → d.ids.used ≡ [] → d.anchors.items ≡ []
     → AreBound s v d.bound outermost → IsReaderOf s v d.reader before (place_in settings outermost) → IsProofSession s v settings d (unread before)
 is_new s v settings d before strict built none no_anchors bound reader = record {
   strict = strict;

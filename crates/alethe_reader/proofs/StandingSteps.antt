@@ -116,7 +116,7 @@ zip_length R (x ∷ xs) [] h = absurd h
 zip_length R (x ∷ xs) (y ∷ ys) h = ap suc (zip_length R xs ys h.1)
 
 module _ (s : Table) (v : TermsView) (d : Session) (p : ProofState) (n : Name) (h : IsWritten s v d p) where
-  pub same_ids : d.ids ≡ ids_in p.scope
+  pub same_ids : d.ids.used ≡ ids_in p.scope
   same_ids = h.ids ∙ ids_same s v d.builder p.scope h.nesting h.items
 
   -- what the standing comes to
@@ -129,8 +129,8 @@ module _ (s : Table) (v : TermsView) (d : Session) (p : ProofState) (n : Name) (
   comes false e = rw e refl
 
   -- a new id
-  pub stands_here : (len : ℕ) → len ≡ length d.ids → IsSymbolName n.name → IsUnused d.ids n.name
-      → IsStandingOf d.ids p n (record { premises = record { first = 0; end = len; takes_steps = true }; discharges = record { first = 0; end = 0; takes_steps = false }; closes = None })
+  pub stands_here : (len : ℕ) → len ≡ length d.ids.used → IsSymbolName n.name → IsUnused d.ids.used n.name
+      → IsStandingOf d.ids.used p n (record { premises = record { first = 0; end = len; takes_steps = true }; discharges = record { first = 0; end = 0; takes_steps = false }; closes = None })
   stands_here len e symbol unused =
       let new : IsUnused (ids_in p.scope) n.name = subst (λ us. IsUnused us n.name) same_ids unused in
       let not_open = not_open_id p.scope.nesting p.scope.items n.name new in
@@ -139,21 +139,21 @@ module _ (s : Table) (v : TermsView) (d : Session) (p : ProofState) (n : Name) (
         comes = comes false not_open ∙ ap (λ (o : Outcome ProofState ⊤). and_then o (λ _. give (stands_in p.scope))) (judged_new BadAnchor n p new);
         closes = (not_open, refl, unused, unused_new p.scope n.name symbol new);
         premises = subst (λ us. IsReach us (record { first = 0; end = len; takes_steps = true }) (stands_in p.scope).sees) (sym same_ids) (reaches_all p.scope len (e ∙ ap length same_ids));
-        discharges = reaches_none d.ids false;
+        discharges = reaches_none d.ids.used false;
       }
 
   -- an id in use
-  module _ (f : Found) (used : IsUsedAt d.ids n.name f) where
+  module _ (f : Found) (used : IsUsedAt d.ids.used n.name f) where
     there : IsUsedAt (ids_in p.scope) n.name f
     there = subst (λ us. IsUsedAt us n.name f) same_ids used
 
-    refused : is_open_id p.scope.nesting n.name ≡ false → (refusal : Refusal) → refusal ≡ record { cause = cause_of BadAnchor f.role; at = n.place } → IsStanding d.ids p n (Err refusal)
+    refused : is_open_id p.scope.nesting n.name ≡ false → (refusal : Refusal) → refusal ≡ record { cause = cause_of BadAnchor f.role; at = n.place } → IsStanding d.ids.used p n (Err refusal)
     refused e refusal is =
         ap (λ (o : Outcome ProofState TextStanding). o.result) (comes false e ∙ ap (λ (o : Outcome ProofState ⊤). and_then o (λ _. give (stands_in p.scope))) (judged_used BadAnchor n p f there))
         ∙ ap Err (sym is)
 
     -- which is not that of the innermost anchor
-    pub stands_nowhere : ((front : List OpenAnchor) (a : OpenAnchor) → d.anchors.items ≡ front ++ a ∷ [] → a.ids ≢ f.place) → (refusal : Refusal) → refusal ≡ record { cause = cause_of BadAnchor f.role; at = n.place } → IsStanding d.ids p n (Err refusal)
+    pub stands_nowhere : ((front : List OpenAnchor) (a : OpenAnchor) → d.anchors.items ≡ front ++ a ∷ [] → a.ids ≢ f.place) → (refusal : Refusal) → refusal ≡ record { cause = cause_of BadAnchor f.role; at = n.place } → IsStanding d.ids.used p n (Err refusal)
     stands_nowhere none refusal is = refused (go d.builder.nesting p.scope.nesting h.nesting h.starts_kept there) refusal is
       where
         go : (r : Nesting ℕ ℕ) (m : Nesting Var Term) → StandForNesting s v r m → map (λ (a : OpenAnchor). a.ids) d.anchors.items ≡ starts r → IsUsedAt (ids_in (at m p.scope.items)) n.name f → is_open_id m n.name ≡ false
@@ -166,20 +166,20 @@ module _ (s : Table) (v : TermsView) (d : Session) (p : ProofState) (n : Name) (
             used_not_open outer behind other p.scope.items n.name f u (λ place. none last.front last.last last.split (last.same ∙ (same ∙ sym place)))
 
     -- which is that of the innermost anchor
-    pub stands_closing : (front : List OpenAnchor) (a : OpenAnchor) → d.anchors.items ≡ front ++ a ∷ [] → a.ids ≡ f.place → (first len : ℕ) → first ≡ a.ids + 1 → len ≡ length d.ids
-        → IsStandingOf d.ids p n (record { premises = record { first = 0; end = a.ids; takes_steps = true }; discharges = record { first = first; end = len; takes_steps = false }; closes = Some a })
+    pub stands_closing : (front : List OpenAnchor) (a : OpenAnchor) → d.anchors.items ≡ front ++ a ∷ [] → a.ids ≡ f.place → (first len : ℕ) → first ≡ a.ids + 1 → len ≡ length d.ids.used
+        → IsStandingOf d.ids.used p n (record { premises = record { first = 0; end = a.ids; takes_steps = true }; discharges = record { first = first; end = len; takes_steps = false }; closes = Some a })
     stands_closing front a split place first len e l =
         go d.builder.nesting p.scope.nesting h.nesting h.starts_kept h.counts_kept there refl
       where
-        unused_before : (start : ℕ) → start ≡ f.place → IsUnused (take start d.ids) n.name
+        unused_before : (start : ℕ) → start ≡ f.place → IsUnused (take start d.ids.used) n.name
         unused_before start e k u has same =
-            let within = taken d.ids start k u has in
+            let within = taken d.ids.used start k u has in
             let there = used.alone k u within.0 same in
             omega (arith, within.1, there, e)
 
         go : (r : Nesting ℕ ℕ) (m : Nesting Var Term) → StandForNesting s v r m → map (λ (a : OpenAnchor). a.ids) d.anchors.items ≡ starts r → map (λ (a : OpenAnchor). a.variables) d.anchors.items ≡ counts r
             → IsUsedAt (ids_in (at m p.scope.items)) n.name f → m ≡ p.scope.nesting
-            → IsStandingOf d.ids p n (record { premises = record { first = 0; end = a.ids; takes_steps = true }; discharges = record { first = first; end = len; takes_steps = false }; closes = Some a })
+            → IsStandingOf d.ids.used p n (record { premises = record { first = 0; end = a.ids; takes_steps = true }; discharges = record { first = first; end = len; takes_steps = false }; closes = Some a })
         go outermost outermost k es cs u same = absurd (none (sym es ∙ ap (map (λ (a : OpenAnchor). a.ids)) split))
           where
             none : [] ≡ map (λ (a : OpenAnchor). a.ids) (front ++ a ∷ []) → ⊥
@@ -199,14 +199,14 @@ module _ (s : Table) (v : TermsView) (d : Session) (p : ProofState) (n : Name) (
             let start : a.ids ≡ length (ids_in (at outer behind)) = ap (λ (a : OpenAnchor). a.ids) (sym one) ∙ (last.same ∙ length_same) in
             let bound : a.variables ≡ length other.bindings = ap (λ (a : OpenAnchor). a.variables) (sym two) ∙ (count.same ∙ zip_length (IsBindingOf s v) anchor.bindings other.bindings k.3) in
             let opened : is_open_id (inside outer behind other) n.name ≡ true = used_open outer behind other p.scope.items n.name f u (sym place ∙ start) in
-            let ids : d.ids ≡ ids_in (at (inside outer behind other) p.scope.items) = same_ids ∙ ap (λ m. ids_in (at m p.scope.items)) (sym same) in
+            let ids : d.ids.used ≡ ids_in (at (inside outer behind other) p.scope.items) = same_ids ∙ ap (λ m. ids_in (at m p.scope.items)) (sym same) in
             record {
               here = closes_scope p.scope.nesting p.scope.items;
               comes = comes true (subst (λ m. is_open_id m n.name ≡ true) same opened);
               closes = (subst (λ m. is_open_id m n.name ≡ true) same opened, refl, subst (λ m. IsAnchorOf m a) same (start, bound), unused_before a.ids place);
-              premises = subst (λ m. IsReach d.ids (record { first = 0; end = a.ids; takes_steps = true }) (closes_scope m p.scope.items).sees) same
+              premises = subst (λ m. IsReach d.ids.used (record { first = 0; end = a.ids; takes_steps = true }) (closes_scope m p.scope.items).sees) same
                   (subst (λ us. IsReach us (record { first = 0; end = a.ids; takes_steps = true }) (seen outer behind)) (sym ids) (reaches_outer outer behind other p.scope.items a.ids start));
-              discharges = subst (λ m. IsReach d.ids (record { first = first; end = len; takes_steps = false }) (closes_scope m p.scope.items).discharges) same
+              discharges = subst (λ m. IsReach d.ids.used (record { first = first; end = len; takes_steps = false }) (closes_scope m p.scope.items).discharges) same
                   (subst (λ us. IsReach us (record { first = first; end = len; takes_steps = false }) (assumes_seen (inside outer behind other) p.scope.items)) (sym ids)
                   (reaches_assumes outer behind other p.scope.items first len (e ∙ ap (λ n. n + 1) start) (l ∙ ap length ids)));
             }

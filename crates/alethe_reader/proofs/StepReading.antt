@@ -35,7 +35,7 @@ use Rattle.alethe_reader.specs.declared.stepping.NewStep.{NewStep}
 use Rattle.alethe_reader.specs.AddedSteps.{IsToAdd}
 use Rattle.alethe_reader.specs.Answers.{AnswersAs}
 use Rattle.alethe_reader.specs.KeptReads.{KeepsRead}
-use Rattle.alethe_reader.specs.Ids.{Used}
+use Rattle.alethe_reader.specs.Ids.{Used, IdsView}
 use Rattle.alethe_reader.specs.Judging.{is_named}
 use Rattle.alethe_reader.specs.ReadTerms.{AreReadFormulas}
 use Rattle.alethe_reader.specs.Sessions.{IsProofSession, IsWritten, StandsAfter}
@@ -126,7 +126,7 @@ clause_stays s z v w table terms (r ∷ refs) [] h = absurd h
 clause_stays s z v w table terms (r ∷ refs) (t ∷ ts) h = (refers_stays s z v w table terms r t h.0, clause_stays s z v w table terms refs ts h.1)
 
 -- Nothing of what is written was changed.
-written_same : (s : Table) (v : TermsView) (d e : Session) (p q : ProofState) → e.builder ≡ d.builder → e.ids ≡ d.ids → e.anchors ≡ d.anchors → e.bound ≡ d.bound → q.scope ≡ p.scope → q.anchors ≡ p.anchors → IsWritten s v d p → IsWritten s v e q
+written_same : (s : Table) (v : TermsView) (d e : Session) (p q : ProofState) → e.builder ≡ d.builder → e.ids.used ≡ d.ids.used → e.anchors ≡ d.anchors → e.bound ≡ d.bound → q.scope ≡ p.scope → q.anchors ≡ p.anchors → IsWritten s v d p → IsWritten s v e q
 written_same s v d e p q built used anchors bound scope places h = record {
   nesting = rw (built, scope) h.nesting;
   items = rw (built, scope) h.items;
@@ -145,7 +145,7 @@ closing_same used more p q id name here (Some x) a b c h = rw (a, b, c) h
 pub is_bare : (id word : List ℕ) (clause : List Term) → IsBare (bare_step id word clause)
 is_bare id word clause = record { premises = refl; discharged = refl; pivots = refl; ratios = refl }
 
-module _ (settings : ProofSettings) (n : Name) (p : ProofState) (d : Session) (standing : ReaderStanding) (stands : IsStandingOf d.ids p n standing) {z : Table} {w : TermsView} {r : ReaderView} {refs : List ℕ} (clause : List Term) (q : ProofState) (k : AreReadFormulas z w settings stands.here.nesting r p refs tt clause q) where
+module _ (settings : ProofSettings) (n : Name) (p : ProofState) (d : Session) (standing : ReaderStanding) (stands : IsStandingOf d.ids.used p n standing) {z : Table} {w : TermsView} {r : ReaderView} {refs : List ℕ} (clause : List Term) (q : ProofState) (k : AreReadFormulas z w settings stands.here.nesting r p refs tt clause q) where
   -- behind the literals the step stands as before
   pub stands_there : {parts : StepParts} → settings.is_strict ≡ d.strict → StandsAt z w settings stands.here (record d { reader = r; parts = parts }) standing q
   stands_there strict = record { strict = strict; sees = stands.premises; discharges = stands.discharges; reader = k.behind.reader }
@@ -164,12 +164,12 @@ module _ (settings : ProofSettings) (n : Name) (p : ProofState) (d : Session) (s
         strict = session.strict ∙ sym others.strict;
         reader = read.behind.reader;
         written =
-            written_same y x d e p t others.builder others.ids others.anchors others.bound scope (read.behind.anchors ∙ k.behind.anchors)
+            written_same y x d e p t others.builder (ap (λ (x : IdsView). x.used) others.ids) others.anchors others.bound scope (read.behind.anchors ∙ k.behind.anchors)
             (written_stays s y v x (adds_then s z y first second).keeps (terms_kept v w x old more) d p session.written);
         id = read.id ∙ sym named;
         rule = read.rule ∙ sym ruled;
         word = read.rule_name ∙ sym worded;
-        closes = subst (IsClosing e.ids t step.id stands.here) (sym closed) (closing_same d.ids e.ids p t n.name step.id stands.here standing.closes others.ids scope read.id stands.closes);
+        closes = subst (IsClosing e.ids.used t step.id stands.here) (sym closed) (closing_same d.ids.used e.ids.used p t n.name step.id stands.here standing.closes (ap (λ (x : IdsView). x.used) others.ids) scope read.id stands.closes);
         named = has.1;
         premises = has.0.premises;
         discharged = has.0.discharged;

@@ -1,6 +1,6 @@
 -- Cited by crates above. What is written of a proof stands for the same as the table and the pool grow, and has the ids of the
 -- proof over terms.
-use Rattle.std.proofs.Common.{◌≡◌, ℕ, List, [], ◌∷◌, refl, ◌∙◌}
+use Rattle.std.proofs.Common.{◌≡◌, ℕ, List, [], ◌∷◌, Option, Some, None, refl, ◌∙◌, subst}
 use Rattle.std.specs.List.{AllZip}
 use Rattle.sym_table.specs.Table.{Table, Keeps}
 use Rattle.term_model.specs.Terms.{Var, Term}
@@ -13,6 +13,8 @@ use Rattle.alethe_text.specs.States.{ProofState}
 use Rattle.alethe_reader.specs.declared.session.Session.{Session}
 use Rattle.alethe_reader.specs.Bound.{AreBound, images_in}
 use Rattle.alethe_reader.specs.declared.bound.BoundVariables.{BoundVariables}
+use Rattle.alethe_reader.specs.declared.ids.Found.{Found}
+use Rattle.alethe_reader.specs.Ids.{Used, IsUnused, IsUsedAt, IsIdFound}
 use Rattle.alethe_reader.specs.IdsInUse.{own_ids, ids_around, ids_in}
 use Rattle.alethe_reader.specs.Sessions.{StandForNesting, IsWritten}
 use Rattle.alethe_reader.proofs.StoredItems.{commands_same, subproofs_same, items_stay}
@@ -103,5 +105,16 @@ module _ (s : Table) (v : TermsView) where
       let a = around_same d.nesting p.nesting n in let b = own_same d.nesting p.nesting (first_same d.nesting p.nesting n) d.items p.items i in cc
 
   -- what is written has the ids of the state
-  pub written_ids : (d : Session) (p : ProofState) → IsWritten s v d p → d.ids ≡ ids_in p.scope
+  pub written_ids : (d : Session) (p : ProofState) → IsWritten s v d p → d.ids.used ≡ ids_in p.scope
   written_ids d p h = h.ids ∙ ids_same d.builder p.scope h.nesting h.items
+
+  -- what is found among the ids in use is found among those of the state
+  pub found_now : (d : Session) (p : ProofState) (id : List ℕ) (o : Option Found) → IsIdFound d.ids.used id o → IsWritten s v d p → IsIdFound (ids_in p.scope) id o
+  found_now d p id o h w = subst (λ us. IsIdFound us id o) (written_ids d p w) h
+
+-- an id of which nothing is found is not in use
+pub unused_now : (used : List Used) (id : List ℕ) (o : Option Found) → IsIdFound used id o → o ≡ None → IsUnused used id
+unused_now used id o h none = subst (IsIdFound used id) none h
+
+pub used_here : (used : List Used) (id : List ℕ) (o : Option Found) (f : Found) → IsIdFound used id o → o ≡ Some f → IsUsedAt used id f
+used_here used id o f h some = subst (IsIdFound used id) some h

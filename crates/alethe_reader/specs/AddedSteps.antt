@@ -47,7 +47,7 @@ pub record IsToAdd (s : Table) (v : TermsView) (settings : ProofSettings) (d : S
   pub id : step.id ≡ n.id.name.now
   pub rule : step.rule ≡ n.rule
   pub word : step.rule_name ≡ n.word.now
-  pub closes : IsClosing d.ids p step.id here n.closes
+  pub closes : IsClosing d.ids.used p step.id here n.closes
   pub named : HasRule step
   pub premises : AreSeen here.sees step.premises
   pub discharged : AreSeen here.discharges step.discharged

@@ -25,6 +25,6 @@ BindApart (inside around before anchor) = BindApart around × AllByRecursion (λ
 
 -- the names and the images are those of the open anchors
 pub record AreBound (s : Table) (v : TermsView) (b : BoundVariables) (nesting : Nesting Var Term) : Type 0 where
-  pub names : map (λ u. u.id) b.names ≡ bound_names nesting
+  pub names : map (λ u. u.id) b.names.used ≡ bound_names nesting
   pub images : AllZip (IsBindingOf s v) b.images.items (images_in nesting)
   pub apart : BindApart nesting

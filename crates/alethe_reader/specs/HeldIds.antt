@@ -1,5 +1,6 @@
 -- Private. Ids in use, by the numbers of their names.
-use Rattle.std.specs.Prelude.{◌≡◌, ◌<◌, ℕ, List, [], map, length, slice_get, slice_index_or, Some}
+use Rattle.std.specs.Prelude.{◌≡◌, ◌≢◌, ◌<◌, ℕ, List, [], map, length, slice_get, slice_index_or, Option, Some, None}
+use Rattle.alethe_reader.specs.declared.ids.Found.{Found}
 use Rattle.alethe_reader.specs.declared.ids.Held.{Held}
 use Rattle.alethe_reader.specs.Ids.{Used}
 
@@ -14,3 +15,8 @@ pub record IsLatest (names : List (List ℕ)) (latest : List ℕ) (held : List H
   pub one_each : length names ≡ length latest
   pub within : (k : ℕ) (h : Held) → slice_get held k ≡ Some h → h.name < length names
   pub places : (k : ℕ) (h : Held) → slice_get held k ≡ Some h → slice_get latest h.name ≡ Some k
+
+-- what is in use at this place, where it is the id of the name with this number
+abbrev pub IsHeldOf : List Held → ℕ → ℕ → Option Found → Type 0
+IsHeldOf held place name (Some f) = (f.place ≡ place) × (slice_get held place ≡ Some (record { name = name; role = f.role; number = f.number }))
+IsHeldOf held place name None = (h : Held) → slice_get held place ≡ Some h → h.name ≢ name

@@ -9,6 +9,12 @@ pub record Used : Type 0 where
   pub role : Role
   pub number : ℕ
 
+-- The ids in use in the order in which they came, and the names that have a number, each at the place that is its number:
+-- those of all ids that were in use once.
+pub record IdsView : Type 0 where
+  pub names : List (List ℕ)
+  pub used : List Used
+
 -- the id is not in use
 abbrev pub IsUnused : List Used → List ℕ → Type 0
 IsUnused used id = (k : ℕ) (u : Used) → slice_get used k ≡ Some u → u.id ≢ id

@@ -33,8 +33,8 @@ AreFresh names (b ∷ bs) = (is_among names b.0.name ≡ false) × AreFresh (nam
 -- The variables bs of the anchor were read, with these names, the last one first.
 pub record IsOpening (s : Table) (v : TermsView) (settings : ProofSettings) (r : ReaderView) (d : BoundVariables) (earlier : List (List ℕ)) (bs : List (Var × Term)) (p : ProofState) : Type 0 where
   pub reader : IsReaderOf s v r p.script (place_in settings p.scope.nesting)
-  pub names : map (λ u. u.id) d.names ≡ bound_names p.scope.nesting ++ map (λ b. b.0.name) bs
-  pub judged : (name : List ℕ) → (is_among earlier name || is_among (bound_names p.scope.nesting) name) ≡ is_among (map (λ u. u.id) d.names) name
+  pub names : map (λ u. u.id) d.names.used ≡ bound_names p.scope.nesting ++ map (λ b. b.0.name) bs
+  pub judged : (name : List ℕ) → (is_among earlier name || is_among (bound_names p.scope.nesting) name) ≡ is_among (map (λ u. u.id) d.names.used) name
   pub images : AllZip (IsBindingOf s v) d.images.items (images_in p.scope.nesting ++ put_in_each (images (open_anchors p.scope.nesting)) bs)
   pub opened : AllZip (IsBindingOf s v) d.opened.items bs
   pub apart : BindApart p.scope.nesting

@@ -35,7 +35,7 @@ counts (inside around before anchor) = counts around ++ length anchor.bindings �
 pub record IsWritten (s : Table) (v : TermsView) (d : Session) (p : ProofState) : Type 0 where
   pub nesting : StandForNesting s v d.builder.nesting p.scope.nesting
   pub items : StandForItems s v d.builder.items p.scope.items
-  pub ids : d.ids ≡ ids_in d.builder
+  pub ids : d.ids.used ≡ ids_in d.builder
   pub places : map (λ a. a.place) d.anchors.items ≡ p.anchors
   pub starts_kept : map (λ a. a.ids) d.anchors.items ≡ starts d.builder.nesting
   pub counts_kept : map (λ a. a.variables) d.anchors.items ≡ counts d.builder.nesting

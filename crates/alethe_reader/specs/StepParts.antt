@@ -42,8 +42,8 @@ pub record IsBare (step : Step Term) : Type 0 where
 -- of those that it may discharge.
 pub record StandsAt (s : Table) (v : TermsView) (settings : ProofSettings) (at : text.Standing) (d : Session) (standing : Standing) (p : ProofState) : Type 0 where
   pub strict : settings.is_strict ≡ d.strict
-  pub sees : IsReach d.ids standing.premises at.sees
-  pub discharges : IsReach d.ids standing.discharges at.discharges
+  pub sees : IsReach d.ids.used standing.premises at.sees
+  pub discharges : IsReach d.ids.used standing.discharges at.discharges
   pub reader : IsReaderOf s v d.reader p.script (place_in settings at.nesting)
 
 -- Attributes were read, and the step before them became this one, of which the session has the parts.

@@ -170,7 +170,7 @@ fn read_assigned(
 /// Judges the name of a variable: refused as repeated where it is built in, and as a bad anchor where an open anchor binds it,
 /// or this one.
 fn judge_variable(bound: &BoundVariables, variable: Named<'_>) -> Result<(), Refusal>
-    ensures { IsNameJudged (words.is_built_in variable.entry.name.now) (words.is_among (map (λ u. u.id) bound.now.names) variable.entry.name.now) variable.entry.place result }
+    ensures { IsNameJudged (words.is_built_in variable.entry.name.now) (words.is_among (map (λ u. u.id) bound.now.names.used) variable.entry.name.now) variable.entry.place result }
 {
     if is_built_in(variable.name) {
         return Err(refused(Cause::Repeated, variable.place));
@@ -215,8 +215,8 @@ fn image_at(
 ) -> Result<Ref, ReadFault>
     requires value { (t : Typed) × IsValue symbols.now terms.old value t }
     requires outer { length bound.now.opened.items ≤ length bound.now.images.items }
-    requires images { (nesting : Nesting Var Term) × (more : List (List ℕ)) × AllZip (IsBindingOf symbols.now terms.old) (take (length bound.now.images.items - length bound.now.opened.items) bound.now.images.items) (images_in nesting) × (map (λ u. u.id) bound.now.names ≡ bound_names nesting ++ more) }
-    ensures read { (name : List ℕ) (t : Typed) (nesting : Nesting Var Term) (more : List (List ℕ)) (q : ProofState) → IsValue symbols.now terms.old value t → BindApart nesting → AllZip (IsBindingOf symbols.now terms.old) (take (length bound.now.images.items - length bound.now.opened.items) bound.now.images.items) (images_in nesting) → map (λ u. u.id) bound.now.names ≡ bound_names nesting ++ more → AnswersAs symbols.now terms.old terms.new (IsImageRead symbols.now terms.new name nesting t q) (image_read wanted.place name wanted.sort nesting t q) result }
+    requires images { (nesting : Nesting Var Term) × (more : List (List ℕ)) × AllZip (IsBindingOf symbols.now terms.old) (take (length bound.now.images.items - length bound.now.opened.items) bound.now.images.items) (images_in nesting) × (map (λ u. u.id) bound.now.names.used ≡ bound_names nesting ++ more) }
+    ensures read { (name : List ℕ) (t : Typed) (nesting : Nesting Var Term) (more : List (List ℕ)) (q : ProofState) → IsValue symbols.now terms.old value t → BindApart nesting → AllZip (IsBindingOf symbols.now terms.old) (take (length bound.now.images.items - length bound.now.opened.items) bound.now.images.items) (images_in nesting) → map (λ u. u.id) bound.now.names.used ≡ bound_names nesting ++ more → AnswersAs symbols.now terms.old terms.new (IsImageRead symbols.now terms.new name nesting t q) (image_read wanted.place name wanted.sort nesting t q) result }
     ensures keeps { KeepsTerms terms.old terms.new }
 {
     if !is_wanted(wanted.sort, value.sort) {

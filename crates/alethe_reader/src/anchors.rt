@@ -57,7 +57,8 @@ pub fn read_anchor(
     ensures scopes { OnOk result (next_scope session.new.builder ≡ next_scope session.old.builder + 1) }
 {
     let id = named_at(items.text, items.nodes, anchor.id);
-    judge_id(&session.ids, id, Cause::Repeated)?;
+    let looked = session.ids.look(id.name);
+    judge_id(looked.found, id, Cause::Repeated)?;
     let (reader, bound) = (&mut session.reader, &mut session.bound);
     read_arguments(items, anchor.first, symbols, terms, reader, bound)?;
     enter_variables(&mut session.reader, &session.bound.opened)?;
@@ -67,7 +68,8 @@ pub fn read_anchor(
         variables: session.bound.opened.len(),
     };
     let scope = session.builder.anchor(id.name, &session.bound.opened)?;
-    session.ids.push(id.name, Role::Anchor, scope)?;
+    let ids = &mut session.ids;
+    ids.push(id.name, looked.name, Role::Anchor, scope)?;
     session.anchors.push(open)?;
     Ok(())
 }

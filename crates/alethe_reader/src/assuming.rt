@@ -50,9 +50,11 @@ pub fn read_assume(
     ensures scopes { OnOk result (next_scope session.new.builder ≡ next_scope session.old.builder) }
 {
     let id = named_at(items.text, items.nodes, id);
-    judge_id(&session.ids, id, Cause::BadAnchor)?;
+    let looked = session.ids.look(id.name);
+    judge_id(looked.found, id, Cause::BadAnchor)?;
     let formula = formula_at(items, term, symbols, terms, &mut session.reader)?;
     let index = session.builder.assume(id.name, formula)?;
-    session.ids.push(id.name, Role::Assume, index)?;
+    let ids = &mut session.ids;
+    ids.push(id.name, looked.name, Role::Assume, index)?;
     Ok(())
 }

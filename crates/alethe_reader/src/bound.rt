@@ -49,19 +49,20 @@ impl BoundVariables {
 
     /// Whether some variable of this name is bound. Costs one hash.
     pub(crate) fn has(&self, name: &[u8]) -> bool
-        ensures { result ≡ is_among (map (λ u. u.id) self.now.names) name.now }
+        ensures { result ≡ is_among (map (λ u. u.id) self.now.names.used) name.now }
     {
         self.names.find(name).is_some()
     }
 
     /// Adds a variable of the anchor that is read, whose name is not bound. Refuses want of memory alone.
     pub(crate) fn push(&mut self, name: &[u8], variable: OpenedVariable) -> Result<(), Memory>
-        requires { is_among (map (λ u. u.id) self.old.names) name.now ≡ false }
-        ensures names { OnOk result (map (λ u. u.id) self.new.names ≡ map (λ u. u.id) self.old.names ++ name.now ∷ []) }
+        requires { is_among (map (λ u. u.id) self.old.names.used) name.now ≡ false }
+        ensures names { OnOk result (map (λ u. u.id) self.new.names.used ≡ map (λ u. u.id) self.old.names.used ++ name.now ∷ []) }
         ensures images { OnOk result (self.new.images.items ≡ self.old.images.items ++ (variable.leaf, variable.image) ∷ []) }
         ensures opened { OnOk result (self.new.opened.items ≡ self.old.opened.items ++ (variable.leaf, variable.term) ∷ []) }
     {
-        self.names.push(name, Role::Anchor, 0)?;
+        let looked = self.names.look(name);
+        self.names.push(name, looked.name, Role::Anchor, 0)?;
         self.images.push((variable.leaf, variable.image))?;
         self.opened.push((variable.leaf, variable.term))?;
         Ok(())

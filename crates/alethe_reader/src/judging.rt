@@ -1,16 +1,16 @@
 //! The ids of commands that close nothing (Alethe specification, "The Proof Format").
-ghost use Rattle.std.specs.Prelude.{◌≡◌, OnOk, Ok, Err};
+ghost use Rattle.std.specs.Prelude.{◌≡◌, None, OnOk, Ok, Err};
 ghost use Rattle.problem_text.specs.Outcomes.{given};
 ghost use Rattle.text_items.specs.ItemShapes.{Name};
 ghost use Rattle.text_items.specs.NameNodes.{IsNameNode};
 ghost use Rattle.sexpr.specs.Source.{source};
 ghost use Rattle.alethe_text.specs.Ids as text;
 ghost use Rattle.alethe_text.specs.States.{ProofState};
-ghost use Rattle.alethe_reader.specs.Ids.{IsUnused};
+ghost use Rattle.alethe_reader.specs.Ids.{IsIdFound};
 ghost use Rattle.alethe_reader.specs.IdsInUse.{ids_in};
 ghost use Rattle.alethe_reader.specs.Judging.{cause_of, is_named};
 
-use crate::ids::{Ids, Role};
+use crate::ids::{Found, Role};
 use sexpr::{Cause, Lexer, Refusal};
 use text_items::nodes::Node;
 use text_items::refusals::refused;
@@ -34,13 +34,13 @@ pub(crate) fn named_at<'a>(text: &Lexer<'a>, nodes: &[Node], k: usize) -> Named<
     }
 }
 
-/// Judges the id of a command that closes nothing: refused for the cause `of_anchor` where it is that of an open anchor, and
-/// as repeated where it is that of a visible command.
-pub(crate) fn judge_id(ids: &Ids, id: Named<'_>, of_anchor: Cause) -> Result<(), Refusal>
-    ensures unused { OnOk result (IsUnused ids.now id.entry.name.now) }
-    ensures judged { (p : ProofState) → ids.now ≡ ids_in p.scope → text.id_judged of_anchor (is_named id.entry) p ≡ given result p }
+/// Judges the id of a command that closes nothing, by what it was found to be: refused for the cause `of_anchor` where it is
+/// that of an open anchor, and as repeated where it is that of a visible command.
+pub(crate) fn judge_id(found: Option<Found>, id: Named<'_>, of_anchor: Cause) -> Result<(), Refusal>
+    ensures unused { OnOk result (found ≡ None) }
+    ensures judged { (p : ProofState) → IsIdFound (ids_in p.scope) id.entry.name.now found → text.id_judged of_anchor (is_named id.entry) p ≡ given result p }
 {
-    match ids.find(id.name) {
+    match found {
         None => Ok(()),
         Some(found) => Err(refused(cause_of(of_anchor, found.role), id.place)),
     }

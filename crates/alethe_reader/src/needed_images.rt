@@ -24,7 +24,7 @@ pub(crate) fn images_needed(
 ) -> Result<Vec<(u32, Ref)>, Memory>
     requires known { IsKnown terms.old.pass r }
     requires outer { outer ≤ length bound.now.images.items }
-    ensures needed { IfOk result (λ needed. AreNeeded symbols.now terms.old.pass (map (λ u. u.id) bound.now.names) (take outer bound.now.images.items) r needed.items) }
+    ensures needed { IfOk result (λ needed. AreNeeded symbols.now terms.old.pass (map (λ u. u.id) bound.now.names.used) (take outer bound.now.images.items) r needed.items) }
     ensures same { terms.new ≡ terms.old }
 {
     let met = met_in(bound.alloc, terms, r)?;
@@ -42,7 +42,7 @@ pub(crate) fn images_needed(
 /// none. Costs one hash.
 fn image_of_leaf(bound: &BoundVariables, outer: usize, symbols: &Symbols, leaf: u32) -> Option<Ref>
     requires { outer ≤ length bound.now.images.items }
-    ensures { IsImageFound symbols.now (map (λ u. u.id) bound.now.names) (take outer bound.now.images.items) leaf result }
+    ensures { IsImageFound symbols.now (map (λ u. u.id) bound.now.names.used) (take outer bound.now.images.items) leaf result }
 {
     if leaf >= symbols.count() {
         return None;

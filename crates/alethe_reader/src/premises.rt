@@ -46,7 +46,7 @@ fn takes(steps: bool, role: Role) -> bool
 
 /// The index of the command with this id, where one within reach has it.
 fn index_of(ids: &Ids, reach: Reach, id: Named<'_>) -> Result<u32, Refusal>
-    ensures { (sights : List Sight) → IsReach ids.now reach sights → IsIndex (find (λ c. bytes_eq c.id id.entry.name.now) sights) id.entry.place result }
+    ensures { (sights : List Sight) → IsReach ids.now.used reach sights → IsIndex (find (λ c. bytes_eq c.id id.entry.name.now) sights) id.entry.place result }
 {
     let Some(found) = ids.find(id.name) else {
         return Err(refused(Cause::NoStep, id.place));
@@ -69,7 +69,7 @@ pub(crate) fn indices_at(
     indices: &mut Vec<u32>,
 ) -> Result<(), ReadFault>
     requires { (ns : List Name) × AreNameNodes (source items.now.text.now) items.now.nodes.now range.first ns range.end }
-    ensures { (ns : List Name) (sights : List Sight) (p : ProofState) → AreNameNodes (source items.now.text.now) items.now.nodes.now range.first ns range.end → IsReach ids.now reach sights → AreIndices sights ns p indices.new.items result }
+    ensures { (ns : List Name) (sights : List Sight) (p : ProofState) → AreNameNodes (source items.now.text.now) items.now.nodes.now range.first ns range.end → IsReach ids.now.used reach sights → AreIndices sights ns p indices.new.items result }
 {
     indices.clear();
     let mut k = range.first;

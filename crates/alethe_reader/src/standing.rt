@@ -4,6 +4,7 @@ ghost use Rattle.rule_model.specs.RuleNames.{IsSymbolName};
 ghost use Rattle.sym_table.specs.Table.{Table};
 ghost use Rattle.term_pool.specs.Views.{TermsView};
 ghost use Rattle.alethe_text.specs.States.{ProofState};
+ghost use Rattle.alethe_reader.specs.Ids.{IsIdFound};
 ghost use Rattle.alethe_reader.specs.Judging.{is_named};
 ghost use Rattle.alethe_reader.specs.Sessions.{IsWritten};
 ghost use Rattle.alethe_reader.specs.Standing.{IsStanding};
@@ -24,12 +25,17 @@ pub(crate) struct Standing {
     pub(crate) closes: Option<OpenAnchor>,
 }
 
-/// Judges the id of a step. One with the id of the innermost open anchor closes its scope; any other may have neither the id
-/// of an open anchor nor that of a visible command.
-pub(crate) fn standing_at(session: &Session<'_>, id: Named<'_>) -> Result<Standing, Refusal>
-    ensures { (s : Table) (v : TermsView) (p : ProofState) → IsSymbolName id.entry.name.now → IsWritten s v session.now p → IsStanding session.now.ids p (is_named id.entry) result }
+/// Judges the id of a step, by what it was found to be. One with the id of the innermost open anchor closes its scope; any
+/// other may have neither the id of an open anchor nor that of a visible command.
+pub(crate) fn standing_at(
+    session: &Session<'_>,
+    id: Named<'_>,
+    found: Option<Found>,
+) -> Result<Standing, Refusal>
+    requires { IsIdFound session.now.ids.used id.name.now found }
+    ensures { (s : Table) (v : TermsView) (p : ProofState) → IsSymbolName id.entry.name.now → IsWritten s v session.now p → IsStanding session.now.ids.used p (is_named id.entry) result }
 {
-    let Some(found) = session.ids.find(id.name) else {
+    let Some(found) = found else {
         return Ok(standing_here(session.ids.len()));
     };
     match closed_by(&session.anchors, found) {

@@ -1,5 +1,5 @@
 //! Steps of a proof (Alethe specification, "The Proof Format" and "Subproofs").
-ghost use Rattle.std.specs.Prelude.{◌≡◌, ◌≤◌, ◌<◌, ◌^◌, ◌+◌, ◌-◌, ◌++◌, ◌∷◌, [], ℕ, List, length, take, IfOk, IfErr, OnOk};
+ghost use Rattle.std.specs.Prelude.{◌≡◌, ◌≤◌, ◌<◌, ◌^◌, ◌+◌, ◌-◌, ◌++◌, ◌∷◌, [], ℕ, List, length, take, position, bytes_eq, IfOk, IfErr, OnOk};
 ghost use Rattle.sexpr.specs.Items.{Items};
 ghost use Rattle.sexpr.specs.Source.{source};
 ghost use Rattle.sym_table.specs.Table.{Table};
@@ -57,11 +57,12 @@ pub struct StepNodes {
     pub attributes: usize,
 }
 
-/// A step as it is to be added: its id, its rule with the word for it, and the anchor whose scope it closes. What else it has
-/// are the parts of the session.
+/// A step as it is to be added: its id, with the number of the id's name where it has one, its rule with the word for it, and
+/// the anchor whose scope it closes. What else it has are the parts of the session.
 #[derive(Clone, Copy)]
 struct NewStep<'a> {
     id: Named<'a>,
+    name: Option<usize>,
     rule: Rule,
     word: &'a [u8],
     closes: Option<OpenAnchor>,
@@ -92,7 +93,8 @@ pub fn read_step(
 {
     let ItemText { text, nodes } = *items;
     let id = named_at(text, nodes, step.id);
-    let standing = standing_at(session, id)?;
+    let looked = session.ids.look(id.name);
+    let standing = standing_at(session, id, looked.found)?;
     stand(&mut session.reader, standing.closes);
     let literals = NodeRange {
         first: step.first,
@@ -110,6 +112,7 @@ pub fn read_step(
     attributes_at(items, attributes, symbols, terms, session)?;
     let new = NewStep {
         id,
+        name: looked.name,
         rule,
         word,
         closes: standing.closes,
@@ -133,6 +136,7 @@ fn stand(reader: &mut TermReader<'_>, closes: Option<OpenAnchor>)
 /// want of memory alone.
 fn add_step(session: &mut Session<'_>, new: NewStep<'_>) -> Result<(), ReadFault>
     requires step { (s : Table) × (v : TermsView) × (settings : ProofSettings) × (step : Step Term) × (p : ProofState) × IsToAdd s v settings session.old new step p }
+    requires name { new.name ≡ position (bytes_eq new.id.name.now) session.old.ids.names }
     requires few { next_index session.old.builder + 1 < 2 ^ 32 - 1 }
     ensures added { OnOk result ((s : Table) (v : TermsView) (settings : ProofSettings) (step : Step Term) (p : ProofState) → IsToAdd s v settings session.old new.entry step p → IsProofSession s v settings session.new (steps.with_step step p)) }
     ensures refused { IfErr result (λ fault. fault ≡ ReadFault.Memory) }
@@ -143,7 +147,8 @@ fn add_step(session: &mut Session<'_>, new: NewStep<'_>) -> Result<(), ReadFault
     if let Some(anchor) = new.closes {
         leave_scope(session, anchor);
     }
-    session.ids.push(new.id.name, Role::Step, index)?;
+    let ids = &mut session.ids;
+    ids.push(new.id.name, new.name, Role::Step, index)?;
     Ok(())
 }
 
@@ -185,7 +190,7 @@ fn ratios_of(parts: &StepParts) -> Option<&[Ratio]>
 /// Leaves the scope of the innermost anchor: its ids, its variables, and itself.
 fn leave_scope(session: &mut Session<'_>, anchor: OpenAnchor)
     requires { (s : Table) × (v : TermsView) × (nesting : Nesting Var Term) × AreBound s v session.old.bound nesting × (anchor.variables ≡ length (own_bindings nesting)) }
-    ensures ids { session.new.ids ≡ take anchor.ids session.old.ids }
+    ensures ids { session.new.ids ≡ record { names = session.old.ids.names; used = take anchor.ids session.old.ids.used } }
     ensures anchors { (front : List OpenAnchor) (last : OpenAnchor) → session.old.anchors.items ≡ front ++ last ∷ [] → session.new.anchors.items ≡ front }
     ensures bound { (s : Table) (v : TermsView) (around : Nesting Var Term) (before : Proof Var Term) (other : Anchor Var Term) → anchor.variables ≡ length other.bindings → AreBound s v session.old.bound (inside around before other) → AreBound s v session.new.bound around }
     ensures builder { session.new.builder ≡ session.old.builder }

@@ -5,7 +5,7 @@ use Rattle.alethe_reader.proofs.ids.number_of.Goals as goal
 
 pub returns-in-Some-clause-number : goal.returns-in-Some-clause-number
 returns-in-Some-clause-number c = record {
-  number = at_place c.args.names.now c.in-Some.number c.args.name.now (sym c.in-Some.ensures.number);
+  number = at_place c.args.names.now c.in-Some.number c.args.name.now (sym c.requires.number ∙ c.in-Some.is);
   others = inl (refl, refl);
 }
 

@@ -21,6 +21,6 @@ returns-clause-needed c = record {
   leaves = c.in_ok-met.met.keys;
   among = c.in_ok-met.ensures.leaves;
   are =
-      subst (λ (ks : List ℕ). AreImagesOf c.args.symbols.now (map (λ u. u.id) c.args.bound.now.names) (take c.args.outer c.args.bound.now.images.items) ks c.references.needed.items)
+      subst (λ (ks : List ℕ). AreImagesOf c.args.symbols.now (map (λ u. u.id) c.args.bound.now.names.used) (take c.args.outer c.args.bound.now.images.items) ks c.references.needed.items)
       (take_all c.references.reference-index c.as_slice-reference-items.result.now (omega (arith, c.references-test.false)) ∙ c.as_slice-reference-items.ensures.keys) c.references.invariant;
 }

@@ -13,7 +13,7 @@ use Rattle.alethe_reader.proofs.premises.indices_at.Given as goal
 abbrev pub invariant-names : goal.invariant-names
 invariant-names l = record {
   some : (ns : List Name) × AreNameNodes (source l.items.text.now) l.items.nodes.now l.k ns l.range.end;
-  so_far : (ns : List Name) (sights : List Sight) (p : ProofState) → AreNameNodes (source l.items.text.now) l.items.nodes.now l.range.first ns l.range.end → IsReach l.ids l.reach sights → AreSoFar (source l.items.text.now) l.items.nodes.now sights p l.indices.items l.k l.range.end (indices_of sights ns p);
+  so_far : (ns : List Name) (sights : List Sight) (p : ProofState) → AreNameNodes (source l.items.text.now) l.items.nodes.now l.range.first ns l.range.end → IsReach l.ids.used l.reach sights → AreSoFar (source l.items.text.now) l.items.nodes.now sights p l.indices.items l.k l.range.end (indices_of sights ns p);
 }
 
 abbrev pub decreases-names : goal.decreases-names

@@ -24,7 +24,7 @@ stand-requires c =
     let here = said _ _ _ _ _ n literals attributes says in
     let id = symbol_named c.requires.says c.named_at-id.result c.named_at-id.ensures in
     let stands = stands_as c.named_at-id.result (c.named_at-id.ensures n here.name_here) (c.in_ok-standing.ensures c.args.symbols.now c.args.terms.now p id session.written) in
-    (c.args.symbols.now, c.args.terms.now, settings, c.args.session.now.ids, p, n.name, stands.here, session.reader, stands.closes)
+    (c.args.symbols.now, c.args.terms.now, settings, c.args.session.now.ids.used, p, n.name, stands.here, session.reader, stands.closes)
 
 pub formulas_at-requires-clause-reader : goal.formulas_at-requires-clause-reader
 formulas_at-requires-clause-reader c =
@@ -33,7 +33,7 @@ formulas_at-requires-clause-reader c =
     let here = said _ _ _ _ _ n literals attributes says in
     let id = symbol_named c.requires.says c.named_at-id.result c.named_at-id.ensures in
     let stands = stands_as c.named_at-id.result (c.named_at-id.ensures n here.name_here) (c.in_ok-standing.ensures c.args.symbols.now c.args.terms.now p id session.written) in
-    (settings, stands.here.nesting, p, c.stand.ensures c.args.symbols.now c.args.terms.now settings c.args.session.now.ids p n.name stands.here session.reader stands.closes)
+    (settings, stands.here.nesting, p, c.stand.ensures c.args.symbols.now c.args.terms.now settings c.args.session.now.ids.used p n.name stands.here session.reader stands.closes)
 
 pub returns-in_err-formulas_at-clause-read : goal.returns-in_err-formulas_at-clause-read
 returns-in_err-formulas_at-clause-read c n literals attributes settings p says session =
@@ -43,7 +43,7 @@ returns-in_err-formulas_at-clause-read c n literals attributes settings p says s
     let stands = stands_as c.named_at-id.result (c.named_at-id.ensures n here.name_here) (c.in_ok-standing.ensures c.args.symbols.now c.args.terms.now p id session.written) in
     rw (is.1, is.2) (no_clause settings n literals attributes p stands.here stands.comes
     (c.in_err-formulas_at.ensures.read literals settings stands.here.nesting p here.literals_here
-    (c.stand.ensures c.args.symbols.now c.args.terms.now settings c.args.session.now.ids p n.name stands.here session.reader stands.closes)))
+    (c.stand.ensures c.args.symbols.now c.args.terms.now settings c.args.session.now.ids.used p n.name stands.here session.reader stands.closes)))
 
 pub attributes_at-requires-clause-stands : goal.attributes_at-requires-clause-stands
 attributes_at-requires-clause-stands c =
@@ -53,7 +53,7 @@ attributes_at-requires-clause-stands c =
     let id = symbol_named c.requires.says c.named_at-id.result c.named_at-id.ensures in
     let stands = stands_as c.named_at-id.result (c.named_at-id.ensures n here.name_here) (c.in_ok-standing.ensures c.args.symbols.now c.args.terms.now p id session.written) in
     let formulas = c.in_ok-formulas_at.ensures.read literals settings stands.here.nesting p here.literals_here
-    (c.stand.ensures c.args.symbols.now c.args.terms.now settings c.args.session.now.ids p n.name stands.here session.reader stands.closes) in
+    (c.stand.ensures c.args.symbols.now c.args.terms.now settings c.args.session.now.ids.used p n.name stands.here session.reader stands.closes) in
     let read = formulas.answer in
     (settings, stands.here, read.state, stands_there settings n p c.args.session.now c.in_ok-standing.standing stands read.value read.state read.after session.strict)
 
@@ -70,7 +70,7 @@ returns-in_err-attributes_at-clause-read c n literals attributes settings p says
     let here = said _ _ _ _ _ n literals attributes says in
     let stands = stands_as c.named_at-id.result (c.named_at-id.ensures n here.name_here) (c.in_ok-standing.ensures c.args.symbols.now c.args.terms.now p id session.written) in
     let formulas = c.in_ok-formulas_at.ensures.read literals settings stands.here.nesting p here.literals_here
-    (c.stand.ensures c.args.symbols.now c.args.terms.now settings c.args.session.now.ids p n.name stands.here session.reader stands.closes) in
+    (c.stand.ensures c.args.symbols.now c.args.terms.now settings c.args.session.now.ids.used p n.name stands.here session.reader stands.closes) in
     let word = c.rule_word-word.ensures attributes here.attributes_here in
     let ruled : c.rule_named-rule.result ≡ rule_named (rule_word attributes) = c.rule_named-rule.ensures ∙ ap rule_named word in
     rw (is.1, is.2) (no_attributes settings n literals attributes p stands.here stands.comes formulas c.attributes_at.ensures.symbols.keeps c.attributes_at.ensures.keeps
@@ -94,7 +94,7 @@ add_step-requires-clause-step c =
     let id = symbol_named c.requires.says c.named_at-id.result c.named_at-id.ensures in
     let stands = stands_as c.named_at-id.result (c.named_at-id.ensures n here.name_here) (c.in_ok-standing.ensures c.args.symbols.now c.args.terms.now p id session.written) in
     let formulas = c.in_ok-formulas_at.ensures.read literals settings stands.here.nesting p here.literals_here
-    (c.stand.ensures c.args.symbols.now c.args.terms.now settings c.args.session.now.ids p n.name stands.here session.reader stands.closes) in
+    (c.stand.ensures c.args.symbols.now c.args.terms.now settings c.args.session.now.ids.used p n.name stands.here session.reader stands.closes) in
     let word = c.rule_word-word.ensures attributes here.attributes_here in
     let ruled : c.rule_named-rule.result ≡ rule_named (rule_word attributes) = c.rule_named-rule.ensures ∙ ap rule_named word in
     some_step settings n literals attributes p stands.here stands.comes formulas c.attributes_at.ensures.symbols.keeps c.attributes_at.ensures.keeps
@@ -117,7 +117,7 @@ returns-in_err-add_step-clause-read c n literals attributes settings p says sess
     let here = said _ _ _ _ _ n literals attributes says in
     let stands = stands_as c.named_at-id.result (c.named_at-id.ensures n here.name_here) (c.in_ok-standing.ensures c.args.symbols.now c.args.terms.now p id session.written) in
     let formulas = c.in_ok-formulas_at.ensures.read literals settings stands.here.nesting p here.literals_here
-    (c.stand.ensures c.args.symbols.now c.args.terms.now settings c.args.session.now.ids p n.name stands.here session.reader stands.closes) in
+    (c.stand.ensures c.args.symbols.now c.args.terms.now settings c.args.session.now.ids.used p n.name stands.here session.reader stands.closes) in
     let word = c.rule_word-word.ensures attributes here.attributes_here in
     let ruled : c.rule_named-rule.result ≡ rule_named (rule_word attributes) = c.rule_named-rule.ensures ∙ ap rule_named word in
     rw (is.1, is.2, c.in_err-add_step.ensures.refused) (no_room settings n literals attributes p stands.here stands.comes formulas c.attributes_at.ensures.symbols.keeps c.attributes_at.ensures.keeps
@@ -139,7 +139,7 @@ returns-clause-read c n literals attributes settings p says session =
     let here = said _ _ _ _ _ n literals attributes says in
     let stands = stands_as c.named_at-id.result (c.named_at-id.ensures n here.name_here) (c.in_ok-standing.ensures c.args.symbols.now c.args.terms.now p id session.written) in
     let formulas = c.in_ok-formulas_at.ensures.read literals settings stands.here.nesting p here.literals_here
-    (c.stand.ensures c.args.symbols.now c.args.terms.now settings c.args.session.now.ids p n.name stands.here session.reader stands.closes) in
+    (c.stand.ensures c.args.symbols.now c.args.terms.now settings c.args.session.now.ids.used p n.name stands.here session.reader stands.closes) in
     let word = c.rule_word-word.ensures attributes here.attributes_here in
     let ruled : c.rule_named-rule.result ≡ rule_named (rule_word attributes) = c.rule_named-rule.ensures ∙ ap rule_named word in
     let rule = subst IsSymbolName word (rule_symbol c.requires.says c.rule_word-word.result.now c.rule_word-word.ensures) in

@@ -4,4 +4,4 @@ use Rattle.alethe_reader.proofs.BoundLemmas.{found_among}
 use Rattle.alethe_reader.proofs.bound.BoundVariables.has.Goals as goal
 
 pub returns : goal.returns
-returns c = c.is_some.ensures ∙ found_among c.args.self.now.names c.args.name.now c.find.result c.find.ensures
+returns c = c.is_some.ensures ∙ found_among c.args.self.now.names.used c.args.name.now c.find.result c.find.ensures
