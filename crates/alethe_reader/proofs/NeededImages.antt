@@ -4,9 +4,10 @@ use Rattle.std.specs.Prelude.{IsSomeAnd}
 use Rattle.std.specs.List.{AllZip}
 use Rattle.std.specs.Option.{option_map}
 use Rattle.std.proofs.lemmas.List.{take_more}
-use Rattle.std.proofs.lemmas.List.Elements.{Contains-push, Contains-push_cases, Contains-append_left}
+use Rattle.std.proofs.lemmas.List.Elements.{Contains-push, Contains-push_cases, Contains-append_left, Contains-append_right}
 use Rattle.std.proofs.lemmas.Option.{slice_get_within, slice_get-map, slice_get-get_or, get_or_from_slice_get}
 use Rattle.pair_pool.specs.Trees.{Tree, leaf, cell}
+use Rattle.pair_pool.specs.Views.{PassView, IsKnown, IsOneToOne}
 use Rattle.sym_table.specs.Leaf.{name_of}
 use Rattle.sym_table.specs.Table.{Table, IsLeaf, LeafMeets, IsTable}
 use Rattle.term_model.specs.FreeVariables.{IsFree}
@@ -14,19 +15,20 @@ use Rattle.term_model.specs.Terms.{Var, var_eq, Term}
 use Rattle.term_model.proofs.Tests.{var_eq_decides}
 use Rattle.term_pool.specs.Heights.{is_let_head}
 use Rattle.term_pool.specs.StandsFor.{variable_leaf, StandsFor}
-use Rattle.term_pool.specs.Views.{TermsView}
+use Rattle.term_pool.specs.Views.{TermsView, RefersTo}
 use Rattle.rule_model.specs.Replacement.{Replacement, replaced_by}
 use Rattle.rule_model.specs.Substitution.{put_in, Replaces}
-use Rattle.rule_model.proofs.Substituting.{term_at-none, put_in_agrees}
+use Rattle.rule_model.proofs.Substituting.{term_at-none, put_in_agrees, put_in_nothing}
 use Rattle.rule_model.proofs.Standing.{slice_get_taken}
 use Rattle.proof_store.specs.Meaning.{IsBindingOf}
 use Rattle.alethe_text.proofs.Lists.{contains_first, contains_later}
 use Rattle.contexts.specs.FreeLeaves.{IsFreeLeaf, IsFreeInLet, IsFreeInValues, IsFreeInValue}
 use Rattle.contexts.proofs.Links.{one_variable, free_is}
+use Rattle.contexts.specs.PutIn.{PlacesTerm, StandForReplacement}
 use Rattle.contexts.specs.Shapes.{Either}
 use Rattle.alethe_reader.specs.Ids.{Used, IsUnused, IsUsedAt}
 use Rattle.alethe_reader.specs.declared.ids.Found.{Found}
-use Rattle.alethe_reader.specs.NeededImages.{HasLeavesAmong, IsImageAmong, HasNoImage, AreImagesOf}
+use Rattle.alethe_reader.specs.NeededImages.{HasLeavesAmong, IsImageAmong, HasNoImage, AreImagesOf, AreNeeded}
 
 -- a leaf that stands free in a tree is one of its leaves
 mutual
@@ -58,6 +60,46 @@ leaf_of_free s table leaves k x t tree here stands h free = free_among leaves k 
 
 some_same : {X : Type 0} {x y : X} → Some x ≡ Some y → x ≡ y
 some_same e = cc
+
+-- the leaves of a tree
+abbrev leaves_of : Tree → List ℕ
+leaves_of (leaf k) = k ∷ []
+leaves_of (cell s t) = leaves_of s ++ leaves_of t
+
+among_more : (leaves more : List ℕ) → ((k : ℕ) → Contains leaves k → Contains more k) → (t : Tree) → HasLeavesAmong leaves t → HasLeavesAmong more t
+among_more leaves more wider (leaf k) h = wider k h
+among_more leaves more wider (cell s t) h = (among_more leaves more wider s h.0, among_more leaves more wider t h.1)
+
+among_own : (t : Tree) → HasLeavesAmong (leaves_of t) t
+among_own (leaf k) = contains_first k []
+among_own (cell s t) = (
+  among_more (leaves_of s) (leaves_of s ++ leaves_of t) (λ k h. Contains-append_left (leaves_of s) (leaves_of t) k h) s (among_own s),
+  among_more (leaves_of t) (leaves_of s ++ leaves_of t) (λ k h. Contains-append_right (leaves_of s) (leaves_of t) k h) t (among_own t),
+)
+
+-- where there are no images, none is needed
+pub needs_none : (s : Table) (pass : PassView) (names : List (List ℕ)) (images : List (ℕ × ℕ)) (r : ℕ) → IsOneToOne pass → IsKnown pass r → images ≡ [] → AreNeeded s pass names images r []
+needs_none s pass names images r once known none = record {
+  leaves = leaves_of known.tree;
+  among = λ t h. subst (HasLeavesAmong (leaves_of known.tree)) (once.one_tree r known.tree t known.stands h) (among_own known.tree);
+  are = record {
+    each = λ b h. absurd (omega (arith, h.1));
+    all = λ k h x is n image named here. absurd (no_image images none n (k, image) here);
+  };
+}
+  where
+    no_image : (images : List (ℕ × ℕ)) → images ≡ [] → (n : ℕ) (b : ℕ × ℕ) → slice_get images n ≡ Some b → ⊥
+    no_image [] none n b e = absurd (cc)
+    no_image (c ∷ images) none n b e = absurd (cc)
+
+-- nothing is put in where there are no images
+pub nothing_put_in : (s : Table) (v : TermsView) (bs : List (ℕ × ℕ)) (q : Replacement) (t : Term) → length bs ≡ 0 → StandForReplacement s v bs q → put_in q t ≡ t
+nothing_put_in s v [] [] t none h = put_in_nothing t
+nothing_put_in s v [] (c ∷ q) t none h = absurd h
+nothing_put_in s v (b ∷ bs) q t none h = absurd (omega (arith, none))
+
+pub places_nothing : (s : Table) (v : TermsView) (r : ℕ) (t : Term) → RefersTo s v r t → PlacesTerm s v.pass v.pass t
+places_nothing s v r t refers = record { tree = refers.tree; stands = refers.stands; placed = λ r a b h. inl h }
 
 -- one image after another
 module _ (s : Table) (names : List (List ℕ)) (images : List (ℕ × ℕ)) where

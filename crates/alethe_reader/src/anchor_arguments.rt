@@ -26,9 +26,8 @@ ghost use Rattle.alethe_reader.specs.Opening.{IsOpening, IsArgumentRead, AreArgu
 
 use crate::bound::{BoundVariables, OpenedVariable};
 use crate::judging::{Named, named_at};
-use crate::needed_images::images_needed;
+use crate::needed_images::{images_needed, with_images};
 use alethe_commands::{AnchorArgument, argument_at};
-use contexts::put_in;
 use pair_pool::Ref;
 use sexpr::{Cause, Lexer, Refusal};
 use smtlib_reader::sort_at;
@@ -225,7 +224,7 @@ fn image_at(
     let _leaves = symbols.count();
     let outer = bound.images.len() - bound.opened.len();
     let needed = images_needed(bound, outer, symbols, terms, value.term)?;
-    let image = put_in(bound.alloc, &needed, symbols, terms, value.term)?;
+    let image = with_images(bound.alloc, &needed, symbols, terms, value.term)?;
     if terms.height(bound.alloc, image)? > MOST_HEIGHT {
         return Err(ReadFault::Text(refused(Cause::TooHigh, wanted.place)));
     }

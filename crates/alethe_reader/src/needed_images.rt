@@ -1,20 +1,27 @@
 //! The images that a term needs put in: those of the outer anchors' variables that stand in it (Alethe, contexts).
-ghost use Rattle.std.specs.Prelude.{◌≡◌, ◌≤◌, ◌<◌, ◌^◌, map, length, take, IfOk};
+ghost use Rattle.std.specs.Prelude.{◌≡◌, ◌≤◌, ◌<◌, ◌^◌, map, length, take, IfOk, IfErr};
 ghost use Rattle.pair_pool.specs.Trees.{Tree};
 ghost use Rattle.pair_pool.specs.Views.{IsKnown, Knows};
+ghost use Rattle.rule_model.specs.Replacement.{Replacement};
+ghost use Rattle.rule_model.specs.Substitution.{put_in};
+ghost use Rattle.term_model.specs.Terms.{Term};
+ghost use Rattle.term_pool.specs.Views.{IsTerm, RefersTo, KeepsTerms};
+ghost use Rattle.term_pool.specs.declared.stop.TermStop.TheVariants as TermStop;
+ghost use Rattle.contexts.specs.PutIn.{AreReplacementBy, LacksRoomFor, PlacesTerm, StandForReplacement};
 ghost use Rattle.alethe_reader.specs.NeededImages.{HasLeavesAmong, AreNeeded, IsImageFound, IsMet};
 
 use crate::bound::BoundVariables;
+use contexts::put_in;
 use indexmap::IndexSet;
 use pair_pool::{Memory, Ref};
 use std::alloc::Global;
 use sym_table::Symbols;
-use term_pool::Terms;
+use term_pool::{TermStop, Terms};
 
 /// The images of those of the first `outer` variables that stand in a term, each by the variable's leaf.
 ///
-/// Loads each distinct cell of the term once, takes two hashes for each reference that it meets, and memory for each. Refuses
-/// want of memory alone.
+/// Where there is an outer variable, it loads each distinct cell of the term once, takes two hashes for each reference that it
+/// meets, and memory for each. Refuses want of memory alone.
 pub(crate) fn images_needed(
     bound: &BoundVariables,
     outer: usize,
@@ -27,6 +34,10 @@ pub(crate) fn images_needed(
     ensures needed { IfOk result (λ needed. AreNeeded symbols.now terms.old.pass (map (λ u. u.id) bound.now.names.used) (take outer bound.now.images.items) r needed.items) }
     ensures same { terms.new ≡ terms.old }
 {
+    if outer == 0 {
+        terms.one_to_one();
+        return Ok(Vec::new(bound.alloc));
+    }
     let met = met_in(bound.alloc, terms, r)?;
     let mut needed = Vec::new(bound.alloc);
     'references: for reference in met.as_slice() {
@@ -36,6 +47,28 @@ pub(crate) fn images_needed(
         }
     }
     Ok(needed)
+}
+
+/// A term with these images put in, each for its leaf, as `put_in` has it: the term itself where there are none.
+pub(crate) fn with_images(
+    alloc: Global,
+    images: &[(u32, Ref)],
+    symbols: &Symbols,
+    terms: &mut Terms<'_>,
+    r: Ref,
+) -> Result<Ref, TermStop>
+    requires term { IsTerm symbols.now terms.old r }
+    requires images { AreReplacementBy symbols.now terms.old images.now }
+    ensures term { IfOk result (λ i. (t : Term) (q : Replacement) → RefersTo symbols.now terms.old r t → StandForReplacement symbols.now terms.old images.now q → RefersTo symbols.now terms.new i (put_in q t)) }
+    ensures placed { (t : Term) (q : Replacement) → RefersTo symbols.now terms.old r t → StandForReplacement symbols.now terms.old images.now q → PlacesTerm symbols.now terms.old.pass terms.new.pass (put_in q t) }
+    ensures full { IfErr result (λ e. e ≡ TermStop.PoolFull → (t : Term) (q : Replacement) → RefersTo symbols.now terms.old r t → StandForReplacement symbols.now terms.old images.now q → LacksRoomFor symbols.now terms.new.pass (put_in q t)) }
+    ensures known { IfOk result (IsKnown terms.new.pass) }
+    ensures keeps { KeepsTerms terms.old terms.new }
+{
+    if images.is_empty() {
+        return Ok(r);
+    }
+    put_in(alloc, images, symbols, terms, r)
 }
 
 /// The image of a leaf, where it is that of one of the first `outer` variables; a reference past all leaves, as that of a cell, has

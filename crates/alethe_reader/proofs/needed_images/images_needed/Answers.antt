@@ -1,10 +1,14 @@
 -- One leaf after another.
-use Rattle.std.proofs.Common.{arith, ◌∙◌, subst, map, take, List, ℕ}
+use Rattle.std.proofs.Common.{arith, ◌∙◌, ap, subst, map, take, List, ℕ}
 use Rattle.std.proofs.lemmas.List.{take_all}
 use Rattle.alethe_reader.specs.NeededImages.{AreImagesOf}
-use Rattle.alethe_reader.proofs.NeededImages.{none_needed, not_needed, one_needed}
+use Rattle.alethe_reader.proofs.NeededImages.{needs_none, none_needed, not_needed, one_needed}
 use Rattle.alethe_reader.proofs.needed_images.images_needed.Goals as goal
 use Rattle.alethe_reader.proofs.needed_images.images_needed.Goals.{in-Some+in_ok-push, in_default}
+
+pub returns-then-outer-eq0-clause-needed : goal.returns-then-outer-eq0-clause-needed
+returns-then-outer-eq0-clause-needed c =
+    rw c.new.ensures.items (needs_none _ _ _ (take c.args.outer c.args.bound.now.images.items) _ c.one_to_one.ensures c.requires.known (ap (λ n. take n c.args.bound.now.images.items) c.if-outer-eq0.true))
 
 pub references-init : goal.references-init
 references-init c = rw c.new-needed.ensures.items (none_needed _ _ _)
