@@ -1,17 +1,17 @@
 -- Heights of terms and of their parts.
 use Rattle.std.proofs.Common.{◌≡◌, ℕ, ◌+◌, ◌-◌, ◌<◌, ◌≤◌, max, List, [], ◌∷◌, length, get_or, Some, Bool, true, false, cond, eqb, sym, subst, All, arith}
-use Rattle.std.proofs.lemmas.List.Elements.{All-nil, All-cons, All-get_or}
+use Rattle.std.proofs.lemmas.List.Elements.{All-nil, All-cons, All-head, All-tail, All-get_or}
 use Rattle.sym_table.specs.Table.{Table}
 use Rattle.term_model.specs.Terms.{Term, numeral, variable, operation, call, let_in, Terms, no_terms, term, list_of, Bindings, no_bindings, binding}
-use Rattle.term_pool.specs.Building.{IsAppliedLeaf, AreBindings}
+use Rattle.term_pool.specs.Building.{AreBindings}
 use Rattle.term_pool.specs.Reading.{arguments_of, IsLet}
 use Rattle.term_pool.specs.Views.{TermsView, RefersTo, ReferToAll, KeepsTerms, IsTerm}
 use Rattle.rule_model.specs.Heights.{height, highest, highest_bound}
 use Rattle.term_expansion.specs.Expanding.{AreGiven}
-use Rattle.term_expansion.specs.Needs.{IsAtMost, value_of}
+use Rattle.term_expansion.specs.Heights.{IsAtMost}
+use Rattle.term_expansion.specs.Needs.{value_of}
 use Rattle.term_expansion.proofs.Images.{same_some}
 use Rattle.term_expansion.proofs.NeedLemmas.{refers-grow}
-use Rattle.term_expansion.proofs.TermParts.{no_let, arguments_refer}
 
 pub is_term : (s : Table) (v : TermsView) (most r : ℕ) → IsAtMost s v most r → IsTerm s v r
 is_term s v most r h = record { means = h.means; refers = h.refers }
@@ -55,17 +55,16 @@ none_low : (s : Table) (v : TermsView) (most : ℕ) (rs : List ℕ) → ReferToA
 none_low s v most [] h = All-nil (IsAtMost s v most)
 none_low s v most (r ∷ rs) h = absurd h
 
-pub arguments_low : (s : Table) (v : TermsView) (most r head : ℕ) (rs : List ℕ) → IsAtMost s v most r → ((t : Term) → RefersTo s v r t → IsAppliedLeaf s head (arguments_of t) t) → ((s : Table) (t : Term) → RefersTo s v r t → (IsLet t → ⊥) → ReferToAll s v rs (arguments_of t)) → All (IsAtMost s v (most - 1)) rs
+pub arguments_low : (s : Table) (v : TermsView) (most r : ℕ) (rs : List ℕ) → IsAtMost s v most r → ((t : Term) → RefersTo s v r t → ReferToAll s v rs (arguments_of t)) → All (IsAtMost s v (most - 1)) rs
 unfolding height
-arguments_low s v most r head rs h application arguments =
-    go h.means h.low (no_let s head (arguments_of h.means) h.means (application h.means h.refers)) (arguments_refer s v r head rs application arguments h.means h.refers)
+arguments_low s v most r rs h arguments = go h.means h.low (arguments h.means h.refers)
   where
-    go : (t : Term) → height t ≤ most → (IsLet t → ⊥) → ReferToAll s v rs (arguments_of t) → All (IsAtMost s v (most - 1)) rs
-    go (numeral n) low never all = none_low s v (most - 1) rs all
-    go (variable x) low never all = none_low s v (most - 1) rs all
-    go (operation op ts) low never all = list_low s v (most - 1) rs ts (omega arith) all
-    go (call f ts) low never all = list_low s v (most - 1) rs ts (omega arith) all
-    go (let_in bs u) low never all = absurd (never tt)
+    go : (t : Term) → height t ≤ most → ReferToAll s v rs (arguments_of t) → All (IsAtMost s v (most - 1)) rs
+    go (numeral n) low all = none_low s v (most - 1) rs all
+    go (variable x) low all = none_low s v (most - 1) rs all
+    go (operation op ts) low all = list_low s v (most - 1) rs ts (omega arith) all
+    go (call f ts) low all = list_low s v (most - 1) rs ts (omega arith) all
+    go (let_in bs u) low all = none_low s v (most - 1) rs all
 
 -- lets
 record IsLowLet (s : Table) (v : TermsView) (most r : ℕ) : Type 0 where
@@ -85,33 +84,41 @@ low_let s v most r h is = go h.means h.refers h.low (is h.means h.refers)
     go (call f ts) refers low e = absurd e
     go (let_in bs u) refers low e = record { bindings = bs; body = u; refers = refers; low = low }
 
-pub body_low : (s : Table) (v : TermsView) (most r body : ℕ) → IsAtMost s v most r → ((t : Term) → RefersTo s v r t → IsLet t) → ((s : Table) (bs : Bindings) (u : Term) → RefersTo s v r (let_in bs u) → RefersTo s v body u) → IsAtMost s v (most - 1) body
+pub body_low : (s : Table) (v : TermsView) (most r body : ℕ) → IsAtMost s v most r → ((t : Term) → RefersTo s v r t → IsLet t) → ((bs : Bindings) (u : Term) → RefersTo s v r (let_in bs u) → RefersTo s v body u) → IsAtMost s v (most - 1) body
 body_low s v most r body h is bodies =
     let l = low_let s v most r h is in
     let low = l.low in
-    record { means = l.body; refers = bodies s l.bindings l.body l.refers; low = omega arith }
+    record { means = l.body; refers = bodies l.bindings l.body l.refers; low = omega arith }
 
-bound_low : (s : Table) (v : TermsView) (most k r : ℕ) (ks rs : List ℕ) (bs : Bindings) → highest_bound bs ≤ most → AreBindings s v ks rs bs → value_of k ks rs ≡ Some r → IsAtMost s v most r
+bound_low : (s : Table) (v : TermsView) (most : ℕ) (ks rs : List ℕ) (bs : Bindings) → highest_bound bs ≤ most → AreBindings s v ks rs bs → All (IsAtMost s v most) rs
 unfolding height
-bound_low s v most k r [] rs bs low h e = absurd cc
-bound_low s v most k r (j ∷ ks) [] bs low h e = absurd cc
-bound_low s v most k r (j ∷ ks) (q ∷ rs) no_bindings low h e = absurd h
-bound_low s v most k r (j ∷ ks) (q ∷ rs) (binding z t bs) low h e =
-    go (eqb j k) e (λ later. bound_low s v most k r ks rs bs (omega arith) h.2 later)
-  where
-    go : (b : Bool) → cond b (Some q) (value_of k ks rs) ≡ Some r → (value_of k ks rs ≡ Some r → IsAtMost s v most r) → IsAtMost s v most r
-    go true e next = record { means = t; refers = subst (λ i. RefersTo s v i t) (same_some e) h.1; low = omega arith }
-    go false e next = next e
+bound_low s v most [] [] bs low h = All-nil (IsAtMost s v most)
+bound_low s v most [] (r ∷ rs) bs low h = absurd h
+bound_low s v most (k ∷ ks) [] bs low h = absurd h
+bound_low s v most (k ∷ ks) (r ∷ rs) no_bindings low h = absurd h
+bound_low s v most (k ∷ ks) (r ∷ rs) (binding x t bs) low h =
+    All-cons (IsAtMost s v most) r rs (record { means = t; refers = h.1; low = omega arith }) (bound_low s v most ks rs bs (omega arith) h.2)
 
-pub value_low : (s : Table) (v : TermsView) (most r : ℕ) (ks rs : List ℕ) → IsAtMost s v most r → ((t : Term) → RefersTo s v r t → IsLet t) → ((s : Table) (bs : Bindings) (u : Term) → RefersTo s v r (let_in bs u) → AreBindings s v ks rs bs) → (k q : ℕ) → value_of k ks rs ≡ Some q → IsAtMost s v (most - 1) q
-value_low s v most r ks rs h is bindings k q e =
+pub values_low : (s : Table) (v : TermsView) (most r : ℕ) (ks rs : List ℕ) → IsAtMost s v most r → ((t : Term) → RefersTo s v r t → IsLet t) → ((bs : Bindings) (u : Term) → RefersTo s v r (let_in bs u) → AreBindings s v ks rs bs) → All (IsAtMost s v (most - 1)) rs
+values_low s v most r ks rs h is bindings =
     let l = low_let s v most r h is in
     let low = l.low in
-    bound_low s v (most - 1) k q ks rs l.bindings (omega arith) (bindings s l.bindings l.body l.refers) e
+    bound_low s v (most - 1) ks rs l.bindings (omega arith) (bindings l.bindings l.body l.refers)
 
-pub given_low : (s : Table) (v : TermsView) (most r : ℕ) (ks rs leaves gs ps : List ℕ) → IsAtMost s v most r → ((t : Term) → RefersTo s v r t → IsLet t) → ((s : Table) (bs : Bindings) (u : Term) → RefersTo s v r (let_in bs u) → AreBindings s v ks rs bs) → AreGiven leaves ks rs gs ps → All (IsAtMost s v (most - 1)) ps
-given_low s v most r ks rs leaves [] [] h is bindings given = All-nil (IsAtMost s v (most - 1))
-given_low s v most r ks rs leaves [] (p ∷ ps) h is bindings given = absurd given
-given_low s v most r ks rs leaves (g ∷ gs) [] h is bindings given = absurd given
-given_low s v most r ks rs leaves (g ∷ gs) (p ∷ ps) h is bindings given =
-    All-cons (IsAtMost s v (most - 1)) p ps (value_low s v most r ks rs h is bindings g p given.0.1) (given_low s v most r ks rs leaves gs ps h is bindings given.1)
+-- the value of one of the variables
+pub value_low : (s : Table) (v : TermsView) (most k q : ℕ) (ks rs : List ℕ) → All (IsAtMost s v most) rs → value_of k ks rs ≡ Some q → IsAtMost s v most q
+value_low s v most k q [] rs all e = absurd cc
+value_low s v most k q (j ∷ ks) [] all e = absurd cc
+value_low s v most k q (j ∷ ks) (r ∷ rs) all e =
+    go (eqb j k) e (λ later. value_low s v most k q ks rs (All-tail (IsAtMost s v most) r rs all) later)
+  where
+    go : (b : Bool) → cond b (Some r) (value_of k ks rs) ≡ Some q → (value_of k ks rs ≡ Some q → IsAtMost s v most q) → IsAtMost s v most q
+    go true e next = subst (λ (i : ℕ). IsAtMost s v most i) (same_some e) (All-head (IsAtMost s v most) r rs all)
+    go false e next = next e
+
+pub given_low : (s : Table) (v : TermsView) (most : ℕ) (ks rs leaves gs ps : List ℕ) → All (IsAtMost s v most) rs → AreGiven leaves ks rs gs ps → All (IsAtMost s v most) ps
+given_low s v most ks rs leaves [] [] all given = All-nil (IsAtMost s v most)
+given_low s v most ks rs leaves [] (p ∷ ps) all given = absurd given
+given_low s v most ks rs leaves (g ∷ gs) [] all given = absurd given
+given_low s v most ks rs leaves (g ∷ gs) (p ∷ ps) all given =
+    All-cons (IsAtMost s v most) p ps (value_low s v most g p ks rs all given.0.1) (given_low s v most ks rs leaves gs ps all given.1)

@@ -1,3 +1,4 @@
+pub mod Heights
 pub mod Needs
 pub mod Values
 pub mod Expanding

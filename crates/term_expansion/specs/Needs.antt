@@ -1,5 +1,5 @@
 -- Private. The variables that a term needs: those that stand in it once its lets are replaced.
-use Rattle.std.specs.Prelude.{◌≡◌, ◌⊎◌, ◌≤◌, ℕ, List, [], ◌∷◌, ◌==◌, if◌then◌else◌, Option, Some, None, nat_eq, Vec}
+use Rattle.std.specs.Prelude.{◌≡◌, ◌⊎◌, ℕ, List, [], ◌∷◌, ◌==◌, if◌then◌else◌, Option, Some, None, nat_eq, Vec}
 use Rattle.std.specs.HashMap.{HashMap, get}
 use Rattle.std.specs.declared.alloc.Global.{Global}
 use Rattle.std.specs.declared.hash.BuildHasherDefault.{BuildHasherDefault}
@@ -7,7 +7,6 @@ use Rattle.std.specs.declared.hash.FoldHasher.{FoldHasher}
 use Rattle.sym_table.specs.Table.{Table}
 use Rattle.term_model.specs.Terms.{Var, Term, numeral, variable, operation, call, let_in, Terms, no_terms, term, Bindings, no_bindings, binding}
 use Rattle.term_pool.specs.Views.{TermsView, RefersTo}
-use Rattle.rule_model.specs.Heights.{height}
 use Rattle.term_expansion.specs.Free.{AddsLeaves}
 
 abbrev mutual
@@ -26,12 +25,6 @@ abbrev mutual
   pub IsNeededFor : Var → Bindings → Var → Type 0
   IsNeededFor x no_bindings y = y ≡ x
   IsNeededFor x (binding z t bs) y = ((z ≡ y) × IsNeeded x t) ⊎ ((¬ (z ≡ y)) × IsNeededFor x bs y)
-
--- the reference stands for a term of at most this height
-pub record IsAtMost (s : Table) (v : TermsView) (most r : ℕ) : Type 0 where
-  pub means : Term
-  pub refers : RefersTo s v r means
-  pub low : height means ≤ most
 
 -- in one of the terms
 abbrev pub IsNeededInAny : Var → List Term → Type 0

@@ -11,7 +11,8 @@ ghost use Rattle.term_pool.specs.Reading.{arguments_of, IsLet};
 ghost use Rattle.term_pool.specs.Views.{TermsView, RefersTo, KeepsTerms};
 ghost use Rattle.term_pool.specs.declared.stop.TermStop.TheVariants as TermStop;
 ghost use Rattle.term_expansion.specs.Expanding.{IsSaid, AreSaid, ExpandsOne, PlacesOne, FillsOne, ExpandsAll, PlacesAll, FillsAll, key_of, IsExpansion, AreValuesGiven};
-ghost use Rattle.term_expansion.specs.Needs.{IsAtMost, AreNeeds, AreValuesOf};
+ghost use Rattle.term_expansion.specs.Heights.{IsAtMost};
+ghost use Rattle.term_expansion.specs.Needs.{AreNeeds, AreValuesOf};
 ghost use Rattle.term_expansion.specs.LetWork.{IsLetWork};
 
 use crate::assignments::{Assignments, assign, number_at, take_back, term_at};

@@ -8,11 +8,13 @@
 //!   cell, where `assignments` has what is put in.
 //!
 //! What a contract sees: `specs/Values` (what values stand for), `Images` (what is put in for leaves), `Free` (lists of
-//! leaves). The definition that all answers are those of is `replaced` of `problem_text`.
+//! leaves), `Heights` (how high terms are, which `laws` has a law of). The definition that all answers are those of is
+//! `replaced` of `problem_text`.
 #![tactic(auto)]
 
 mod assignments;
 mod expanding;
+pub mod laws;
 pub mod leaf_sets;
 mod needs;
 pub mod putting_in;

@@ -6,7 +6,8 @@ ghost use Rattle.term_model.specs.Terms.{Term};
 ghost use Rattle.term_pool.specs.Reading.{IsLet};
 ghost use Rattle.term_pool.specs.Views.{TermsView, RefersTo, ReferToAll};
 ghost use Rattle.term_expansion.specs.Free.{AddsLeaves};
-ghost use Rattle.term_expansion.specs.Needs.{IsAtMost, IsNeeded, IsNeededInAny, AreValuesOf, HasNeeds, AreNeeds};
+ghost use Rattle.term_expansion.specs.Heights.{IsAtMost};
+ghost use Rattle.term_expansion.specs.Needs.{IsNeeded, IsNeededInAny, AreValuesOf, HasNeeds, AreNeeds};
 
 use crate::leaf_sets::{add, add_all};
 use crate::term_parts;

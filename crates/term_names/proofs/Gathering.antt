@@ -1,8 +1,8 @@
 -- How the leaves of free variables are gathered from the parts of a term.
-use Rattle.std.proofs.Common.{◌≡◌, ℕ, ◌+◌, ◌-◌, ◌≤◌, ◌<◌, ◌⊎◌, ◌↔◌, inl, inr, max, List, [], ◌∷◌, length, Some, nat_eq, eqb, cond, refl, sym, ◌∙◌, ap, subst, Contains, All, drop, get_or, Vec, arith, zero, suc}
+use Rattle.std.proofs.Common.{◌≡◌, ℕ, ◌-◌, ◌≤◌, ◌<◌, ◌⊎◌, ◌↔◌, inl, inr, List, [], ◌∷◌, length, Some, nat_eq, eqb, cond, refl, sym, ◌∙◌, ap, subst, Contains, All, drop, get_or, Vec, arith, zero, suc}
 use Rattle.std.specs.HashMap.{get}
 use Rattle.std.specs.declared.alloc.Global.{Global}
-use Rattle.std.proofs.lemmas.List.Elements.{All-nil, All-cons, Contains-append_right, Contains-append_cases}
+use Rattle.std.proofs.lemmas.List.Elements.{Contains-append_right, Contains-append_cases}
 use Rattle.sym_table.specs.Table.{Table, IsLeaf, IsTable}
 use Rattle.term_model.specs.FreeVariables.{IsFree, IsFreeAmong, IsFreeBound, Binds, variables_of, bound_terms}
 use Rattle.term_model.specs.Terms.{Var, Term, numeral, variable, operation, call, let_in, Terms, no_terms, term, list_of, Bindings, no_bindings, binding}
@@ -11,8 +11,8 @@ use Rattle.term_pool.specs.Reading.{arguments_of, IsLet, IsLetTerm}
 use Rattle.term_pool.specs.StandsFor.{variable_leaf}
 use Rattle.term_pool.specs.Views.{TermsView, RefersTo, ReferToAll}
 use Rattle.term_expansion.specs.Free.{HasVariable, IsLeafOfSome, AreFreeLeaves, AddsLeaves, AddsOne, AddsUnbound}
-use Rattle.term_names.specs.FreeParts.{IsAtMost, IsFreeInAny, AreLeavesOf, ArePartsOfLet, CoversFree, Bodies, AreBodies}
-use Rattle.rule_model.specs.Heights.{height, highest, highest_bound}
+use Rattle.term_expansion.specs.Heights.{IsAtMost}
+use Rattle.term_names.specs.FreeParts.{IsFreeInAny, AreLeavesOf, ArePartsOfLet, CoversFree, Bodies, AreBodies}
 use Rattle.term_names.specs.Known.{KnownView, named_of}
 use Rattle.rule_model.specs.Replacement.{free_variables}
 use Rattle.problem_text.specs.Scripts.{Script}
@@ -65,55 +65,6 @@ application-adds s k ts (call f us) a b never h adds =
     adds-same s a b _ _ (λ x p. any-among us x p) (λ x p. among-any us x p) adds
 application-adds s k ts (let_in bs u) a b never h adds = absurd h
 
--- heights
-pub positive : (s : Table) (v : TermsView) (most r : ℕ) → IsAtMost s v most r → 1 ≤ most
-unfolding height
-positive s v most r h = let low = h.low in let one = at_least h.means in omega arith
-  where
-    at_least : (t : Term) → 1 ≤ height t
-    at_least (numeral n) = omega arith
-    at_least (variable x) = omega arith
-    at_least (operation op ts) = omega arith
-    at_least (call f ts) = omega arith
-    at_least (let_in bs u) = omega arith
-
--- each of the references is that of a term of at most this height
-abbrev AreLow : Table → TermsView → ℕ → List ℕ → Type 0
-AreLow s v most rs = All (IsAtMost s v most) rs
-
-list_low : (s : Table) (v : TermsView) (most : ℕ) (rs : List ℕ) (ts : Terms) → highest ts ≤ most → ReferToAll s v rs (list_of ts) → AreLow s v most rs
-unfolding height
-list_low s v most [] no_terms low h = All-nil (IsAtMost s v most)
-list_low s v most [] (term t ts) low h = absurd h
-list_low s v most (r ∷ rs) no_terms low h = absurd h
-list_low s v most (r ∷ rs) (term t ts) low h =
-    All-cons (IsAtMost s v most) r rs (record { means = t; refers = h.0; low = omega arith }) (list_low s v most rs ts (omega arith) h.1)
-
-values_low : (s : Table) (v : TermsView) (most : ℕ) (ks rs : List ℕ) (bs : Bindings) → highest_bound bs ≤ most → AreBindings s v ks rs bs → AreLow s v most rs
-unfolding height
-values_low s v most [] [] bs low h = All-nil (IsAtMost s v most)
-values_low s v most [] (r ∷ rs) bs low h = absurd h
-values_low s v most (k ∷ ks) [] bs low h = absurd h
-values_low s v most (k ∷ ks) (r ∷ rs) no_bindings low h = absurd h
-values_low s v most (k ∷ ks) (r ∷ rs) (binding x t bs) low h =
-    All-cons (IsAtMost s v most) r rs (record { means = t; refers = h.1; low = omega arith }) (values_low s v most ks rs bs (omega arith) h.2)
-
-none_low : (s : Table) (v : TermsView) (most : ℕ) (rs : List ℕ) → ReferToAll s v rs [] → AreLow s v most rs
-none_low s v most [] h = All-nil (IsAtMost s v most)
-none_low s v most (r ∷ rs) h = absurd h
-
-pub arguments_low : (s : Table) (v : TermsView) (most r : ℕ) (rs : List ℕ) → IsAtMost s v most r → ((t : Term) → RefersTo s v r t → IsLet t → ⊥) → ((t : Term) → RefersTo s v r t → (IsLet t → ⊥) → ReferToAll s v rs (arguments_of t)) → AreLow s v (most - 1) rs
-unfolding height
-arguments_low s v most r rs h no_let are =
-    go h.means h.low (no_let h.means h.refers) (are h.means h.refers (no_let h.means h.refers))
-  where
-    go : (t : Term) → height t ≤ most → (IsLet t → ⊥) → ReferToAll s v rs (arguments_of t) → AreLow s v (most - 1) rs
-    go (numeral n) low never all = none_low s v (most - 1) rs all
-    go (variable x) low never all = none_low s v (most - 1) rs all
-    go (operation op ts) low never all = list_low s v (most - 1) rs ts (omega arith) all
-    go (call f ts) low never all = list_low s v (most - 1) rs ts (omega arith) all
-    go (let_in bs u) low never all = absurd (never tt)
-
 -- lets
 let_of : (t : Term) → IsLet t → (bs : Bindings) × (u : Term) × (t ≡ let_in bs u)
 let_of (numeral n) h = absurd h
@@ -126,35 +77,6 @@ pub let_there : (s : Table) (v : TermsView) (most r : ℕ) → IsAtMost s v most
 let_there s v most r h is =
     let (bs, u, e) = let_of h.means (is h.means h.refers) in
     record { symbols = s; bindings = bs; body = u; refers = subst (λ (t : Term). RefersTo s v r t) e h.refers }
-
-record IsLowLet (s : Table) (v : TermsView) (most r : ℕ) : Type 0 where
-  bindings : Bindings
-  body : Term
-  refers : RefersTo s v r (let_in bindings body)
-  low : 1 + max (highest_bound bindings) (height body) ≤ most
-
-low_let : (s : Table) (v : TermsView) (most r : ℕ) → IsAtMost s v most r → ((t : Term) → RefersTo s v r t → IsLet t) → IsLowLet s v most r
-unfolding height
-low_let s v most r h is = go h.means h.refers h.low (is h.means h.refers)
-  where
-    go : (t : Term) → RefersTo s v r t → height t ≤ most → IsLet t → IsLowLet s v most r
-    go (numeral n) refers low e = absurd e
-    go (variable x) refers low e = absurd e
-    go (operation op ts) refers low e = absurd e
-    go (call f ts) refers low e = absurd e
-    go (let_in bs u) refers low e = record { bindings = bs; body = u; refers = refers; low = low }
-
-pub let_values_low : (s : Table) (v : TermsView) (most r : ℕ) (ks rs : List ℕ) (body : ℕ) → IsAtMost s v most r → ((t : Term) → RefersTo s v r t → IsLet t) → ArePartsOfLet s v r ks rs body → AreLow s v (most - 1) rs
-let_values_low s v most r ks rs body h is parts =
-    let l = low_let s v most r h is in
-    let low = l.low in
-    values_low s v (most - 1) ks rs l.bindings (omega arith) (parts l.bindings l.body l.refers).0
-
-pub let_body_low : (s : Table) (v : TermsView) (most r : ℕ) (ks rs : List ℕ) (body : ℕ) → IsAtMost s v most r → ((t : Term) → RefersTo s v r t → IsLet t) → ArePartsOfLet s v r ks rs body → IsAtMost s v (most - 1) body
-let_body_low s v most r ks rs body h is parts =
-    let l = low_let s v most r h is in
-    let low = l.low in
-    record { means = l.body; refers = (parts l.bindings l.body l.refers).1; low = omega arith }
 
 values_are : (s : Table) (v : TermsView) (ks rs : List ℕ) (bs : Bindings) → AreBindings s v ks rs bs → ReferToAll s v rs (bound_terms bs)
 values_are s v [] [] no_bindings h = tt

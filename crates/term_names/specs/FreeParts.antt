@@ -1,5 +1,5 @@
 -- Private. How the leaves of the free variables of a term are gathered from its parts.
-use Rattle.std.specs.Prelude.{◌≡◌, ◌⊎◌, ◌≤◌, ℕ, List, [], ◌∷◌, nat_eq, Some, Contains, Vec}
+use Rattle.std.specs.Prelude.{◌≡◌, ◌⊎◌, ℕ, List, [], ◌∷◌, nat_eq, Some, Contains, Vec}
 use Rattle.std.specs.HashMap.{HashMap, get}
 use Rattle.std.specs.declared.alloc.Global.{Global}
 use Rattle.std.specs.declared.hash.BuildHasherDefault.{BuildHasherDefault}
@@ -10,14 +10,7 @@ use Rattle.term_model.specs.Terms.{Var, Term, Bindings, let_in}
 use Rattle.term_pool.specs.Building.{AreBindings}
 use Rattle.term_pool.specs.StandsFor.{variable_leaf}
 use Rattle.term_pool.specs.Views.{TermsView, RefersTo}
-use Rattle.rule_model.specs.Heights.{height}
 use Rattle.term_expansion.specs.Free.{HasVariable, AddsLeaves}
-
--- the reference stands for a term of at most this height
-pub record IsAtMost (s : Table) (v : TermsView) (most r : ℕ) : Type 0 where
-  pub means : Term
-  pub refers : RefersTo s v r means
-  pub low : height means ≤ most
 
 -- the variable stands free in one of the terms
 abbrev pub IsFreeInAny : Var → List Term → Type 0

@@ -13,7 +13,8 @@ ghost use Rattle.term_model.specs.Terms.{Term};
 ghost use Rattle.term_pool.specs.Reading.{arguments_of, IsLet, IsLetTerm};
 ghost use Rattle.term_pool.specs.Views.{RefersTo, ReferToAll, KeepsTerms};
 ghost use Rattle.term_expansion.specs.Free.{AreFreeLeaves, AddsLeaves};
-ghost use Rattle.term_names.specs.FreeParts.{ArePartsOfLet, IsAtMost, IsFreeInAny, CoversFree, AreBodies};
+ghost use Rattle.term_expansion.specs.Heights.{IsAtMost};
+ghost use Rattle.term_names.specs.FreeParts.{ArePartsOfLet, IsFreeInAny, CoversFree, AreBodies};
 ghost use Rattle.term_expansion.specs.Images.{IsSomeValue};
 ghost use Rattle.rule_model.specs.Replacement.{free_variables};
 ghost use Rattle.problem_text.specs.TypedTerms.{Typed};
@@ -27,6 +28,7 @@ use pair_pool::{Memory, Ref};
 use std::alloc::Global;
 use std::collections::HashMap;
 use sym_table::Symbols;
+use term_expansion::laws::parts_are_lower;
 use term_expansion::leaf_sets::{add, add_all, add_unbound, has};
 use term_expansion::term_parts::is_variable;
 use term_expansion::values::Value;
@@ -141,6 +143,7 @@ fn gather(
     if is_variable(symbols, head) {
         return add(&mut region.found, head);
     }
+    parts_are_lower();
     let list = arguments(alloc, terms, r)?;
     gather_all(tables, terms, bodies, region, &list, most - 1)?;
     add(&mut region.seen, r.number())
@@ -199,6 +202,7 @@ fn gather_let(
         return add_all(leaves, &mut region.found);
     }
     let alloc = tables.alloc;
+    parts_are_lower();
     let parts = let_parts(alloc, terms, r)?;
     let values = &parts.values;
     gather_all(tables, terms, bodies, region, values, most - 1)?;

@@ -174,7 +174,7 @@ expand_application-expand_all-requires t c =
       omega arith,
       (
         heights.all_low_moved s v w (c.args.most - 1) c.in_ok-list.list.items c.deref.result.now same c.deref.ensures.value
-            (heights.arguments_low s v c.args.most c.args.r c.args.head c.in_ok-list.list.items c.requires.low c.requires.head c.in_ok-list.ensures.arguments),
+            (heights.arguments_low s v c.args.most c.args.r c.in_ok-list.list.items c.requires.low (arguments_refer s v c.args.r c.args.head c.in_ok-list.list.items c.requires.head c.in_ok-list.ensures.arguments)),
         (
           lemma.all_said_moved s v w c.args.expansion.now.assignments c.in_ok-list.list.items c.deref.result.now same c.deref.ensures.value
               (lemma.arguments_said s v c.args.expansion.now.assignments c.args.r c.args.head c.in_ok-list.list.items c.requires.head (arguments_refer s v c.args.r c.args.head c.in_ok-list.list.items c.requires.head c.in_ok-list.ensures.arguments) c.requires.said),

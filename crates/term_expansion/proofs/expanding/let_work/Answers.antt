@@ -16,7 +16,7 @@ overflow_sub-most c = heights.positive c.args.symbols.now c.args.terms.now c.arg
 pub needs_of-requires-clause-low : goal.needs_of-requires-clause-low
 needs_of-requires-clause-low c =
     heights.low_moved c.args.symbols.now c.args.terms.now c.let_parts.new.terms (c.args.most - 1) c.in_ok-parts.parts.body c.let_parts.ensures.same
-    (heights.body_low c.args.symbols.now c.args.terms.now c.args.most c.args.r c.in_ok-parts.parts.body c.requires.low c.requires.is_let c.in_ok-parts.ensures.body)
+    (heights.body_low c.args.symbols.now c.args.terms.now c.args.most c.args.r c.in_ok-parts.parts.body c.requires.low c.requires.is_let (c.in_ok-parts.ensures.body c.args.symbols.now))
 
 pub returns-clause-work : goal.returns-clause-work
 returns-clause-work c =
@@ -28,12 +28,13 @@ returns-clause-work c =
 
 pub returns-clause-body_low : goal.returns-clause-body_low
 returns-clause-body_low c =
-    heights.body_low c.args.symbols.now c.args.terms.now c.args.most c.args.r c.in_ok-parts.parts.body c.requires.low c.requires.is_let c.in_ok-parts.ensures.body
+    heights.body_low c.args.symbols.now c.args.terms.now c.args.most c.args.r c.in_ok-parts.parts.body c.requires.low c.requires.is_let (c.in_ok-parts.ensures.body c.args.symbols.now)
 
 pub returns-clause-values_low : goal.returns-clause-values_low
 returns-clause-values_low c =
     let p = c.in_ok-parts.parts in
     let g = c.in_ok-given.given in
     let by_leaves = values_moved c.in_ok-values.values c.deref.result.now p.variables.items c.deref-2.result.now p.values.items c.deref.ensures.value c.deref-2.ensures.value c.in_ok-values.ensures in
-    heights.given_low c.args.symbols.now c.args.terms.now c.args.most c.args.r p.variables.items p.values.items c.deref-3.result.now g.variables.items g.values.items c.requires.low c.requires.is_let c.in_ok-parts.ensures.bindings
+    heights.given_low c.args.symbols.now c.args.terms.now (c.args.most - 1) p.variables.items p.values.items c.deref-3.result.now g.variables.items g.values.items
+    (heights.values_low c.args.symbols.now c.args.terms.now c.args.most c.args.r p.variables.items p.values.items c.requires.low c.requires.is_let (c.in_ok-parts.ensures.bindings c.args.symbols.now))
     (c.in_ok-given.ensures.given p.variables.items p.values.items by_leaves).are

@@ -72,8 +72,9 @@ needs_anew-needs_of_all-requires t c =
       omega arith,
       (
         heights.all_low_moved _ _ _ _ c.in_ok-list.list.items _ c.arguments_of.ensures.same c.deref.ensures.value
-            (heights.arguments_low c.args.symbols.now c.head_of.new.terms c.args.most c.args.r c.in-Some.head c.in_ok-list.list.items (heights.low_moved _ _ _ _ _ c.head_of.ensures.same c.requires.low)
-            (λ u refers. c.in-Some.ensures.application c.args.symbols.now u c.count-leaves.ensures.table (parts.refers_back _ _ _ c.args.r u c.head_of.ensures.same refers)) c.in_ok-list.ensures.arguments),
+            (heights.arguments_low c.args.symbols.now c.head_of.new.terms c.args.most c.args.r c.in_ok-list.list.items (heights.low_moved _ _ _ _ _ c.head_of.ensures.same c.requires.low)
+            (parts.arguments_refer c.args.symbols.now c.head_of.new.terms c.args.r c.in-Some.head c.in_ok-list.list.items
+            (λ u refers. c.in-Some.ensures.application c.args.symbols.now u c.count-leaves.ensures.table (parts.refers_back _ _ _ c.args.r u c.head_of.ensures.same refers)) c.in_ok-list.ensures.arguments)),
         lemma.needs_moved _ _ _ _ same c.requires.needs,
       ),
     )
@@ -122,7 +123,7 @@ needs_of_let-needs_of-requires t c =
       omega arith,
       (
         heights.low_moved _ _ _ _ _ c.let_parts.ensures.same
-            (heights.body_low c.args.symbols.now c.args.terms.now c.args.most c.args.r c.in_ok-parts.parts.body c.requires.low c.requires.is_let c.in_ok-parts.ensures.body),
+            (heights.body_low c.args.symbols.now c.args.terms.now c.args.most c.args.r c.in_ok-parts.parts.body c.requires.low c.requires.is_let (c.in_ok-parts.ensures.body c.args.symbols.now)),
         lemma.needs_moved _ _ _ _ c.let_parts.ensures.same c.requires.needs,
       ),
     )
@@ -140,7 +141,8 @@ needs_of_let-add_needs_of-requires t c =
       omega arith,
       (
         heights.low_moved _ _ _ _ _ c.leaves.invariant.same
-            (heights.value_low s c.args.terms.now c.args.most c.args.r p.variables.items p.values.items c.requires.low c.requires.is_let c.in_ok-parts.ensures.bindings _ c.in-Some.value.now
+            (heights.value_low s c.args.terms.now (c.args.most - 1) _ c.in-Some.value.now p.variables.items p.values.items
+            (heights.values_low s c.args.terms.now c.args.most c.args.r p.variables.items p.values.items c.requires.low c.requires.is_let (c.in_ok-parts.ensures.bindings s))
             (sym (lemma.values_moved c.in_ok-values.values c.deref.result.now p.variables.items c.deref-2.result.now p.values.items c.deref.ensures.value c.deref-2.ensures.value c.in_ok-values.ensures _) ∙ sym c.in-Some.ensures.value)),
         lemma.needs_moved _ _ _ _ c.leaves.invariant.same c.leaves.invariant.needs,
       ),

@@ -7,7 +7,8 @@ use Rattle.term_pool.specs.Reading.{arguments_of}
 use Rattle.term_pool.specs.Views.{RefersTo}
 use Rattle.term_names.specs.Standing.{IsScript}
 use Rattle.term_expansion.specs.Free.{AddsLeaves, AddsOne, AddsUnbound}
-use Rattle.term_names.specs.FreeParts.{IsAtMost, CoversFree, AreBodies}
+use Rattle.term_expansion.specs.Heights.{IsAtMost}
+use Rattle.term_names.specs.FreeParts.{CoversFree, AreBodies}
 use Rattle.term_expansion.proofs.LeafLemmas as leaf
 use Rattle.term_names.proofs.Gathering as lemma
 use Rattle.term_names.proofs.free.+gather.Goals as goal
@@ -82,18 +83,18 @@ gather-returns-then-is_variable-clause-covers t c =
     c.add-then-is_variable.ensures
 
 pub gather-overflow_sub-most : goal.gather-overflow_sub-most
-gather-overflow_sub-most t c = lemma.positive c.args.tables.now.symbols.now c.args.terms.now c.args.most c.args.r c.requires.low
+gather-overflow_sub-most t c = c.parts_are_lower.ensures.some c.args.tables.now.symbols.now c.args.terms.now c.args.most c.args.r c.requires.low
 
 pub gather-gather_all-requires : goal.gather-gather_all-requires
 gather-gather_all-requires t c =
     let s = c.args.tables.now.symbols.now in
     let v = c.args.terms.now in
     let w = c.head.new.self in
-    let some : 1 ≤ c.args.most = lemma.positive s v c.args.most c.args.r c.requires.low in
+    let some : 1 ≤ c.args.most = c.parts_are_lower.ensures.some s v c.args.most c.args.r c.requires.low in
     let first : w ≡ v = leaf.stays v w c.head.ensures.keeps c.head.ensures.unchanged in
     let same = c.arguments.ensures.same in
     let no_let = λ (u : Term) (refers : RefersTo s w c.args.r u). leaf.application-no_let s c.in-Some-head.head (arguments_of u) u (c.in-Some-head.ensures.application s u c.requires.table (subst (λ z. RefersTo s z c.args.r u) first refers)) in
-    let low = lemma.arguments_low s w c.args.most c.args.r c.in_ok-list.list.items (subst (λ z. IsAtMost s z c.args.most c.args.r) (sym first) c.requires.low) no_let (c.in_ok-list.ensures.arguments s) in
+    let low = c.parts_are_lower.ensures.arguments s w c.args.most c.args.r c.in_ok-list.list.items (subst (λ z. IsAtMost s z c.args.most c.args.r) (sym first) c.requires.low) (λ u refers. c.in_ok-list.ensures.arguments s u refers (no_let u refers)) in
     (omega arith, (c.requires.table, (lemma.low_at s w c.arguments.new.terms (c.args.most - 1) c.in_ok-list.list.items c.deref.result.now same c.deref.ensures.value low, (subst (λ z. AreBodies s z c.args.bodies.now) (sym (same ∙ first)) c.requires.bodies, (subst (λ z. CoversFree s z c.args.region.now.seen.keys c.args.region.now.found.keys) (sym (same ∙ first)) c.requires.covers, (c.requires.script.0, subst (λ z. IsScript s z c.args.tables.now.known.now c.requires.script.0) (sym (same ∙ first)) c.requires.script.1))))))
 
 -- what the arguments have
@@ -151,19 +152,19 @@ pub gather_let-let_parts-requires : goal.gather_let-let_parts-requires
 gather_let-let_parts-requires t c = lemma.let_there c.args.tables.now.symbols.now c.args.terms.now c.args.most c.args.r c.requires.low c.requires.is_let
 
 pub gather_let-overflow_sub-most : goal.gather_let-overflow_sub-most
-gather_let-overflow_sub-most t c = lemma.positive c.args.tables.now.symbols.now c.args.terms.now c.args.most c.args.r c.requires.low
+gather_let-overflow_sub-most t c = c.parts_are_lower.ensures.some c.args.tables.now.symbols.now c.args.terms.now c.args.most c.args.r c.requires.low
 
 pub gather_let-overflow_sub-most-2 : goal.gather_let-overflow_sub-most-2
-gather_let-overflow_sub-most-2 t c = lemma.positive c.args.tables.now.symbols.now c.args.terms.now c.args.most c.args.r c.requires.low
+gather_let-overflow_sub-most-2 t c = c.parts_are_lower.ensures.some c.args.tables.now.symbols.now c.args.terms.now c.args.most c.args.r c.requires.low
 
 pub gather_let-gather_all-requires : goal.gather_let-gather_all-requires
 gather_let-gather_all-requires t c =
     let s = c.args.tables.now.symbols.now in
     let v = c.args.terms.now in
-    let some : 1 ≤ c.args.most = lemma.positive s v c.args.most c.args.r c.requires.low in
+    let some : 1 ≤ c.args.most = c.parts_are_lower.ensures.some s v c.args.most c.args.r c.requires.low in
     let same = c.let_parts.ensures.same in
     let p = c.in_ok-parts.parts in
-    let low = lemma.let_values_low s v c.args.most c.args.r p.variables.items p.values.items p.body c.requires.low c.requires.is_let (c.in_ok-parts.ensures.parts s) in (
+    let low = c.parts_are_lower.ensures.values s v c.args.most c.args.r p.variables.items p.values.items c.requires.low c.requires.is_let (λ bs u refers. (c.in_ok-parts.ensures.parts s bs u refers).0) in (
       omega arith,
       (
         c.requires.table,
@@ -178,10 +179,10 @@ pub gather_let-leaves_of-requires : goal.gather_let-leaves_of-requires
 gather_let-leaves_of-requires t c =
     let s = c.args.tables.now.symbols.now in
     let v = c.args.terms.now in
-    let some : 1 ≤ c.args.most = lemma.positive s v c.args.most c.args.r c.requires.low in
+    let some : 1 ≤ c.args.most = c.parts_are_lower.ensures.some s v c.args.most c.args.r c.requires.low in
     let again = c.gather_all.ensures.same in
     let p = c.in_ok-parts.parts in
-    let low = lemma.let_body_low s v c.args.most c.args.r p.variables.items p.values.items p.body c.requires.low c.requires.is_let (c.in_ok-parts.ensures.parts s) in (
+    let low = c.parts_are_lower.ensures.body s v c.args.most c.args.r p.body c.requires.low c.requires.is_let (λ bs u refers. (c.in_ok-parts.ensures.parts s bs u refers).1) in (
       omega arith,
       (
         c.requires.table,
