@@ -9,7 +9,7 @@ use Rattle.indexmap.proofs.ReorderLemmas.{zip_push}
 use Rattle.term_names.specs.declared.entries.Entry.{Entry}
 use Rattle.term_names.specs.declared.entries.Entry.TheVariants.{Reserved, Macro, Named}
 use Rattle.term_names.specs.Entries.{EntriesView, lookup, Puts, IsThere}
-use Rattle.term_names.specs.NameTables.{AreThere, AreTableNumbers, number_given}
+use Rattle.term_names.specs.EntryTables.{AreThere, AreTableNumbers, number_given}
 use Rattle.term_names.proofs.Positions.{next_place, position_cons}
 
 -- the entry of a name with a number stands at that place

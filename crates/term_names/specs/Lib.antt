@@ -2,7 +2,7 @@ pub mod FreeParts
 pub mod Stacks
 pub mod StackParts
 pub mod Entries
-pub mod NameTables
+pub mod EntryTables
 pub mod Known
 pub mod NameNumbers
 pub mod Scope

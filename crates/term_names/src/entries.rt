@@ -55,7 +55,7 @@ pub struct Entries {
 
 impl Model for Entries {
     ghost use Rattle.term_names.specs.Entries.{EntriesView};
-    ghost use Rattle.term_names.specs.NameTables.{IsInStep, entries_view};
+    ghost use Rattle.term_names.specs.EntryTables.{IsInStep, entries_view};
 
     ghost Value = { EntriesView };
 

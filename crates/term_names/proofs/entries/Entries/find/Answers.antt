@@ -1,7 +1,7 @@
 -- The entry of a name stands at the name's number.
 use Rattle.std.proofs.Common.{◌∙◌, IfSome, ap, sym, subst}
 use Rattle.term_names.specs.Entries.{EntriesView, lookup, IsThere}
-use Rattle.term_names.specs.NameTables.{entries_view}
+use Rattle.term_names.specs.EntryTables.{entries_view}
 use Rattle.term_names.proofs.NameEntries.{lookup_found, lookup_nowhere}
 use Rattle.term_names.proofs.entries.Entries.find.Goals as goal
 

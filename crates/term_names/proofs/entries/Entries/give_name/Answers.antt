@@ -3,7 +3,7 @@ use Rattle.std.proofs.Common.{◌≡◌, ◌∙◌, ◌+◌, ◌<◌, length, zi
 use Rattle.term_names.specs.declared.entries.Entry.TheVariants as Entry
 use Rattle.std.proofs.lemmas.List.{length_push}
 use Rattle.term_names.specs.Entries.{EntriesView, lookup, Puts}
-use Rattle.term_names.specs.NameTables.{AreTableNumbers}
+use Rattle.term_names.specs.EntryTables.{AreTableNumbers}
 use Rattle.term_names.proofs.NameEntries.{unnumbered, Puts-new, length_put, length_pushed, AreThere-Puts, AreTableNumbers-more, AreTableNumbers-same, AreTableNumbers-put}
 use Rattle.term_names.proofs.entries.Entries.give_name.Goals as goal
 
