@@ -97,6 +97,8 @@ impl Entries {
     }
 
     /// What the name is that of.
+    // A part of its callers, which ask it for each symbol of a text.
+    #[inline(always)]
     pub fn find(&self, name: &[u8]) -> Option<Entry>
         ensures entry { result ≡ lookup self.now.names name.now }
         ensures there { IfSome result (IsThere self.now) }

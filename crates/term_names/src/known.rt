@@ -77,6 +77,8 @@ impl<'a> Known<'a> {
     }
 
     /// What the name is that of.
+    // A part of its callers, which ask it for each symbol of a text.
+    #[inline(always)]
     pub fn find(&self, name: &[u8]) -> Option<KnownEntry>
         ensures entry { result ≡ known_entry self.now name.now }
         ensures there { IfSome result (IsKnownThere self.now) }

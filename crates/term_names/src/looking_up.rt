@@ -64,6 +64,8 @@ pub fn find(symbols: &Symbols, known: &Known<'_>, scope: &Scope, name: &[u8]) ->
 }
 
 /// The macro of this name, or the named term, where its free variables are bound here.
+// A part of `find` too, since most texts give no names, and then two looks at a length are all that is to be done.
+#[inline(always)]
 fn entry_named(symbols: &Symbols, known: &Known<'_>, scope: &Scope, name: &[u8]) -> Option<Found>
     ensures { (v : TermsView) (sc : Script) (p : Place) → IsScript symbols.now v known.now sc → IsScope symbols.now v scope.now p.scope → IsEntryMeant symbols.now v known.now sc p name.now result }
 {

@@ -21,6 +21,8 @@ pub fn is_logic(name: &[u8]) -> bool
 }
 
 /// The operator of this name.
+// A part of its callers, which ask it for each symbol of a text.
+#[inline(always)]
 pub(crate) fn operator_of(name: &[u8]) -> Option<Op>
     ensures { result ≡ operator_named name.now }
 {
