@@ -1,12 +1,12 @@
 -- Terms that are equal up to flips, and their trees.
-use Rattle.std.proofs.Common.{◌≡◌, ◌≢◌, ◌↔◌, ℕ, ◌^◌, ◌<◌, ◌⊎◌, inl, inr, refl, sym, ◌∙◌, ap, subst, Bool, true, false, not, ◌&&◌, ◌||◌, if◌then◌else◌, nat_eq, IsTrue, Some}
+use Rattle.std.proofs.Common.{◌≡◌, ◌≢◌, ◌↔◌, ℕ, ◌⊎◌, inl, inr, refl, sym, ◌∙◌, ap, subst, Bool, true, false, ◌&&◌, ◌||◌, if◌then◌else◌, nat_eq, IsTrue, Some}
 use Rattle.pair_pool.specs.Trees.{Tree, leaf, cell}
 use Rattle.pair_pool.specs.Views.{Knows}
 use Rattle.sym_table.specs.Leaf.{Leaf, operator, let_head}
 use Rattle.sym_table.specs.Table.{Table, IsLeaf, IsTable}
 use Rattle.term_model.specs.declared.symbols.Op.{Op}
-use Rattle.term_model.specs.Terms.{Fun, Term, Terms, Bindings, numeral, variable, operation, call, let_in, no_terms, term}
-use Rattle.term_pool.specs.StandsFor.{nil_tree, function_leaf, IsLeafOf, StandsFor, StandsForApplication, StandsForList}
+use Rattle.term_model.specs.Terms.{Fun, Term, Terms, numeral, variable, operation, call, let_in, no_terms, term}
+use Rattle.term_pool.specs.StandsFor.{nil_tree, function_leaf, StandsFor, StandsForApplication, StandsForList}
 use Rattle.term_pool.specs.Heights.{is_let_head}
 use Rattle.term_pool.specs.Views.{TermsView, RefersTo}
 use Rattle.term_model.specs.Flips.{equality, EqualUpToFlips, same, operations, calls, flipped, AllEqualUpToFlips, none, each}

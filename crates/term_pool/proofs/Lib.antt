@@ -12,7 +12,9 @@ pub mod NotLemmas
 pub mod Members
 pub mod NumberingLemmas
 pub mod HeightLemmas
-pub mod CountLemmas
+pub mod HeightSteps
+pub mod ListingLemmas
+pub mod ListingWalk
 pub mod ListLemmas
 pub mod PartLemmas
 pub mod PuttingLemmas

@@ -2,7 +2,7 @@
 use Rattle.std.proofs.Common.{◌≡◌, ℕ, ◌+◌, ◌<◌, ◌≤◌, ◌^◌, refl, sym, ◌∙◌, ap, arith, List, [], ◌∷◌, ◌++◌, length, append_assoc, length-append}
 use Rattle.pair_pool.specs.Trees.{Tree, leaf, cell}
 use Rattle.pair_pool.specs.Views.{PassView, Knows, IsKnown, IsOneToOne, HasPartsOfTrees, HasListsInOrder}
-use Rattle.term_pool.specs.Trees.{pair_leaves, depth}
+use Rattle.term_pool.specs.Trees.{pair_leaves}
 use Rattle.term_pool.specs.TreeLists.{list_length, tree_items, AreLeafPairs, pair_trees, AddsItems, IsPairList, AddsPairs}
 use Rattle.term_pool.specs.Views.{KnowsAll, IsKnownCell}
 use Rattle.term_pool.proofs.Depth.{depth-bound, list_length-depth, is_cell}

@@ -14,14 +14,14 @@ use Rattle.term_pool.proofs.Members.{AreDistinct, has_number, number_has, apart_
 same_some : {X : Type 0} {a b : X} → Some a ≡ Some b → a ≡ b
 same_some f = cc
 
-pub cells_distinct : (n : Numbering) → IsNumbering n → AreDistinct n.cells.items
+pub cells_distinct : (n : Numbering) → IsNumbering n → AreDistinct 0 n.cells.items
 cells_distinct n h i j l m e =
     let one = h.told i l in
     let two = h.told j m in
     same_some (sym one ∙ ap (number_in n.index) e ∙ two)
 
 pub cells_apart : (n : Numbering) → IsNumbering n → AreApart n.cells.items
-cells_apart n h = apart_from_distinct n.cells.items (cells_distinct n h)
+cells_apart n h = apart_from_distinct 0 n.cells.items (cells_distinct n h)
 
 pub cell_inside : (n : Numbering) → IsNumbering n → (r : ℕ) → Has n.cells.items r → IsPlace n.places r
 cell_inside n h r k =
@@ -81,7 +81,7 @@ fill_start n cells = record {
     never : (r k : ℕ) → get_or {A = ℕ} (replicate {A = ℕ} n 0) (r - 2 ^ 30) 0 ≡ suc k → ⊥
     never r k e = let none = zero_at n (r - 2 ^ 30) in omega arith
 
-pub fill_step : (places : ℕ) (cells : List ℕ) → ((k : ℕ) → k < length cells → IsPlace places (get_or cells k 0)) → AreDistinct cells → (k : ℕ) → k < length cells → (numbers : List ℕ) → IsFilled places cells k numbers → IsFilled places cells (k + 1) (set numbers (get_or cells k 0 - 2 ^ 30) (k + 1))
+pub fill_step : (places : ℕ) (cells : List ℕ) → ((k : ℕ) → k < length cells → IsPlace places (get_or cells k 0)) → AreDistinct 0 cells → (k : ℕ) → k < length cells → (numbers : List ℕ) → IsFilled places cells k numbers → IsFilled places cells (k + 1) (set numbers (get_or cells k 0 - 2 ^ 30) (k + 1))
 fill_step places cells inside distinct k less numbers h = record {
   long = length-set numbers (get_or cells k 0 - 2 ^ 30) (k + 1) ∙ h.long;
   told = λ j below. told j below (cases_eq j k);

@@ -3,7 +3,7 @@ use Rattle.std.proofs.Common.{◌≡◌, ℕ, refl, ap, ◌∙◌, pos, Option, 
 use Rattle.pair_pool.specs.Trees.{Tree, leaf, cell}
 use Rattle.pair_pool.specs.Views.{IsOneToOne, HasPartsOfTrees}
 use Rattle.pair_pool.specs.Decoding.{HasTreesWithin}
-use Rattle.sym_table.specs.Leaf.{Leaf, operator, function, let_head, nil}
+use Rattle.sym_table.specs.Leaf.{Leaf, operator, let_head}
 use Rattle.sym_table.specs.Table.{Table, IsLeaf, IsTable}
 use Rattle.term_model.specs.Terms.{Term, Terms, Bindings, numeral, variable, operation, call, let_in, no_terms, term, no_bindings, binding}
 use Rattle.term_pool.specs.Decoding.{leaf_term, applied_where, cell_term, leaf_at, decode, decode_list, decode_bindings, HasTermsAt}

@@ -1,21 +1,21 @@
 -- What the parts of a term's tree stand for, all at once.
-use Rattle.std.proofs.Common.{Result, Ok, Err, OnOk, ◌≡◌, ◌≢◌, ℕ, ◌≤◌, ◌<◌, ◌^◌, refl, sym, ◌∙◌, ap, arith, List, [], ◌∷◌, ◌++◌, length, take, drop, pos}
+use Rattle.std.proofs.Common.{◌≡◌, ◌≢◌, ℕ, ◌<◌, ◌^◌, refl, sym, ◌∙◌, ap, arith, List, [], ◌∷◌, length, take, drop}
 use Rattle.std.specs.List.{All}
 use Rattle.std.proofs.Math.Seq.{take-append_seam, drop-append_seam}
 use Rattle.std.proofs.lemmas.List.Elements.{All-nil, All-cons}
 use Rattle.pair_pool.specs.Trees.{Tree, leaf, cell}
 use Rattle.pair_pool.specs.Views.{PassView, Knows, IsKnown, IsOneToOne, HasPartsOfTrees}
-use Rattle.sym_table.specs.Leaf.{Leaf, operator, let_head}
+use Rattle.sym_table.specs.Leaf.{operator, let_head}
 use Rattle.sym_table.specs.Table.{Table, IsLeaf, IsTable}
 use Rattle.term_model.specs.Terms.{Var, Term, Terms, Bindings, numeral, variable, operation, call, let_in, no_terms, term, list_of, no_bindings, binding}
-use Rattle.term_pool.specs.StandsFor.{nil_tree, let_tree, function_leaf, StandsFor, StandsForApplication, StandsForList, StandsForBindings}
+use Rattle.term_pool.specs.StandsFor.{let_tree, function_leaf, StandsFor, StandsForList, StandsForBindings}
 use Rattle.term_pool.specs.Trees.{pair_leaves}
 use Rattle.term_pool.specs.TreeLists.{tree_items, AreLeafPairs, pair_trees, AddsItems, IsPairList, AddsPairs}
 use Rattle.term_pool.specs.Views.{TermsView, RefersTo, ReferToAll, KnowsAll, IsKnownCell}
 use Rattle.term_pool.specs.Building.{IsAppliedLeaf, AreBindings}
 use Rattle.term_pool.specs.Reading.{arguments_of, IsLet, IsLetTerm}
 use Rattle.term_pool.specs.StandsFor.{StandForAll}
-use Rattle.term_pool.proofs.ReadingLemmas.{leaf_of, reference_cell, let_trees}
+use Rattle.term_pool.proofs.ReadingLemmas.{leaf_of, let_trees}
 use Rattle.term_pool.proofs.ShapeLemmas.{not_let}
 
 -- heads

@@ -1,5 +1,5 @@
 -- Facts about the variants of a result.
-use Rattle.std.proofs.Common.{Result, Ok, Err, OnErr, IfErr, IsErrAnd, Bool, false, ℕ, ◌≡◌, nat_eq, arith, sym, subst}
+use Rattle.std.proofs.Common.{Result, Ok, Err, OnErr, IfErr, Bool, false, ℕ, ◌≡◌, nat_eq, arith}
 use Rattle.std.proofs.lemmas.Bool.Decides.{nat_tests}
 
 pub on_err : {T E P : Type 0} → (r : Result T E) → P → OnErr r P
@@ -12,8 +12,3 @@ not_zero b n e f g = grind (arith, nat_tests)
 pub any_err : {T E : Type 0} → (r : Result T E) (P : E → Type 0) → ((e : E) → P e) → IfErr r P
 any_err (Ok x) P h = tt
 any_err (Err e) P h = h e
-
--- a fact of an error that is handed on
-pub handed_on : {T E : Type 0} → (r : Result T E) (e : E) (P : E → Type 0) → IsErrAnd r (λ x. x ≡ e) → P e → IfErr r P
-handed_on (Ok x) e P h p = tt
-handed_on (Err x) e P h p = subst P (sym h) p

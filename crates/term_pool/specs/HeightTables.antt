@@ -1,7 +1,9 @@
 -- Private. The heights of cells by those of their parts.
-use Rattle.std.specs.Prelude.{◌+◌, max, Bool, if◌then◌else◌, ℕ}
+use Rattle.std.specs.Prelude.{◌+◌, ◌==◌, max, Bool, false, if◌then◌else◌, ℕ}
 use Rattle.pair_pool.specs.Trees.{Tree, leaf, cell}
 use Rattle.term_pool.specs.declared.heights.Heights.{Heights}
+use Rattle.term_pool.specs.declared.listing.Part.{Part}
+use Rattle.term_pool.specs.declared.listing.Part.TheVariants.{Leaf, Cell}
 use Rattle.term_pool.specs.Heights.{is_let_head, height_of}
 use Rattle.std.specs.Option.{option_map_or}
 use Rattle.sym_table.specs.Table.{Table}
@@ -26,6 +28,11 @@ cell_heights is_let a b = record {
 abbrev pub heights_of : Tree → Heights
 heights_of (leaf k) = leaf_heights
 heights_of (cell a b) = cell_heights (is_let_head a) (heights_of a) (heights_of b)
+
+-- the part of a cell is the leaf at the head of a let
+abbrev pub is_let_leaf : Part → Bool
+is_let_leaf (Leaf k) = k == 1
+is_let_leaf (Cell n) = false
 
 -- its height, and 0 where there is none
 abbrev pub height_at : Table → TermsView → ℕ → ℕ

@@ -12,9 +12,8 @@ pub mod Heights
 pub mod HeightTables
 pub mod CellCounts
 pub mod Putting
-pub mod PuttingVisits
+pub mod Images
 pub mod Numbering
-pub mod Meetings
-pub mod Memos
+pub mod Listings
 pub mod Pairs
 pub mod Decoding

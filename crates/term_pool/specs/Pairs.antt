@@ -8,7 +8,6 @@ use Rattle.pair_pool.specs.Trees.{Tree, leaf, cell}
 use Rattle.pair_pool.specs.Views.{PassView, Knows}
 use Rattle.term_pool.specs.declared.flips.Pair.{Pair}
 use Rattle.term_pool.specs.declared.flips.Reading.{Reading}
-use Rattle.term_pool.specs.declared.flips.Reading.TheVariants as Reading
 use Rattle.term_pool.specs.declared.flips.Visit.{Visit}
 use Rattle.term_pool.specs.declared.flips.Visit.TheVariants.{Part, Done}
 use Rattle.term_pool.specs.contracts.flips.PairPartialEq.TheImpl as pairs

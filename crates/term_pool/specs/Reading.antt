@@ -1,6 +1,5 @@
 -- Public. What the calls that read terms answer.
 use Rattle.std.specs.Prelude.{◌≡◌, ℕ, ◌<◌, pos, List, [], ◌∷◌, length}
-use Rattle.pair_pool.specs.Trees.{leaf}
 use Rattle.sym_table.specs.Leaf.{operator}
 use Rattle.sym_table.specs.Table.{Table, IsLeaf}
 use Rattle.term_model.specs.Terms.{Var, Term, Bindings, numeral, variable, operation, call, let_in, list_of, no_bindings, binding}

@@ -1,17 +1,13 @@
-//! Heights: a walk over the cells of a term that remembers what it met.
+//! Heights: a loop over the cells of a term, parts first.
 
-ghost use Rattle.std.specs.Prelude.{◌≡◌, ℕ, ◌<◌, ◌≤◌, ◌^◌, length, Some, IfOk, OnOk, MatchOption};
+ghost use Rattle.std.specs.Prelude.{◌≡◌, ◌<◌, ◌^◌, List, length, map, IfOk};
 ghost use Rattle.pair_pool.specs.Trees.{Tree};
 ghost use Rattle.pair_pool.specs.Views.{IsPassOf, IsKnown, Knows};
-ghost use Rattle.term_pool.specs.Views.{IsKnownCell};
-ghost use Rattle.term_pool.specs.CellCounts.{Has};
-ghost use Rattle.term_pool.specs.Numbering.{IsPlace};
-ghost use Rattle.term_pool.specs.HeightTables.{leaf_heights, cell_heights, heights_of};
-ghost use Rattle.term_pool.specs.Memos.{HasHeights, HasRoomFor, IsMemo, IsNoted, IsHeightVisit};
+ghost use Rattle.term_pool.specs.HeightTables.{leaf_heights, cell_heights, heights_of, is_let_leaf};
+ghost use Rattle.term_pool.specs.Listings.{tree_of, IsBefore};
 
 use crate::build::LET;
-use crate::lists::parts;
-use crate::numbering::Numbering;
+use crate::listing::{Listing, Part};
 use pair_pool::{Memory, Pass, Pool, Ref};
 use std::alloc::Global;
 
@@ -24,21 +20,6 @@ pub(crate) struct Heights {
     bindings: u32,
     value: u32,
     rest: u32,
-}
-
-/// The cells that have been met, and the heights of each.
-#[derive(Drop)]
-struct Memo {
-    cells: Numbering,
-    heights: Vec<Heights>,
-}
-
-/// What a visit of a cell comes to.
-enum Visit {
-    /// A part of the cell has to be visited first.
-    Part(Ref),
-    /// The heights of the cell.
-    Done(Heights),
 }
 
 /// The heights of a leaf.
@@ -56,8 +37,7 @@ fn of_leaf() -> Heights
 
 /// The heights of a cell from those of its parts.
 fn of_cell(is_let: bool, first: Heights, second: Heights) -> Heights
-    requires list { second.list < 2 ^ 31 }
-    requires rest { second.rest < 2 ^ 31 }
+    requires { (second.list < 2 ^ 31) × (second.rest < 2 ^ 31) }
     ensures { result ≡ cell_heights is_let first second }
 {
     let highest = if is_let { second.rest } else { second.list };
@@ -70,64 +50,34 @@ fn of_cell(is_let: bool, first: Heights, second: Heights) -> Heights
     }
 }
 
-/// The heights of a leaf, or those that were noted.
-fn look(memo: &Memo, r: Ref) -> Option<Heights>
-    requires room { HasRoomFor memo.now r }
-    ensures leaf { r < 2 ^ 30 → result ≡ Some leaf_heights }
-    ensures cell { 2 ^ 30 ≤ r → MatchOption result (Has memo.now.cells.cells.items r → ⊥) (HasHeights memo.now r) }
+/// Whether a part is the leaf at the head of a let.
+fn is_let(part: Part) -> bool
+    ensures { result ≡ is_let_leaf part }
 {
-    if r.is_leaf() {
-        return Some(of_leaf());
+    match part {
+        Part::Leaf(k) => k == LET,
+        Part::Cell(_) => false,
     }
-    let number = memo.cells.number(r)?;
-    Some(memo.heights[number as usize])
 }
 
-/// Notes the heights of a cell.
-fn note(alloc: Global, memo: &mut Memo, r: Ref, heights: Heights) -> Result<(), Memory>
-    requires room { HasRoomFor memo.old r }
-    requires cell { 2 ^ 30 ≤ r }
-    requires new { Has memo.old.cells.cells.items r → ⊥ }
-    ensures { OnOk result (IsNoted memo.old memo.new r heights) }
+/// The heights of a part, where the cells up to it have these.
+fn look(heights: &[Heights], part: Part) -> Heights
+    requires { IsBefore (length heights.now) part }
+    ensures { (trees : List Tree) → heights.now ≡ map heights_of trees → result ≡ heights_of (tree_of trees part) }
 {
-    memo.cells.meet(alloc, r)?;
-    memo.heights.push(heights)?;
-    Ok(())
+    match part {
+        Part::Leaf(_) => of_leaf(),
+        Part::Cell(n) => heights[n as usize],
+    }
 }
 
-/// Notes the heights of a cell, where its parts have theirs.
-fn visit_cell(
+/// The heights of what is known.
+pub(crate) fn of_reference(
     alloc: Global,
     pool: &Pool,
     pass: &mut Pass,
-    memo: &mut Memo,
     r: Ref,
-) -> Result<Visit, Memory>
-    requires of_pool { IsPassOf pool.now pass.old }
-    requires cell { IsKnownCell pass.old r }
-    requires right { IsMemo pass.old memo.old }
-    requires new { Has memo.old.cells.cells.items r → ⊥ }
-    ensures visit { IfOk result (IsHeightVisit pass.old memo.old memo.new r) }
-    ensures same { pass.new ≡ pass.old }
-{
-    pass.one_to_one();
-    pass.parts_of_trees();
-    pass.lists_in_order();
-    let (first, second) = parts(pool, pass, r);
-    let Some(above) = look(memo, first) else {
-        return Ok(Visit::Part(first));
-    };
-    let Some(below) = look(memo, second) else {
-        return Ok(Visit::Part(second));
-    };
-    let heights = of_cell(first.number() == LET, above, below);
-    note(alloc, memo, r, heights)?;
-    Ok(Visit::Done(heights))
-}
-
-/// The heights of what is known: each cell below it is noted once, the parts before the cell. The cells on the way
-/// down to where the walk is stand in a list, so the walk takes no stack.
-pub(crate) fn walk(alloc: Global, pool: &Pool, pass: &mut Pass, r: Ref) -> Result<Heights, Memory>
+) -> Result<Heights, Memory>
     requires of_pool { IsPassOf pool.now pass.old }
     requires known { IsKnown pass.old r }
     ensures heights { IfOk result (λ h. (t : Tree) → Knows pass.old r t → h ≡ heights_of t) }
@@ -135,25 +85,14 @@ pub(crate) fn walk(alloc: Global, pool: &Pool, pass: &mut Pass, r: Ref) -> Resul
 {
     pass.one_to_one();
     pass.parts_of_trees();
-    if r.is_leaf() {
-        return Ok(of_leaf());
+    pass.lists_in_order();
+    let mut listing = Listing::new(alloc, pool);
+    let whole = listing.add(alloc, pool, pass, r)?;
+    let mut heights = Vec::new(alloc);
+    'cells: for c in &listing.cells {
+        let first = look(&heights, c.first);
+        let second = look(&heights, c.second);
+        heights.push(of_cell(is_let(c.first), first, second))?;
     }
-    let mut memo = Memo {
-        cells: Numbering::new(alloc, pool),
-        heights: Vec::new(alloc),
-    };
-    let mut way = Vec::new(alloc);
-    let mut at = r;
-    'cells: loop {
-        match visit_cell(alloc, pool, pass, &mut memo, at)? {
-            Visit::Part(part) => {
-                way.push(at)?;
-                at = part;
-            }
-            Visit::Done(heights) => match way.pop() {
-                Some(above) => at = above,
-                None => return Ok(heights),
-            },
-        }
-    }
+    Ok(look(&heights, whole))
 }

@@ -14,6 +14,7 @@ mod cells;
 mod flips;
 mod heights;
 mod laws;
+mod listing;
 mod lists;
 mod nots;
 mod numbering;

@@ -11,7 +11,7 @@ ghost use Rattle.term_pool.specs.CellCounts.{CountsCells};
 
 use super::Terms;
 use crate::cells::count;
-use crate::heights::walk;
+use crate::heights::of_reference;
 use pair_pool::{Memory, Ref};
 use std::alloc::Global;
 
@@ -19,16 +19,15 @@ impl<'a> Terms<'a> {
     /// The height of a term: a leaf has height 1, an application is one higher than its highest argument, and a let
     /// than the highest of its values and its body. It fits, since no term is higher than its pool has references.
     ///
-    /// Loads each distinct cell of the term at most four times, and takes memory for each: once there are many of them,
-    /// 4 bytes for each place of the pool besides, and at most a constant times the pool's words. Refuses want of memory
-    /// alone.
+    /// Loads each distinct cell of the term once, and takes memory for each: once there are many of them, 4 bytes for
+    /// each place of the pool besides, and at most a constant times the pool's words. Refuses want of memory alone.
     pub fn height(&mut self, alloc: Global, r: Ref) -> Result<u32, Memory>
         requires { IsKnown self.old.pass r }
         ensures height { IfOk result (λ h. (s : Table) (t : Term) → IsTable s → RefersTo s self.old r t → h ≡ height_of t) }
         ensures keeps { KeepsTerms self.old self.new }
         ensures unchanged { IsUnchanged self.old.pass self.new.pass }
     {
-        let heights = walk(alloc, self.pool, &mut self.pass, r)?;
+        let heights = of_reference(alloc, self.pool, &mut self.pass, r)?;
         Ok(heights.term)
     }
 

@@ -18,9 +18,9 @@ impl<'a> Terms<'a> {
     /// What a term becomes where these images are put in for leaves, at once; leaves without one stay.
     ///
     /// Where a let's head is no leaf for which something is put in, this is the term with its leaves replaced; what
-    /// its lets bind it does not ask. Loads each distinct cell of the term at most three times, looks it up in a
-    /// table as often, interns one cell for each, and takes memory for each. Takes no stack. Refuses where the pool had no
-    /// room for a cell of the answer, and for want of memory.
+    /// its lets bind it does not ask. Loads each distinct cell of the term once, looks its two parts up in a table, interns
+    /// one cell for each, and takes memory as `height` does. Takes no stack. Refuses where the pool had no room for a cell
+    /// of the answer, and for want of memory.
     pub fn with_images(
         &mut self,
         alloc: Global,

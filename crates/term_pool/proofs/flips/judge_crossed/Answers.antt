@@ -1,4 +1,3 @@
-use Rattle.std.proofs.Common.{◌∙◌, sym}
 use Rattle.term_pool.proofs.PairLemmas.{crossed_left, crossed_right, crossed_judged}
 use Rattle.term_pool.proofs.flips.judge_crossed.Goals as goal
 

@@ -1,4 +1,3 @@
-use Rattle.std.proofs.Common.{◌∙◌}
 use Rattle.term_pool.proofs.PairLemmas.{split_of, lists_judged}
 use Rattle.term_pool.proofs.flips.judge_lists.Goals as goal
 

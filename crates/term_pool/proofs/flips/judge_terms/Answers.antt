@@ -1,4 +1,4 @@
-use Rattle.std.proofs.Common.{◌≡◌, ◌≢◌, ◌⊎◌, inl, inr, arith, sym, ◌∙◌, ap, Some, true, false}
+use Rattle.std.proofs.Common.{◌≡◌, ◌≢◌, inl, inr, arith, ◌∙◌, ap, Some, true, false}
 use Rattle.term_pool.proofs.PairLemmas.{split_of, lists_look, other_heads, equal_lists, open_lists, no_equality, equality_judged}
 use Rattle.term_pool.proofs.flips.judge_terms.Goals as goal
 

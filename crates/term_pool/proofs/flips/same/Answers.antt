@@ -1,4 +1,4 @@
-use Rattle.std.proofs.Common.{◌≡◌, refl, sym, ap, ◌∙◌}
+use Rattle.std.proofs.Common.{refl, ◌∙◌}
 use Rattle.term_pool.proofs.PairLemmas.{look_first, walk_start, walk_cells, walk_answers, walk_new, walk_down, walk_up, walk_end}
 use Rattle.term_pool.proofs.Ways.{none_left}
 use Rattle.term_pool.proofs.flips.same.Goals as goal

@@ -1,4 +1,4 @@
-use Rattle.std.proofs.Common.{◌≡◌, ◌<◌, ◌≤◌, ◌^◌, arith, ◌∙◌}
+use Rattle.std.proofs.Common.{◌≤◌, ◌^◌, arith}
 use Rattle.term_pool.proofs.PairLemmas.{split_of, rest_known, items_of_two}
 use Rattle.term_pool.proofs.ReadingLemmas.{reference_cell}
 use Rattle.term_pool.proofs.flips.two_items.Goals as goal

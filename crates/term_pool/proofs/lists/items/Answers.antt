@@ -1,4 +1,4 @@
-use Rattle.std.proofs.Common.{◌<◌, ◌≤◌, ◌+◌, ◌^◌, length, refl, ap, arith, ◌∙◌, length-append}
+use Rattle.std.proofs.Common.{◌<◌, ◌≤◌, ◌^◌, length, refl, ap, arith, ◌∙◌, length-append}
 use Rattle.term_pool.proofs.ListLemmas.{collect_start, collected_cell, collected_below, collected_next, collected_all}
 use Rattle.term_pool.proofs.lists.items.Goals as goal
 

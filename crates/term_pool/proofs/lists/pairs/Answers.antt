@@ -1,4 +1,4 @@
-use Rattle.std.proofs.Common.{◌<◌, ◌≤◌, ◌+◌, ◌^◌, length, refl, ap, arith, ◌∙◌, length-append}
+use Rattle.std.proofs.Common.{◌<◌, ◌≤◌, ◌^◌, length, refl, ap, arith, ◌∙◌, length-append}
 use Rattle.term_pool.proofs.ListLemmas.{pairs_start, pairs_cell, pair_cell, pairs_below, pairs_next, pairs_all}
 use Rattle.term_pool.proofs.lists.pairs.Goals as goal
 

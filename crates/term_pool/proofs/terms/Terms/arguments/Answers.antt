@@ -1,4 +1,4 @@
-use Rattle.std.proofs.Common.{◌≡◌, ◌<◌, ◌≤◌, ◌^◌, arith}
+use Rattle.std.proofs.Common.{◌<◌, ◌≤◌, ◌^◌, arith}
 use Rattle.std.proofs.lemmas.Result.{on_ok_weaker}
 use Rattle.term_pool.proofs.PartLemmas.{leaf_arguments, added_arguments, added_known, added_kept}
 use Rattle.term_pool.proofs.ReadingLemmas.{reference_cell, second_known}

@@ -1,4 +1,3 @@
-use Rattle.std.proofs.Common.{◌≡◌}
 use Rattle.std.proofs.lemmas.Result.{on_ok_weaker}
 use Rattle.term_pool.proofs.PartLemmas.{let_list, added_bindings, pairs_kept_leaves, pairs_kept}
 use Rattle.term_pool.proofs.terms.Terms.bindings.Goals as goal

@@ -1,4 +1,4 @@
-use Rattle.std.proofs.Common.{◌≡◌, ◌<◌, ◌≤◌, ◌^◌, arith}
+use Rattle.std.proofs.Common.{◌<◌, ◌≤◌, ◌^◌, arith}
 use Rattle.term_pool.proofs.PartLemmas.{leaf_head, cell_head, let_head_is, variable_low}
 use Rattle.term_pool.proofs.ReadingLemmas.{reference_cell}
 use Rattle.term_pool.proofs.terms.Terms.head.Goals as goal
