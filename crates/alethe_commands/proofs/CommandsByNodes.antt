@@ -1,30 +1,28 @@
 -- The commands of a proof by their words, and by the nodes of their items.
-use Rattle.std.proofs.Common.{◌≡◌, ◌≢◌, ℕ, ◌+◌, ◌∙◌, Bool, true, false, ◌||◌, List, [], length, Option, Some, None, is_some, unwrap_or, Result, Err, refl, sym, ap, subst, arith}
-use Rattle.std.specs.Prelude.{if◌then◌else◌, codes, bytes_eq, nat_le}
+use Rattle.std.proofs.Common.{◌≡◌, ℕ, ◌+◌, ◌<◌, ◌≤◌, ◌∙◌, Bool, true, false, ◌||◌, List, length, Option, Some, None, Result, Ok, Err, refl, sym, ap, arith}
+use Rattle.std.specs.Prelude.{⊤, if◌then◌else◌, codes, bytes_eq, nat_le, nat_lt, slice_get}
+use Rattle.std.proofs.lemmas.Bool.Decides.{nat_tests}
 use Rattle.std.proofs.lemmas.Slice.Eq.{bytes_eq-Decides}
 use Rattle.std.specs.Option.{option_or}
 use Rattle.sexpr.specs.declared.causes.Cause.TheVariants.{BadCommand}
 use Rattle.sexpr.specs.declared.causes.Refusal.{Refusal}
 use Rattle.sexpr.specs.Words.{is_symbol}
-use Rattle.sexpr.specs.Items.{Item, word, quoted, string, list, Items, no_items, item, place_of, symbol_name}
+use Rattle.sexpr.specs.Items.{Item, word, quoted, string, list, Items, no_items, item, place_of}
+use Rattle.sexpr.specs.declared.lexing.TokenKind.{TokenKind}
+use Rattle.sexpr.specs.declared.lexing.TokenKind.TheVariants.{Open, Close, Text, Quoted, Word}
 use Rattle.text_items.specs.declared.nodes.Node.{Node}
-use Rattle.text_items.specs.Children.{BeginWith}
 use Rattle.text_items.specs.ItemShapes.{excess, symbol_fault, items_of, name_at}
-use Rattle.text_items.specs.Keywords.{Known, is_spelled, earlier, is_value, at_end, word_next, misplaced, repeated, lacks_keyword, attributes_fault}
-use Rattle.text_items.specs.Nodes.{IsNode, AreNodes}
-use Rattle.text_items.proofs.NodeItems.{name_here}
-use Rattle.text_items.proofs.NodeSteps.{name_next}
+use Rattle.text_items.specs.ItemsAt.{ItemsView, end_at, end_by, item_of_node, item_of_token, item_at, items_at}
+use Rattle.text_items.specs.Keywords.{Known, list_fault, earlier, is_value, at_end, word_next, misplaced, repeated, lacks_keyword, attributes_fault}
+use Rattle.text_items.specs.Spelling.{is_list_item}
+use Rattle.text_items.specs.Stepping.{HasTaken, HasSecond, has_two}
+use Rattle.text_items.proofs.ItemsAtLemmas.{item_is, items_are, no_items_are, ends_inside, end_by_all}
 use Rattle.problem_text.specs.Commands.{refused}
-use Rattle.alethe_text.specs.Commands.{Command as Shape, assume, step, anchor, shaped, is_symbol_of, step_keywords, anchor_keywords, clause_fault, behind_first, attributes_of, word_fault, each_argument_fault, arguments_fault, argument_items, arguments_in, assume_shape, step_shape, anchor_shape, command_named, headed_command, command_of}
-use Rattle.alethe_commands.specs.declared.commands.Command.{Command}
+use Rattle.alethe_text.specs.Commands.{Command as Shape, step, shaped, step_keywords, clause_fault, behind_first, attributes_of, word_fault, each_argument_fault, arguments_fault, argument_items, step_shape, command_named, headed_command, command_of}
 use Rattle.alethe_commands.specs.declared.commands.CommandWord.{CommandWord}
-use Rattle.alethe_commands.specs.CommandNodes.{SaysCommand, IsCommand, AreArguments}
-use Rattle.alethe_commands.specs.CommandShapes.{unless, head_word, word_named, command_so}
-
--- f of a choice, where each side is f of its own
-pub choice : {A B : Type 0} (f : A → B) (b : Bool) (x y : A) (u v : B) → u ≡ f x → v ≡ f y → (if b then u else v) ≡ f (if b then x else y)
-choice f true x y u v p q = p
-choice f false x y u v p q = q
+use Rattle.alethe_commands.specs.CommandNodes.{IsStepThere}
+use Rattle.alethe_commands.specs.CommandShapes.{without_fault, head_word, word_named, command_so, HasLiterals, HasArguments}
+use Rattle.alethe_commands.proofs.ShapesByNodes.{choice, or_none}
 
 turned : (a b : List ℕ) → bytes_eq a b ≡ bytes_eq b a
 turned a b = go (bytes_eq a b) (bytes_eq b a) refl refl
@@ -94,11 +92,6 @@ with_word i head items e name is w named p q start word_start =
 pub without_word : (i head : Item) (items : Items) → items_of i ≡ item head items → None ≡ head_word head → (q : ℕ) → q ≡ place_of head → command_of i ≡ refused BadCommand q
 without_word i head items e is q word_start = has_head i head items e None is ∙ ap (λ r. refused {A = Shape} BadCommand r) (sym word_start)
 
--- places that are none
-pub or_none : {A : Type 0} (a b : Option A) → option_or a b ≡ None → (a ≡ None) × (b ≡ None)
-or_none None b e = (refl, e)
-or_none (Some x) b e = cc
-
 earlier_none : (a b : Option ℕ) → earlier a b ≡ None → (a ≡ None) × (b ≡ None)
 earlier_none None b e = (refl, e)
 earlier_none (Some a) None e = cc
@@ -107,10 +100,6 @@ earlier_none (Some a) (Some b) e = go (nat_le a b) e
     go : (t : Bool) → (if t then Some a else Some b) ≡ None → (Some a ≡ None) × (Some b ≡ None)
     go true e = cc
     go false e = cc
-
-pub unless_so : (b : Bool) (place : ℕ) → (if b then None else Some place) ≡ None → b ≡ true
-unless_so true place e = refl
-unless_so false place e = cc
 
 -- attributes without a fault
 pub attributes_fit : (known : List Known) (place : ℕ) (items : Items) → attributes_fault known place items ≡ None → (misplaced known word_next items ≡ None) × (is_value (at_end known word_next items) ≡ false)
@@ -122,110 +111,91 @@ attributes_fit known place items e = go (is_value (at_end known word_next items)
     go false true is e = cc
     go false false is e = ((earlier_none (misplaced known word_next items) (repeated known items) e).0, is)
 
--- a symbol of a name that is not empty
-symbol_there : (o : Option (List ℕ)) → bytes_eq (unwrap_or o []) (codes "cl") ≡ true → is_some o ≡ true
-symbol_there None e = cc
-symbol_there (Some name) e = refl
+pub faultless : (o : Option ℕ) (r : Result ⊤ Refusal) (u : ⊤) → r ≡ without_fault o → r ≡ Ok u → o ≡ None
+faultless None r u e is = refl
+faultless (Some place) r u e is = cc
 
-module _ (s : List ℕ) (ns : List Node) where
-  -- a keyword is a node by itself
-  pub keyword_alone : (name : List ℕ) (k : ℕ) (i : Item) (m : ℕ) → IsNode s ns k i m → is_spelled name i ≡ true → m ≡ k + 1
-  keyword_alone name k (word p w) m is e = is.alone
-  keyword_alone name k (quoted p w) m is e = cc
-  keyword_alone name k (string p w) m is e = cc
-  keyword_alone name k (list p items) m is e = cc
-
-  clause_literals : (k : ℕ) (i : Item) (m : ℕ) → IsNode s ns k i m → clause_fault i ≡ None → AreNodes s ns (k + 2) (behind_first (items_of i)) m
-  clause_literals k (word p w) m is e = cc
-  clause_literals k (quoted p w) m is e = cc
-  clause_literals k (string p w) m is e = cc
-  clause_literals k (list p no_items) m is e = cc
-  clause_literals k (list p (item head rest)) m (node, has, (n, here, are)) e =
-      let next = name_next s ns (k + 1) head n here (symbol_there (symbol_name head) (unless_so (is_symbol_of (codes "cl") head) _ e)) in
-      subst (λ j. AreNodes s ns j rest m) (omega (arith, next)) are
-
-  arguments_here : (k : ℕ) (items : Items) (last : ℕ) → AreNodes s ns k items last → arguments_fault items ≡ None → (first : ℕ) → (k ≡ last → first ≡ k) → (k ≢ last → first ≡ k + 2)
-      → AreArguments s ns first (arguments_in (argument_items items)) last
-  arguments_here k no_items last are e first none some = record { items = no_items; there = none are ∙ are; fit = refl; same = refl }
-  arguments_here k (item keyword no_items) last are e first none some = cc
-  arguments_here k (item keyword (item (word p w) rest)) last are e first none some = let h = (or_none (word_fault (codes ":args") keyword) _ e).1 in cc
-  arguments_here k (item keyword (item (quoted p w) rest)) last are e first none some = let h = (or_none (word_fault (codes ":args") keyword) _ e).1 in cc
-  arguments_here k (item keyword (item (string p w) rest)) last are e first none some = let h = (or_none (word_fault (codes ":args") keyword) _ e).1 in cc
-  arguments_here k (item keyword (item (list p items) (item i rest))) last are e first none some =
-      let h = (or_none (each_argument_fault items) _ (or_none (word_fault (codes ":args") keyword) _ e).1).1 in cc
-  arguments_here k (item keyword (item (list p items) no_items)) last (n, here, (m, (node, has, inside), end)) e first none some =
-      let parts = or_none (word_fault (codes ":args") keyword) _ e in
-      let next = keyword_alone (codes ":args") k keyword n here (unless_so (is_spelled (codes ":args") keyword) _ parts.0) in
-      let behind = has.behind in
-      let at : first ≡ k + 2 = some (λ same. absurd (omega arith)) in
-      let node_first : n + 1 ≡ first = omega arith in
+-- A step without a fault is said by its nodes.
+pub step_said : (items : ItemsView) (start a b rest : ℕ) → HasTaken items a b (length items.nodes) → HasTaken items b rest (length items.nodes)
+    → earlier (attributes_fault step_keywords start (items_at items rest (length items.nodes))) (option_or (symbol_fault (item_at items a)) (clause_fault (item_at items b))) ≡ None
+    → (clause_fault (item_at items b) ≡ None → HasLiterals items b)
+    → (step_shape start (items_at items a (length items.nodes)) ≡ Ok (step (name_at (item_at items a)) (items_at items (b + 2) rest) (attributes_of (items_at items rest (length items.nodes)))))
+    × IsStepThere items a (b + 2) rest
+step_said items start a b rest t u none literals =
+    let behind = items_at items rest (length items.nodes) in
+    let parts = earlier_none (attributes_fault step_keywords start behind) (option_or (symbol_fault (item_at items a)) (clause_fault (item_at items b))) none in
+    let before = or_none (symbol_fault (item_at items a)) (clause_fault (item_at items b)) parts.1 in
+    let fit = attributes_fit step_keywords start behind parts.0 in
+    let clause = literals before.1 in (
+      ap (step_shape start) (t.split ∙ ap (item (item_at items a)) u.split)
+          ∙ ap (λ o. shaped o (step (name_at (item_at items a)) (behind_first (items_of (item_at items b))) (attributes_of behind))) none
+          ∙ ap (λ (xs : Items). Ok (step (name_at (item_at items a)) xs (attributes_of behind))) (clause.same ∙ ap (items_at items (b + 2)) (sym u.here)),
       record {
-        items = items;
-        there = subst (λ j. AreNodes s ns j items last) node_first (subst (λ j. AreNodes s ns (n + 1) items j) end inside);
-        fit = (or_none (each_argument_fault items) _ parts.1).0;
-        same = refl;
-      }
+        name_there = record { inside = t.less; symbol = before.0 };
+        ordered = omega (arith, clause.inside, u.here);
+        literals_there = record { inside = u.inside; nested = rw u.here clause.nested };
+        attributes_there = record { inside = omega arith; nested = end_by_all items rest; next = word_next; fit = fit.0; ended = fit.1 };
+      },
+    )
 
-  -- A command that has no fault is said by its nodes.
-  as_shaped : (o : Option ℕ) (c : Command) (d : Shape) → (o ≡ None → SaysCommand s ns c d) → IsCommand s ns (unless o c) (shaped o d)
-  as_shaped (Some place) c d says = refl
-  as_shaped None c d says = (d, refl, says refl)
+-- what stands in a list
+children : (items : ItemsView) (k : ℕ) → k < length items.nodes → is_list_item (item_at items k) ≡ true → items_of (item_at items k) ≡ items_at items (k + 1) (end_at items k)
+children items k inside listed = ap items_of (item_is items k inside) ∙ go (slice_get items.nodes k) (sym (ap is_list_item (item_is items k inside)) ∙ listed)
+  where
+    by_kind : (kind : TokenKind) (place : ℕ) (spelling : List ℕ) (xs : Items) → is_list_item (item_of_token kind place spelling xs) ≡ true → items_of (item_of_token kind place spelling xs) ≡ xs
+    by_kind Word place spelling xs e = cc
+    by_kind Quoted place spelling xs e = cc
+    by_kind Text place spelling xs e = cc
+    by_kind Open place spelling xs e = refl
+    by_kind Close place spelling xs e = refl
 
-  said : (o p : Option ℕ) (c : Command) (d : Shape) (result : Result Command Refusal) (expected : Result Shape Refusal) → result ≡ unless o c → o ≡ p → expected ≡ shaped p d
-      → (p ≡ None → SaysCommand s ns c d) → IsCommand s ns result expected
-  said o p c d result expected e same f says =
-      subst (λ r. IsCommand s ns r expected) (sym (e ∙ ap (λ q. unless q c) same)) (subst (λ x. IsCommand s ns (unless p c) x) (sym f) (as_shaped p c d says))
+    go : (o : Option Node) → is_list_item (item_of_node items.source o (items_at items (k + 1) (end_by (length items.nodes) k o))) ≡ true
+        → items_of (item_of_node items.source o (items_at items (k + 1) (end_by (length items.nodes) k o))) ≡ items_at items (k + 1) (end_by (length items.nodes) k o)
+    go None e = sym (no_items_are items (k + 1) (k + 1) (omega arith))
+    go (Some node) e = by_kind node.token.kind _ _ _ e
 
-  module _ (start a b mid rest : ℕ) (items : Items) (t : BeginWith s ns a items mid (length ns)) (u : BeginWith s ns b t.others rest (length ns)) (o : Option ℕ) (result : Result Command Refusal) where
-    both : {A : Type 0} (f : Items → A) → f items ≡ f (item t.first (item u.first u.others))
-    both f = ap f t.same ∙ ap (λ xs. f (item t.first xs)) u.same
+-- without an item more, the items end
+ended : (items : ItemsView) (k m : ℕ) → m ≤ length items.nodes → excess (items_at items k m) ≡ None → m ≤ k
+ended items k m inside none = go (nat_lt k m) refl
+  where
+    go : (b : Bool) → nat_lt k m ≡ b → m ≤ k
+    go true is = let split = items_are items k m (grind (arith, nat_tests)) inside in let e = sym (ap excess split) ∙ none in cc
+    go false is = grind (arith, nat_tests)
 
-    pub assume_said : o ≡ option_or (symbol_fault t.first) (excess u.others) → result ≡ unless o (Command.Assume a b) → IsCommand s ns result (assume_shape start items)
-    assume_said same e =
-        said o (option_or (symbol_fault t.first) (excess u.others)) (Command.Assume a b) (assume (name_at t.first) u.first) result (assume_shape start items) e same (both (assume_shape start))
-        (λ none. record {
-          named = name_at t.first;
-          formula = u.first;
-          after = rest;
-          same = refl;
-          name_here = name_here s ns a t.first mid t.here (or_none (symbol_fault t.first) (excess u.others) none).0;
-          formula_here = u.here;
-        })
+listed : (i : Item) → list_fault i ≡ None → is_list_item i ≡ true
+listed (word p s) e = cc
+listed (quoted p s) e = cc
+listed (string p s) e = cc
+listed (list p items) e = refl
 
-    pub step_said : o ≡ earlier (attributes_fault step_keywords start u.others) (option_or (symbol_fault t.first) (clause_fault u.first)) → result ≡ unless o (Command.Step a (b + 2) rest)
-        → IsCommand s ns result (step_shape start items)
-    step_said same e =
-        said o (earlier (attributes_fault step_keywords start u.others) (option_or (symbol_fault t.first) (clause_fault u.first)))
-        (Command.Step a (b + 2) rest) (step (name_at t.first) (behind_first (items_of u.first)) (attributes_of u.others)) result (step_shape start items) e same (both (step_shape start))
-        (λ none.
-        let parts = earlier_none (attributes_fault step_keywords start u.others) (option_or (symbol_fault t.first) (clause_fault u.first)) none in
-        let before = or_none (symbol_fault t.first) (clause_fault u.first) parts.1 in
-        let fit = attributes_fit step_keywords start u.others parts.0 in
-        record {
-          named = name_at t.first;
-          literals = behind_first (items_of u.first);
-          attributes = attributes_of u.others;
-          same = refl;
-          name_here = name_here s ns a t.first mid t.here before.0;
-          literals_here = clause_literals b u.first rest u.here before.1;
-          attributes_here = record { items = u.others; next = word_next; there = u.there; fit = fit.0; ended = fit.1; same = refl };
-        })
+pub arguments_there : (items : ItemsView) (k second : ℕ) → HasSecond items k second (length items.nodes) → arguments_fault (items_at items k (length items.nodes)) ≡ None → HasArguments items k (second + 1)
+arguments_there items k second h none =
+    let all = length items.nodes in
+    let value = item_at items second in
+    let parts = (or_none (word_fault (codes ":args") (item_at items k)) _ (sym (ap arguments_fault h.split) ∙ none)).1 in
+    let listed = listed value (or_none (list_fault value) _ parts).0 in
+    let inside = (or_none (each_argument_fault (items_of value)) _ (or_none (list_fault value) _ parts).1) in
+    let high = ended items (end_at items second) all (omega arith) inside.1 in
+    let low = ends_inside items second h.less in
+    let ends : end_at items second ≡ all = omega (arith, high, low) in
+    let are = children items second h.less listed ∙ ap (items_at items (second + 1)) ends in
+    record {
+      same = ap argument_items h.split ∙ are;
+      there = record { inside = omega arith; fit = sym (ap each_argument_fault are) ∙ inside.0 };
+      inside = omega (arith, h.less);
+    }
 
-    pub anchor_said : (first : ℕ) → (rest ≡ length ns → first ≡ rest) → (rest ≢ length ns → first ≡ rest + 2)
-        → o ≡ earlier (attributes_fault anchor_keywords start items) (option_or (word_fault (codes ":step") t.first) (option_or (symbol_fault u.first) (arguments_fault u.others)))
-        → result ≡ unless o (Command.Anchor start b first) → IsCommand s ns result (anchor_shape start items)
-    anchor_said first none some same e =
-        let own : Option ℕ = option_or (word_fault (codes ":step") t.first) (option_or (symbol_fault u.first) (arguments_fault u.others)) in
-        let fault : Items → Option ℕ = λ xs. earlier (attributes_fault anchor_keywords start xs) own in
-        said o (fault (item t.first (item u.first u.others))) (Command.Anchor start b first) (anchor start (name_at u.first) (arguments_in (argument_items u.others))) result (anchor_shape start items) e
-        (same ∙ both fault) (both (anchor_shape start))
-        (λ fits.
-        let none_own = (earlier_none (attributes_fault anchor_keywords start (item t.first (item u.first u.others))) own fits).1 in
-        let behind = or_none (symbol_fault u.first) (arguments_fault u.others) (or_none (word_fault (codes ":step") t.first) _ none_own).1 in
-        record {
-          named = name_at u.first;
-          others = arguments_in (argument_items u.others);
-          same = refl;
-          name_here = name_here s ns b u.first rest u.here behind.0;
-          arguments_here = arguments_here rest u.others (length ns) u.there behind.1 first none some;
-        })
+short : (xs : Items) → has_two xs ≡ false → arguments_fault xs ≡ None → xs ≡ no_items
+short no_items e none = refl
+short (item x no_items) e none = cc
+short (item x (item y rest)) e none = cc
+
+pub no_arguments_there : (items : ItemsView) (k : ℕ) → has_two (items_at items k (length items.nodes)) ≡ false → arguments_fault (items_at items k (length items.nodes)) ≡ None → HasArguments items k (length items.nodes)
+no_arguments_there items k few none =
+    let all = length items.nodes in
+    let empty = no_items_are items all all (omega arith) in
+    record {
+      same = ap argument_items (short (items_at items k all) few none) ∙ sym empty;
+      there = record { inside = omega arith; fit = ap each_argument_fault empty };
+      inside = omega arith;
+    }

@@ -1,7 +1,5 @@
 mod ShapesByNodes
-mod CommandsByNodes
 mod AttributesByNodes
-mod ArgumentsByNodes
-mod NamesByNodes
-mod RulesByNodes
 mod UsualAttributes
+mod ArgumentsByNodes
+mod CommandsByNodes

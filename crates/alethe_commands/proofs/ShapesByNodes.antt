@@ -1,20 +1,31 @@
 -- The shapes of commands by the nodes of their items.
-use Rattle.std.proofs.Common.{◌≡◌, ℕ, ◌+◌, ◌≢◌, List, Bool, true, false, Option, Some, None, is_some, if◌then◌else◌, refl, sym, ap, ◌∙◌, subst}
+use Rattle.std.proofs.Common.{◌≡◌, ℕ, ◌+◌, ◌≢◌, Bool, true, false, Option, Some, None, is_some, if◌then◌else◌, refl, sym, ap, ◌∙◌, arith}
 use Rattle.std.specs.Prelude.{codes}
 use Rattle.std.specs.Option.{option_or}
 use Rattle.sexpr.specs.Items.{Item, word, quoted, string, list, Items, no_items, item, place_of, symbol_name}
 use Rattle.text_items.specs.declared.nodes.Node.{Node}
-use Rattle.text_items.specs.ItemShapes.{excess, symbol_fault, pair_fault, items_of}
+use Rattle.text_items.specs.ItemShapes.{items_of}
+use Rattle.text_items.specs.ItemsAt.{ItemsView, item_at, items_at}
 use Rattle.text_items.specs.Keywords.{is_spelled}
-use Rattle.text_items.specs.Nodes.{IsNode, AreNodes}
 use Rattle.text_items.specs.Spelling.{is_list_item}
-use Rattle.text_items.specs.Stepping.{IsItemAt, IsItemNode, has_two}
-use Rattle.text_items.proofs.ItemLoops.{Left, left_on, left_stop}
-use Rattle.text_items.proofs.KeywordLemmas.{Says, IsRead}
-use Rattle.text_items.proofs.NodeItems.{children}
-use Rattle.text_items.proofs.NodeSteps.{AreMore, more_nodes, no_nodes}
-use Rattle.text_items.proofs.ShapeLemmas.{passed, stays}
-use Rattle.alethe_text.specs.Commands.{is_symbol_of, clause_fault, variable_fault, assigned_fault, alone_fault, argument_fault, each_argument_fault, arguments_fault}
+use Rattle.text_items.specs.Stepping.{IsItemNode}
+use Rattle.text_items.proofs.ItemsAtLemmas.{no_items_are, first_and_others, end_by_rest}
+use Rattle.alethe_text.specs.Commands.{is_symbol_of, clause_fault, behind_first, assigned_fault, alone_fault, argument_fault}
+use Rattle.alethe_commands.specs.CommandShapes.{HasLiterals}
+
+-- f of a choice, where each side is f of its own
+pub choice : {A B : Type 0} (f : A → B) (b : Bool) (x y : A) (u v : B) → u ≡ f x → v ≡ f y → (if b then u else v) ≡ f (if b then x else y)
+choice f true x y u v p q = p
+choice f false x y u v p q = q
+
+-- places that are none
+pub or_none : {A : Type 0} (a b : Option A) → option_or a b ≡ None → (a ≡ None) × (b ≡ None)
+or_none None b e = (refl, e)
+or_none (Some x) b e = cc
+
+pub unless_so : (b : Bool) (place : ℕ) → (if b then None else Some place) ≡ None → b ≡ true
+unless_so true place e = refl
+unless_so false place e = cc
 
 -- the clause and the argument by what stands in them
 abbrev clause_inside : ℕ → Items → Option ℕ
@@ -28,91 +39,58 @@ clause_by (string p s) = refl
 clause_by (list p no_items) = refl
 clause_by (list p (item head rest)) = refl
 
-abbrev argument_inside : ℕ → Items → Option ℕ
+abbrev pub argument_inside : ℕ → Items → Option ℕ
 argument_inside place no_items = Some place
 argument_inside place (item head rest) =
     if is_spelled (codes ":=") head then assigned_fault place rest
     else if is_some (symbol_name head) then alone_fault place rest
     else Some (place_of head)
 
-argument_by : (i : Item) → argument_fault i ≡ argument_inside (place_of i) (items_of i)
+pub argument_by : (i : Item) → argument_fault i ≡ argument_inside (place_of i) (items_of i)
 argument_by (word p s) = refl
 argument_by (quoted p s) = refl
 argument_by (string p s) = refl
 argument_by (list p no_items) = refl
 argument_by (list p (item head rest)) = refl
 
-module _ (s : List ℕ) (ns : List Node) (k : ℕ) (i : Item) (m : ℕ) (is : IsNode s ns k i m) (node : Node) (read : IsItemNode s i m node) where
-  -- what stands in the item
-  pub has_head : k + 1 ≢ node.next → AreMore s ns (k + 1) (items_of i) m
-  has_head differs = more_nodes s ns (k + 1) (items_of i) m (children s ns k i m is) (λ e. differs (e ∙ sym read.next))
+symbol_no_list : (i : Item) → is_symbol_of (codes "cl") i ≡ true → is_list_item i ≡ false
+symbol_no_list (word p s) e = refl
+symbol_no_list (quoted p s) e = refl
+symbol_no_list (string p s) e = refl
+symbol_no_list (list p items) e = cc
 
-  pub no_head : k + 1 ≡ node.next → items_of i ≡ no_items
-  no_head e = no_nodes s ns (k + 1) (items_of i) m (children s ns k i m is) (e ∙ read.next)
+module _ (items : ItemsView) (k : ℕ) (node : Node) (read : IsItemNode items k node) where
+  nothing_in : k + 1 ≡ node.next → items_of (item_at items k) ≡ no_items
+  nothing_in e = read.children ∙ no_items_are items (k + 1) node.next (omega (arith, e))
 
-  pub head_at : k + 1 ≢ node.next → IsItemAt s ns (k + 1)
-  head_at differs = let h = has_head differs in (h.first, h.behind, h.here)
+  pub no_clause : k + 1 ≡ node.next → Some node.token.start ≡ clause_fault (item_at items k)
+  no_clause e = ap Some read.start ∙ sym (clause_by (item_at items k) ∙ ap (clause_inside (place_of (item_at items k))) (nothing_in e))
 
-  pub behind_head : (differs : k + 1 ≢ node.next) (head : Node) → ((j : Item) (n : ℕ) → IsNode s ns (k + 1) j n → IsItemNode s j n head) → AreNodes s ns head.next (has_head differs).others node.next
-  behind_head differs head tells =
-      let h = has_head differs in
-      subst (λ n. AreNodes s ns n h.others node.next) (sym (tells h.first h.behind h.here).next)
-      (subst (λ n. AreNodes s ns h.behind h.others n) (sym read.next) h.there)
+  pub no_argument : k + 1 ≡ node.next → Some node.token.start ≡ argument_fault (item_at items k)
+  no_argument e = ap Some read.start ∙ sym (argument_by (item_at items k) ∙ ap (argument_inside (place_of (item_at items k))) (nothing_in e))
 
-  pub no_clause : k + 1 ≡ node.next → Some node.token.start ≡ clause_fault i
-  no_clause e = ap Some read.start ∙ sym (clause_by i ∙ ap (clause_inside (place_of i)) (no_head e))
+  module _ (head : Node) (head_read : IsItemNode items (k + 1) head) (differs : k + 1 ≢ node.next) where
+    pub head_in : items_of (item_at items k) ≡ item (item_at items (k + 1)) (items_at items head.next node.next)
+    head_in = read.children ∙ first_and_others items (k + 1) node.next head head_read (omega (arith, differs, read.behind)) read.inside
 
-  pub clause_head : (differs : k + 1 ≢ node.next) (b : Bool) → ((j : Item) (n : ℕ) → IsNode s ns (k + 1) j n → b ≡ is_symbol_of (codes "cl") j)
-      → clause_fault i ≡ (if b then None else Some (place_of (has_head differs).first))
-  clause_head differs b judged =
-      let h = has_head differs in
-      clause_by i ∙ ap (clause_inside (place_of i)) h.split
-      ∙ ap (λ b. if b then None else Some (place_of h.first)) (sym (judged h.first h.behind h.here))
+    pub clause_head : (b : Bool) → b ≡ is_symbol_of (codes "cl") (item_at items (k + 1)) → (if b then None else Some head.token.start) ≡ clause_fault (item_at items k)
+    clause_head b judged =
+        ap (λ p. if b then None else Some p) head_read.start ∙ ap (λ b. if b then None else Some (place_of (item_at items (k + 1)))) judged
+        ∙ sym (clause_by (item_at items k) ∙ ap (clause_inside (place_of (item_at items k))) head_in)
 
-  pub no_argument : k + 1 ≡ node.next → Some node.token.start ≡ argument_fault i
-  no_argument e = ap Some read.start ∙ sym (argument_by i ∙ ap (argument_inside (place_of i)) (no_head e))
+    pub literals : is_symbol_of (codes "cl") (item_at items (k + 1)) ≡ true → HasLiterals items k
+    literals is =
+        let alone = head_read.alone (symbol_no_list (item_at items (k + 1)) is) in
+        let next : head.next ≡ k + 2 = omega (arith, alone) in
+        record {
+          inside = omega (arith, read.next, read.behind, differs);
+          same = ap behind_first head_in ∙ ap (λ n. items_at items n node.next) next ∙ ap (items_at items (k + 2)) read.next;
+          nested = rw (sym read.next) (end_by_rest items (k + 1) (k + 2) node.next read.nested (omega arith));
+        }
 
-  pub argument_head : (differs : k + 1 ≢ node.next) (b : Bool) → ((j : Item) (n : ℕ) → IsNode s ns (k + 1) j n → b ≡ is_spelled (codes ":=") j)
-      → argument_fault i ≡ (if b then assigned_fault node.token.start (has_head differs).others
-      else if is_some (symbol_name (has_head differs).first) then alone_fault node.token.start (has_head differs).others
-      else Some (place_of (has_head differs).first))
-  argument_head differs b judged =
-      let h = has_head differs in
-      argument_by i ∙ ap (λ p. argument_inside p (items_of i)) (sym read.start) ∙ ap (argument_inside node.token.start) h.split
-      ∙ ap (λ b. if b then assigned_fault node.token.start h.others else if is_some (symbol_name h.first) then alone_fault node.token.start h.others else Some (place_of h.first))
-      (sym (judged h.first h.behind h.here))
-
--- a variable, alone or in a list
-pub listed_variable : (i : Item) → is_list_item i ≡ true → pair_fault i ≡ variable_fault i
-listed_variable (word p s) e = cc
-listed_variable (quoted p s) e = cc
-listed_variable (string p s) e = cc
-listed_variable (list p items) e = refl
-
-pub plain_variable : (i : Item) → is_list_item i ≡ false → symbol_fault i ≡ variable_fault i
-plain_variable (word p s) e = refl
-plain_variable (quoted p s) e = refl
-plain_variable (string p s) e = refl
-plain_variable (list p items) e = cc
-
-pub short_assigned : (place : ℕ) (items : Items) → has_two items ≡ false → Some place ≡ assigned_fault place items
-short_assigned place no_items e = refl
-short_assigned place (item x no_items) e = refl
-short_assigned place (item x (item t rest)) e = cc
-
-pub short_arguments : (items : Items) → has_two items ≡ false → excess items ≡ arguments_fault items
-short_arguments no_items e = refl
-short_arguments (item x no_items) e = refl
-short_arguments (item x (item t rest)) e = cc
-
-module _ (s : List ℕ) (ns : List Node) (k m : ℕ) where
-  pub each_stop : (whole fault : Option ℕ) → Left each_argument_fault s ns k m whole → k ≢ m → Says s ns k m argument_fault fault → is_some fault ≡ true → fault ≡ whole
-  each_stop whole fault h differs judged there =
-      left_stop s ns k m whole each_argument_fault fault h differs
-      (λ i n others at are. ap (λ f. option_or f (each_argument_fault others)) (sym (judged i n at)) ∙ sym (stays fault there (each_argument_fault others)))
-
-  pub each_on : (whole fault : Option ℕ) (node : Node) → Left each_argument_fault s ns k m whole → k ≢ m → Says s ns k m argument_fault fault → is_some fault ≡ false → IsRead s ns k m node
-      → Left each_argument_fault s ns node.next m whole
-  each_on whole fault node h differs judged none read =
-      left_on s ns k m whole each_argument_fault each_argument_fault node h differs read
-      (λ i n others at. ap (λ f. option_or f (each_argument_fault others)) (sym (judged i n at)) ∙ passed fault none (each_argument_fault others))
+    pub argument_head : argument_fault (item_at items k) ≡ (if is_spelled (codes ":=") (item_at items (k + 1)) then assigned_fault node.token.start (items_at items head.next node.next)
+        else if is_some (symbol_name (item_at items (k + 1))) then alone_fault node.token.start (items_at items head.next node.next) else Some head.token.start)
+    argument_head =
+        argument_by (item_at items k) ∙ ap (λ p. argument_inside p (items_of (item_at items k))) (sym read.start) ∙ ap (argument_inside node.token.start) head_in
+        ∙ ap (λ p. if is_spelled (codes ":=") (item_at items (k + 1)) then assigned_fault node.token.start (items_at items head.next node.next)
+        else if is_some (symbol_name (item_at items (k + 1))) then alone_fault node.token.start (items_at items head.next node.next) else Some p) (sym head_read.start)

@@ -1,15 +1,14 @@
 -- Attributes as most steps have them, a rule and at most one list behind it, have no fault.
-use Rattle.std.proofs.Common.{◌≡◌, ◌≢◌, ℕ, ◌∙◌, Bool, true, false, not, cond, List, [], ◌∷◌, Option, Some, None, refl, sym, ap, subst}
-use Rattle.std.specs.Prelude.{codes, bytes_eq, if◌then◌else◌}
+use Rattle.std.proofs.Common.{◌≡◌, ◌<◌, ◌≤◌, ℕ, ◌∙◌, Bool, true, false, not, cond, List, length, Option, Some, None, refl, sym, ap, subst}
+use Rattle.std.specs.Prelude.{codes, bytes_eq}
 use Rattle.std.proofs.lemmas.Slice.Eq.{bytes_eq-Decides}
 use Rattle.sexpr.specs.Items.{Item, Items, no_items, item}
 use Rattle.text_items.specs.ItemShapes.{symbol_fault}
 use Rattle.text_items.specs.Keywords.{keyword_of, wanted_fault, attributes_fault}
-use Rattle.text_items.specs.declared.keywords.Wanted.{Wanted}
 use Rattle.text_items.specs.declared.nodes.Node.{Node}
-use Rattle.text_items.specs.Nodes.{IsNode, AreNodes}
-use Rattle.text_items.specs.Stepping.{IsItemAt, AreItemsFrom, IsItemNode}
-use Rattle.text_items.proofs.NodeSteps.{more_nodes, no_nodes}
+use Rattle.text_items.specs.ItemsAt.{ItemsView, item_at, items_at}
+use Rattle.text_items.specs.Stepping.{IsItemNode}
+use Rattle.text_items.proofs.ItemsAtLemmas.{first_and_others}
 use Rattle.alethe_text.specs.Commands.{step_keywords}
 use Rattle.alethe_commands.specs.declared.attributes.AttributeWord.{AttributeWord}
 use Rattle.alethe_commands.specs.CommandShapes.{attribute_word}
@@ -75,58 +74,7 @@ denied true e = cc
 denied false e = refl
 
 -- the first two items by their nodes, and what stands behind them
-module _ (s : List ℕ) (ns : List Node) (k m : ℕ) (first second : Node) (some : k ≢ m) (more : first.next ≢ m)
-    (reads : (i : Item) (n : ℕ) → IsNode s ns k i n → IsItemNode s i n first) (reads_on : (i : Item) (n : ℕ) → IsNode s ns first.next i n → IsItemNode s i n second) where
-  record AreTwo (items : Items) : Type 0 where
-    pub keyword : Item
-    pub value : Item
-    pub rest : Items
-    pub behind : ℕ
-    pub end : ℕ
-    pub split : items ≡ item keyword (item value rest)
-    pub here : IsNode s ns k keyword behind
-    pub value_here : IsNode s ns first.next value end
-    pub there : AreNodes s ns second.next rest m
-
-  two : (items : Items) → AreNodes s ns k items m → AreTwo items
-  two items are =
-      let a = more_nodes s ns k items m are some in
-      let b = more_nodes s ns first.next a.others m (subst (λ n. AreNodes s ns n a.others m) (sym (reads a.first a.behind a.here).next) a.there) more in
-      record {
-        keyword = a.first;
-        value = b.first;
-        rest = b.others;
-        behind = a.behind;
-        end = b.behind;
-        split = a.split ∙ ap (item a.first) b.split;
-        here = a.here;
-        value_here = b.here;
-        there = subst (λ n. AreNodes s ns n b.others m) (sym (reads_on b.first b.behind b.here).next) b.there;
-      }
-
-  abbrev pub IsToldAttribute : AttributeWord → Type 0
-  IsToldAttribute w = (i : Item) (n : ℕ) (v : Item) (l : ℕ) → IsNode s ns k i n → IsNode s ns first.next v l → IsAttribute w i v
-
-  pub one_list : (w : AttributeWord) → IsToldAttribute w → is_rule w ≡ false → second.next ≡ m → (items : Items) → AreNodes s ns k items m → IsOneList items
-  one_list w told other last items are =
-      let t = two items are in record {
-        word = w;
-        keyword = t.keyword;
-        value = t.value;
-        split = t.split ∙ ap (λ xs. item t.keyword (item t.value xs)) (no_nodes s ns second.next t.rest m t.there last);
-        is = told t.keyword t.behind t.value t.end t.here t.value_here;
-        other = other;
-      }
-
-  pub rule_has_no_fault : IsToldAttribute AttributeWord.Rule → second.next ≡ m → (items : Items) (place : ℕ) → AreNodes s ns k items m → attributes_fault step_keywords place items ≡ None
-  rule_has_no_fault told last items place are =
-      let t = two items are in
-      ap (attributes_fault step_keywords place) t.split
-      ∙ rule_alone place t.keyword t.value t.rest (told t.keyword t.behind t.value t.end t.here t.value_here) (no_nodes s ns second.next t.rest m t.there last)
-
-  pub rule_and_list_have_no_fault : IsToldAttribute AttributeWord.Rule → ((rest : Items) → AreNodes s ns second.next rest m → IsOneList rest)
-      → (items : Items) (place : ℕ) → AreNodes s ns k items m → attributes_fault step_keywords place items ≡ None
-  rule_and_list_have_no_fault told listed items place are =
-      let t = two items are in
-      ap (attributes_fault step_keywords place) t.split
-      ∙ rule_with_list place t.keyword t.value t.rest (told t.keyword t.behind t.value t.end t.here t.value_here) (listed t.rest t.there)
+pub two_items : (items : ItemsView) (k m : ℕ) (first second : Node) → IsItemNode items k first → IsItemNode items first.next second → k < m → first.next < m → m ≤ length items.nodes
+    → items_at items k m ≡ item (item_at items k) (item (item_at items first.next) (items_at items second.next m))
+two_items items k m first second read reads_on some more inside =
+    first_and_others items k m first read some inside ∙ ap (item (item_at items k)) (first_and_others items first.next m second reads_on more inside)

@@ -1,54 +1,61 @@
 -- Public. Commands of a proof as nodes say them: each by the places of its nodes.
-use Rattle.std.specs.Prelude.{◌≡◌, ◌≤◌, ℕ, ◌+◌, ⊤, false, Option, Some, None, List, [], ◌∷◌, length, Result, Ok, Err}
+use Rattle.std.specs.Prelude.{◌≡◌, ◌<◌, ◌≤◌, ℕ, ⊤, false, Option, Some, None, [], ◌∷◌, length, Result, Ok, Err}
 use Rattle.sexpr.specs.declared.causes.Refusal.{Refusal}
-use Rattle.sexpr.specs.Items.{Item, Items}
 use Rattle.text_items.specs.declared.keywords.Next.{Next}
-use Rattle.text_items.specs.declared.nodes.Node.{Node}
-use Rattle.text_items.specs.ItemShapes.{Name}
-use Rattle.text_items.specs.Keywords.{misplaced, at_end, is_value}
-use Rattle.text_items.specs.NameNodes.{IsNameNode}
-use Rattle.text_items.specs.Nodes.{IsNode, AreNodes}
-use Rattle.alethe_text.specs.Commands.{Attribute, rule, premises, arguments, discharge, Argument, variable_alone, assigned, Command as Shape, assume, step, anchor, step_keywords, attributes_of, each_argument_fault, arguments_in}
+use Rattle.text_items.specs.ItemShapes.{Name, name_at, symbol_fault}
+use Rattle.text_items.specs.ItemsAt.{ItemsView, item_at, items_at}
+use Rattle.text_items.specs.Stepping.{EndBy}
+use Rattle.text_items.specs.Keywords.{misplaced, at_end, is_value, symbols_fault}
+use Rattle.sexpr.specs.Items.{Item}
+use Rattle.alethe_text.specs.Commands.{Attribute, rule, premises, arguments, discharge, Argument, variable_alone, assigned, Command as Shape, assume, step, anchor, step_keywords, names_in, attributes_of, each_argument_fault, argument_of, arguments_in}
 use Rattle.alethe_commands.specs.declared.commands.Command.{Command}
 use Rattle.alethe_commands.specs.declared.attributes.StepAttribute.{StepAttribute}
 use Rattle.alethe_commands.specs.declared.arguments.AnchorArgument.{AnchorArgument}
 
--- the nodes from k on, up to m, are symbols of these names
-abbrev pub AreNameNodes : List ℕ → List Node → ℕ → List Name → ℕ → Type 0
-AreNameNodes source nodes k [] m = k ≡ m
-AreNameNodes source nodes k (n ∷ ns) m = IsNameNode source nodes k n × AreNameNodes source nodes (k + 1) ns m
+-- an item stands at node k
+abbrev pub IsItem : ItemsView → ℕ → Type 0
+IsItem items k = k < length items.nodes
 
--- The first of the names is at this node, and the others stand from node k on, up to m.
-pub record HasFirstName (source : List ℕ) (nodes : List Node) (here k : ℕ) (names : List Name) (m : ℕ) : Type 0 where
-  pub first : Name
-  pub others : List Name
-  pub split : names ≡ first ∷ others
-  pub name_here : IsNameNode source nodes here first
-  pub there : AreNameNodes source nodes k others m
+-- the items from node k on, to before node m, end there
+pub record AreItemsAt (items : ItemsView) (k m : ℕ) : Type 0 where
+  pub inside : m ≤ length items.nodes
+  pub nested : EndBy items k m
 
--- The nodes from k on, up to m, are those of these attributes, which have no fault of shape.
-pub record AreAttributes (source : List ℕ) (nodes : List Node) (k : ℕ) (attributes : List Attribute) (m : ℕ) : Type 0 where
-  pub items : Items
+-- the item at node k is a symbol
+pub record IsSymbolAt (items : ItemsView) (k : ℕ) : Type 0 where
+  pub inside : k < length items.nodes
+  pub symbol : symbol_fault (item_at items k) ≡ None
+
+-- the items from node k on, to before node m, are symbols
+pub record AreSymbolsAt (items : ItemsView) (k m : ℕ) : Type 0 where
+  pub inside : m ≤ length items.nodes
+  pub symbols : symbols_fault (items_at items k m) ≡ None
+
+abbrev pub name_in : ItemsView → ℕ → Name
+name_in items k = name_at (item_at items k)
+
+-- The items from node k on, to before node m, end there, and are attributes of a step without a fault of shape, or those behind
+-- the first of them.
+pub record AreAttributesAt (items : ItemsView) (k m : ℕ) : Type 0 where
+  pub inside : m ≤ length items.nodes
+  pub nested : EndBy items k m
   pub next : Next
-  pub there : AreNodes source nodes k items m
-  pub fit : misplaced step_keywords next items ≡ None
-  pub ended : is_value (at_end step_keywords next items) ≡ false
-  pub same : attributes ≡ attributes_of items
+  pub fit : misplaced step_keywords next (items_at items k m) ≡ None
+  pub ended : is_value (at_end step_keywords next (items_at items k m)) ≡ false
 
--- the nodes say the attribute
-abbrev pub SaysAttribute : List ℕ → List Node → StepAttribute → Attribute → Type 0
-SaysAttribute source nodes (StepAttribute.Rule k) a = (n : Name) × (a ≡ rule n) × IsNameNode source nodes k n
-SaysAttribute source nodes (StepAttribute.Premises first last) a = (ns : List Name) × (a ≡ premises ns) × AreNameNodes source nodes first ns last
-SaysAttribute source nodes (StepAttribute.Arguments first last) a = (items : Items) × (a ≡ arguments items) × AreNodes source nodes first items last
-SaysAttribute source nodes (StepAttribute.Discharge first last) a = (ns : List Name) × (a ≡ discharge ns) × AreNameNodes source nodes first ns last
+-- the attribute that nodes say
+abbrev pub attribute_said : ItemsView → StepAttribute → Attribute
+attribute_said items (StepAttribute.Rule k) = rule (name_in items k)
+attribute_said items (StepAttribute.Premises first last) = premises (names_in (items_at items first last))
+attribute_said items (StepAttribute.Arguments first last) = arguments (items_at items first last)
+attribute_said items (StepAttribute.Discharge first last) = discharge (names_in (items_at items first last))
 
--- The first of the attributes is said by these nodes, and the others stand from node k on, up to m.
-pub record HasFirstAttribute (source : List ℕ) (nodes : List Node) (said : StepAttribute) (k : ℕ) (attributes : List Attribute) (m : ℕ) : Type 0 where
-  pub first : Attribute
-  pub others : List Attribute
-  pub split : attributes ≡ first ∷ others
-  pub says : SaysAttribute source nodes said first
-  pub there : AreAttributes source nodes k others m
+-- the nodes of an attribute are there
+abbrev pub IsAttributeThere : ItemsView → StepAttribute → Type 0
+IsAttributeThere items (StepAttribute.Rule k) = IsSymbolAt items k
+IsAttributeThere items (StepAttribute.Premises first last) = AreSymbolsAt items first last
+IsAttributeThere items (StepAttribute.Arguments first last) = AreItemsAt items first last
+IsAttributeThere items (StepAttribute.Discharge first last) = AreSymbolsAt items first last
 
 -- What stands in the attribute's list lies between these nodes.
 abbrev pub LiesWithin : ℕ → StepAttribute → ℕ → Type 0
@@ -57,71 +64,95 @@ LiesWithin low (StepAttribute.Premises first last) high = (low ≤ first) × (la
 LiesWithin low (StepAttribute.Arguments first last) high = (low ≤ first) × (last ≤ high)
 LiesWithin low (StepAttribute.Discharge first last) high = (low ≤ first) × (last ≤ high)
 
--- The nodes from k on, up to m, are those of an anchor's arguments, which have no fault of shape.
-pub record AreArguments (source : List ℕ) (nodes : List Node) (k : ℕ) (others : List Argument) (m : ℕ) : Type 0 where
-  pub items : Items
-  pub there : AreNodes source nodes k items m
-  pub fit : each_argument_fault items ≡ None
-  pub same : others ≡ arguments_in items
+-- The first of the attributes from node k on, to before node m, is said by these nodes, and the others stand from `next` on.
+pub record HasFirstAttribute (items : ItemsView) (k : ℕ) (said : StepAttribute) (next m : ℕ) : Type 0 where
+  pub split : attributes_of (items_at items k m) ≡ attribute_said items said ∷ attributes_of (items_at items next m)
+  pub there : IsAttributeThere items said
+  pub within : LiesWithin k said next
+  pub later : k < next
+  pub inside : next ≤ m
+  pub others : AreAttributesAt items next m
 
-abbrev pub IsSortNode : List ℕ → List Node → Option ℕ → Option Item → Type 0
-IsSortNode source nodes None sort = sort ≡ None
-IsSortNode source nodes (Some k) sort = (i : Item) × (m : ℕ) × (sort ≡ Some i) × IsNode source nodes k i m
+-- the next of the attributes, or none
+abbrev pub IsNextAttribute : ItemsView → ℕ → ℕ → ℕ → Option StepAttribute → Type 0
+IsNextAttribute items k next m (Some said) = HasFirstAttribute items k said next m
+IsNextAttribute items k next m None = attributes_of (items_at items k m) ≡ []
 
-pub record SaysAssigned (source : List ℕ) (nodes : List Node) (place variable : ℕ) (sort : Option ℕ) (term : ℕ) (a : Argument) : Type 0 where
-  pub named : Name
-  pub given : Option Item
-  pub value : Item
-  pub after : ℕ
-  pub same : a ≡ assigned place named given value
-  pub name_here : IsNameNode source nodes variable named
-  pub sort_here : IsSortNode source nodes sort given
-  pub value_here : IsNode source nodes term value after
+-- the items from node k on, to before node m, are arguments of an anchor without a fault of shape
+pub record AreArgumentsAt (items : ItemsView) (k m : ℕ) : Type 0 where
+  pub inside : m ≤ length items.nodes
+  pub fit : each_argument_fault (items_at items k m) ≡ None
 
--- the nodes say the argument
-abbrev pub SaysArgument : List ℕ → List Node → AnchorArgument → Argument → Type 0
-SaysArgument source nodes (AnchorArgument.Alone place) a = a ≡ variable_alone place
-SaysArgument source nodes (AnchorArgument.Assigned place variable sort term) a = SaysAssigned source nodes place variable sort term a
+abbrev pub sort_said : ItemsView → Option ℕ → Option Item
+sort_said items None = None
+sort_said items (Some k) = Some (item_at items k)
 
--- The first of the arguments is said by these nodes, and the others stand from node k on, up to m.
-pub record HasFirstArgument (source : List ℕ) (nodes : List Node) (said : AnchorArgument) (k : ℕ) (arguments : List Argument) (m : ℕ) : Type 0 where
-  pub first : Argument
-  pub others : List Argument
-  pub split : arguments ≡ first ∷ others
-  pub says : SaysArgument source nodes said first
-  pub there : AreArguments source nodes k others m
+-- the argument that nodes say
+abbrev pub argument_said : ItemsView → AnchorArgument → Argument
+argument_said items (AnchorArgument.Alone place) = variable_alone place
+argument_said items (AnchorArgument.Assigned place variable sort term) = assigned place (name_in items variable) (sort_said items sort) (item_at items term)
 
-pub record SaysAssume (source : List ℕ) (nodes : List Node) (id term : ℕ) (d : Shape) : Type 0 where
-  pub named : Name
-  pub formula : Item
-  pub after : ℕ
-  pub same : d ≡ assume named formula
-  pub name_here : IsNameNode source nodes id named
-  pub formula_here : IsNode source nodes term formula after
+abbrev pub IsSortThere : ItemsView → Option ℕ → Type 0
+IsSortThere items None = ⊤
+IsSortThere items (Some k) = IsItem items k
 
-pub record SaysStep (source : List ℕ) (nodes : List Node) (id first others : ℕ) (d : Shape) : Type 0 where
-  pub named : Name
-  pub literals : Items
-  pub attributes : List Attribute
-  pub same : d ≡ step named literals attributes
-  pub name_here : IsNameNode source nodes id named
-  pub literals_here : AreNodes source nodes first literals others
-  pub attributes_here : AreAttributes source nodes others attributes (length nodes)
+pub record IsAssignedThere (items : ItemsView) (variable : ℕ) (sort : Option ℕ) (term : ℕ) : Type 0 where
+  pub name_there : IsSymbolAt items variable
+  pub sort_there : IsSortThere items sort
+  pub term_there : IsItem items term
 
-pub record SaysAnchor (source : List ℕ) (nodes : List Node) (place id first : ℕ) (d : Shape) : Type 0 where
-  pub named : Name
-  pub others : List Argument
-  pub same : d ≡ anchor place named others
-  pub name_here : IsNameNode source nodes id named
-  pub arguments_here : AreArguments source nodes first others (length nodes)
+-- the nodes of an argument are there
+abbrev pub IsArgumentThere : ItemsView → AnchorArgument → Type 0
+IsArgumentThere items (AnchorArgument.Alone place) = ⊤
+IsArgumentThere items (AnchorArgument.Assigned place variable sort term) = IsAssignedThere items variable sort term
 
--- the nodes say the command
-abbrev pub SaysCommand : List ℕ → List Node → Command → Shape → Type 0
-SaysCommand source nodes (Command.Assume id term) d = SaysAssume source nodes id term d
-SaysCommand source nodes (Command.Step id first others) d = SaysStep source nodes id first others d
-SaysCommand source nodes (Command.Anchor place id first) d = SaysAnchor source nodes place id first d
+-- the nodes say the argument at node k
+pub record IsArgumentAt (items : ItemsView) (k : ℕ) (said : AnchorArgument) : Type 0 where
+  pub same : argument_of (item_at items k) ≡ argument_said items said
+  pub there : IsArgumentThere items said
+
+-- The first of the arguments from node k on, to before node m, is said by these nodes, and the others stand from `next` on.
+pub record HasFirstArgument (items : ItemsView) (k : ℕ) (said : AnchorArgument) (next m : ℕ) : Type 0 where
+  pub split : arguments_in (items_at items k m) ≡ argument_said items said ∷ arguments_in (items_at items next m)
+  pub there : IsArgumentThere items said
+  pub later : k < next
+  pub inside : next ≤ length items.nodes
+  pub others : AreArgumentsAt items next m
+
+-- the next of the arguments, or none
+abbrev pub IsNextArgument : ItemsView → ℕ → ℕ → ℕ → Option AnchorArgument → Type 0
+IsNextArgument items k next m (Some said) = HasFirstArgument items k said next m
+IsNextArgument items k next m None = arguments_in (items_at items k m) ≡ []
+
+-- the command that nodes say
+abbrev pub command_said : ItemsView → Command → Shape
+command_said items (Command.Assume id term) = assume (name_in items id) (item_at items term)
+command_said items (Command.Step id first others) =
+    step (name_in items id) (items_at items first others) (attributes_of (items_at items others (length items.nodes)))
+command_said items (Command.Anchor place id first) = anchor place (name_in items id) (arguments_in (items_at items first (length items.nodes)))
+
+pub record IsAssumeThere (items : ItemsView) (id term : ℕ) : Type 0 where
+  pub name_there : IsSymbolAt items id
+  pub term_there : IsItem items term
+
+pub record IsStepThere (items : ItemsView) (id first others : ℕ) : Type 0 where
+  pub name_there : IsSymbolAt items id
+  pub ordered : first ≤ others
+  pub literals_there : AreItemsAt items first others
+  pub attributes_there : AreAttributesAt items others (length items.nodes)
+
+pub record IsAnchorThere (items : ItemsView) (id first : ℕ) : Type 0 where
+  pub name_there : IsSymbolAt items id
+  pub arguments_there : AreArgumentsAt items first (length items.nodes)
+  pub inside : first ≤ length items.nodes
+
+-- the nodes of a command are there
+abbrev pub IsCommandThere : ItemsView → Command → Type 0
+IsCommandThere items (Command.Assume id term) = IsAssumeThere items id term
+IsCommandThere items (Command.Step id first others) = IsStepThere items id first others
+IsCommandThere items (Command.Anchor place id first) = IsAnchorThere items id first
 
 -- the result is the command or the refusal that is expected
-abbrev pub IsCommand : List ℕ → List Node → Result Command Refusal → Result Shape Refusal → Type 0
-IsCommand source nodes (Err r) expected = expected ≡ Err r
-IsCommand source nodes (Ok c) expected = (d : Shape) × (expected ≡ Ok d) × SaysCommand source nodes c d
+abbrev pub IsCommand : ItemsView → Result Command Refusal → Result Shape Refusal → Type 0
+IsCommand items (Err r) expected = expected ≡ Err r
+IsCommand items (Ok c) expected = (expected ≡ Ok (command_said items c)) × IsCommandThere items c

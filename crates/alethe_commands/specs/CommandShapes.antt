@@ -1,24 +1,24 @@
 -- Private. What the parts of the reading of a command answer.
-use Rattle.std.specs.Prelude.{ℕ, ◌+◌, Option, Some, None, if◌then◌else◌, List, codes, bytes_eq, Result, Ok, Err}
+use Rattle.std.specs.Prelude.{◌≡◌, ℕ, ◌+◌, ◌≤◌, ⊤, length, Option, Some, None, if◌then◌else◌, List, codes, bytes_eq, Result, Ok, Err}
 use Rattle.sexpr.specs.declared.causes.Cause.TheVariants.{BadCommand, LeftOut, UnknownCommand}
 use Rattle.sexpr.specs.declared.causes.Refusal.{Refusal}
 use Rattle.sexpr.specs.Words.{is_symbol}
 use Rattle.sexpr.specs.Items.{Item, word, quoted, string, list, Items}
-use Rattle.text_items.specs.declared.nodes.Node.{Node}
+use Rattle.text_items.specs.ItemShapes.{items_of}
+use Rattle.text_items.specs.ItemsAt.{ItemsView, end_at, item_at, items_at}
 use Rattle.text_items.specs.Keywords.{is_it}
-use Rattle.text_items.specs.Nodes.{IsNode}
+use Rattle.text_items.specs.Stepping.{EndBy}
 use Rattle.problem_text.specs.Commands.{refused}
-use Rattle.alethe_text.specs.Commands.{Attribute, Command as Shape, assume_shape, step_shape, anchor_shape}
-use Rattle.alethe_commands.specs.declared.commands.Command.{Command}
+use Rattle.alethe_text.specs.Commands.{Command as Shape, behind_first, attributes_of, argument_items, assume_shape, step_shape, anchor_shape}
 use Rattle.alethe_commands.specs.declared.commands.CommandWord.{CommandWord}
 use Rattle.alethe_commands.specs.declared.attributes.AttributeWord.{AttributeWord}
 use Rattle.alethe_commands.specs.declared.attributes.StepAttribute.{StepAttribute}
-use Rattle.alethe_commands.specs.CommandNodes.{HasFirstAttribute, LiesWithin}
+use Rattle.alethe_commands.specs.CommandNodes.{AreAttributesAt, AreArgumentsAt, HasFirstAttribute}
 
--- the command, unless a fault stands at a place
-abbrev pub unless : Option ℕ → Command → Result Command Refusal
-unless (Some place) c = Err (record { cause = BadCommand; at = place })
-unless None c = Ok c
+-- a command with a fault at a place is a bad one
+abbrev pub without_fault : Option ℕ → Result ⊤ Refusal
+without_fault (Some place) = Err (record { cause = BadCommand; at = place })
+without_fault None = Ok tt
 
 -- the word of a command, where the item is one
 abbrev pub head_word : Item → Option (List ℕ)
@@ -67,10 +67,24 @@ rule_node (StepAttribute.Premises first last) = None
 rule_node (StepAttribute.Arguments first last) = None
 rule_node (StepAttribute.Discharge first last) = None
 
--- The first of the attributes has its value at this node, and the others stand behind it.
-pub record HasValue (source : List ℕ) (nodes : List Node) (said : StepAttribute) (value : ℕ) (attributes : List Attribute) (m : ℕ) : Type 0 where
-  pub given : Item
-  pub behind : ℕ
-  pub here : IsNode source nodes value given behind
-  pub has : HasFirstAttribute source nodes said behind attributes m
-  pub within : LiesWithin value said behind
+-- The literals of the clause at node k stand behind its first two nodes, and end where it ends.
+pub record HasLiterals (items : ItemsView) (k : ℕ) : Type 0 where
+  pub inside : k + 2 ≤ end_at items k
+  pub same : behind_first (items_of (item_at items k)) ≡ items_at items (k + 2) (end_at items k)
+  pub nested : EndBy items (k + 2) (end_at items k)
+
+-- Of the items from node k on, to the end, the arguments of an anchor stand from node `first` on, to the end.
+pub record HasArguments (items : ItemsView) (k first : ℕ) : Type 0 where
+  pub same : argument_items (items_at items k (length items.nodes)) ≡ items_at items first (length items.nodes)
+  pub there : AreArgumentsAt items first (length items.nodes)
+  pub inside : first ≤ length items.nodes
+
+-- The attributes from node k on, to before node m, are those from node `next` on.
+pub record IsPassed (items : ItemsView) (k next m : ℕ) : Type 0 where
+  pub same : attributes_of (items_at items k m) ≡ attributes_of (items_at items next m)
+  pub others : AreAttributesAt items next m
+
+-- The items from node k on begin with an attribute and its value, or with an item that is none.
+abbrev pub IsAttributeFrom : ItemsView → ℕ → ℕ → Option StepAttribute → Type 0
+IsAttributeFrom items k m (Some said) = HasFirstAttribute items k said (end_at items (end_at items k)) m
+IsAttributeFrom items k m None = IsPassed items k (end_at items k) m

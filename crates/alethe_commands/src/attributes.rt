@@ -1,20 +1,16 @@
 //! The attributes of steps and of anchors (Alethe specification, "The Syntax"), told by their nodes.
-ghost use Rattle.std.specs.Prelude.{◌≡◌, ◌<◌, ◌≤◌, ℕ, List, [], Some, None, IfSome, IfNone};
-ghost use Rattle.sexpr.specs.Items.{Item, Items};
-ghost use Rattle.sexpr.specs.Source.{source};
+ghost use Rattle.std.specs.Prelude.{◌≡◌, ◌<◌, ◌≤◌, length, Some};
+ghost use Rattle.text_items.specs.ItemsAt.{item_at, items_at};
 ghost use Rattle.text_items.specs.Keywords as keywords;
-ghost use Rattle.text_items.specs.Nodes.{IsNode, AreNodes};
-ghost use Rattle.text_items.specs.Stepping.{IsItemAt, AreItemsFrom, AreSomeFrom};
 ghost use Rattle.alethe_text.specs.Commands as shape;
 ghost use Rattle.alethe_text.specs.Steps as steps;
-ghost use Rattle.alethe_commands.specs.CommandNodes.{AreAttributes, HasFirstAttribute, LiesWithin};
+ghost use Rattle.alethe_commands.specs.CommandNodes.{AreAttributesAt, IsNextAttribute};
 ghost use Rattle.alethe_commands.specs.CommandShapes as spec;
 
 use crate::usual::are_usual;
-use sexpr::Lexer;
 use text_items::keywords::{Keyword, Wanted, attributes_fault, keyword_at};
-use text_items::nodes::Node;
-use text_items::shapes::{name_of, node_at};
+use text_items::nodes::ItemText;
+use text_items::shapes::name_of;
 
 /// An attribute of a step that has an effect, by the node of its rule's name, or by those of what stands in its list, from
 /// `first` to before `end`.
@@ -76,57 +72,46 @@ static ANCHOR_KEYWORDS: [Keyword<'static>; 2] = [STEP, ARGUMENTS];
 
 /// The first fault of a step's attributes, which stand from `first` to before `end`. The step begins at `place`.
 pub(crate) fn step_attributes_fault(
-    text: &Lexer<'_>,
-    nodes: &[Node],
+    items: &ItemText<'_, '_>,
     place: u64,
     first: usize,
     end: usize,
 ) -> Option<u64>
-    requires { AreItemsFrom (source text.now) nodes.now first end }
-    ensures { (items : Items) → AreNodes (source text.now) nodes.now first items end → result ≡ keywords.attributes_fault shape.step_keywords place items }
+    requires { end ≤ length items.now.nodes }
+    ensures { result ≡ keywords.attributes_fault shape.step_keywords place (items_at items.now first end) }
 {
-    if are_usual(text, nodes, first, end) {
+    if are_usual(items, first, end) {
         return None;
     }
-    attributes_fault(text, nodes, &STEP_KEYWORDS, place, first, end)
+    attributes_fault(items, &STEP_KEYWORDS, place, first, end)
 }
 
 /// The first fault of an anchor's attributes, which stand from `first` to before `end`, as a list of attributes. The anchor
 /// begins at `place`.
 pub(crate) fn anchor_attributes_fault(
-    text: &Lexer<'_>,
-    nodes: &[Node],
+    items: &ItemText<'_, '_>,
     place: u64,
     first: usize,
     end: usize,
 ) -> Option<u64>
-    requires { AreItemsFrom (source text.now) nodes.now first end }
-    ensures { (items : Items) → AreNodes (source text.now) nodes.now first items end → result ≡ keywords.attributes_fault shape.anchor_keywords place items }
+    requires { end ≤ length items.now.nodes }
+    ensures { result ≡ keywords.attributes_fault shape.anchor_keywords place (items_at items.now first end) }
 {
-    attributes_fault(text, nodes, &ANCHOR_KEYWORDS, place, first, end)
+    attributes_fault(items, &ANCHOR_KEYWORDS, place, first, end)
 }
 
 /// The next of a step's attributes that stand from `at` to before `end` and have no fault of shape, where there is one. It
 /// stands before `at` then, and the others behind. An attribute without effect is passed.
-pub fn next_attribute(
-    text: &Lexer<'_>,
-    nodes: &[Node],
-    at: &mut usize,
-    end: usize,
-) -> Option<StepAttribute>
-    requires { (attributes : List shape.Attribute) × AreAttributes (source text.now) nodes.now at.old attributes end }
-    ensures some { IfSome result (λ a. (attributes : List shape.Attribute) → AreAttributes (source text.now) nodes.now at.old attributes end → HasFirstAttribute (source text.now) nodes.now a at.new attributes end) }
-    ensures none { IfNone result ((attributes : List shape.Attribute) → AreAttributes (source text.now) nodes.now at.old attributes end → attributes ≡ []) }
-    ensures later { IfSome result (λ _. at.old < at.new) }
-    ensures inside { IfSome result (λ _. at.new ≤ end) }
-    ensures within { IfSome result (λ a. LiesWithin at.old a at.new) }
+pub fn next_attribute(items: &ItemText<'_, '_>, at: &mut usize, end: usize) -> Option<StepAttribute>
+    requires { AreAttributesAt items.now at.old end }
+    ensures { IsNextAttribute items.now at.old at.new end result }
 {
     let mut k = *at;
-    'items: while k != end {
-        let value = node_at(nodes, k).next;
-        match attribute_from(text, nodes, k, end) {
+    'items: while k < end {
+        let value = items.node(k).next;
+        match attribute_from(items, k, end) {
             Some(attribute) => {
-                *at = node_at(nodes, value).next;
+                *at = items.node(value).next;
                 return Some(attribute);
             }
             None => k = value,
@@ -137,14 +122,14 @@ pub fn next_attribute(
 
 /// The word of a step's rule, whose attributes stand from `first` to before `end` and have no fault of shape. It is empty where
 /// none of them is a rule.
-pub fn rule_word<'a>(text: &Lexer<'a>, nodes: &[Node], first: usize, end: usize) -> &'a [u8]
-    requires { (attributes : List shape.Attribute) × AreAttributes (source text.now) nodes.now first attributes end }
-    ensures { (attributes : List shape.Attribute) → AreAttributes (source text.now) nodes.now first attributes end → result.now ≡ steps.rule_word attributes }
+pub fn rule_word<'t>(items: &ItemText<'_, 't>, first: usize, end: usize) -> &'t [u8]
+    requires { AreAttributesAt items.now first end }
+    ensures { result.now ≡ steps.rule_word (shape.attributes_of (items_at items.now first end)) }
 {
     let mut at = first;
-    'attributes: while let Some(attribute) = next_attribute(text, nodes, &mut at, end) {
+    'attributes: while let Some(attribute) = next_attribute(items, &mut at, end) {
         if let Some(rule) = rule_node(attribute) {
-            return name_of(text, nodes, rule);
+            return name_of(items, rule);
         }
     }
     b""
@@ -161,27 +146,27 @@ fn rule_node(attribute: StepAttribute) -> Option<usize>
 }
 
 /// The attribute that the item at node `k` and the one behind it are, where they are one. The attributes end before `end`.
-fn attribute_from(text: &Lexer<'_>, nodes: &[Node], k: usize, end: usize) -> Option<StepAttribute>
-    requires { AreSomeFrom (source text.now) nodes.now k end }
-    ensures some { IfSome result (λ a. (attributes : List shape.Attribute) (i : Item) (value : ℕ) → AreAttributes (source text.now) nodes.now k attributes end → IsNode (source text.now) nodes.now k i value → spec.HasValue (source text.now) nodes.now a value attributes end) }
-    ensures none { IfNone result ((attributes : List shape.Attribute) (i : Item) (next : ℕ) → AreAttributes (source text.now) nodes.now k attributes end → IsNode (source text.now) nodes.now k i next → AreAttributes (source text.now) nodes.now next attributes end) }
+fn attribute_from(items: &ItemText<'_, '_>, k: usize, end: usize) -> Option<StepAttribute>
+    requires some { k < end }
+    requires attributes { AreAttributesAt items.now k end }
+    ensures { spec.IsAttributeFrom items.now k end result }
 {
-    let value = node_at(nodes, k).next;
-    if value == end {
+    let value = items.node(k).next;
+    if value >= end {
         return None;
     }
-    match word_at(text, nodes, k) {
-        Some(word) => Some(attribute_at(nodes, word, value)),
+    match word_at(items, k) {
+        Some(word) => Some(attribute_at(word, value, items.node(value).next)),
         None => None,
     }
 }
 
 /// What the item at a node asks for, where it is the keyword of an attribute that has an effect.
-pub(crate) fn word_at(text: &Lexer<'_>, nodes: &[Node], k: usize) -> Option<AttributeWord>
-    requires { IsItemAt (source text.now) nodes.now k }
-    ensures { (i : Item) (m : ℕ) → IsNode (source text.now) nodes.now k i m → result ≡ spec.attribute_word (keywords.keyword_of i) }
+pub(crate) fn word_at(items: &ItemText<'_, '_>, k: usize) -> Option<AttributeWord>
+    requires { k < length items.now.nodes }
+    ensures { result ≡ spec.attribute_word (keywords.keyword_of (item_at items.now k)) }
 {
-    match keyword_at(text, nodes, k) {
+    match keyword_at(items, k) {
         Some(word) => word_named(word),
         None => None,
     }
@@ -199,12 +184,12 @@ fn word_named(word: &[u8]) -> Option<AttributeWord>
     }
 }
 
-/// The attribute of a word, whose value is at node `k`.
-fn attribute_at(nodes: &[Node], word: AttributeWord, k: usize) -> StepAttribute
-    requires { (text : List ℕ) × IsItemAt text nodes.now k }
-    ensures { (text : List ℕ) (i : Item) (m : ℕ) → IsNode text nodes.now k i m → result ≡ spec.attribute_nodes word k m }
+/// The attribute of a word, whose value stands from node `k` to before `end`.
+fn attribute_at(word: AttributeWord, k: usize, end: usize) -> StepAttribute
+    requires { k < end }
+    ensures { result ≡ spec.attribute_nodes word k end }
 {
-    let (first, end) = (k + 1, node_at(nodes, k).next);
+    let first = k + 1;
     match word {
         AttributeWord::Rule => StepAttribute::Rule(k),
         AttributeWord::Premises => StepAttribute::Premises { first, end },

@@ -1,20 +1,17 @@
 //! The commands of a proof (Alethe specification, "The Syntax") and their shapes, over the nodes of one top item.
-ghost use Rattle.std.specs.Prelude.{◌≡◌, ◌≢◌, ◌≤◌, ◌+◌, ℕ, List, length};
-ghost use Rattle.sexpr.specs.Items.{Item, Items};
-ghost use Rattle.sexpr.specs.Source.{source};
-ghost use Rattle.text_items.specs.Nodes.{IsNode, AreNodes};
-ghost use Rattle.text_items.specs.Stepping.{AreItemsFrom};
+ghost use Rattle.std.specs.Prelude.{◌≡◌, ◌<◌, length, None};
+ghost use Rattle.text_items.specs.ItemsAt.{end_at, item_at, items_at};
 ghost use Rattle.alethe_text.specs.Commands as shape;
 ghost use Rattle.alethe_commands.specs.CommandNodes.{IsCommand};
 ghost use Rattle.alethe_commands.specs.CommandShapes as spec;
 
 use crate::attributes::{anchor_attributes_fault, step_attributes_fault};
 use crate::command_shapes::{arguments_fault, clause_fault, earlier, head_word, word_fault};
-use sexpr::{Cause, Lexer, Refusal};
+use sexpr::{Cause, Refusal};
 use text_items::children::{bad_command, take};
-use text_items::nodes::Node;
+use text_items::nodes::ItemText;
 use text_items::refusals::refused;
-use text_items::shapes::{excess, node_at, symbol_fault};
+use text_items::shapes::{excess, second, symbol_fault};
 
 /// A command by the places of its nodes. Terms and sorts are still to be read.
 #[derive(Clone, Copy)]
@@ -58,18 +55,19 @@ struct Places {
 
 /// The command that a top item is, where all these nodes are its own, or the first fault of its shape in the order of the
 /// text.
-pub fn command_of(text: &Lexer<'_>, nodes: &[Node]) -> Result<Command, Refusal>
-    requires { (i : Item) × IsNode (source text.now) nodes.now 0 i (length nodes.now) }
-    ensures { (i : Item) → IsNode (source text.now) nodes.now 0 i (length nodes.now) → IsCommand (source text.now) nodes.now result (shape.command_of i) }
+pub fn command_of(items: &ItemText<'_, '_>) -> Result<Command, Refusal>
+    requires some { 0 < length items.now.nodes }
+    requires whole { end_at items.now 0 ≡ length items.now.nodes }
+    ensures { IsCommand items.now result (shape.command_of (item_at items.now 0)) }
 {
-    let start = node_at(nodes, 0).token.start;
+    let start = items.node(0).token.start;
     let mut at = 1;
-    let head = take(nodes, &mut at, nodes.len(), start)?;
-    let word_start = node_at(nodes, head).token.start;
-    match head_word(text, nodes, head) {
+    let head = take(items, &mut at, items.count(), start)?;
+    let word_start = items.node(head).token.start;
+    match head_word(items, head) {
         Some(word) => {
             let places = Places { start, word_start };
-            command_so(text, nodes, word_named(word), places, at)
+            command_so(items, word_named(word), places, at)
         }
         None => Err(bad_command(word_start)),
     }
@@ -90,94 +88,86 @@ fn word_named(name: &[u8]) -> CommandWord
 
 /// The command of a word, whose other items stand from `at` to the end.
 fn command_so(
-    text: &Lexer<'_>,
-    nodes: &[Node],
+    items: &ItemText<'_, '_>,
     word: CommandWord,
     places: Places,
     at: usize,
 ) -> Result<Command, Refusal>
-    requires { AreItemsFrom (source text.now) nodes.now at (length nodes.now) }
-    ensures { (items : Items) → AreNodes (source text.now) nodes.now at items (length nodes.now) → IsCommand (source text.now) nodes.now result (spec.command_so word places.start places.word_start items) }
+    ensures { IsCommand items.now result (spec.command_so word places.start places.word_start (items_at items.now at (length items.now.nodes))) }
 {
     match word {
-        CommandWord::Assume => assume(text, nodes, places.start, at),
-        CommandWord::Step => step(text, nodes, places.start, at),
-        CommandWord::Anchor => anchor(text, nodes, places.start, at),
+        CommandWord::Assume => assume(items, places.start, at),
+        CommandWord::Step => step(items, places.start, at),
+        CommandWord::Anchor => anchor(items, places.start, at),
         CommandWord::LeftOut => Err(refused(Cause::LeftOut, places.word_start)),
         CommandWord::Unknown => Err(refused(Cause::UnknownCommand, places.word_start)),
     }
 }
 
-fn unless(fault: Option<u64>, command: Command) -> Result<Command, Refusal>
-    ensures { result ≡ spec.unless fault command }
+/// A command with a fault at a place is a bad one.
+fn without_fault(fault: Option<u64>) -> Result<(), Refusal>
+    ensures { result ≡ spec.without_fault fault }
 {
     match fault {
         Some(place) => Err(bad_command(place)),
-        None => Ok(command),
+        None => Ok(()),
     }
 }
 
-fn assume(text: &Lexer<'_>, nodes: &[Node], start: u64, at: usize) -> Result<Command, Refusal>
-    requires { AreItemsFrom (source text.now) nodes.now at (length nodes.now) }
-    ensures { (items : Items) → AreNodes (source text.now) nodes.now at items (length nodes.now) → IsCommand (source text.now) nodes.now result (shape.assume_shape start items) }
+fn assume(items: &ItemText<'_, '_>, start: u64, at: usize) -> Result<Command, Refusal>
+    ensures { IsCommand items.now result (shape.assume_shape start (items_at items.now at (length items.now.nodes))) }
 {
     let mut rest = at;
-    let id = take(nodes, &mut rest, nodes.len(), start)?;
-    let term = take(nodes, &mut rest, nodes.len(), start)?;
-    let fault = symbol_fault(text, nodes, id).or(excess(nodes, rest, nodes.len()));
-    unless(fault, Command::Assume { id, term })
+    let id = take(items, &mut rest, items.count(), start)?;
+    let term = take(items, &mut rest, items.count(), start)?;
+    without_fault(symbol_fault(items, id).or(excess(items, rest, items.count())))?;
+    Ok(Command::Assume { id, term })
 }
 
-fn step(text: &Lexer<'_>, nodes: &[Node], start: u64, at: usize) -> Result<Command, Refusal>
-    requires { AreItemsFrom (source text.now) nodes.now at (length nodes.now) }
-    ensures { (items : Items) → AreNodes (source text.now) nodes.now at items (length nodes.now) → IsCommand (source text.now) nodes.now result (shape.step_shape start items) }
+fn step(items: &ItemText<'_, '_>, start: u64, at: usize) -> Result<Command, Refusal>
+    ensures { IsCommand items.now result (shape.step_shape start (items_at items.now at (length items.now.nodes))) }
 {
     let mut rest = at;
-    let id = take(nodes, &mut rest, nodes.len(), start)?;
-    let clause = take(nodes, &mut rest, nodes.len(), start)?;
-    let before = symbol_fault(text, nodes, id).or(clause_fault(text, nodes, clause));
-    let behind = step_attributes_fault(text, nodes, start, rest, nodes.len());
+    let id = take(items, &mut rest, items.count(), start)?;
+    let clause = take(items, &mut rest, items.count(), start)?;
+    let before = symbol_fault(items, id).or(clause_fault(items, clause));
+    let behind = step_attributes_fault(items, start, rest, items.count());
+    without_fault(earlier(behind, before))?;
     let (first, attributes) = (clause + 2, rest);
-    unless(
-        earlier(behind, before),
-        Command::Step {
-            id,
-            first,
-            attributes,
-        },
-    )
+    Ok(Command::Step {
+        id,
+        first,
+        attributes,
+    })
 }
 
 /// Behind the id stands nothing, or `:args` and the list of arguments.
-fn anchor(text: &Lexer<'_>, nodes: &[Node], start: u64, at: usize) -> Result<Command, Refusal>
-    requires { AreItemsFrom (source text.now) nodes.now at (length nodes.now) }
-    ensures { (items : Items) → AreNodes (source text.now) nodes.now at items (length nodes.now) → IsCommand (source text.now) nodes.now result (shape.anchor_shape start items) }
+fn anchor(items: &ItemText<'_, '_>, start: u64, at: usize) -> Result<Command, Refusal>
+    ensures { IsCommand items.now result (shape.anchor_shape start (items_at items.now at (length items.now.nodes))) }
 {
     let mut rest = at;
-    let keyword = take(nodes, &mut rest, nodes.len(), start)?;
-    let id = take(nodes, &mut rest, nodes.len(), start)?;
-    let behind = symbol_fault(text, nodes, id).or(arguments_fault(text, nodes, rest, nodes.len()));
-    let own = word_fault(text, nodes, b":step", keyword).or(behind);
-    let fault = earlier(
-        anchor_attributes_fault(text, nodes, start, at, nodes.len()),
-        own,
-    );
-    let first = first_argument(nodes, rest);
-    unless(
-        fault,
-        Command::Anchor {
-            place: start,
-            id,
-            first,
-        },
-    )
+    let keyword = take(items, &mut rest, items.count(), start)?;
+    let id = take(items, &mut rest, items.count(), start)?;
+    let behind = symbol_fault(items, id).or(arguments_fault(items, rest, items.count()));
+    let own = word_fault(items, b":step", keyword).or(behind);
+    let all = anchor_attributes_fault(items, start, at, items.count());
+    without_fault(earlier(all, own))?;
+    let first = first_argument(items, rest);
+    Ok(Command::Anchor {
+        place: start,
+        id,
+        first,
+    })
 }
 
-/// The node of the first argument of an anchor, or the end, where `rest` is the node behind its id.
-fn first_argument(nodes: &[Node], rest: usize) -> usize
-    requires { rest ≤ length nodes.now }
-    ensures none { rest ≡ length nodes.now → result ≡ rest }
-    ensures some { rest ≢ length nodes.now → result ≡ rest + 2 }
+/// The node of the first argument of an anchor, or the end, where the items behind its id stand from `rest` on: the arguments
+/// are what stands in the second of them.
+fn first_argument(items: &ItemText<'_, '_>, rest: usize) -> usize
+    requires { shape.arguments_fault (items_at items.now rest (length items.now.nodes)) ≡ None }
+    ensures { spec.HasArguments items.now rest result }
 {
-    if rest == nodes.len() { rest } else { rest + 2 }
+    match second(items, rest, items.count()) {
+        Some(list) => list + 1,
+        None => items.count(),
+    }
 }

@@ -11,7 +11,7 @@ use Rattle.sexpr.specs.Source.{source, position}
 use Rattle.sexpr.specs.Tokens.{Read, next_token, AreTokens, token_text}
 use Rattle.text_items.specs.ItemShapes.{name_at, excess, items_of}
 use Rattle.text_items.specs.Lexers.{GoesOnWith}
-use Rattle.text_items.specs.Nodes.{IsNode}
+use Rattle.text_items.specs.Nesting.{AreItsNodes}
 use Rattle.text_items.specs.Spelling.{is_list_item}
 use Rattle.text_items.specs.declared.nodes.Node.{Node}
 use Rattle.alethe_text.specs.Commands.{is_symbol_of}
@@ -183,7 +183,7 @@ some_item l text in_list at t e behind is opens (items, others, h) =
 
 -- the nodes are those of the first item, and the lexer stands behind it
 pub item_found : (l m : Lexer) (text : List ℕ) (in_list : Bool) (at : ℕ) (t : Token) (nodes : List Node) → source l ≡ text → source m ≡ source l → position l ≡ t.end → next_token text at ≡ Ok (Some t) → is_close t.kind ≡ false
-    → ((i : Item) (rest : List Token) → GoesOnWith l t i rest → IsNode (source m) nodes 0 i (length nodes))
+    → ((i : Item) (rest : List Token) → GoesOnWith l t i rest → AreItsNodes (source m) nodes i)
     → ((i : Item) (rest : List Token) → GoesOnWith l t i rest → AreTokens (source m) (position m) rest)
     → (items behind : Items) → HasCommandItems text in_list at items behind → IsFirst (source m) in_list nodes (position m) items behind
 item_found l m text in_list at t nodes e same behind is opens here left items others h =

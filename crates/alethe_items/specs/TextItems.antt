@@ -4,7 +4,7 @@ use Rattle.sexpr.specs.declared.lexing.Token.{Token}
 use Rattle.sexpr.specs.declared.lexing.TokenKind.TheVariants.{Close}
 use Rattle.sexpr.specs.Items.{Item, Items, no_items, item, IsBracket, AreItems}
 use Rattle.sexpr.specs.Tokens.{AreTokens}
-use Rattle.text_items.specs.Nodes.{IsNode}
+use Rattle.text_items.specs.Nesting.{AreItsNodes}
 use Rattle.text_items.specs.declared.nodes.Node.{Node}
 use Rattle.alethe_text.specs.ProofTexts.{is_list_of_commands}
 
@@ -31,7 +31,7 @@ pub record IsFirst (source : List ℕ) (in_list : Bool) (nodes : List Node) (at 
   pub first : Item
   pub others : Items
   pub split : items ≡ item first others
-  pub here : IsNode source nodes 0 first (length nodes)
+  pub here : AreItsNodes source nodes first
   pub left : HasCommandItems source in_list at others behind
 
 -- There was an item; or there was none, and what stands behind the list stands from this place on.

@@ -1,5 +1,5 @@
 -- What an anchor comes to.
-use Rattle.std.proofs.Common.{◌≡◌, ◌≢◌, ℕ, zero, List, [], ◌∷◌, ◌++◌, map, length, false, Result, Ok, Err, AllPairs, Contains, refl, sym, ap, subst, ◌∙◌, arith}
+use Rattle.std.proofs.Common.{◌≡◌, ◌≢◌, ℕ, zero, List, [], ◌∷◌, ◌++◌, map, length, false, Option, None, Result, Ok, Err, AllPairs, Contains, refl, sym, ap, subst, ◌∙◌, arith}
 use Rattle.std.specs.Prelude.{⊤}
 use Rattle.std.specs.List.{AllByRecursion, AllZip}
 use Rattle.std.proofs.lemmas.List.{map-append}
@@ -7,7 +7,7 @@ use Rattle.std.proofs.lemmas.List.Elements.{All-from_recursion}
 use Rattle.std.proofs.lemmas.List.Kept.{AllPairs-cons}
 use Rattle.sexpr.specs.declared.causes.Cause.TheVariants.{Repeated}
 use Rattle.sexpr.specs.declared.causes.Refusal.{Refusal}
-use Rattle.sym_table.specs.Table.{Table, Keeps}
+use Rattle.sym_table.specs.Table.{Table}
 use Rattle.term_model.specs.Terms.{Var, Term}
 use Rattle.term_pool.specs.Views.{TermsView, KeepsTerms}
 use Rattle.rule_model.specs.RuleNames.{IsSymbolName}
@@ -17,32 +17,33 @@ use Rattle.rule_model.specs.WellFormed.{MayOpen}
 use Rattle.rule_model.specs.Writing.{open_anchor}
 use Rattle.proof_store.specs.Meaning.{IsBindingOf, no_items_stand}
 use Rattle.proof_store.specs.Steps.{anchor_with}
-use Rattle.text_items.specs.declared.nodes.Node.{Node}
 use Rattle.text_items.specs.ItemShapes.{Name}
-use Rattle.text_items.specs.NameNodes.{IsNameNode}
 use Rattle.problem_text.specs.Names.{Place}
 use Rattle.problem_text.specs.Outcomes.{Outcome, given, and_then}
 use Rattle.problem_text.specs.Scripts.{Script}
 use Rattle.problem_text.specs.Words.{is_among}
+use Rattle.term_names.specs.Standing.{AddsNoSymbols}
 use Rattle.term_names.specs.declared.faults.ReadFault.{ReadFault}
 use Rattle.term_reader.specs.ProblemViews.{ReaderView, IsReaderOf}
 use Rattle.term_reader.proofs.Staying.{adds_none, keeps_none}
-use Rattle.alethe_commands.specs.CommandNodes.{AreArguments, SaysAnchor}
 use Rattle.alethe_text.proofs.Lists.{or_parts}
 use Rattle.alethe_text.specs.Anchors.{bound_names, arguments_read, with_anchor, anchor_read}
-use Rattle.alethe_text.specs.Commands as shape
 use Rattle.alethe_text.specs.Commands.{Argument}
 use Rattle.alethe_text.specs.Ids.{id_judged}
 use Rattle.alethe_text.specs.ProofTerms.{place_in}
 use Rattle.alethe_text.specs.States.{ProofSettings, ProofState, Reading, ◌>>=◌, changed}
 use Rattle.alethe_reader.specs.declared.bound.BoundVariables.{BoundVariables}
+use Rattle.alethe_reader.specs.declared.ids.Found.{Found}
 use Rattle.alethe_reader.specs.declared.ids.Role.TheVariants.{Anchor}
+use Rattle.alethe_reader.specs.declared.judging.Named.{Named}
 use Rattle.alethe_reader.specs.declared.session.OpenAnchor.{OpenAnchor}
 use Rattle.alethe_reader.specs.declared.session.Session.{Session}
 use Rattle.alethe_reader.specs.Answers.{AnswersAs}
 use Rattle.alethe_reader.specs.KeptReads.{KeepsRead}
-use Rattle.alethe_reader.specs.Ids.{IsUnused}
+use Rattle.alethe_reader.specs.Bound.{AreBound}
+use Rattle.alethe_reader.specs.Ids.{IsUnused, IsIdFound}
 use Rattle.alethe_reader.specs.IdsInUse.{in_use, ids_in}
+use Rattle.alethe_reader.specs.Judging.{is_named}
 use Rattle.alethe_reader.specs.Opening.{AreFresh, AreArgumentsRead, entered}
 use Rattle.alethe_reader.specs.Sessions.{StandForNesting, starts, counts, IsProofSession, IsWritten, StandsAfter}
 use Rattle.alethe_reader.proofs.Answering.{stops, goes, answers, refuses, no_memory, same_outcome}
@@ -51,7 +52,7 @@ use Rattle.alethe_reader.proofs.IdsInUse.{ids_open, unused_new}
 use Rattle.alethe_reader.proofs.OpenedNames.{among_joined, fresh_apart, unbound_leaf}
 use Rattle.alethe_reader.proofs.ScopeReading.{reader_inside}
 use Rattle.alethe_reader.proofs.StillRead.{keeps_changed}
-use Rattle.alethe_reader.proofs.WrittenStays.{written_stays}
+use Rattle.alethe_reader.proofs.WrittenStays.{written_stays, found_now, unused_now}
 
 -- The leaves of an anchor's variables differ from each other, and from those that open anchors bind.
 module _ (s : Table) (v : TermsView) where
@@ -89,21 +90,15 @@ module _ (s : Table) (v : TermsView) where
       (All-from_recursion (λ x. b.0 ≢ x) (map (λ b. b.0) bs) (other_leaves names b c zip.0 bs cs zip.1 (fresh_apart (names ++ c.0.name ∷ []) cs fresh.1)))
       (distinct_leaves (names ++ c.0.name ∷ []) bs cs zip.1 fresh.1)
 
--- what the nodes of an anchor say of it
-module _ {source : List ℕ} {nodes : List Node} {place id first : ℕ} {n : Name} {others : List Argument} (h : SaysAnchor source nodes place id first (shape.anchor place n others)) where
-  same_id : (m : Name) (more : List Argument) → shape.anchor place n others ≡ shape.anchor place m more → m ≡ n
-  same_id m more e = cc
+-- what is answered of the anchor's id, and of its arguments
+abbrev pub JudgesId : Named → Option Found → Result ⊤ Refusal → Type 0
+JudgesId named found result = (p : ProofState) → IsIdFound (ids_in p.scope) named.name.now found → id_judged Repeated (is_named named) p ≡ given result p
 
-  same_arguments : (m : Name) (more : List Argument) → shape.anchor place n others ≡ shape.anchor place m more → more ≡ others
-  same_arguments m more e = cc
+abbrev pub ReadsArguments : Table → TermsView → Session → List Argument → Table → TermsView → ReaderView → BoundVariables → Result ⊤ ReadFault → Type 0
+ReadsArguments s v e others z w r b result = (settings : ProofSettings) (p : ProofState) → IsReaderOf s v e.reader p.script (place_in settings p.scope.nesting) → AreBound s v e.bound p.scope.nesting
+    → AnswersAs z v w (AreArgumentsRead z w settings r b p) (arguments_read settings [] others p) result
 
-  pub id_said : IsNameNode source nodes id n
-  id_said = subst (IsNameNode source nodes id) (same_id h.named h.others h.same) h.name_here
-
-  pub arguments_said : AreArguments source nodes first others (length nodes)
-  arguments_said = subst (λ (xs : List Argument). AreArguments source nodes first xs (length nodes)) (same_arguments h.named h.others h.same) h.arguments_here
-
-module _ (settings : ProofSettings) (place : ℕ) (n : Name) (others : List Argument) (p : ProofState) where
+module _ {s : Table} {v : TermsView} {settings : ProofSettings} {e : Session} {p : ProofState} (session : IsProofSession s v settings e p) (place : ℕ) (named : Named) {n : Name} (same : is_named named ≡ n) (found : Option Found) (look : IsIdFound e.ids.used named.name.now found) (others : List Argument) where
   -- once the arguments were read
   abbrev opened : List (Var × Term) → Reading ⊤
   opened bs = changed (with_anchor place n.name bs)
@@ -111,53 +106,64 @@ module _ (settings : ProofSettings) (place : ℕ) (n : Name) (others : List Argu
   keeps_opened : (bs : List (Var × Term)) → KeepsRead (opened bs)
   keeps_opened bs = keeps_changed (with_anchor place n.name bs) (λ q. refl)
 
-  judged : (r : Result ⊤ Refusal) → id_judged Repeated n p ≡ given r p → anchor_read settings place n others p ≡ and_then (given r p) (λ _ q. and_then (arguments_read settings [] others q) opened)
+  judged : (result : Result ⊤ Refusal) → JudgesId named found result → anchor_read settings place n others p ≡ and_then (given result p) (λ _ q. and_then (arguments_read settings [] others q) opened)
   unfolding anchor_read ◌>>=◌
-  judged r e = ap (λ (o : Outcome ProofState ⊤). and_then o (λ _ q. and_then (arguments_read settings [] others q) opened)) e
+  judged result h =
+      ap (λ (o : Outcome ProofState ⊤). and_then o (λ _ q. and_then (arguments_read settings [] others q) opened))
+      (subst (λ m. id_judged Repeated m p ≡ given result p) same (h p (found_now s v e p named.name.now found look session.written)))
 
-  pub bad_id : (s : Table) (v : TermsView) (d : Session) (refusal : Refusal) → id_judged Repeated n p ≡ given (Err refusal) p → AnswersAs s v v (StandsAfter s v settings d) (anchor_read settings place n others p) (Err (ReadFault.Text refusal))
-  bad_id s v d refusal e = same_outcome (judged (Err refusal) e) (refuses refl refl)
+  pub bad_id : {N : ⊤ → ⊤ → ProofState → Type 0} (refusal : Refusal) → JudgesId named found (Err refusal) → AnswersAs s v v N (anchor_read settings place n others p) (Err (ReadFault.Text refusal))
+  bad_id refusal h = same_outcome (judged (Err refusal) h) (refuses refl refl)
 
-  module _ (new_id : id_judged Repeated n p ≡ given (Ok tt) p) (z : Table) (v w : TermsView) (r : ReaderView) (b : BoundVariables) where
-    abbrev pub ReadsArguments : Result ⊤ ReadFault → Type 0
-    ReadsArguments result = AnswersAs z v w (AreArgumentsRead z w settings r b p) (arguments_read settings [] others p) result
+  module _ (new_id : JudgesId named found (Ok tt)) {z : Table} {w : TermsView} {r : ReaderView} {b : BoundVariables} where
+    pub bad_argument : {N : ⊤ → ⊤ → ProofState → Type 0} (fault : ReadFault) → ReadsArguments s v e others z w r b (Err fault) → AnswersAs z v w N (anchor_read settings place n others p) (Err fault)
+    bad_argument fault read = same_outcome (judged (Ok tt) new_id) (stops opened keeps_opened (read settings p session.reader session.written.bound))
 
-    pub bad_argument : (d : Session) (fault : ReadFault) → ReadsArguments (Err fault) → AnswersAs z v w (StandsAfter z w settings d) (anchor_read settings place n others p) (Err fault)
-    bad_argument d fault h = same_outcome (judged (Ok tt) new_id) (stops opened keeps_opened h)
+    module _ (read : ReadsArguments s v e others z w r b (Ok tt)) where
+      h : AnswersAs z v w (AreArgumentsRead z w settings r b p) (arguments_read settings [] others p) (Ok tt)
+      h = read settings p session.reader session.written.bound
 
-    module _ (h : ReadsArguments (Ok tt)) where
-      pub no_room : (d : Session) → AnswersAs z v w (StandsAfter z w settings d) (anchor_read settings place n others p) (Err ReadFault.Memory)
-      no_room d = same_outcome (judged (Ok tt) new_id) (goes opened keeps_opened h (adds_none z).keeps (keeps_none w) (λ bs q k. no_memory refl))
+      pub no_room : {N : ⊤ → ⊤ → ProofState → Type 0} → AnswersAs z v w N (anchor_read settings place n others p) (Err ReadFault.Memory)
+      no_room = same_outcome (judged (Ok tt) new_id) (goes opened keeps_opened h (adds_none z).keeps (keeps_none w) (λ bs q k. no_memory refl))
 
-      module _ (s : Table) (e : Session) (session : IsProofSession s v settings e p) (table : Keeps s z) (terms : KeepsTerms v w) where
+      module _ (table : AddsNoSymbols s z) (terms : KeepsTerms v w) (slice : List (ℕ × ℕ)) (sliced : slice ≡ b.opened.items) where
         before : IsWritten z w e p
-        before = written_stays s z v w table terms e p session.written
+        before = written_stays s z v w table.keeps terms e p session.written
+
+        name : named.name.now ≡ n.name
+        name = ap (λ (m : Name). m.name) same
 
         -- the anchor may be opened where the proof is written
-        pub may_open : (id : List ℕ) → IsSymbolName id → IsUnused e.ids.used id → MayOpen e.builder.nesting e.builder.items (anchor_with id b.opened.items)
-        may_open id symbol unused =
+        pub may_open : IsSymbolName n.name → found ≡ None → MayOpen e.builder.nesting e.builder.items (anchor_with named.name.now slice)
+        may_open symbol none =
             let k = h.answer.after in
             let bs = h.answer.value in
             let names : bound_names h.answer.state.scope.nesting ≡ bound_names p.scope.nesting = ap (λ (c : Scope Var Term). bound_names c.nesting) k.same.scope in
             let fresh : AreFresh (bound_names p.scope.nesting) bs = subst (λ ns. AreFresh ns bs) names k.opening.fresh in
-            record {
-              id = unused_new e.builder id symbol (subst (λ us. IsUnused us id) before.ids unused);
+            rw sliced (record {
+              id = unused_new e.builder named.name.now (subst IsSymbolName (sym name) symbol) (subst (λ us. IsUnused us named.name.now) before.ids (unused_now e.ids.used named.name.now found look none));
               distinct = distinct_leaves z w (bound_names p.scope.nesting) b.opened.items bs k.opening.opened fresh;
               unbound =
                   All-from_recursion (λ x. ¬ Contains (map (λ c. c.0) (open_bindings e.builder.nesting)) x) (map (λ c. c.0) b.opened.items)
                   (unbound_leaves z w e.builder.nesting p.scope.nesting before.nesting b.opened.items bs k.opening.opened (fresh_apart (bound_names p.scope.nesting) bs fresh));
-            }
+            })
 
         -- The scope is opened, its id put in use, and its variables in scope.
-        pub is_opened : (d : Session) (ids variables : ℕ) → ids ≡ length e.ids.used → variables ≡ length b.opened.items
-            → ((sc : Script) (at : Place) (bs : List (Var × Term)) → AllZip (IsBindingOf z w) b.opened.items bs → IsReaderOf z w r sc at → IsReaderOf z w d.reader sc (record at { scope = entered (length bs) bs at.scope }))
-            → d.builder ≡ open_anchor e.builder (anchor_with n.name b.opened.items) → d.ids.used ≡ e.ids.used ++ in_use n.name Anchor (next_scope e.builder) ∷ []
+        pub is_opened : (d : Session) (ids variables number : ℕ) → ids ≡ length e.ids.used → variables ≡ length b.opened.items
+            → ((s : Table) (v : TermsView) (sc : Script) (at : Place) (bs : List (Var × Term)) → AllZip (IsBindingOf s v) b.opened.items bs → IsReaderOf s v r sc at → IsReaderOf s v d.reader sc (record at { scope = entered (length bs) bs at.scope }))
+            → d.builder ≡ open_anchor e.builder (anchor_with named.name.now slice) → number ≡ next_scope e.builder → d.ids.used ≡ e.ids.used ++ in_use named.name.now Anchor number ∷ []
             → d.anchors.items ≡ e.anchors.items ++ record { place = place; ids = ids; variables = variables } ∷ [] → d.bound ≡ b → d.strict ≡ e.strict
             → AnswersAs z v w (StandsAfter z w settings d) (anchor_read settings place n others p) (Ok tt)
-        is_opened d ids variables ids_are variables_are enters built used anchors bound strict =
+        is_opened d ids variables number ids_are variables_are enters building numbering using anchors bound strict =
             same_outcome (judged (Ok tt) new_id)
             (goes opened keeps_opened h (adds_none z).keeps (keeps_none w) (λ bs q k. answers tt (with_anchor place n.name bs q) refl refl (record { session = after bs q k })))
           where
+            built : d.builder ≡ open_anchor e.builder (anchor_with n.name b.opened.items)
+            built = rw (sym name, sym sliced) building
+
+            used : d.ids.used ≡ e.ids.used ++ in_use n.name Anchor (next_scope e.builder) ∷ []
+            used = rw (sym name, sym numbering) using
+
             last : OpenAnchor
             last = record { place = place; ids = ids; variables = variables }
 
@@ -188,6 +194,6 @@ module _ (settings : ProofSettings) (place : ℕ) (n : Name) (others : List Argu
               strict = session.strict ∙ sym strict;
               reader =
                   reader_inside z w d.reader q.script settings q.scope.nesting q.scope.items (record { id = n.name; bindings = bs })
-                  (enters q.script (place_in settings q.scope.nesting) bs k.opening.opened k.opening.reader);
+                  (enters z w q.script (place_in settings q.scope.nesting) bs k.opening.opened k.opening.reader);
               written = written bs q k;
             }

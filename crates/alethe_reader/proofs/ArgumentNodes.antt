@@ -1,68 +1,57 @@
 -- The nodes of an argument that gives a variable its term.
-use Rattle.std.proofs.Common.{◌≡◌, ◌≤◌, ◌+◌, ℕ, List, Option, Some, None, if◌then◌else◌, refl, sym, ap, subst, ◌∙◌, arith, true, false, Bool, is_some}
-use Rattle.std.specs.Prelude.{codes}
-use Rattle.sexpr.specs.Items.{Item, word, quoted, string, list, Items, no_items, item, place_of, symbol_name}
+use Rattle.std.proofs.Common.{◌≡◌, ◌≤◌, ◌<◌, ◌+◌, ℕ, false, Option, sym, ap, ◌∙◌, arith}
+use Rattle.sexpr.specs.Items.{Item, word, quoted, string, list, Items, no_items, item}
 use Rattle.text_items.specs.declared.nodes.Node.{Node}
-use Rattle.text_items.specs.ItemShapes.{Name}
-use Rattle.text_items.specs.Keywords.{is_spelled}
-use Rattle.text_items.specs.Nodes.{IsNode, AreNodes}
-use Rattle.text_items.proofs.NodeSteps.{nodes_ordered}
-use Rattle.alethe_text.specs.Commands.{assigned, assigned_fault, alone_fault, argument_fault, assigned_to, argument_of}
+use Rattle.text_items.specs.ItemShapes.{Name, items_of}
+use Rattle.text_items.specs.ItemsAt.{ItemsView, item_at, items_at}
+use Rattle.text_items.specs.Stepping.{IsItemNode, HasSecond, has_two}
+use Rattle.text_items.proofs.ItemsAtLemmas.{first_and_others, no_items_are}
+use Rattle.alethe_text.specs.Commands.{behind_first, assigned, assigned_to, argument_of}
 
--- Behind `:=` stand a variable and a term, which ends where the argument does or before.
-pub record HasTerm (source : List ℕ) (nodes : List Node) (k m : ℕ) (value : Item) : Type 0 where
-  pub variable : Item
-  pub behind : ℕ
-  pub after : ℕ
-  pub variable_here : IsNode source nodes (k + 2) variable behind
-  pub value_here : IsNode source nodes behind value after
-  pub within : after ≤ m
+-- Behind its head stand a variable and this term.
+record HasTerm (items : Items) (value : Item) : Type 0 where
+  head : Item
+  variable : Item
+  rest : Items
+  split : items ≡ item head (item variable (item value rest))
 
-module _ (source : List ℕ) (nodes : List Node) where
-  keyword_alone : (name : List ℕ) (k : ℕ) (i : Item) (m : ℕ) → IsNode source nodes k i m → is_spelled name i ≡ true → m ≡ k + 1
-  keyword_alone name k (word p w) m is e = is.alone
-  keyword_alone name k (quoted p w) m is e = cc
-  keyword_alone name k (string p w) m is e = cc
-  keyword_alone name k (list p items) m is e = cc
+value_same : (place p : ℕ) (x t value : Item) (n : Name) (sort : Option Item) → assigned_to p x t ≡ assigned place n sort value → t ≡ value
+value_same place p (word q w) t value n sort e = cc
+value_same place p (quoted q w) t value n sort e = cc
+value_same place p (string q w) t value n sort e = cc
+value_same place p (list q no_items) t value n sort e = cc
+value_same place p (list q (item y no_items)) t value n sort e = cc
+value_same place p (list q (item y (item z rest))) t value n sort e = cc
 
-  value_same : (place p : ℕ) (x t value : Item) (n : Name) (sort : Option Item) → assigned_to p x t ≡ assigned place n sort value → t ≡ value
-  value_same place p (word q w) t value n sort e = cc
-  value_same place p (quoted q w) t value n sort e = cc
-  value_same place p (string q w) t value n sort e = cc
-  value_same place p (list q no_items) t value n sort e = cc
-  value_same place p (list q (item y no_items)) t value n sort e = cc
-  value_same place p (list q (item y (item z rest))) t value n sort e = cc
+has_term : (i : Item) (place : ℕ) (n : Name) (sort : Option Item) (value : Item) → argument_of i ≡ assigned place n sort value → HasTerm (items_of i) value
+has_term (word p w) place n sort value e = absurd (cc)
+has_term (quoted p w) place n sort value e = absurd (cc)
+has_term (string p w) place n sort value e = absurd (cc)
+has_term (list p no_items) place n sort value e = absurd (cc)
+has_term (list p (item head no_items)) place n sort value e = absurd (cc)
+has_term (list p (item head (item x no_items))) place n sort value e = absurd (cc)
+has_term (list p (item head (item x (item t rest)))) place n sort value e =
+    record { head = head; variable = x; rest = rest; split = ap (λ (u : Item). item head (item x (item u rest))) (value_same place p x t value n sort e) }
 
-  in_rest : (k j p m place : ℕ) (head : Item) (rest : Items) (n : Name) (sort : Option Item) (value : Item) → AreNodes source nodes j rest m → j ≡ k + 2 → argument_of (list p (item head rest)) ≡ assigned place n sort value → HasTerm source nodes k m value
-  in_rest k j p m place head no_items n sort value are e is = absurd (cc)
-  in_rest k j p m place head (item x no_items) n sort value are e is = absurd (cc)
-  in_rest k j p m place head (item x (item t rest)) n sort value (b, x_here, (a, t_here, are)) e is = record {
-    variable = x;
-    behind = b;
-    after = a;
-    variable_here = subst (λ i. IsNode source nodes i x b) e x_here;
-    value_here = subst (λ i. IsNode source nodes b i a) (value_same place p x t value n sort is) t_here;
-    within = nodes_ordered source nodes a rest m are;
-  }
+some_left : (items : ItemsView) (k m : ℕ) (i : Item) (rest : Items) → items_at items k m ≡ item i rest → k < m
+some_left items k m i rest e = let some : ¬ (m ≤ k) = λ none. (let f = sym e ∙ no_items_are items k m none in absurd (cc)) in omega (arith, some)
 
-  pub has_term : (k : ℕ) (i : Item) (m place : ℕ) (n : Name) (sort : Option Item) (value : Item) → IsNode source nodes k i m → argument_fault i ≡ None → argument_of i ≡ assigned place n sort value → HasTerm source nodes k m value
-  has_term k (word p w) m place n sort value is fits e = absurd (cc)
-  has_term k (quoted p w) m place n sort value is fits e = absurd (cc)
-  has_term k (string p w) m place n sort value is fits e = absurd (cc)
-  has_term k (list p no_items) m place n sort value is fits e = absurd (cc)
-  has_term k (list p (item head rest)) m place n sort value (node, has, (b, here, are)) fits e = go (is_spelled (codes ":=") head) refl
-    where
-      behind_other : (rest : Items) → AreNodes source nodes b rest m → alone_fault p rest ≡ None → argument_of (list p (item head rest)) ≡ assigned place n sort value → HasTerm source nodes k m value
-      behind_other no_items are f e = absurd (cc)
-      behind_other (item x no_items) are f e = absurd (cc)
-      behind_other (item x (item t rest)) are f e = absurd (cc)
+module _ {items : ItemsView} {k : ℕ} {node : Node} (here : IsItemNode items k node) {place : ℕ} {n : Name} {sort : Option Item} {value : Item} (e : argument_of (item_at items k) ≡ assigned place n sort value) where
+  found : HasTerm (items_of (item_at items k)) value
+  found = has_term (item_at items k) place n sort value e
 
-      go : (c : Bool) → is_spelled (codes ":=") head ≡ c → HasTerm source nodes k m value
-      go true spelled =
-          in_rest k b p m place head rest n sort value are (omega (arith, keyword_alone (codes ":=") (k + 1) head b here spelled)) e
-      go false other =
-          named (is_some (symbol_name head)) refl (sym (ap (λ c. if c then assigned_fault p rest else if is_some (symbol_name head) then alone_fault p rest else Some (place_of head)) other) ∙ fits)
-        where
-          named : (c : Bool) → is_some (symbol_name head) ≡ c → (if is_some (symbol_name head) then alone_fault p rest else Some (place_of head)) ≡ None → HasTerm source nodes k m value
-          named true f h = behind_other rest are (sym (ap (λ c. if c then alone_fault p rest else Some (place_of head)) f) ∙ h) e
-          named false f h = absurd (let g = sym (ap (λ c. if c then alone_fault p rest else Some (place_of head)) f) ∙ h in cc)
+  pub head_left : k + 1 < node.next
+  head_left = some_left items (k + 1) node.next found.head (item found.variable (item value found.rest)) (sym here.children ∙ found.split)
+
+  module _ {head : Node} (at_head : IsItemNode items (k + 1) head) where
+    behind_head : items_at items head.next node.next ≡ item found.variable (item value found.rest)
+    behind_head = ap behind_first (sym (first_and_others items (k + 1) node.next head at_head head_left here.inside) ∙ (sym here.children ∙ found.split))
+
+    pub no_term : has_two (items_at items head.next node.next) ≡ false → ⊥
+    no_term none = let f = sym (ap has_two behind_head) ∙ none in cc
+
+    pub term_is : (term : ℕ) → HasSecond items head.next term node.next → value ≡ item_at items term
+    term_is term second = let f = sym behind_head ∙ second.split in cc
+
+-- the term is there
+pub ruleset term_found = (head_left, no_term)

@@ -14,16 +14,20 @@ use Rattle.term_pool.specs.StandsFor.{variable_leaf}
 use Rattle.term_pool.specs.Views.{TermsView, RefersTo, KeepsTerms}
 use Rattle.rule_model.specs.Contexts.{put_in_each, images}
 use Rattle.rule_model.specs.Judged.{open_anchors}
+use Rattle.rule_model.specs.Scopes.{Nesting}
 use Rattle.proof_store.specs.Meaning.{IsBindingOf}
 use Rattle.text_items.specs.ItemShapes.{Name}
+use Rattle.problem_text.specs.Names.{Place}
 use Rattle.problem_text.specs.Outcomes.{Outcome, and_then}
-use Rattle.problem_text.specs.Scripts.{with_let_name}
+use Rattle.problem_text.specs.Scripts.{Script, with_let_name}
+use Rattle.problem_text.specs.Terms.{read_term}
 use Rattle.problem_text.specs.TypedTerms.{Typed}
 use Rattle.problem_text.specs.Words.{is_among, is_built_in}
+use Rattle.term_expansion.specs.Values.{IsValue}
 use Rattle.term_expansion.specs.declared.values.Value.{Value}
 use Rattle.term_names.specs.Standing.{AddsNoSymbols}
 use Rattle.term_names.specs.declared.faults.ReadFault.{ReadFault}
-use Rattle.term_reader.specs.ProblemViews.{ReaderView, IsReaderOf}
+use Rattle.term_reader.specs.ProblemViews.{ReaderView, IsReaderOf, ReadsValue}
 use Rattle.term_reader.proofs.Staying.{adds_none, adds_then, keeps_none, refers_stays, places_none, places_then, pass_keeps_none}
 use Rattle.term_reader.proofs.ViewsStay.{reader_stays}
 use Rattle.alethe_text.specs.Anchors.{bound_names, sort_given, image_of, script_changed, argument_read}
@@ -31,7 +35,7 @@ use Rattle.alethe_text.specs.Commands.{Argument, variable_alone, assigned}
 use Rattle.alethe_text.specs.ProofTerms.{place_in, term_in}
 use Rattle.alethe_text.specs.States.{ProofSettings, ProofState, ◌>>=◌, demand, given}
 use Rattle.alethe_reader.specs.Answers.{WasRead, AnswersAs}
-use Rattle.alethe_reader.specs.Bound.{images_in}
+use Rattle.alethe_reader.specs.Bound.{images_in, BindApart}
 use Rattle.alethe_reader.specs.Judging.{is_named}
 use Rattle.alethe_reader.specs.declared.judging.Named.{Named}
 use Rattle.alethe_reader.specs.Opening.{IsOpening, IsSameScope, IsArgumentRead, IsNameJudged, image_read, IsImageRead}
@@ -42,6 +46,7 @@ use Rattle.alethe_reader.proofs.BoundLemmas.{zip_front}
 use Rattle.alethe_reader.proofs.ImageReading.{keeps_image}
 use Rattle.alethe_reader.proofs.OpenedNames.{judged_more, fresh_more}
 use Rattle.alethe_reader.proofs.ScopeReading.{reader_named, reader_more}
+use Rattle.alethe_reader.proofs.TermAnswers.{value_answers}
 use Rattle.alethe_reader.proofs.WrittenStays.{bindings_stay}
 
 -- a fault, or want of memory, whatever would have come after
@@ -84,7 +89,7 @@ pub record IsVariableRead (s : Table) (v : TermsView) (settings : ProofSettings)
 
 module _ (settings : ProofSettings) (earlier : List (List ℕ)) (place : ℕ) (x : Name) (o : Option Item) (i : Item) (p : ProofState) where
   -- the state once the name was judged
-  abbrev pub named_state : ProofState
+  abbrev named_state : ProofState
   named_state = record p { script = with_let_name x.name p.script }
 
   -- by the name and by the sort
@@ -102,7 +107,7 @@ module _ (settings : ProofSettings) (earlier : List (List ℕ)) (place : ℕ) (x
   so_far : (built bound : Bool) → is_built_in x.name ≡ built → is_bound_here ≡ bound → argument_read settings earlier (assigned place x o i) p ≡ argument_so built bound (sort_given p.script.sorts o)
   so_far built bound e f = argument_is ∙ (ap (λ b. argument_so b is_bound_here (sort_given p.script.sorts o)) e ∙ ap (λ b. argument_so built b (sort_given p.script.sorts o)) f)
 
-  pub name_refused : (refusal : Refusal) → IsNameJudged (is_built_in x.name) is_bound_here x.place (Err refusal) → (argument_read settings earlier (assigned place x o i) p).result ≡ Err refusal
+  name_refused : (refusal : Refusal) → IsNameJudged (is_built_in x.name) is_bound_here x.place (Err refusal) → (argument_read settings earlier (assigned place x o i) p).result ≡ Err refusal
   unfolding ◌>>=◌
   name_refused refusal h = go (is_built_in x.name) is_bound_here refl refl h
     where
@@ -112,7 +117,7 @@ module _ (settings : ProofSettings) (earlier : List (List ℕ)) (place : ℕ) (x
       go false false e f h = absurd h
 
   module _ (plain : is_built_in x.name ≡ false) (free : is_bound_here ≡ false) where
-    pub sort_refused : (refusal : Refusal) → sort_given p.script.sorts o ≡ Err refusal → (argument_read settings earlier (assigned place x o i) p).result ≡ Err refusal
+    sort_refused : (refusal : Refusal) → sort_given p.script.sorts o ≡ Err refusal → (argument_read settings earlier (assigned place x o i) p).result ≡ Err refusal
     unfolding ◌>>=◌
     sort_refused refusal e = ap (λ (q : Outcome ProofState (Var × Term)). q.result) (so_far false false plain free ∙ ap (argument_so false false) e)
 
@@ -121,7 +126,7 @@ module _ (settings : ProofSettings) (earlier : List (List ℕ)) (place : ℕ) (x
       unfolding ◌>>=◌
       to_term = so_far false false plain free ∙ ap (argument_so false false) given_sort
 
-      pub no_term : {T U : Type 0} {s : Table} {v w : TermsView} {M : T → Typed → ProofState → Type 0} (N : U → Var × Term → ProofState → Type 0) (fault : ReadFault) → AnswersAs s v w M (term_in settings p.scope.nesting i named_state) (Err fault)
+      no_term : {T U : Type 0} {s : Table} {v w : TermsView} {M : T → Typed → ProofState → Type 0} (N : U → Var × Term → ProofState → Type 0) (fault : ReadFault) → AnswersAs s v w M (term_in settings p.scope.nesting i named_state) (Err fault)
           → AnswersAs s v w N (argument_read settings earlier (assigned place x o i) p) (Err fault)
       no_term N fault h = same_outcome to_term (stops (image_read place x.name wanted p.scope.nesting) (λ t. keeps_image place x.name wanted p.scope.nesting t) h)
 
@@ -137,7 +142,7 @@ module _ (settings : ProofSettings) (earlier : List (List ℕ)) (place : ℕ) (x
           same = rw g.state (record { scope = m.behind.scope; anchors = m.behind.anchors });
         }
 
-        pub variable_read : (result : Result ℕ ReadFault)
+        variable_read : (result : Result ℕ ReadFault)
             → ((t : Typed) (q : ProofState) → IsReadValue s mid settings p.scope.nesting r named_state c t q → AnswersAs s mid w (IsImageRead s w x.name p.scope.nesting t q) (image_read place x.name wanted p.scope.nesting t q) result)
             → AnswersAs s v w (IsVariableRead s w settings r x.name c p) (argument_read settings earlier (assigned place x o i) p) result
         variable_read result k =
@@ -147,7 +152,7 @@ module _ (settings : ProofSettings) (earlier : List (List ℕ)) (place : ℕ) (x
 
 -- The argument's variable joins those that were read.
 module _ (s z : Table) (v w : TermsView) (settings : ProofSettings) (adds : AddsNoSymbols s z) (terms : KeepsTerms v w) (earlier : List (List ℕ)) (bs : List (Var × Term)) (p q : ProofState) (d e : BoundVariables) (r t : ReaderView) (opening : IsOpening s v settings r d earlier bs p) (same : IsSameScope p q) where
-  pub opens_more : (b : Var × Term) (name : List ℕ) (leaf term image : ℕ) → IsReaderOf z w t q.script (place_in settings p.scope.nesting) → b.0.name ≡ name → is_among (map (λ u. u.id) d.names.used) name ≡ false
+  opens_more : (b : Var × Term) (name : List ℕ) (leaf term image : ℕ) → IsReaderOf z w t q.script (place_in settings p.scope.nesting) → b.0.name ≡ name → is_among (map (λ u. u.id) d.names.used) name ≡ false
       → IsLeaf z leaf (variable_leaf b.0) → RefersTo z w term b.1 → RefersTo z w image (image_of p.scope.nesting b.1)
       → map (λ u. u.id) e.names.used ≡ map (λ u. u.id) d.names.used ++ name ∷ [] → e.images.items ≡ d.images.items ++ (leaf, image) ∷ [] → e.opened.items ≡ d.opened.items ++ (leaf, term) ∷ []
       → IsOpening z w settings t e (b.0.name ∷ earlier) (bs ++ b ∷ []) q
@@ -207,14 +212,49 @@ module _ (s : Table) (v : TermsView) (settings : ProofSettings) (r : ReaderView)
   outer_images = zip_front (IsBindingOf s v) d.images.items (images_in p.scope.nesting) (put_in_each (images (open_anchors p.scope.nesting)) bs) (length d.images.items - length d.opened.items) (omega (arith, images_long, opened_long)) h.images
 
   -- what is judged of the name and the sort, and the reader behind the name
-  pub judged_here : (n : Named) (x : Name) → is_named n ≡ x → (result : Result ⊤ Refusal) → IsNameJudged (is_built_in n.name.now) (is_among (map (λ u. u.id) d.names.used) n.name.now) n.place result
+  judged_here : (n : Named) (x : Name) → is_named n ≡ x → (result : Result ⊤ Refusal) → IsNameJudged (is_built_in n.name.now) (is_among (map (λ u. u.id) d.names.used) n.name.now) n.place result
       → IsNameJudged (is_built_in x.name) (is_among earlier x.name || is_among (bound_names p.scope.nesting) x.name) x.place result
   judged_here n x same result k =
       subst (λ b. IsNameJudged (is_built_in x.name) b x.place result) (sym (h.judged x.name))
       (subst (λ (y : Name). IsNameJudged (is_built_in y.name) (is_among (map (λ u. u.id) d.names.used) y.name) y.place result) same k)
 
-  pub given_here : (o : Option Item) (result : Result (Option Sort) Refusal) → result ≡ sort_given s.sorts o → sort_given p.script.sorts o ≡ result
+  given_here : (o : Option Item) (result : Result (Option Sort) Refusal) → result ≡ sort_given s.sorts o → sort_given p.script.sorts o ≡ result
   given_here o result e = ap (λ sorts. sort_given sorts o) (sym h.reader.idle.script.sorts) ∙ sym e
 
-  pub reader_here : (name : List ℕ) → IsReaderOf s v r (with_let_name name p.script) (place_in settings p.scope.nesting)
+  reader_here : (name : List ℕ) → IsReaderOf s v r (with_let_name name p.script) (place_in settings p.scope.nesting)
   reader_here name = reader_named s v r p.script (place_in settings p.scope.nesting) h.reader name
+
+-- what the reader answers for an item
+abbrev pub ReadsItem : Table → TermsView → ReaderView → Item → Table → TermsView → ReaderView → Result Value ReadFault → Type 0
+ReadsItem s v r i z w t result = (sc : Script) (at : Place) → IsReaderOf s v r sc at → ReadsValue z v w t at (read_term i at sc) result
+
+-- A variable whose name was judged, and whose sort is given, is read by its term and its image.
+module _ {s : Table} {v : TermsView} {settings : ProofSettings} {r : ReaderView} {d : BoundVariables} {earlier : List (List ℕ)} {bs : List (Var × Term)} {p : ProofState} (opening : IsOpening s v settings r d earlier bs p) (place : ℕ) {x : Name} (o : Option Item) (i : Item) (n : Named) (named : is_named n ≡ x) where
+  pub name_bad : (refusal : Refusal) → IsNameJudged (is_built_in n.name.now) (is_among (map (λ u. u.id) d.names.used) n.name.now) n.place (Err refusal) → (argument_read settings earlier (assigned place x o i) p).result ≡ Err refusal
+  name_bad refusal judged = name_refused settings earlier place x o i p refusal (judged_here s v settings r d earlier bs p opening n x named (Err refusal) judged)
+
+  module _ {u : ⊤} (judged : IsNameJudged (is_built_in n.name.now) (is_among (map (λ u. u.id) d.names.used) n.name.now) n.place (Ok u)) where
+    free : (is_built_in x.name ≡ false) × ((is_among earlier x.name || is_among (bound_names p.scope.nesting) x.name) ≡ false)
+    free = name_free _ _ x.place u (judged_here s v settings r d earlier bs p opening n x named (Ok u) judged)
+
+    pub sort_bad : (refusal : Refusal) → Err refusal ≡ sort_given s.sorts o → (argument_read settings earlier (assigned place x o i) p).result ≡ Err refusal
+    sort_bad refusal e = sort_refused settings earlier place x o i p free.0 free.1 refusal (given_here s v settings r d earlier bs p opening o (Err refusal) e)
+
+    module _ {wanted : Option Sort} (sort : Ok wanted ≡ sort_given s.sorts o) {z : Table} {w : TermsView} {t : ReaderView} where
+      term_read : (result : Result Value ReadFault) → ReadsItem s v r i z w t result
+          → AnswersAs z v w (IsReadValue z w settings p.scope.nesting t (named_state settings earlier place x o i p)) (term_in settings p.scope.nesting i (named_state settings earlier place x o i p)) result
+      term_read result read =
+          value_answers z v w settings p.scope.nesting t i (named_state settings earlier place x o i p) result
+          (read (with_let_name x.name p.script) (place_in settings p.scope.nesting) (reader_here s v settings r d earlier bs p opening x.name))
+
+      pub term_bad : {U : Type 0} (N : U → Var × Term → ProofState → Type 0) (fault : ReadFault) → ReadsItem s v r i z w t (Err fault) → AnswersAs z v w N (argument_read settings earlier (assigned place x o i) p) (Err fault)
+      term_bad N fault read = no_term settings earlier place x o i p free.0 free.1 wanted (given_here s v settings r d earlier bs p opening o (Ok wanted) sort) N fault (term_read (Err fault) read)
+
+      pub image_answers : {y : TermsView} {c : Value} {result : Result ℕ ReadFault} → ReadsItem s v r i z w t (Ok c) → AddsNoSymbols s z → KeepsTerms v w → KeepsTerms w y
+          → ((name : List ℕ) (t : Typed) (nesting : Nesting Var Term) (more : List (List ℕ)) (q : ProofState) → IsValue z w c t → BindApart nesting
+          → AllZip (IsBindingOf z w) (take (length d.images.items - length d.opened.items) d.images.items) (images_in nesting) → map (λ u. u.id) d.names.used ≡ bound_names nesting ++ more
+          → AnswersAs z w y (IsImageRead z y name nesting t q) (image_read place name wanted nesting t q) result)
+          → AnswersAs z v y (IsVariableRead z y settings t x.name c p) (argument_read settings earlier (assigned place x o i) p) result
+      image_answers {y} {c} {result} read table terms more image =
+          variable_read settings earlier place x o i p free.0 free.1 wanted (given_here s v settings r d earlier bs p opening o (Ok wanted) sort) z v w y t c (term_read (Ok c) read) more result
+          (λ b q k. image x.name b p.scope.nesting _ q k.is opening.apart (bindings_stay s z v w table.keeps terms _ _ (outer_images s v settings r d earlier bs p opening)) opening.names)

@@ -1,5 +1,5 @@
 -- What an assume comes to.
-use Rattle.std.proofs.Common.{◌≡◌, ℕ, [], ◌∷◌, ◌++◌, Result, Ok, Err, refl, sym, ap, ◌∙◌}
+use Rattle.std.proofs.Common.{◌≡◌, ℕ, [], ◌∷◌, ◌++◌, Option, Result, Ok, Err, refl, sym, ap, ◌∙◌}
 use Rattle.std.specs.Prelude.{⊤}
 use Rattle.sexpr.specs.declared.causes.Cause.TheVariants.{BadAnchor}
 use Rattle.sexpr.specs.declared.causes.Refusal.{Refusal}
@@ -18,17 +18,24 @@ use Rattle.alethe_text.specs.Ids.{id_judged}
 use Rattle.alethe_text.specs.ProofTerms.{formula_in}
 use Rattle.alethe_text.specs.States.{ProofSettings, ProofState, Reading, ◌>>=◌, changed}
 use Rattle.alethe_text.specs.Steps.{assume_read}
+use Rattle.alethe_reader.specs.declared.ids.Found.{Found}
 use Rattle.alethe_reader.specs.declared.ids.Role.TheVariants.{Assume}
 use Rattle.alethe_reader.specs.declared.session.Session.{Session}
 use Rattle.alethe_reader.specs.Answers.{AnswersAs}
 use Rattle.alethe_reader.specs.KeptReads.{KeepsRead}
+use Rattle.alethe_reader.specs.Ids.{IsIdFound}
 use Rattle.alethe_reader.specs.IdsInUse.{in_use, ids_in}
 use Rattle.alethe_reader.specs.ReadTerms.{IsReadFormula}
 use Rattle.alethe_reader.specs.Sessions.{IsProofSession, IsWritten, StandsAfter}
 use Rattle.alethe_reader.proofs.Answering.{stops, goes, answers, refuses, no_memory, same_outcome}
 use Rattle.alethe_reader.proofs.IdsInUse.{ids_assume}
 use Rattle.alethe_reader.proofs.StillRead.{keeps_changed}
-use Rattle.alethe_reader.proofs.WrittenStays.{written_stays}
+use Rattle.alethe_reader.proofs.WrittenStays.{found_now, written_stays}
+
+-- the id is judged by the ids in use
+pub judged_now : {s : Table} {v : TermsView} {settings : ProofSettings} {d : Session} {p : ProofState} {r : Result ⊤ Refusal} (n : Name) (found : Option Found) → IsProofSession s v settings d p → IsIdFound d.ids.used n.name found
+    → ((q : ProofState) → IsIdFound (ids_in q.scope) n.name found → id_judged BadAnchor n q ≡ given r q) → id_judged BadAnchor n p ≡ given r p
+judged_now n found session looked judged = judged _ (found_now _ _ _ _ _ _ looked session.written)
 
 module _ (settings : ProofSettings) (n : Name) (i : Item) (p : ProofState) where
   -- once the formula was read

@@ -1,5 +1,5 @@
 -- One attribute of a step, and others behind it.
-use Rattle.std.proofs.Common.{◌≡◌, ℕ, ◌≤◌, ◌-◌, arith, Bool, true, false, ◌&&◌, List, [], map, Option, Some, None, unwrap_or, Result, Ok, Err, refl, sym, ap, subst, ◌∙◌, if◌then◌else◌}
+use Rattle.std.proofs.Common.{Vec, Global, ◌≡◌, ℕ, ◌≤◌, ◌-◌, arith, Bool, true, false, ◌&&◌, List, [], ◌∷◌, map, Option, Some, None, unwrap_or, Result, Ok, Err, refl, sym, ap, subst, ◌∙◌, if◌then◌else◌}
 use Rattle.std.specs.Prelude.{⊤, not}
 use Rattle.std.specs.List.{AllZip}
 use Rattle.sexpr.specs.declared.causes.Cause.TheVariants.{LeftOut}
@@ -10,10 +10,10 @@ use Rattle.term_model.specs.Terms.{Term}
 use Rattle.term_pool.specs.Views.{TermsView, KeepsTerms}
 use Rattle.rule_model.specs.Proofs.{Step, Fraction}
 use Rattle.rule_model.specs.RuleNames.{left_out_rules}
+use Rattle.rule_model.specs.declared.rules.Rule.{Rule}
 use Rattle.rule_model.specs.Visibility.{Sight}
 use Rattle.proof_store.specs.Meaning.{IsPivotOf}
 use Rattle.proof_store.specs.Ratios.{fraction_of_ratio}
-use Rattle.text_items.specs.declared.nodes.Node.{Node}
 use Rattle.text_items.specs.ItemShapes.{Name}
 use Rattle.problem_text.specs.Outcomes.{Outcome, done, going_on, and_then}
 use Rattle.problem_text.specs.Words.{is_among}
@@ -21,8 +21,8 @@ use Rattle.term_names.specs.Making.{PlacesCellsOf}
 use Rattle.term_names.specs.Standing.{AddsNoSymbols}
 use Rattle.term_names.specs.declared.faults.ReadFault.{ReadFault}
 use Rattle.term_reader.specs.ProblemViews.{ReaderView, IsReaderOf}
-use Rattle.term_reader.proofs.Staying.{adds_none, keeps_none, places_none, places_more, places_then}
-use Rattle.alethe_commands.specs.CommandNodes.{AreAttributes, HasFirstAttribute, LiesWithin}
+use Rattle.term_reader.proofs.Staying.{adds_none, adds_then, keeps_none, places_none, places_more, places_then}
+use Rattle.alethe_commands.specs.CommandNodes.{LiesWithin}
 use Rattle.alethe_commands.specs.declared.attributes.StepAttribute.{StepAttribute}
 use Rattle.alethe_text.specs.Arguments.{takes_coefficients, takes_pivots, named_among, pivots_from, arguments_from}
 use Rattle.alethe_text.specs.Coefficients.{coefficients_from}
@@ -52,108 +52,118 @@ one_of b one other p e = rw e refl
 other_of : {A : Type 0} (b : Bool) (one other : Reading A) (p : ProofState) → b ≡ false → (if b then one else other) p ≡ other p
 other_of b one other p e = rw e refl
 
--- An attribute's reading, by that of what stands in it.
-module _ (s : Table) (v : TermsView) (settings : ProofSettings) (at : text.Standing) (e : Session) (p : ProofState) (before : Step Term) where
-  pub rule_answers : (n : Name) (result : Result ⊤ ReadFault) → IsRuleJudged (demand (not (is_among left_out_rules n.name)) LeftOut n.place p) p result
-      → AreReadAttributes s v settings at.nesting e p before tt before p
-      → AnswersAs s v v (AreReadAttributes s v settings at.nesting e p before) (attribute_read settings at (rule n) before p) result
-  unfolding attribute_read ◌>>=◌
-  rule_answers n (Ok _) judged after = answers before p refl (ap (λ (o : Outcome ProofState ⊤). and_then o (λ _. give before)) judged) after
-  rule_answers n (Err (ReadFault.Text refusal)) judged after =
-      refuses refl (ap (λ (r : Result ⊤ Refusal). (going_on r (demand (not (is_among left_out_rules n.name)) LeftOut n.place p).state (λ _. give before)).result) judged)
-  rule_answers n (Err ReadFault.PoolFull) judged after = absurd judged
-  rule_answers n (Err ReadFault.Memory) judged after = absurd judged
-
-  indices_answer : (put : List ℕ → Step Term) (sights : List Sight) (ns : List Name) (indices : List ℕ) (result : Result ⊤ ReadFault) → AreIndices sights ns p indices result
-      → AreReadAttributes s v settings at.nesting e p before tt (put indices) p
-      → AnswersAs s v v (AreReadAttributes s v settings at.nesting e p before) (and_then (text.indices_of sights ns p) (λ is. give (put is))) result
-  indices_answer put sights ns indices (Ok _) are after = answers (put indices) p refl (ap (λ (o : Outcome ProofState (List ℕ)). and_then o (λ is. give (put is))) are) after
-  indices_answer put sights ns indices (Err (ReadFault.Text refusal)) are after =
-      refuses refl (ap (λ (r : Result (List ℕ) Refusal). (going_on r (text.indices_of sights ns p).state (λ is. give (put is))).result) are)
-  indices_answer put sights ns indices (Err ReadFault.PoolFull) are after = absurd are
-  indices_answer put sights ns indices (Err ReadFault.Memory) are after = no_memory refl
-
-  pub premises_answer : (ns : List Name) (indices : List ℕ) (result : Result ⊤ ReadFault) → AreIndices at.sees ns p indices result
-      → AreReadAttributes s v settings at.nesting e p before tt (record before { premises = indices }) p
-      → AnswersAs s v v (AreReadAttributes s v settings at.nesting e p before) (attribute_read settings at (premises ns) before p) result
-  unfolding attribute_read ◌>>=◌
-  premises_answer ns indices result are after = indices_answer (λ is. record before { premises = is }) at.sees ns indices result are after
-
-  pub discharge_answers : (ns : List Name) (indices : List ℕ) (result : Result ⊤ ReadFault) → AreIndices at.discharges ns p indices result
-      → AreReadAttributes s v settings at.nesting e p before tt (record before { discharged = indices }) p
-      → AnswersAs s v v (AreReadAttributes s v settings at.nesting e p before) (attribute_read settings at (discharge ns) before p) result
-  unfolding attribute_read ◌>>=◌
-  discharge_answers ns indices result are after = indices_answer (λ is. record before { discharged = is }) at.discharges ns indices result are after
-
-  -- the arguments of a rule that takes coefficients
-  are_ratios : (items : Items) → takes_coefficients before.rule ≡ true
-      → attribute_read settings at (arguments items) before p ≡ and_then (given (coefficients_from items) p) (λ qs. give (record before { ratios = qs }))
-  unfolding attribute_read arguments_from ◌>>=◌
-  are_ratios items takes = one_of (takes_coefficients before.rule) _ _ p takes
-
-  ratios_read : (parts : StepParts) (read : Result (Option (List Fraction)) Refusal) (result : Result ⊤ ReadFault) → AreRatios parts result read
-      → AreReadAttributes s v settings at.nesting e p before tt (record before { ratios = if parts.has_ratios then Some (map fraction_of_ratio parts.ratios.items) else None }) p
-      → AnswersAs s v v (AreReadAttributes s v settings at.nesting e p before) (and_then (given read p) (λ qs. give (record before { ratios = qs }))) result
-  ratios_read parts read (Ok _) are after =
-      answers (record before { ratios = if parts.has_ratios then Some (map fraction_of_ratio parts.ratios.items) else None }) p refl
-      (ap (λ (r : Result (Option (List Fraction)) Refusal). and_then (given r p) (λ qs. give (record before { ratios = qs }))) are) after
-  ratios_read parts read (Err (ReadFault.Text refusal)) are after =
-      refuses refl (ap (λ (r : Result (Option (List Fraction)) Refusal). (and_then (given r p) (λ qs. give (record before { ratios = qs }))).result) are)
-  ratios_read parts read (Err ReadFault.PoolFull) are after = absurd are
-  ratios_read parts read (Err ReadFault.Memory) are after = no_memory refl
-
-  pub ratios_answer : (items : Items) → takes_coefficients before.rule ≡ true → (parts : StepParts) (result : Result ⊤ ReadFault) → AreRatios parts result (coefficients_from items)
-      → AreReadAttributes s v settings at.nesting e p before tt (record before { ratios = if parts.has_ratios then Some (map fraction_of_ratio parts.ratios.items) else None }) p
-      → AnswersAs s v v (AreReadAttributes s v settings at.nesting e p before) (attribute_read settings at (arguments items) before p) result
-  ratios_answer items takes parts result are after = same_outcome (are_ratios items takes) (ratios_read parts (coefficients_from items) result are after)
-
--- the arguments of a rule that takes no coefficients
-module _ (settings : ProofSettings) (at : text.Standing) (p : ProofState) (before : Step Term) (items : Items) (no_coefficients : takes_coefficients before.rule ≡ false) where
-  -- a step with these pivots
-  abbrev put : Option (List (Term × Bool)) → Reading (Step Term)
-  put of = give (record before { pivots = unwrap_or of [] })
-
-  are_pivots : (settings.is_strict && takes_pivots before.rule) ≡ true → attribute_read settings at (arguments items) before p ≡ and_then (pivots_from settings at.nesting items p) put
-  unfolding attribute_read arguments_from ◌>>=◌
-  are_pivots takes = other_of (takes_coefficients before.rule) _ _ p no_coefficients ∙ one_of (settings.is_strict && takes_pivots before.rule) _ _ p takes
-
-  are_names : (settings.is_strict && takes_pivots before.rule) ≡ false → attribute_read settings at (arguments items) before p ≡ and_then (named_among settings at.nesting items p) (λ _. give before)
-  unfolding attribute_read arguments_from ◌>>=◌
-  are_names takes = other_of (takes_coefficients before.rule) _ _ p no_coefficients ∙ other_of (settings.is_strict && takes_pivots before.rule) _ _ p takes
-
-  module _ (s : Table) (old v : TermsView) (e : Session) where
-    pub pivots_answer : (settings.is_strict && takes_pivots before.rule) ≡ true → (result : Result ⊤ ReadFault) → AnswersAs s old v (AreReadPivots s v settings at.nesting e.reader p e.parts.pivots.items) (pivots_from settings at.nesting items p) result
-        → e.parts.premises.items ≡ before.premises → e.parts.discharged.items ≡ before.discharged → (if e.parts.has_ratios then Some (map fraction_of_ratio e.parts.ratios.items) else None) ≡ before.ratios
-        → AnswersAs s old v (AreReadAttributes s v settings at.nesting e p before) (attribute_read settings at (arguments items) before p) result
-    pivots_answer takes (Ok _) h same_premises same_discharged same_ratios =
-        same_outcome (are_pivots takes)
-        (goes put (λ of. keeps_give (record before { pivots = unwrap_or of [] })) h (adds_none s).keeps (keeps_none v)
-        (λ of q k. answers (record before { pivots = unwrap_or of [] }) q refl refl (record {
-          parts = record { premises = same_premises; discharged = same_discharged; pivots = k.stand; ratios = same_ratios };
-          id = refl;
-          rule = refl;
-          rule_name = refl;
-          clause = refl;
-          behind = k.behind;
-        })))
-    pivots_answer takes (Err fault) h same_premises same_discharged same_ratios = same_outcome (are_pivots takes) (stops put (λ of. keeps_give (record before { pivots = unwrap_or of [] })) h)
-
-    pub names_answer : (settings.is_strict && takes_pivots before.rule) ≡ false → (result : Result ⊤ ReadFault) → AnswersAs s old v (AreNamed s v settings at.nesting e.reader p) (named_among settings at.nesting items p) result
-        → AreStepParts s v e.parts before → AnswersAs s old v (AreReadAttributes s v settings at.nesting e p before) (attribute_read settings at (arguments items) before p) result
-    names_answer takes (Ok _) h parts =
-        same_outcome (are_names takes)
-        (goes (λ _. give before) (λ _. keeps_give before) h (adds_none s).keeps (keeps_none v)
-        (λ t q k. answers before q refl refl (record { parts = parts; id = refl; rule = refl; rule_name = refl; clause = refl; behind = k.behind })))
-    names_answer takes (Err fault) h parts = same_outcome (are_names takes) (stops (λ _. give before) (λ _. keeps_give before) h)
-
 -- the parts go on being those of the step
-pub parts_stay : (s z : Table) (v w : TermsView) → Keeps s z → KeepsTerms v w → (d : StepParts) (step : Step Term) → AreStepParts s v d step → AreStepParts z w d step
+parts_stay : (s z : Table) (v w : TermsView) → Keeps s z → KeepsTerms v w → (d : StepParts) (step : Step Term) → AreStepParts s v d step → AreStepParts z w d step
 parts_stay s z v w table terms d step h = record {
   premises = h.premises;
   discharged = h.discharged;
   pivots = pivots_stay s z v w table terms d.pivots.items step.pivots h.pivots;
   ratios = h.ratios;
 }
+
+-- An attribute's reading, by that of what stands in it.
+module _ {s : Table} {v : TermsView} {settings : ProofSettings} {at : text.Standing} {standing : Standing} {d : Session} {p : ProofState} {before : Step Term} (stands : StandsAt s v settings at d standing p) (parts : AreStepParts s v d.parts before) where
+  -- with these parts the step is read
+  read_with : (ps : StepParts) (listed others : List ℕ) (pivots : List (Term × Bool)) (ratios : Option (List Fraction)) → AreStepParts s v ps (record before { premises = listed; discharged = others; pivots = pivots; ratios = ratios })
+      → AreReadAttributes s v settings at.nesting (record d { parts = ps }) p before tt (record before { premises = listed; discharged = others; pivots = pivots; ratios = ratios }) p
+  read_with ps listed others pivots ratios are = record { parts = are; id = refl; rule = refl; rule_name = refl; clause = refl; behind = record { reader = stands.reader; scope = refl; anchors = refl } }
+
+  pub rule_answers : (n : Name) (result : Result ⊤ ReadFault) → IsRuleJudged (demand (not (is_among left_out_rules n.name)) LeftOut n.place p) p result
+      → AnswersAs s v v (AreReadAttributes s v settings at.nesting d p before) (attribute_read settings at (rule n) before p) result
+  unfolding attribute_read ◌>>=◌
+  rule_answers n (Ok _) judged =
+      answers before p refl (ap (λ (o : Outcome ProofState ⊤). and_then o (λ _. give before)) judged) (read_with d.parts before.premises before.discharged before.pivots before.ratios parts)
+  rule_answers n (Err (ReadFault.Text refusal)) judged =
+      refuses refl (ap (λ (r : Result ⊤ Refusal). (going_on r (demand (not (is_among left_out_rules n.name)) LeftOut n.place p).state (λ _. give before)).result) judged)
+  rule_answers n (Err ReadFault.PoolFull) judged = absurd judged
+  rule_answers n (Err ReadFault.Memory) judged = absurd judged
+
+  indices_answer : (e : Session) (put : List ℕ → Step Term) (sights : List Sight) (ns : List Name) (indices : List ℕ) (result : Result ⊤ ReadFault) → AreIndices sights ns p indices result
+      → AreReadAttributes s v settings at.nesting e p before tt (put indices) p
+      → AnswersAs s v v (AreReadAttributes s v settings at.nesting e p before) (and_then (text.indices_of sights ns p) (λ is. give (put is))) result
+  indices_answer e put sights ns indices (Ok _) are after = answers (put indices) p refl (ap (λ (o : Outcome ProofState (List ℕ)). and_then o (λ is. give (put is))) are) after
+  indices_answer e put sights ns indices (Err (ReadFault.Text refusal)) are after =
+      refuses refl (ap (λ (r : Result (List ℕ) Refusal). (going_on r (text.indices_of sights ns p).state (λ is. give (put is))).result) are)
+  indices_answer e put sights ns indices (Err ReadFault.PoolFull) are after = absurd are
+  indices_answer e put sights ns indices (Err ReadFault.Memory) are after = no_memory refl
+
+  pub premises_answer : (ns : List Name) (indices : Vec ℕ Global) (result : Result ⊤ ReadFault) → AreIndices at.sees ns p indices.items result
+      → AnswersAs s v v (AreReadAttributes s v settings at.nesting (record d { parts = record d.parts { premises = indices } }) p before) (attribute_read settings at (premises ns) before p) result
+  unfolding attribute_read ◌>>=◌
+  premises_answer ns indices result are =
+      indices_answer _ (λ is. record before { premises = is }) at.sees ns indices.items result are
+      (read_with _ indices.items before.discharged before.pivots before.ratios (record { premises = refl; discharged = parts.discharged; pivots = parts.pivots; ratios = parts.ratios }))
+
+  pub discharge_answers : (ns : List Name) (indices : Vec ℕ Global) (result : Result ⊤ ReadFault) → AreIndices at.discharges ns p indices.items result
+      → AnswersAs s v v (AreReadAttributes s v settings at.nesting (record d { parts = record d.parts { discharged = indices } }) p before) (attribute_read settings at (discharge ns) before p) result
+  unfolding attribute_read ◌>>=◌
+  discharge_answers ns indices result are =
+      indices_answer _ (λ is. record before { discharged = is }) at.discharges ns indices.items result are
+      (read_with _ before.premises indices.items before.pivots before.ratios (record { premises = parts.premises; discharged = refl; pivots = parts.pivots; ratios = parts.ratios }))
+
+  module _ (items : Items) {kind : Rule} (same : before.rule ≡ kind) where
+    -- the arguments of a rule that takes coefficients
+    module _ (takes : takes_coefficients kind ≡ true) where
+      are_ratios : attribute_read settings at (arguments items) before p ≡ and_then (given (coefficients_from items) p) (λ qs. give (record before { ratios = qs }))
+      unfolding attribute_read arguments_from ◌>>=◌
+      are_ratios = one_of (takes_coefficients before.rule) _ _ p (ap takes_coefficients same ∙ takes)
+
+      ratios_read : (e : Session) (read : Result (Option (List Fraction)) Refusal) (result : Result ⊤ ReadFault) → AreRatios e.parts result read
+          → AreReadAttributes s v settings at.nesting e p before tt (record before { ratios = if e.parts.has_ratios then Some (map fraction_of_ratio e.parts.ratios.items) else None }) p
+          → AnswersAs s v v (AreReadAttributes s v settings at.nesting e p before) (and_then (given read p) (λ qs. give (record before { ratios = qs }))) result
+      ratios_read e read (Ok _) are after =
+          answers (record before { ratios = if e.parts.has_ratios then Some (map fraction_of_ratio e.parts.ratios.items) else None }) p refl
+          (ap (λ (r : Result (Option (List Fraction)) Refusal). and_then (given r p) (λ qs. give (record before { ratios = qs }))) are) after
+      ratios_read e read (Err (ReadFault.Text refusal)) are after =
+          refuses refl (ap (λ (r : Result (Option (List Fraction)) Refusal). (and_then (given r p) (λ qs. give (record before { ratios = qs }))).result) are)
+      ratios_read e read (Err ReadFault.PoolFull) are after = absurd are
+      ratios_read e read (Err ReadFault.Memory) are after = no_memory refl
+
+      pub ratios_answer : (ps : StepParts) (result : Result ⊤ ReadFault) → AreRatios ps result (coefficients_from items) → ps.premises ≡ d.parts.premises → ps.discharged ≡ d.parts.discharged → ps.pivots ≡ d.parts.pivots
+          → AnswersAs s v v (AreReadAttributes s v settings at.nesting (record d { parts = ps }) p before) (attribute_read settings at (arguments items) before p) result
+      ratios_answer ps result are listed others pivots =
+          same_outcome are_ratios
+          (ratios_read _ (coefficients_from items) result are
+          (read_with ps before.premises before.discharged before.pivots _ (rw (listed, others, pivots) (record { premises = parts.premises; discharged = parts.discharged; pivots = parts.pivots; ratios = refl }))))
+
+    -- the arguments of a rule that takes none
+    module _ (no_coefficients : takes_coefficients kind ≡ false) where
+      -- a step with these pivots
+      abbrev put : Option (List (Term × Bool)) → Reading (Step Term)
+      put of = give (record before { pivots = unwrap_or of [] })
+
+      by_pivots : (b : Bool) → (d.strict && takes_pivots kind) ≡ b → attribute_read settings at (arguments items) before p ≡ (if b then pivots_from settings at.nesting items >>= put else named_among settings at.nesting items >>= λ _. give before) p
+      unfolding attribute_read arguments_from ◌>>=◌
+      by_pivots b takes =
+          other_of (takes_coefficients before.rule) _ _ p (ap takes_coefficients same ∙ no_coefficients)
+          ∙ ap (λ c. (if c then pivots_from settings at.nesting items >>= put else named_among settings at.nesting items >>= λ _. give before) p) (rw (stands.strict, same) takes)
+
+      module _ (e : Session) where
+        pub pivots_answer : {z : Table} {w : TermsView} → (d.strict && takes_pivots kind) ≡ true → (result : Result ⊤ ReadFault) → AnswersAs z v w (AreReadPivots z w settings at.nesting e.reader p e.parts.pivots.items) (pivots_from settings at.nesting items p) result
+            → e.parts.premises ≡ d.parts.premises → e.parts.discharged ≡ d.parts.discharged → e.parts.has_ratios ≡ d.parts.has_ratios → e.parts.ratios ≡ d.parts.ratios
+            → AnswersAs z v w (AreReadAttributes z w settings at.nesting e p before) (attribute_read settings at (arguments items) before p) result
+        unfolding ◌>>=◌
+        pivots_answer {z} {w} takes (Ok _) h listed others has ratios =
+            same_outcome (by_pivots true takes)
+            (goes put (λ of. keeps_give (record before { pivots = unwrap_or of [] })) h (adds_none z).keeps (keeps_none w)
+            (λ of q k. answers (record before { pivots = unwrap_or of [] }) q refl refl (record {
+              parts = record { premises = rw listed parts.premises; discharged = rw others parts.discharged; pivots = k.stand; ratios = rw (has, ratios) parts.ratios };
+              id = refl;
+              rule = refl;
+              rule_name = refl;
+              clause = refl;
+              behind = k.behind;
+            })))
+        pivots_answer {z} {w} takes (Err fault) h listed others has ratios = same_outcome (by_pivots true takes) (stops put (λ of. keeps_give (record before { pivots = unwrap_or of [] })) h)
+
+        pub names_answer : {z : Table} {w : TermsView} → (d.strict && takes_pivots kind) ≡ false → (result : Result ⊤ ReadFault) → AnswersAs z v w (AreNamed z w settings at.nesting e.reader p) (named_among settings at.nesting items p) result
+            → Keeps s z → KeepsTerms v w → e.parts ≡ d.parts → AnswersAs z v w (AreReadAttributes z w settings at.nesting e p before) (attribute_read settings at (arguments items) before p) result
+        unfolding ◌>>=◌
+        names_answer {z} {w} takes (Ok _) h table terms still =
+            same_outcome (by_pivots false takes)
+            (goes (λ _. give before) (λ _. keeps_give before) h (adds_none z).keeps (keeps_none w)
+            (λ t q k. answers before q refl refl (record { parts = rw still (parts_stay s z v w table terms d.parts before parts); id = refl; rule = refl; rule_name = refl; clause = refl; behind = k.behind })))
+        names_answer {z} {w} takes (Err fault) h table terms still = same_outcome (by_pivots false takes) (stops (λ _. give before) (λ _. keeps_give before) h)
 
 -- nothing of a step is among its parts
 pub none_among : (s : Table) (v : TermsView) (d : StepParts) (before : Step Term) → IsBare before → takes_coefficients before.rule ≡ d.has_ratios
@@ -167,13 +177,11 @@ none_among s v d before bare takes no_premises no_discharged no_pivots no_ratios
       ∙ (ap (λ b. if b then Some [] else None) (sym takes) ∙ sym bare.ratios);
 }
 
--- The attributes before node k were read, and the step before all became this one.
-pub record AreSoFar (source : List ℕ) (nodes : List Node) (settings : ProofSettings) (at : text.Standing) (standing : Standing) (s : Table) (old v : TermsView) (d : Session) (p : ProofState) (before : Step Term) (k m : ℕ) (whole : Outcome ProofState (Step Term)) : Type 0 where
-  pub rest : List Attribute
+-- Some attributes were read, these are left, and the step before all became this one.
+pub record AreSoFar (settings : ProofSettings) (at : text.Standing) (standing : Standing) (s : Table) (old v : TermsView) (d : Session) (p : ProofState) (before : Step Term) (left : List Attribute) (whole : Outcome ProofState (Step Term)) : Type 0 where
   pub step : Step Term
   pub state : ProofState
-  pub there : AreAttributes source nodes k rest m
-  pub comes : whole ≡ attributes_read settings at rest step state
+  pub comes : whole ≡ attributes_read settings at left step state
   pub stands : StandsAt s v settings at d standing state
   pub read : AreReadAttributes s v settings at.nesting d p before tt step state
   pub placed : PlacesCellsOf s old.pass v.pass (WasRead whole)
@@ -187,61 +195,53 @@ stands_still s v settings at standing d e p h ids reader strict = record {
   reader = subst (λ (r : ReaderView). IsReaderOf s v r p.script (place_in settings at.nesting)) (sym reader) h.reader;
 }
 
-module _ (source : List ℕ) (nodes : List Node) (settings : ProofSettings) (at : text.Standing) (standing : Standing) (p : ProofState) (before : Step Term) (k m : ℕ) where
-  pub so_far_first : (s : Table) (v : TermsView) (d : Session) (attributes : List Attribute) → AreAttributes source nodes k attributes m → StandsAt s v settings at d standing p → AreStepParts s v d.parts before
-      → AreSoFar source nodes settings at standing s v v d p before k m (attributes_read settings at attributes before p)
-  so_far_first s v d attributes are stands parts = record {
-    rest = attributes;
+module _ (settings : ProofSettings) (at : text.Standing) (standing : Standing) (p : ProofState) (before : Step Term) where
+  pub so_far_first : (s : Table) (v : TermsView) (d : Session) (left : List Attribute) → StandsAt s v settings at d standing p → AreStepParts s v d.parts before
+      → AreSoFar settings at standing s v v d p before left (attributes_read settings at left before p)
+  so_far_first s v d left stands parts = record {
     step = before;
     state = p;
-    there = are;
     comes = refl;
     stands = stands;
     read = record { parts = parts; id = refl; rule = refl; rule_name = refl; clause = refl; behind = record { reader = stands.reader; scope = refl; anchors = refl } };
-    placed = places_none s v.pass v.pass (WasRead (attributes_read settings at attributes before p)) refl;
+    placed = places_none s v.pass v.pass (WasRead (attributes_read settings at left before p)) refl;
   }
 
-  module _ (s z : Table) (old v w : TermsView) (d e : Session) (whole : Outcome ProofState (Step Term)) (h : AreSoFar source nodes settings at standing s old v d p before k m whole) where
-    pub all_read : h.rest ≡ [] → AnswersAs s old v (AreReadAttributes s v settings at.nesting d p before) whole (Ok tt)
+  module _ {s : Table} {old v : TermsView} {d : Session} {left : List Attribute} {whole : Outcome ProofState (Step Term)} (h : AreSoFar settings at standing s old v d p before left whole) where
+    pub all_read : left ≡ [] → AnswersAs s old v (AreReadAttributes s v settings at.nesting d p before) whole (Ok tt)
     unfolding attributes_read
     all_read none = record {
       answer = record { value = h.step; state = h.state; comes = h.comes ∙ ap (λ (xs : List Attribute). attributes_read settings at xs h.step h.state) none; after = h.read };
       placed = h.placed;
     }
 
-    module _ (adds : AddsNoSymbols s z) (keeps : KeepsTerms v w) (said : StepAttribute) (next : ℕ) (f : HasFirstAttribute source nodes said next h.rest m) (result : Result ⊤ ReadFault)
-        (this : AnswersAs z v w (AreReadAttributes z w settings at.nesting e h.state h.step) (attribute_read settings at f.first h.step h.state) result) where
-      splits : whole ≡ and_then (attribute_read settings at f.first h.step h.state) (attributes_read settings at f.others)
+    module _ {z : Table} {w : TermsView} (adds : AddsNoSymbols s z) (keeps : KeepsTerms v w) {first : Attribute} {rest : List Attribute} (split : left ≡ first ∷ rest) where
+      -- the first of the attributes that are left
+      abbrev this : Outcome ProofState (Step Term)
+      this = attribute_read settings at first h.step h.state
+
+      splits : whole ≡ and_then this (attributes_read settings at rest)
       unfolding attributes_read ◌>>=◌
-      splits = h.comes ∙ ap (λ (xs : List Attribute). attributes_read settings at xs h.step h.state) f.split
+      splits = h.comes ∙ ap (λ (xs : List Attribute). attributes_read settings at xs h.step h.state) split
 
-      grows : (x : Term) → WasRead (attribute_read settings at f.first h.step h.state) x → WasRead whole x
-      grows x k =
-          subst (λ (o : Outcome ProofState (Step Term)). WasRead o x) (sym splits)
-          (read_on (attribute_read settings at f.first h.step h.state) (attributes_read settings at f.others) (keeps_attributes settings at f.others) x k)
+      grows : (x : Term) → WasRead this x → WasRead whole x
+      grows x k = subst (λ (o : Outcome ProofState (Step Term)). WasRead o x) (sym splits) (read_on this (attributes_read settings at rest) (keeps_attributes settings at rest) x k)
 
-      placed_then : PlacesCellsOf z old.pass w.pass (WasRead whole)
-      placed_then = places_then s z old.pass v.pass w.pass (WasRead whole) adds.keeps keeps.pass h.placed (places_more z v.pass w.pass _ _ grows this.placed)
+      placed_then : PlacesCellsOf z v.pass w.pass (WasRead this) → PlacesCellsOf z old.pass w.pass (WasRead whole)
+      placed_then placed = places_then s z old.pass v.pass w.pass (WasRead whole) adds.keeps keeps.pass h.placed (places_more z v.pass w.pass _ _ grows placed)
 
-      pub fails : (fault : ReadFault) → result ≡ Err fault → AnswersAs z old w (AreReadAttributes z w settings at.nesting e p before) whole (Err fault)
-      fails fault is =
-          let first : AnswersAs z v w (AreReadAttributes z w settings at.nesting e h.state h.step) (attribute_read settings at f.first h.step h.state) (Err fault) =
-          subst (λ r. AnswersAs z v w (AreReadAttributes z w settings at.nesting e h.state h.step) (attribute_read settings at f.first h.step h.state) r) is this in
-          let all : AnswersAs z v w (AreReadAttributes z w settings at.nesting e p before) (and_then (attribute_read settings at f.first h.step h.state) (attributes_read settings at f.others)) (Err fault) =
-          stops (attributes_read settings at f.others) (keeps_attributes settings at f.others) first in
-          record { answer = subst (λ (o : Outcome ProofState (Step Term)). IsAnswerOf z w.pass (AreReadAttributes z w settings at.nesting e p before) o (Err fault)) (sym splits) all.answer; placed = placed_then }
+      pub fails : {e : Session} {fault : ReadFault} → AnswersAs z v w (AreReadAttributes z w settings at.nesting e h.state h.step) this (Err fault) → AnswersAs z old w (AreReadAttributes z w settings at.nesting e p before) whole (Err fault)
+      fails {e} {fault} read =
+          let all : AnswersAs z v w (AreReadAttributes z w settings at.nesting e p before) (and_then this (attributes_read settings at rest)) (Err fault) = stops (attributes_read settings at rest) (keeps_attributes settings at rest) read in
+          record { answer = subst (λ (o : Outcome ProofState (Step Term)). IsAnswerOf z w.pass (AreReadAttributes z w settings at.nesting e p before) o (Err fault)) (sym splits) all.answer; placed = placed_then read.placed }
 
-      pub so_far_next : result ≡ Ok tt → KeepsOthers d e → AreSoFar source nodes settings at standing z old w e p before next m whole
-      so_far_next is others =
-          let first : AnswersAs z v w (AreReadAttributes z w settings at.nesting e h.state h.step) (attribute_read settings at f.first h.step h.state) (Ok tt) =
-          subst (λ r. AnswersAs z v w (AreReadAttributes z w settings at.nesting e h.state h.step) (attribute_read settings at f.first h.step h.state) r) is this in
-          let a = first.answer in
+      pub so_far_next : {e : Session} → AnswersAs z v w (AreReadAttributes z w settings at.nesting e h.state h.step) this (Ok tt) → KeepsOthers d e → AreSoFar settings at standing z old w e p before rest whole
+      so_far_next read others =
+          let a = read.answer in
           record {
-            rest = f.others;
             step = a.value;
             state = a.state;
-            there = f.there;
-            comes = splits ∙ ap (λ (o : Outcome ProofState (Step Term)). and_then o (attributes_read settings at f.others)) a.comes;
+            comes = splits ∙ ap (λ (o : Outcome ProofState (Step Term)). and_then o (attributes_read settings at rest)) a.comes;
             stands = record {
               strict = h.stands.strict ∙ sym others.strict;
               sees = subst (λ (x : IdsView). IsReach x.used standing.premises at.sees) (sym others.ids) h.stands.sees;
@@ -256,7 +256,7 @@ module _ (source : List ℕ) (nodes : List Node) (settings : ProofSettings) (at 
               clause = a.after.clause ∙ h.read.clause;
               behind = record { reader = a.after.behind.reader; scope = a.after.behind.scope ∙ h.read.behind.scope; anchors = a.after.behind.anchors ∙ h.read.behind.anchors };
             };
-            placed = placed_then;
+            placed = placed_then read.placed;
           }
 
 -- the nodes of an attribute's arguments lie where the attribute does
@@ -290,12 +290,7 @@ left_out out place p refusal e r = rw (e, r) refl
 pub kept_in : (out : Bool) (place : ℕ) (p : ProofState) → out ≡ false → demand (not out) LeftOut place p ≡ done tt p
 kept_in out place p e = rw e refl
 
--- behind an attribute the step stands as before
-pub stands_on : (s z : Table) (v w : TermsView) (settings : ProofSettings) (at : text.Standing) (standing : Standing) (d e : Session) (p q : ProofState) → StandsAt s v settings at d standing p → KeepsOthers d e → IsReaderOf z w e.reader q.script (place_in settings at.nesting)
-    → StandsAt z w settings at e standing q
-stands_on s z v w settings at standing d e p q h others reader = record {
-  strict = h.strict ∙ sym others.strict;
-  sees = subst (λ (x : IdsView). IsReach x.used standing.premises at.sees) (sym others.ids) h.sees;
-  discharges = subst (λ (x : IdsView). IsReach x.used standing.discharges at.discharges) (sym others.ids) h.discharges;
-  reader = reader;
-}
+-- what is added, and what an attribute's arguments spend
+pub ruleset attributes_counted = (adds_then, others_kept, own_fit, nodes_fit)
+
+pub ruleset rules_judged = (left_out, kept_in)

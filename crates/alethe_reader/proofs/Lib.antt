@@ -20,7 +20,6 @@ mod AssumeReading
 mod AnchorReading
 pub mod StillReadCommands
 mod TextCommands
-mod PerformedCommands
 mod TextLoop
 mod ReadProofs
 mod StoredItems
@@ -28,8 +27,8 @@ mod Reaches
 mod Indices
 mod StandingSteps
 mod RuleWords
+mod LeftToRead
 mod FormulaLists
-mod NamingItems
 mod NamedArguments
 mod PivotReading
 mod PivotPairs

@@ -153,11 +153,11 @@ pub record IsBegun (text : List ℕ) (settings : ProofSettings) (before : Script
   pub session : IsProofSession s v settings d (unread before)
 
 -- behind the answer and inside the list
-pub begun : AreSpelled → (text : List ℕ) (settings : ProofSettings) (before : Script) (l m o : Lexer) (in_list : Bool) (s : Table) (v : TermsView) (d : Session) → source l ≡ text → position l ≡ 0
+pub begun : {text : List ℕ} {settings : ProofSettings} {before : Script} {in_list : Bool} {s : Table} {v : TermsView} {d : Session} → AreSpelled → (l m o : Lexer) → source l ≡ text → position l ≡ 0
     → ((items : Items) → HasCommandItems (source l) false (position l) items no_items → HasCommandItems (source m) false (position m) (behind_answer items) no_items)
     → ((items : Items) → HasCommandItems (source m) false (position m) items no_items → HasCommandItems (source o) in_list (position o) (unwrapped_commands items) (behind_list items))
     → IsProofSession s v settings d (unread before) → IsBegun text settings before o in_list s v d
-begun spelled text settings before l m o in_list s v d whole start skips enters session = record {
+begun {text} {settings} {before} spelled l m o whole start skips enters session = record {
   left = λ items h. record {
     items = unwrapped_commands (behind_answer items);
     behind = behind_list (behind_answer items);
@@ -184,7 +184,14 @@ pub some_behind : (l m : Lexer) → ((items : Items) → HasCommandItems (source
 some_behind l m skips (items, h) = (behind_answer items, skips items h)
 
 -- what reading all commands of the text has come to
-module _ (text : List ℕ) (settings : ProofSettings) (before : Script) (form : HasForm text) where
+abbrev pub ReadsText : List ℕ → ProofSettings → Script → List ℕ → Table → TermsView → TermsView → Session → ℕ → Result Unit ReadFault → Type 0
+ReadsText text settings before source s old new d at result = (items : Items) → StandsForItems text items → ReadsProof source s old new settings d at (proof_from settings items (unread before)) result
+
+-- once all commands were read, and what is left is finished
+abbrev pub Finishes : ProofSettings → List ℕ → Table → TermsView → Session → ℕ → Result (Proof ℕ ℕ) ReadFault → Type 0
+Finishes settings source s new d at result = (p : ProofState) (behind : Items) → HasCommandItems source false at behind no_items → IsProofSession s new settings d p → IsFinished s new p (closing_from settings behind tt p) result
+
+module _ {text : List ℕ} (settings : ProofSettings) (before : Script) (form : HasForm text) where
   abbrev whole_of : Items → Outcome ProofState (Proof Var Term)
   whole_of items = proof_from settings items (unread before)
 
@@ -194,32 +201,7 @@ module _ (text : List ℕ) (settings : ProofSettings) (before : Script) (form : 
   first_fault : (items : Items) → StandsForItems text items → (r : Refusal) → (whole_of items).result ≡ Err r → IsFirstProofFault text settings before r
   first_fault items h r is = inr (record { items = items; nested = h; refused = is })
 
-  module _ (source : List ℕ) (s : Table) (old new : TermsView) (d : Session) (at : ℕ) where
-    abbrev pub Reads : Result Unit ReadFault → Type 0
-    Reads result = (items : Items) → StandsForItems text items → ReadsProof source s old new settings d at (whole_of items) result
-
-    pub read_placed : (result : Result Unit ReadFault) → Reads result → PlacesCellsOf s old.pass new.pass (IsCountedOfProof text settings before)
-    read_placed result reads = places_more s old.pass new.pass (WasRead (whole_of form.0)) (IsCountedOfProof text settings before) (counted form.0 form.1) (reads form.0 form.1).placed
-
-    pub read_fault : (f : ReadFault) (r : Refusal) → f ≡ ReadFault.Text r → Reads (Err f) → IsFirstProofFault text settings before r
-    read_fault f r is reads =
-        first_fault form.0 form.1 r
-        (subst (λ (x : ReadFault). EndsWith s new.pass (whole_of form.0).result (WasRead (whole_of form.0)) x) is (reads form.0 form.1).outcome)
-
-    pub read_full : (f : ReadFault) → f ≡ ReadFault.PoolFull → Reads (Err f) → LacksCellOf s new.pass (IsCountedOfProof text settings before)
-    read_full f is reads =
-        lacks_more s new.pass (WasRead (whole_of form.0)) (IsCountedOfProof text settings before) (counted form.0 form.1)
-        (subst (λ (x : ReadFault). EndsWith s new.pass (whole_of form.0).result (WasRead (whole_of form.0)) x) is (reads form.0 form.1).outcome)
-
-    -- Once all commands were read, and what is left is finished.
-    abbrev pub Finishes : Result (Proof ℕ ℕ) ReadFault → Type 0
-    Finishes result = (p : ProofState) (behind : Items) → HasCommandItems source false at behind no_items → IsProofSession s new settings d p → IsFinished s new p (closing_from settings behind tt p) result
-
-    ended : {u : Unit {0}} (result : Result (Proof ℕ ℕ) ReadFault) → Reads (Ok u) → Finishes result → (p : ProofState) × IsFinished s new p (whole_of form.0) result
-    ended result reads finishes =
-        let (p, none, session) = (reads form.0 form.1).outcome in
-        (p, subst (λ (w : Outcome ProofState (Proof Var Term)). IsFinished s new p w result) none.comes (finishes p none.behind none.here session))
-
+  module _ (s : Table) (new : TermsView) where
     proof_of : (result : Result (Proof ℕ ℕ) ReadFault) → (p : ProofState) × IsFinished s new p (whole_of form.0) result → IfOk result (IsProofOf text settings before s new)
     proof_of (Ok refs) (p, (proof, is, refer)) = record {
       proof = proof;
@@ -237,15 +219,34 @@ module _ (text : List ℕ) (settings : ProofSettings) (before : Script) (form : 
     fault_of : (result : Result (Proof ℕ ℕ) ReadFault) (r : Refusal) → result ≡ Err (ReadFault.Text r) → (p : ProofState) × IsFinished s new p (whole_of form.0) result → (whole_of form.0).result ≡ Err r
     fault_of result r e (p, h) = subst (λ (x : Result (Proof ℕ ℕ) ReadFault). IsFinished s new p (whole_of form.0) x) e h
 
-    pub some_end : {u : Unit {0}} → Reads (Ok u) → (p : ProofState) × (behind : Items) × HasCommandItems source false at behind no_items × IsProofSession s new settings d p
+  module _ {source : List ℕ} {s : Table} {old new : TermsView} {d : Session} {at : ℕ} where
+    pub read_placed : (result : Result Unit ReadFault) → ReadsText text settings before source s old new d at result → PlacesCellsOf s old.pass new.pass (IsCountedOfProof text settings before)
+    read_placed result reads = places_more s old.pass new.pass (WasRead (whole_of form.0)) (IsCountedOfProof text settings before) (counted form.0 form.1) (reads form.0 form.1).placed
+
+    pub read_fault : (f : ReadFault) (r : Refusal) → f ≡ ReadFault.Text r → ReadsText text settings before source s old new d at (Err f) → IsFirstProofFault text settings before r
+    read_fault f r is reads =
+        first_fault form.0 form.1 r
+        (subst (λ (x : ReadFault). EndsWith s new.pass (whole_of form.0).result (WasRead (whole_of form.0)) x) is (reads form.0 form.1).outcome)
+
+    pub read_full : (f : ReadFault) → f ≡ ReadFault.PoolFull → ReadsText text settings before source s old new d at (Err f) → LacksCellOf s new.pass (IsCountedOfProof text settings before)
+    read_full f is reads =
+        lacks_more s new.pass (WasRead (whole_of form.0)) (IsCountedOfProof text settings before) (counted form.0 form.1)
+        (subst (λ (x : ReadFault). EndsWith s new.pass (whole_of form.0).result (WasRead (whole_of form.0)) x) is (reads form.0 form.1).outcome)
+
+    ended : {u : Unit {0}} (result : Result (Proof ℕ ℕ) ReadFault) → ReadsText text settings before source s old new d at (Ok u) → Finishes settings source s new d at result → (p : ProofState) × IsFinished s new p (whole_of form.0) result
+    ended result reads finishes =
+        let (p, none, session) = (reads form.0 form.1).outcome in
+        (p, subst (λ (w : Outcome ProofState (Proof Var Term)). IsFinished s new p w result) none.comes (finishes p none.behind none.here session))
+
+    pub some_end : {u : Unit {0}} → ReadsText text settings before source s old new d at (Ok u) → (p : ProofState) × (behind : Items) × HasCommandItems source false at behind no_items × IsProofSession s new settings d p
     some_end reads = let (p, none, session) = (reads form.0 form.1).outcome in (p, none.behind, none.here, session)
 
-    module _ {u : Unit {0}} (result : Result (Proof ℕ ℕ) ReadFault) (reads : Reads (Ok u)) (finishes : Finishes result) where
+    module _ {u : Unit {0}} (result : Result (Proof ℕ ℕ) ReadFault) (reads : ReadsText text settings before source s old new d at (Ok u)) (finishes : Finishes settings source s new d at result) where
       pub finished_proof : IfOk result (IsProofOf text settings before s new)
-      finished_proof = proof_of result (ended result reads finishes)
+      finished_proof = proof_of s new result (ended result reads finishes)
 
       pub finished_fault : (r : Refusal) → result ≡ Err (ReadFault.Text r) → IsFirstProofFault text settings before r
-      finished_fault r e = first_fault form.0 form.1 r (fault_of result r e (ended result reads finishes))
+      finished_fault r e = first_fault form.0 form.1 r (fault_of s new result r e (ended result reads finishes))
 
       pub never_full : result ≡ Err ReadFault.PoolFull → ⊥
       never_full e = let (p, h) = ended result reads finishes in subst (λ (x : Result (Proof ℕ ℕ) ReadFault). IsFinished s new p (whole_of form.0) x) e h

@@ -1,19 +1,14 @@
 -- What a step comes to.
-use Rattle.std.proofs.Common.{◌≡◌, ◌≤◌, ℕ, List, [], ◌∷◌, length, Option, Some, None, Result, Ok, Err, refl, sym, ap, subst, ◌∙◌}
+use Rattle.std.proofs.Common.{◌≡◌, ℕ, List, [], ◌∷◌, length, Option, Some, None, Result, Ok, Err, refl, sym, ap, subst, ◌∙◌}
 use Rattle.std.specs.Prelude.{⊤}
 use Rattle.sexpr.specs.declared.causes.Refusal.{Refusal}
 use Rattle.sexpr.specs.Items.{Items}
-use Rattle.alethe_commands.specs.CommandNodes.{AreAttributes, SaysStep}
-use Rattle.alethe_text.specs.Commands as shape
-use Rattle.text_items.proofs.NodeSteps.{nodes_ordered}
-use Rattle.text_items.specs.NameNodes.{IsNameNode}
-use Rattle.text_items.specs.Nodes.{AreNodes}
-use Rattle.text_items.specs.declared.nodes.Node.{Node}
 use Rattle.sym_table.specs.Table.{Table, Keeps}
 use Rattle.term_model.specs.Terms.{Var, Term}
 use Rattle.term_pool.specs.Views.{TermsView, ReferToAll, KeepsTerms}
 use Rattle.rule_model.specs.Proofs.{Step, ProofItems as Proof}
 use Rattle.rule_model.specs.RuleNames.{rule_named, IsSymbolName}
+use Rattle.rule_model.specs.declared.rules.Rule.{Rule}
 use Rattle.rule_model.specs.Scopes.{Anchor, Nesting, outermost, inside, own_bindings}
 use Rattle.text_items.specs.ItemShapes.{Name}
 use Rattle.problem_text.specs.Outcomes.{Outcome, done, going_on, and_then}
@@ -39,7 +34,7 @@ use Rattle.alethe_reader.specs.Ids.{Used, IdsView}
 use Rattle.alethe_reader.specs.Judging.{is_named}
 use Rattle.alethe_reader.specs.ReadTerms.{AreReadFormulas}
 use Rattle.alethe_reader.specs.Sessions.{IsProofSession, IsWritten, StandsAfter}
-use Rattle.alethe_reader.specs.Standing.{IsAnchorOf, IsClosing, IsStandingOf}
+use Rattle.alethe_reader.specs.Standing.{IsAnchorOf, IsClosing, IsStandingOf, IsStanding}
 use Rattle.alethe_reader.specs.StepParts.{AreReadAttributes, IsBare, KeepsOthers, StandsAt}
 use Rattle.alethe_reader.proofs.Answering.{stops, goes, answers, refuses, no_memory, same_outcome}
 use Rattle.alethe_text.proofs.FormedSteps.{read_has_rule}
@@ -48,7 +43,7 @@ use Rattle.alethe_reader.proofs.StillReadCommands.{keeps_attributes}
 use Rattle.alethe_reader.proofs.WrittenStays.{written_stays}
 
 -- the answer says what it is the outcome of
-pub with_outcome : {A T : Type 0} {s : Table} {v w : TermsView} {M : T → A → ProofState → Type 0} {o : Outcome ProofState A} {t : T} → AnswersAs s v w M o (Ok t) → AnswersAs s v w (λ t a p. M t a p × (o ≡ done a p)) o (Ok t)
+with_outcome : {A T : Type 0} {s : Table} {v w : TermsView} {M : T → A → ProofState → Type 0} {o : Outcome ProofState A} {t : T} → AnswersAs s v w M o (Ok t) → AnswersAs s v w (λ t a p. M t a p × (o ≡ done a p)) o (Ok t)
 with_outcome h = record {
   answer = record { value = h.answer.value; state = h.answer.state; comes = h.answer.comes; after = (h.answer.after, h.answer.comes) };
   placed = h.placed;
@@ -58,7 +53,7 @@ module _ (settings : ProofSettings) (n : Name) (literals : Items) (attributes : 
   abbrev added : Step Term → Reading ⊤
   added step = changed (with_step step)
 
-  abbrev pub before : List Term → Step Term
+  abbrev before : List Term → Step Term
   before clause = bare_step n.name (rule_word attributes) clause
 
   -- once the literals, and the id, are read
@@ -79,47 +74,8 @@ module _ (settings : ProofSettings) (n : Name) (literals : Items) (attributes : 
   unfolding ◌>>=◌
   keeps_after at clause = keeps_then (attributes_read settings at attributes (before clause)) added (keeps_attributes settings at attributes (before clause)) keeps_added
 
-  pub no_standing : {s : Table} {v w : TermsView} {M : ⊤ → ⊤ → ProofState → Type 0} (refusal : Refusal) → w ≡ v → (standing_of n p).result ≡ Err refusal → AnswersAs s v w M (step_read settings n literals attributes p) (Err (ReadFault.Text refusal))
-  no_standing refusal same e = same_outcome stepped (refuses same (ap (λ (r : Result Standing Refusal). (going_on r (standing_of n p).state after_standing).result) e))
-
-  module _ (here : Standing) (comes : standing_of n p ≡ done here p) where
-    stood : step_read settings n literals attributes p ≡ after_standing here p
-    stood = stepped ∙ ap (λ (o : Outcome ProofState Standing). and_then o after_standing) comes
-
-    pub no_clause : {z : Table} {v w : TermsView} {M : ⊤ → List Term → ProofState → Type 0} {N : ⊤ → ⊤ → ProofState → Type 0} {fault : ReadFault}
-        → AnswersAs z v w M (formulas_in settings here.nesting literals p) (Err fault) → AnswersAs z v w N (step_read settings n literals attributes p) (Err fault)
-    no_clause h = same_outcome stood (stops (after_clause here) (keeps_after here) h)
-
-    module _ {z y : Table} {v w x : TermsView} {r : ReaderView} {refs : List ℕ} (h : AnswersAs z v w (AreReadFormulas z w settings here.nesting r p refs) (formulas_in settings here.nesting literals p) (Ok tt)) (table : Keeps z y) (terms : KeepsTerms w x) where
-      pub no_attributes : {N : ⊤ → ⊤ → ProofState → Type 0} {e : Session} {fault : ReadFault}
-          → ((clause : List Term) (q : ProofState) → AreReadFormulas z w settings here.nesting r p refs tt clause q → AnswersAs y w x (AreReadAttributes y x settings here.nesting e q (before clause)) (attributes_read settings here attributes (before clause) q) (Err fault))
-          → AnswersAs y v x N (step_read settings n literals attributes p) (Err fault)
-      no_attributes a = same_outcome stood (goes (after_clause here) (keeps_after here) h table terms (λ clause q k. stops added keeps_added (a clause q k)))
-
-      module _ {e : Session} (a : (clause : List Term) (q : ProofState) → AreReadFormulas z w settings here.nesting r p refs tt clause q → AnswersAs y w x (AreReadAttributes y x settings here.nesting e q (before clause)) (attributes_read settings here attributes (before clause) q) (Ok tt)) where
-        pub no_room : {N : ⊤ → ⊤ → ProofState → Type 0} → AnswersAs y v x N (step_read settings n literals attributes p) (Err ReadFault.Memory)
-        no_room = same_outcome stood
-            (goes (after_clause here) (keeps_after here) h table terms
-            (λ clause q k. goes added keeps_added (a clause q k) (adds_none y).keeps (keeps_none x) (λ step t l. no_memory refl)))
-
-        pub is_stepped : (d : Session)
-            → ((clause : List Term) (q : ProofState) → AreReadFormulas z w settings here.nesting r p refs tt clause q → (step : Step Term) (t : ProofState) → AreReadAttributes y x settings here.nesting e q (before clause) tt step t
-            → attributes_read settings here attributes (before clause) q ≡ done step t → IsProofSession y x settings d (with_step step t))
-            → AnswersAs y v x (StandsAfter y x settings d) (step_read settings n literals attributes p) (Ok tt)
-        is_stepped d f = same_outcome stood
-            (goes (after_clause here) (keeps_after here) h table terms
-            (λ clause q k. goes added keeps_added (with_outcome (a clause q k)) (adds_none y).keeps (keeps_none x)
-            (λ step t l. answers tt (with_step step t) refl refl (record { session = f clause q k step t l.0 l.1 }))))
-
-        -- the step may be added that was read
-        pub some_step : {P : Type 0} → ((clause : List Term) (q : ProofState) → AreReadFormulas z w settings here.nesting r p refs tt clause q → (step : Step Term) (t : ProofState) → AreReadAttributes y x settings here.nesting e q (before clause) tt step t
-            → attributes_read settings here attributes (before clause) q ≡ done step t → P) → P
-        some_step f =
-            let one = a h.answer.value h.answer.state h.answer.after in
-            f h.answer.value h.answer.state h.answer.after one.answer.value one.answer.state one.answer.after one.answer.comes
-
 -- references go on standing for their terms
-pub clause_stays : (s z : Table) (v w : TermsView) → Keeps s z → KeepsTerms v w → (refs : List ℕ) (ts : List Term) → ReferToAll s v refs ts → ReferToAll z w refs ts
+clause_stays : (s z : Table) (v w : TermsView) → Keeps s z → KeepsTerms v w → (refs : List ℕ) (ts : List Term) → ReferToAll s v refs ts → ReferToAll z w refs ts
 clause_stays s z v w table terms [] [] h = tt
 clause_stays s z v w table terms [] (t ∷ ts) h = absurd h
 clause_stays s z v w table terms (r ∷ refs) [] h = absurd h
@@ -142,40 +98,8 @@ closing_same used more p q id name here None a b c h = rw (a, b, c) h
 closing_same used more p q id name here (Some x) a b c h = rw (a, b, c) h
 
 -- nothing of the step's attributes is read
-pub is_bare : (id word : List ℕ) (clause : List Term) → IsBare (bare_step id word clause)
+is_bare : (id word : List ℕ) (clause : List Term) → IsBare (bare_step id word clause)
 is_bare id word clause = record { premises = refl; discharged = refl; pivots = refl; ratios = refl }
-
-module _ (settings : ProofSettings) (n : Name) (p : ProofState) (d : Session) (standing : ReaderStanding) (stands : IsStandingOf d.ids.used p n standing) {z : Table} {w : TermsView} {r : ReaderView} {refs : List ℕ} (clause : List Term) (q : ProofState) (k : AreReadFormulas z w settings stands.here.nesting r p refs tt clause q) where
-  -- behind the literals the step stands as before
-  pub stands_there : {parts : StepParts} → settings.is_strict ≡ d.strict → StandsAt z w settings stands.here (record d { reader = r; parts = parts }) standing q
-  stands_there strict = record { strict = strict; sees = stands.premises; discharges = stands.discharges; reader = k.behind.reader }
-
-  -- The step that was read is to be added.
-  pub to_add : {s y : Table} {v x : TermsView} {parts : StepParts} {e : Session} → IsProofSession s v settings d p → AddsNoSymbols s z → AddsNoSymbols z y → KeepsTerms v w → KeepsTerms w x → KeepsOthers (record d { reader = r; parts = parts }) e → parts.clause.items ≡ refs
-      → (attributes : List Attribute) → IsSymbolName (rule_word attributes) → (new : NewStep) → new.id.name.now ≡ n.name → new.rule ≡ rule_named (rule_word attributes) → new.word.now ≡ rule_word attributes → new.closes ≡ standing.closes
-      → (step : Step Term) (t : ProofState) → AreReadAttributes y x settings stands.here.nesting e q (bare_step n.name (rule_word attributes) clause) tt step t
-      → attributes_read settings stands.here attributes (bare_step n.name (rule_word attributes) clause) q ≡ done step t
-      → IsToAdd y x settings e new step t
-  to_add {s} {y} {v} {x} {parts} {e} session first second old more others held attributes symbol new named ruled worded closed step t read comes =
-      let has = read_has_rule settings stands.here n.name attributes clause q t step symbol comes in
-      let scope = read.behind.scope ∙ k.behind.scope in
-      record {
-        here = stands.here;
-        strict = session.strict ∙ sym others.strict;
-        reader = read.behind.reader;
-        written =
-            written_same y x d e p t others.builder (ap (λ (x : IdsView). x.used) others.ids) others.anchors others.bound scope (read.behind.anchors ∙ k.behind.anchors)
-            (written_stays s y v x (adds_then s z y first second).keeps (terms_kept v w x old more) d p session.written);
-        id = read.id ∙ sym named;
-        rule = read.rule ∙ sym ruled;
-        word = read.rule_name ∙ sym worded;
-        closes = subst (IsClosing e.ids.used t step.id stands.here) (sym closed) (closing_same d.ids.used e.ids.used p t n.name step.id stands.here standing.closes (ap (λ (x : IdsView). x.used) others.ids) scope read.id stands.closes);
-        named = has.1;
-        premises = has.0.premises;
-        discharged = has.0.discharged;
-        clause = subst (ReferToAll y x e.parts.clause.items) (sym read.clause) (rw (others.clause, held) (clause_stays z y w x second.keeps more refs clause k.refer));
-        parts = read.parts;
-      }
 
 -- Where the reader stands as a step does: where it closes nothing it stays, and else goes to the scope around.
 module _ (s : Table) (v : TermsView) (settings : ProofSettings) (used : List Used) (p : ProofState) (id : List ℕ) (here : Standing) where
@@ -200,49 +124,114 @@ module _ (s : Table) (v : TermsView) (settings : ProofSettings) (used : List Use
       go outermost k h = absurd k
       go (inside around before anchor) k h = left around before anchor k.1 h
 
--- What the nodes of a step say, part by part.
-pub record IsSaid (source : List ℕ) (nodes : List Node) (id first others : ℕ) (n : Name) (literals : Items) (attributes : List Attribute) : Type 0 where
-  pub name_here : IsNameNode source nodes id n
-  pub literals_here : AreNodes source nodes first literals others
-  pub attributes_here : AreAttributes source nodes others attributes (length nodes)
+-- what is answered of how a step stands by its id, of where the reader goes then, of the step's literals and of its attributes
+abbrev pub JudgesStep : Session → Named → Result ReaderStanding Refusal → Type 0
+JudgesStep d named result = (s : Table) (v : TermsView) (p : ProofState) → IsSymbolName named.name.now → IsWritten s v d p → IsStanding d.ids.used p (is_named named) result
 
-pub said : (source : List ℕ) (nodes : List Node) (id first others : ℕ) (n : Name) (literals : Items) (attributes : List Attribute) → SaysStep source nodes id first others (shape.step n literals attributes) → IsSaid source nodes id first others n literals attributes
-said source nodes id first others n literals attributes h = record {
-  name_here = subst (IsNameNode source nodes id) (name_of h.same) h.name_here;
-  literals_here = subst (λ items. AreNodes source nodes first items others) (literals_of h.same) h.literals_here;
-  attributes_here = subst (λ listed. AreAttributes source nodes others listed (length nodes)) (attributes_of h.same) h.attributes_here;
-}
-  where
-    name_of : {m n : Name} {k l : Items} {a b : List Attribute} → shape.step n l b ≡ shape.step m k a → m ≡ n
-    name_of e = cc
+abbrev pub GoesThere : ReaderView → Option OpenAnchor → ReaderView → Type 0
+GoesThere old closes new = (s : Table) (v : TermsView) (settings : ProofSettings) (used : List Used) (p : ProofState) (id : List ℕ) (here : Standing)
+    → IsReaderOf s v old p.script (place_in settings p.scope.nesting) → IsClosing used p id here closes → IsReaderOf s v new p.script (place_in settings here.nesting)
 
-    literals_of : {m n : Name} {k l : Items} {a b : List Attribute} → shape.step n l b ≡ shape.step m k a → k ≡ l
-    literals_of e = cc
+abbrev pub ReadsLiterals : Table → TermsView → ReaderView → Items → Table → TermsView → ReaderView → List ℕ → Result ⊤ ReadFault → Type 0
+ReadsLiterals s v old literals z w new refs result = (settings : ProofSettings) (nesting : Nesting Var Term) (p : ProofState)
+    → IsReaderOf s v old p.script (place_in settings nesting) → AnswersAs z v w (AreReadFormulas z w settings nesting new p refs) (formulas_in settings nesting literals p) result
 
-    attributes_of : {m n : Name} {k l : Items} {a b : List Attribute} → shape.step n l b ≡ shape.step m k a → a ≡ b
-    attributes_of e = cc
+abbrev pub ReadsAttributes : Table → TermsView → Session → ReaderStanding → Rule → List Attribute → Table → TermsView → Session → Result ⊤ ReadFault → Type 0
+ReadsAttributes z w d standing kind attributes y x e result = (settings : ProofSettings) (at : Standing) (p : ProofState) (bare : Step Term)
+    → StandsAt z w settings at d standing p → bare.rule ≡ kind → IsBare bare → AnswersAs y w x (AreReadAttributes y x settings at.nesting e p bare) (attributes_read settings at attributes bare p) result
 
--- the parts of a step stand one behind another
-pub literals_first : {source : List ℕ} {nodes : List Node} {id first others : ℕ} {n : Name} {literals : Items} {attributes : List Attribute} → IsSaid source nodes id first others n literals attributes → first ≤ others
-literals_first {source} {nodes} {id} {first} {others} {n} {literals} h = nodes_ordered source nodes first literals others h.literals_here
+-- A step is read part by part, in the order of the text.
+module _ {s : Table} {v : TermsView} {settings : ProofSettings} {d : Session} {p : ProofState} (session : IsProofSession s v settings d p) {n : Name} (named : Named) (same : is_named named ≡ n) (symbol : IsSymbolName n.name) where
+  judged : (result : Result ReaderStanding Refusal) → JudgesStep d named result → IsStanding d.ids.used p n result
+  judged result h = subst (λ x. IsStanding d.ids.used p x result) same (h s v p (subst IsSymbolName (ap (λ (x : Name). x.name) (sym same)) symbol) session.written)
 
-pub attributes_within : {source : List ℕ} {nodes : List Node} {id first others : ℕ} {n : Name} {literals : Items} {attributes : List Attribute} → IsSaid source nodes id first others n literals attributes → others ≤ length nodes
-attributes_within {source} {nodes} {id} {first} {others} h = nodes_ordered source nodes others h.attributes_here.items (length nodes) h.attributes_here.there
+  pub no_standing : {N : ⊤ → ⊤ → ProofState → Type 0} (literals : Items) (attributes : List Attribute) (refusal : Refusal) → JudgesStep d named (Err refusal) → AnswersAs s v v N (step_read settings n literals attributes p) (Err (ReadFault.Text refusal))
+  no_standing literals attributes refusal h =
+      same_outcome (stepped settings n literals attributes p)
+      (refuses refl (ap (λ (r : Result Standing Refusal). (going_on r (standing_of n p).state (after_standing settings n literals attributes p)).result) (judged (Err refusal) h)))
 
--- its id and the word of its rule are names of symbols
-abbrev pub SaysNamedStep : List ℕ → List Node → ℕ → ℕ → ℕ → Type 0
-SaysNamedStep source nodes id first others =
-    (n : Name) × (literals : Items) × (attributes : List Attribute) × SaysStep source nodes id first others (shape.step n literals attributes) × IsSymbolName n.name × IsSymbolName (rule_word attributes)
+  module _ {standing : ReaderStanding} (judges : JudgesStep d named (Ok standing)) where
+    pub stands : IsStandingOf d.ids.used p n standing
+    stands = judged (Ok standing) judges
 
-module _ {source : List ℕ} {nodes : List Node} {id first others : ℕ} where
-  pub symbol_named : SaysNamedStep source nodes id first others → (named : Named) → ((n : Name) → IsNameNode source nodes id n → is_named named ≡ n) → IsSymbolName named.name.now
-  symbol_named (n, literals, attributes, says, symbol, rule) named is =
-      subst IsSymbolName (ap (λ (x : Name). x.name) (sym (is n (said source nodes id first others n literals attributes says).name_here))) symbol
+    stood : (literals : Items) (attributes : List Attribute) → step_read settings n literals attributes p ≡ after_standing settings n literals attributes p stands.here p
+    stood literals attributes = stepped settings n literals attributes p ∙ ap (λ (o : Outcome ProofState Standing). and_then o (after_standing settings n literals attributes p)) stands.comes
 
-  pub rule_symbol : SaysNamedStep source nodes id first others → (word : List ℕ) → ((attributes : List Attribute) → AreAttributes source nodes others attributes (length nodes) → word ≡ rule_word attributes) → IsSymbolName word
-  rule_symbol (n, literals, attributes, says, symbol, rule) word is =
-      subst IsSymbolName (sym (is attributes (said source nodes id first others n literals attributes says).attributes_here)) rule
+    module _ {r : ReaderView} (goes_there : GoesThere d.reader standing.closes r) where
+      reader_there : IsReaderOf s v r p.script (place_in settings stands.here.nesting)
+      reader_there = goes_there s v settings d.ids.used p n.name stands.here session.reader stands.closes
 
--- how a step stands by its id, under the name that the text gives
-pub stands_as : {used : List Used} {p : ProofState} {standing : ReaderStanding} {n : Name} (named : Named) → is_named named ≡ n → IsStandingOf used p (is_named named) standing → IsStandingOf used p n standing
-stands_as {used} {p} {standing} named same h = subst (λ x. IsStandingOf used p x standing) same h
+      pub some_reader : (settings : ProofSettings) × (nesting : Nesting Var Term) × (p : ProofState) × IsReaderOf s v r p.script (place_in settings nesting)
+      some_reader = (settings, stands.here.nesting, p, reader_there)
+
+      pub no_clause : {N : ⊤ → ⊤ → ProofState → Type 0} (literals : Items) {z : Table} {w : TermsView} {t : ReaderView} {refs : List ℕ} {fault : ReadFault} (attributes : List Attribute) → ReadsLiterals s v r literals z w t refs (Err fault)
+          → AnswersAs z v w N (step_read settings n literals attributes p) (Err fault)
+      no_clause literals attributes read =
+          same_outcome (stood literals attributes) (stops (after_clause settings n literals attributes p stands.here) (keeps_after settings n literals attributes p stands.here) (read settings stands.here.nesting p reader_there))
+
+      module _ (literals : Items) {z : Table} {w : TermsView} {t : ReaderView} {refs : List ℕ} (literals_read : ReadsLiterals s v r literals z w t refs (Ok tt)) where
+        formulas : AnswersAs z v w (AreReadFormulas z w settings stands.here.nesting t p refs) (formulas_in settings stands.here.nesting literals p) (Ok tt)
+        formulas = literals_read settings stands.here.nesting p reader_there
+
+        -- behind the literals the step stands as before
+        stands_there : (parts : StepParts) {clause : List Term} {q : ProofState} → AreReadFormulas z w settings stands.here.nesting t p refs tt clause q → StandsAt z w settings stands.here (record d { reader = t; parts = parts }) standing q
+        stands_there parts k = record { strict = session.strict; sees = stands.premises; discharges = stands.discharges; reader = k.behind.reader }
+
+        pub stands_behind : (parts : StepParts) → (settings : ProofSettings) × (at : Standing) × (q : ProofState) × StandsAt z w settings at (record d { reader = t; parts = parts }) standing q
+        stands_behind parts = (settings, stands.here, formulas.answer.state, stands_there parts formulas.answer.after)
+
+        module _ (attributes : List Attribute) {word : List ℕ} (worded : word ≡ rule_word attributes) {kind : Rule} (ruled : kind ≡ rule_named word) (parts : StepParts) (e : Session) {y : Table} {x : TermsView} (adds : AddsNoSymbols z y) (keeps : KeepsTerms w x) where
+          at_attributes : (result : Result ⊤ ReadFault) → ReadsAttributes z w (record d { reader = t; parts = parts }) standing kind attributes y x e result → (clause : List Term) (q : ProofState) → AreReadFormulas z w settings stands.here.nesting t p refs tt clause q
+              → AnswersAs y w x (AreReadAttributes y x settings stands.here.nesting e q (before settings n literals attributes p clause)) (attributes_read settings stands.here attributes (before settings n literals attributes p clause) q) result
+          at_attributes result read clause q k =
+              read settings stands.here q (before settings n literals attributes p clause) (stands_there parts k) (sym (ruled ∙ ap rule_named worded)) (is_bare n.name (rule_word attributes) clause)
+
+          then_attributes : {N : ⊤ → ⊤ → ProofState → Type 0} {result : Result ⊤ ReadFault}
+              → ((clause : List Term) (q : ProofState) → AreReadFormulas z w settings stands.here.nesting t p refs tt clause q → AnswersAs y w x N (after_clause settings n literals attributes p stands.here clause q) result)
+              → AnswersAs y v x N (step_read settings n literals attributes p) result
+          then_attributes f = same_outcome (stood literals attributes) (goes (after_clause settings n literals attributes p stands.here) (keeps_after settings n literals attributes p stands.here) formulas adds.keeps keeps f)
+
+          pub no_attributes : {N : ⊤ → ⊤ → ProofState → Type 0} {fault : ReadFault} → ReadsAttributes z w (record d { reader = t; parts = parts }) standing kind attributes y x e (Err fault) → AnswersAs y v x N (step_read settings n literals attributes p) (Err fault)
+          no_attributes read = then_attributes (λ clause q k. stops (added settings n literals attributes p) (keeps_added settings n literals attributes p) (at_attributes _ read clause q k))
+
+          pub no_room : {N : ⊤ → ⊤ → ProofState → Type 0} → ReadsAttributes z w (record d { reader = t; parts = parts }) standing kind attributes y x e (Ok tt) → AnswersAs y v x N (step_read settings n literals attributes p) (Err ReadFault.Memory)
+          no_room read = then_attributes (λ clause q k.
+              goes (added settings n literals attributes p) (keeps_added settings n literals attributes p) (at_attributes (Ok tt) read clause q k) (adds_none y).keeps (keeps_none x) (λ step l m. no_memory refl))
+
+          module _ (read : ReadsAttributes z w (record d { reader = t; parts = parts }) standing kind attributes y x e (Ok tt)) (first : AddsNoSymbols s z) (old : KeepsTerms v w) (others : KeepsOthers (record d { reader = t; parts = parts }) e) (held : parts.clause.items ≡ refs) (rule_symbol : IsSymbolName (rule_word attributes))
+              (new : NewStep) (id_is : new.id ≡ named) (rule_is : new.rule ≡ kind) (word_is : new.word.now ≡ word) (closed : new.closes ≡ standing.closes) where
+            to_be_added : (clause : List Term) (q : ProofState) → AreReadFormulas z w settings stands.here.nesting t p refs tt clause q → (step : Step Term) (l : ProofState) → AreReadAttributes y x settings stands.here.nesting e q (before settings n literals attributes p clause) tt step l
+                → attributes_read settings stands.here attributes (before settings n literals attributes p clause) q ≡ done step l → IsToAdd y x settings e new step l
+            to_be_added clause q k step l done comes =
+                let has = read_has_rule settings stands.here n.name attributes clause q l step rule_symbol comes in
+                let scope = done.behind.scope ∙ k.behind.scope in
+                let same_ids = ap (λ (i : IdsView). i.used) others.ids in
+                record {
+                  here = stands.here;
+                  strict = session.strict ∙ sym others.strict;
+                  reader = done.behind.reader;
+                  written =
+                      written_same y x d e p l others.builder same_ids others.anchors others.bound scope (done.behind.anchors ∙ k.behind.anchors)
+                      (written_stays s y v x (adds_then s z y first adds).keeps (terms_kept v w x old keeps) d p session.written);
+                  id = done.id ∙ (sym (ap (λ (m : Name). m.name) same) ∙ ap (λ (m : Named). m.name.now) (sym id_is));
+                  rule = done.rule ∙ sym (rule_is ∙ (ruled ∙ ap rule_named worded));
+                  word = done.rule_name ∙ sym (word_is ∙ worded);
+                  closes = subst (IsClosing e.ids.used l step.id stands.here) (sym closed) (closing_same d.ids.used e.ids.used p l n.name step.id stands.here standing.closes same_ids scope done.id stands.closes);
+                  named = has.1;
+                  premises = has.0.premises;
+                  discharged = has.0.discharged;
+                  clause = subst (ReferToAll y x e.parts.clause.items) (sym done.clause) (rw (others.clause, held) (clause_stays z y w x adds.keeps keeps refs clause k.refer));
+                  parts = done.parts;
+                }
+
+            pub may_add : (s : Table) × (v : TermsView) × (settings : ProofSettings) × (step : Step Term) × (p : ProofState) × IsToAdd s v settings e new step p
+            may_add =
+                let f = formulas.answer in
+                let a = (at_attributes (Ok tt) read f.value f.state f.after).answer in
+                (y, x, settings, a.value, a.state, to_be_added f.value f.state f.after a.value a.state a.after a.comes)
+
+            pub is_stepped : (f : Session) → ((s : Table) (v : TermsView) (settings : ProofSettings) (step : Step Term) (p : ProofState) → IsToAdd s v settings e new step p → IsProofSession s v settings f (with_step step p))
+                → AnswersAs y v x (StandsAfter y x settings f) (step_read settings n literals attributes p) (Ok tt)
+            is_stepped f adding = then_attributes (λ clause q k.
+                goes (added settings n literals attributes p) (keeps_added settings n literals attributes p) (with_outcome (at_attributes (Ok tt) read clause q k)) (adds_none y).keeps (keeps_none x)
+                (λ step l m. answers tt (with_step step l) refl refl (record { session = adding y x settings step l (to_be_added clause q k step l m.0 m.1) })))

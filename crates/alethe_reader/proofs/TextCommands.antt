@@ -1,5 +1,5 @@
 -- The commands of a proof's text, the first one after the other.
-use Rattle.std.proofs.Common.{◌≡◌, refl, sym, ◌∙◌, ap, subst, ℕ, List, length, Bool, true, false, Result, Ok, Err}
+use Rattle.std.proofs.Common.{◌≡◌, ◌<◌, refl, sym, ◌∙◌, ap, subst, ℕ, List, length, Bool, true, false, Result, Ok, Err}
 use Rattle.std.specs.Prelude.{⊤}
 use Rattle.sexpr.specs.declared.causes.Refusal.{Refusal}
 use Rattle.sexpr.specs.Items.{Item, Items, no_items, item}
@@ -7,7 +7,8 @@ use Rattle.sym_table.specs.Table.{Table}
 use Rattle.term_model.specs.Terms.{Var, Term}
 use Rattle.term_pool.specs.Views.{TermsView}
 use Rattle.rule_model.specs.Proofs.{ProofItems as Proof}
-use Rattle.text_items.specs.Nodes.{IsNode}
+use Rattle.text_items.specs.ItemsAt.{ItemsView, end_at, item_at}
+use Rattle.text_items.specs.Nesting.{AreNested}
 use Rattle.text_items.specs.declared.nodes.Node.{Node}
 use Rattle.problem_text.specs.Outcomes.{Outcome, going_on, and_then}
 use Rattle.term_names.specs.declared.faults.ReadFault.{ReadFault}
@@ -15,7 +16,7 @@ use Rattle.term_reader.proofs.Staying.{places_none, places_more}
 use Rattle.alethe_text.specs.Commands.{Command, command_of}
 use Rattle.alethe_text.specs.ProofTexts.{performed, commands}
 use Rattle.alethe_text.specs.States.{ProofSettings, ProofState, Reading, ◌>>=◌}
-use Rattle.alethe_commands.specs.CommandNodes.{IsCommand, SaysCommand}
+use Rattle.alethe_commands.specs.CommandNodes.{IsCommand, command_said}
 use Rattle.alethe_commands.specs.declared.commands.Command as code
 use Rattle.alethe_reader.specs.Answers.{WasRead, AnswersAs}
 use Rattle.alethe_items.specs.TextItems.{HasCommandItems, IsFirst}
@@ -54,29 +55,40 @@ unfolding left_from commands ◌>>=◌
 none_comes settings behind p = refl
 
 -- the nodes are those of the first command that is left, and the others stand from this place on
-pub record HasFirst (source : List ℕ) (nodes : List Node) (in_list : Bool) (at : ℕ) (settings : ProofSettings) (p : ProofState) (whole : Outcome ProofState (Proof Var Term)) : Type 0 where
-  pub first : Item
+pub record HasFirst (source : List ℕ) (items : ItemsView) (in_list : Bool) (at : ℕ) (settings : ProofSettings) (p : ProofState) (whole : Outcome ProofState (Proof Var Term)) : Type 0 where
   pub others : Items
   pub behind : Items
-  pub here : IsNode source nodes 0 first (length nodes)
+  pub some : 0 < length items.nodes
+  pub ends : end_at items 0 ≡ length items.nodes
   pub left : HasCommandItems source in_list at others behind
-  pub named : HasNames first × HaveNames others
-  pub comes : first_of settings others behind p (command_of first) ≡ whole
+  pub named : HasNames (item_at items 0) × HaveNames others
+  pub comes : first_of settings others behind p (command_of (item_at items 0)) ≡ whole
+
+-- some command is left of a text that is being read
+abbrev pub IsLeft : List ℕ → Bool → ℕ → Table → TermsView → Session → Type 0
+IsLeft source in_list at s v d = (settings : ProofSettings) × (p : ProofState) × (whole : Outcome ProofState (Proof Var Term)) × AreCommandsLeft source settings in_list at p whole × IsProofSession s v settings d p
+
+-- the nodes that were read are those of the first command
+pub first_nested : {in_list : Bool} {old new : List ℕ} {nodes slice : List Node} {from at : ℕ} {s : Table} {v : TermsView} {d : Session} → slice ≡ nodes
+    → ((items behind : Items) → HasCommandItems old in_list from items behind → IsFirst new in_list nodes at items behind) → IsLeft old in_list from s v d → AreNested new slice
+first_nested {in_list} {old} {new} same found (settings, p, whole, left, session) = subst (AreNested new) (sym same) (found left.items left.behind left.here).here.nested
 
 module _ (settings : ProofSettings) (in_list : Bool) (p : ProofState) (whole : Outcome ProofState (Proof Var Term)) where
-  pub has_first : (old new : List ℕ) (nodes : List Node) (from at : ℕ) → ((items behind : Items) → HasCommandItems old in_list from items behind → IsFirst new in_list nodes at items behind)
-      → AreCommandsLeft old settings in_list from p whole → HasFirst new nodes in_list at settings p whole
-  has_first old new nodes from at found h =
+  pub has_first : (items : ItemsView) (old new : List ℕ) (nodes slice : List Node) (from at : ℕ) → items ≡ record { source = new; nodes = slice } → slice ≡ nodes
+      → ((items behind : Items) → HasCommandItems old in_list from items behind → IsFirst new in_list nodes at items behind)
+      → AreCommandsLeft old settings in_list from p whole → HasFirst new items in_list at settings p whole
+  has_first items old new nodes slice from at is same found h =
       let f = found h.items h.behind h.here in
-      record {
-        first = f.first;
+      rw (is, same) (record {
         others = f.others;
         behind = h.behind;
-        here = f.here;
+        some = f.here.some;
+        ends = f.here.whole;
         left = f.left;
-        named = subst HaveNames f.split h.named;
-        comes = sym (unfolds settings f.first f.others h.behind p) ∙ (ap (λ x. left_from settings x h.behind p) (sym f.split) ∙ h.comes);
-      }
+        named = subst (λ (i : Item). HasNames i × HaveNames f.others) (sym f.here.item) (subst HaveNames f.split h.named);
+        comes = ap (λ (i : Item). first_of settings f.others h.behind p (command_of i)) f.here.item
+            ∙ (sym (unfolds settings f.first f.others h.behind p) ∙ (ap (λ x. left_from settings x h.behind p) (sym f.split) ∙ h.comes));
+      })
 
   pub none_left : (old new : List ℕ) (from at : ℕ) → ((items behind : Items) → HasCommandItems old in_list from items behind → (items ≡ no_items) × HasCommandItems new false at behind no_items)
       → AreCommandsLeft old settings in_list from p whole → NoneLeft new settings at p whole
@@ -88,18 +100,16 @@ module _ (settings : ProofSettings) (in_list : Bool) (p : ProofState) (whole : O
         comes = sym (none_comes settings h.behind p) ∙ (ap (λ x. left_from settings x h.behind p) (sym e) ∙ h.comes);
       }
 
-  -- the shape of the first command, and what comes of it and of the others
-  pub record IsShaped (source : List ℕ) (nodes : List Node) (others behind : Items) (c : code.Command) : Type 0 where
-    pub shape : Command
-    pub says : SaysCommand source nodes c shape
-    pub named : IsNamed shape
-    pub comes : then_rest settings others behind (performed settings shape p) ≡ whole
+  module _ {source : List ℕ} {items : ItemsView} {at : ℕ} (h : HasFirst source items in_list at settings p whole) where
+    pub command_fault : (r : Refusal) → IsCommand items (Err r) (command_of (item_at items 0)) → whole.result ≡ Err r
+    command_fault r is = ap (λ (o : Outcome ProofState (Proof Var Term)). o.result) (sym h.comes ∙ ap (first_of settings h.others h.behind p) is)
 
-  pub command_fault : (source : List ℕ) (nodes : List Node) (at : ℕ) (r : Refusal) → (h : HasFirst source nodes in_list at settings p whole) → IsCommand source nodes (Err r) (command_of h.first) → whole.result ≡ Err r
-  command_fault source nodes at r h is = ap (λ (o : Outcome ProofState (Proof Var Term)). o.result) (sym h.comes ∙ ap (first_of settings h.others h.behind p) is)
+    -- what comes of the first command and of the others, and its names
+    pub command_comes : (c : code.Command) → IsCommand items (Ok c) (command_of (item_at items 0)) → then_rest settings h.others h.behind (performed settings (command_said items c) p) ≡ whole
+    command_comes c is = ap (first_of settings h.others h.behind p) (sym is.0) ∙ h.comes
 
-  pub command_read : (source : List ℕ) (nodes : List Node) (at : ℕ) (c : code.Command) → (h : HasFirst source nodes in_list at settings p whole) → IsCommand source nodes (Ok c) (command_of h.first) → IsShaped source nodes h.others h.behind c
-  command_read source nodes at c h (d, is, says) = record { shape = d; says = says; named = is_named_so h.first d is h.named.0; comes = ap (first_of settings h.others h.behind p) (sym is) ∙ h.comes }
+    pub command_named : (c : code.Command) → IsCommand items (Ok c) (command_of (item_at items 0)) → IsNamed (command_said items c)
+    command_named c is = is_named_so (item_at items 0) (command_said items c) is.0 h.named.0
 
   read_by_whole : (others behind : Items) (o : Outcome ProofState ⊤) → then_rest settings others behind o ≡ whole → (t : Term) → WasRead o t → WasRead whole t
   read_by_whole others behind o e t h = subst (λ (w : Outcome ProofState (Proof Var Term)). WasRead w t) e (read_on o (λ _. left_from settings others behind) (λ _. keeps_left settings others behind) t h)
@@ -130,34 +140,3 @@ module _ (settings : ProofSettings) (in_list : Bool) (p : ProofState) (whole : O
 
   pub refused_here : {source : List ℕ} {s : Table} {v : TermsView} {d : Session} {at : ℕ} (r : Refusal) → whole.result ≡ Err r → ReadsProofCommand source s v v settings d in_list at whole (Err (ReadFault.Text r))
   refused_here {source} {s} {v} r is = record { outcome = is; placed = places_none s v.pass v.pass (WasRead whole) refl }
-
-  pub no_memory_here : {source : List ℕ} {s : Table} {v : TermsView} {d : Session} {at : ℕ} → ReadsProofCommand source s v v settings d in_list at whole (Err ReadFault.Memory)
-  no_memory_here {source} {s} {v} = record { outcome = tt; placed = places_none s v.pass v.pass (WasRead whole) refl }
-
-pub some_first : (in_list : Bool) (old new : List ℕ) (nodes slice : List Node) (from at : ℕ) (s : Table) (v : TermsView) (d : Session)
-    → slice ≡ nodes
-    → ((items behind : Items) → HasCommandItems old in_list from items behind → IsFirst new in_list nodes at items behind)
-    → (settings : ProofSettings) × (p : ProofState) × (whole : Outcome ProofState (Proof Var Term)) × AreCommandsLeft old settings in_list from p whole × IsProofSession s v settings d p
-    → (i : Item) × IsNode new slice 0 i (length slice)
-some_first in_list old new nodes slice from at s v d same found (settings, p, whole, left, _) =
-    let h = has_first settings in_list p whole old new nodes from at found left in
-    (h.first, subst (λ (x : List Node). IsNode new x 0 h.first (length x)) (sym same) h.here)
-
--- as the nodes are those of the slice
-pub found_in : (source : List ℕ) (nodes slice : List Node) (r : Result code.Command Refusal)
-    → slice ≡ nodes
-    → ((i : Item) → IsNode source slice 0 i (length slice) → IsCommand source slice r (command_of i))
-    → (i : Item) → IsNode source nodes 0 i (length nodes) → IsCommand source nodes r (command_of i)
-found_in source nodes slice r same found =
-    subst (λ (x : List Node). (i : Item) → IsNode source x 0 i (length x) → IsCommand source x r (command_of i)) same found
-
-pub some_shape : (in_list : Bool) (old new : List ℕ) (nodes slice more : List Node) (from at : ℕ) (s : Table) (v : TermsView) (d : Session) (c : code.Command)
-    → slice ≡ nodes → more ≡ nodes
-    → ((items behind : Items) → HasCommandItems old in_list from items behind → IsFirst new in_list nodes at items behind)
-    → ((i : Item) → IsNode new slice 0 i (length slice) → IsCommand new slice (Ok c) (command_of i))
-    → (settings : ProofSettings) × (p : ProofState) × (whole : Outcome ProofState (Proof Var Term)) × AreCommandsLeft old settings in_list from p whole × IsProofSession s v settings d p
-    → (x : Command) × SaysCommand new more c x × IsNamed x
-some_shape in_list old new nodes slice more from at s v d c same also found read (settings, p, whole, left, _) =
-    let h = has_first settings in_list p whole old new nodes from at found left in
-    let shaped = command_read settings in_list p whole new nodes at c h (found_in new nodes slice (Ok c) same read h.first h.here) in
-    (shaped.shape, subst (λ (x : List Node). SaysCommand new x c shaped.shape) (sym also) shaped.says, shaped.named)

@@ -1,5 +1,5 @@
 -- Private. The arguments of a resolution in a strict proof, read two by two: a term, and what is to be its truth value.
-use Rattle.std.specs.Prelude.{ℕ, Bool, List, [], ◌∷◌, ◌++◌, Option, Some, None, option_map, option_and_then, unwrap_or, if◌then◌else◌, ⊤}
+use Rattle.std.specs.Prelude.{◌≡◌, ◌≤◌, ℕ, Bool, List, [], ◌∷◌, ◌++◌, Option, Some, None, option_map, option_and_then, unwrap_or, if◌then◌else◌, ⊤}
 use Rattle.std.specs.List.{AllZip}
 use Rattle.sexpr.specs.Items.{Item, Items, no_items, item}
 use Rattle.sym_table.specs.Table.{Table}
@@ -7,8 +7,8 @@ use Rattle.term_model.specs.Terms.{Var, Term}
 use Rattle.term_pool.specs.Views.{TermsView}
 use Rattle.rule_model.specs.Scopes.{Nesting}
 use Rattle.proof_store.specs.Meaning.{IsPivotOf}
-use Rattle.text_items.specs.declared.nodes.Node.{Node}
-use Rattle.text_items.specs.Nodes.{AreNodes}
+use Rattle.text_items.specs.ItemsAt.{ItemsView, end_at, items_at}
+use Rattle.text_items.specs.Stepping.{EndBy}
 use Rattle.term_reader.specs.ProblemViews.{ReaderView}
 use Rattle.alethe_text.specs.Arguments.{named_among, truth_of}
 use Rattle.alethe_text.specs.Commands.{behind_first}
@@ -21,10 +21,13 @@ abbrev pub first_alone : Items → Items
 first_alone no_items = no_items
 first_alone (item i rest) = item i no_items
 
--- The term i and the first of the others end before node m, and the rest of them stand from there on.
-pub record EndsPair (source : List ℕ) (nodes : List Node) (k : ℕ) (i : Item) (others : Items) (m end : ℕ) : Type 0 where
-  pub pair : AreNodes source nodes k (item i (first_alone others)) m
-  pub behind : AreNodes source nodes m (behind_first others) end
+-- Before node m the first of the items ends, and the one behind it where there is one; the others stand from there on.
+pub record EndsPair (items : ItemsView) (k m end : ℕ) : Type 0 where
+  pub behind : end_at items k ≤ m
+  pub inside : m ≤ end
+  pub nested : EndBy items (end_at items k) m
+  pub pair : items_at items (end_at items k) m ≡ first_alone (items_at items (end_at items k) end)
+  pub others : items_at items m end ≡ behind_first (items_at items (end_at items k) end)
 
 -- the truth value that the first of some items is
 abbrev pub truth_among : Items → Option Bool

@@ -1,21 +1,17 @@
 //! The arguments of anchors: variables with their terms (Alethe specification, "The Proof Format": contexts).
-ghost use Rattle.std.specs.Prelude.{◌≡◌, ◌≤◌, ◌<◌, ◌^◌, ◌+◌, ◌-◌, ℕ, List, [], ◌++◌, map, length, take, Option, None, OnOk};
+ghost use Rattle.std.specs.Prelude.{◌≡◌, ◌≤◌, ◌<◌, ◌^◌, ◌+◌, ◌-◌, ℕ, List, [], ◌++◌, map, length, take, None, OnOk};
 ghost use Rattle.std.specs.List.{AllZip};
-ghost use Rattle.sexpr.specs.Items.{Item};
-ghost use Rattle.sexpr.specs.Source.{source};
-ghost use Rattle.term_model.specs.Terms.{Var, Term, sort_eq};
+ghost use Rattle.term_model.specs.Terms.{Var, Term};
 ghost use Rattle.term_pool.specs.Views.{KeepsTerms};
 ghost use Rattle.rule_model.specs.Scopes.{Nesting};
 ghost use Rattle.proof_store.specs.Meaning.{IsBindingOf};
-ghost use Rattle.text_items.specs.ItemShapes.{Name};
-ghost use Rattle.text_items.specs.NameNodes.{IsNameNode};
-ghost use Rattle.text_items.specs.Nodes.{IsNode};
+ghost use Rattle.text_items.specs.ItemsAt.{end_at, item_at, items_at};
 ghost use Rattle.problem_text.specs.TypedTerms.{Typed};
 ghost use Rattle.problem_text.specs.Words as words;
 ghost use Rattle.term_names.specs.Standing.{AddsNoSymbols};
 ghost use Rattle.term_expansion.specs.Values.{IsValue};
 ghost use Rattle.term_reader.specs.ProblemViews.{IsReaderOf};
-ghost use Rattle.alethe_commands.specs.CommandNodes.{IsSortNode, AreArguments};
+ghost use Rattle.alethe_commands.specs.CommandNodes.{AreArgumentsAt, IsSymbolAt, IsSortThere, name_in, sort_said};
 ghost use Rattle.alethe_text.specs.Anchors.{bound_names, sort_given, argument_read, arguments_read};
 ghost use Rattle.alethe_text.specs.Commands as shape;
 ghost use Rattle.alethe_text.specs.ProofTerms.{place_in};
@@ -29,7 +25,7 @@ use crate::judging::{Named, named_at};
 use crate::needed_images::{images_needed, with_images};
 use alethe_commands::{AnchorArgument, argument_at};
 use pair_pool::Ref;
-use sexpr::{Cause, Lexer, Refusal};
+use sexpr::{Cause, Refusal};
 use smtlib_reader::sort_at;
 use sym_table::{Symbols, is_built_in};
 use term_expansion::values::Value;
@@ -37,9 +33,9 @@ use term_model::Sort;
 use term_names::faults::ReadFault;
 use term_pool::Terms;
 use term_reader::TermReader;
-use text_items::nodes::{ItemText, Node};
+use text_items::nodes::ItemText;
 use text_items::refusals::refused;
-use text_items::shapes::node_at;
+use text_items::shapes::second;
 
 /// The greatest height of a term that is read.
 const MOST_HEIGHT: u32 = 2000;
@@ -64,6 +60,7 @@ struct Wanted {
 /// `bound` has them behind all others, and alone in `opened`.
 ///
 /// Refused at the first fault of the first that has one. After a refusal the reader and what is bound are given up.
+#[tactic(auto, using(crate::proofs::ArgumentLoop::arguments_left))]
 pub(crate) fn read_arguments(
     items: &ItemText<'_, '_>,
     first: usize,
@@ -72,25 +69,25 @@ pub(crate) fn read_arguments(
     reader: &mut TermReader<'_>,
     bound: &mut BoundVariables,
 ) -> Result<(), ReadFault>
-    requires arguments { (others : List shape.Argument) × AreArguments (source items.now.text.now) items.now.nodes.now first others (length items.now.nodes.now) }
+    requires arguments { AreArgumentsAt items.now first (length items.now.nodes) }
     requires scope { (settings : ProofSettings) × (p : ProofState) × IsReaderOf symbols.old terms.old reader.old p.script (place_in settings p.scope.nesting) × AreBound symbols.old terms.old bound.old p.scope.nesting }
-    requires room { length symbols.old.leaves + (length items.now.nodes.now - first) ≤ 2 ^ 30 }
-    ensures read { (others : List shape.Argument) (settings : ProofSettings) (p : ProofState) → AreArguments (source items.now.text.now) items.now.nodes.now first others (length items.now.nodes.now) → IsReaderOf symbols.old terms.old reader.old p.script (place_in settings p.scope.nesting) → AreBound symbols.old terms.old bound.old p.scope.nesting → AnswersAs symbols.new terms.old terms.new (AreArgumentsRead symbols.new terms.new settings reader.new bound.new p) (arguments_read settings [] others p) result }
-    ensures few { length symbols.new.leaves ≤ length symbols.old.leaves + (length items.now.nodes.now - first) }
+    requires room { length symbols.old.leaves + (length items.now.nodes - first) ≤ 2 ^ 30 }
+    ensures read { (settings : ProofSettings) (p : ProofState) → IsReaderOf symbols.old terms.old reader.old p.script (place_in settings p.scope.nesting) → AreBound symbols.old terms.old bound.old p.scope.nesting → AnswersAs symbols.new terms.old terms.new (AreArgumentsRead symbols.new terms.new settings reader.new bound.new p) (arguments_read settings [] (shape.arguments_in (items_at items.now first (length items.now.nodes))) p) result }
+    ensures few { length symbols.new.leaves ≤ length symbols.old.leaves + (length items.now.nodes - first) }
     ensures symbols { AddsNoSymbols symbols.old symbols.new }
     ensures keeps { KeepsTerms terms.old terms.new }
 {
     bound.opened.clear();
-    let nodes = items.nodes;
     let mut k = first;
-    'arguments: while k != nodes.len() {
+    'arguments: while k < items.count() {
         read_argument(items, k, symbols, terms, reader, bound)?;
-        k = node_at(nodes, k).next;
+        k = items.node(k).next;
     }
     Ok(())
 }
 
 /// Reads the argument at node `k`, behind those that were read of the anchor.
+#[tactic(auto, using(crate::proofs::ArgumentNodes::term_found))]
 fn read_argument(
     items: &ItemText<'_, '_>,
     k: usize,
@@ -99,18 +96,18 @@ fn read_argument(
     reader: &mut TermReader<'_>,
     bound: &mut BoundVariables,
 ) -> Result<(), ReadFault>
-    requires argument { (i : Item) × (m : ℕ) × IsNode (source items.now.text.now) items.now.nodes.now k i m × (shape.argument_fault i ≡ None) }
+    requires item { k < length items.now.nodes }
+    requires argument { shape.argument_fault (item_at items.now k) ≡ None }
     requires opening { (settings : ProofSettings) × (earlier : List (List ℕ)) × (bs : List (Var × Term)) × (p : ProofState) × IsOpening symbols.old terms.old settings reader.old bound.old earlier bs p }
-    requires room { length symbols.old.leaves + (length items.now.nodes.now - k) ≤ 2 ^ 30 }
-    ensures read { (i : Item) (m : ℕ) (settings : ProofSettings) (earlier : List (List ℕ)) (bs : List (Var × Term)) (p : ProofState) → IsNode (source items.now.text.now) items.now.nodes.now k i m → shape.argument_fault i ≡ None → IsOpening symbols.old terms.old settings reader.old bound.old earlier bs p → AnswersAs symbols.new terms.old terms.new (IsArgumentRead symbols.new terms.new settings reader.new bound.new earlier bs p) (argument_read settings earlier (shape.argument_of i) p) result }
+    requires room { length symbols.old.leaves + (length items.now.nodes - k) ≤ 2 ^ 30 }
+    ensures read { (settings : ProofSettings) (earlier : List (List ℕ)) (bs : List (Var × Term)) (p : ProofState) → IsOpening symbols.old terms.old settings reader.old bound.old earlier bs p → AnswersAs symbols.new terms.old terms.new (IsArgumentRead symbols.new terms.new settings reader.new bound.new earlier bs p) (argument_read settings earlier (shape.argument_of (item_at items.now k)) p) result }
     // Each leaf that is added has a node of the item.
-    ensures spent { (i : Item) (m : ℕ) → IsNode (source items.now.text.now) items.now.nodes.now k i m → OnOk result (length symbols.new.leaves ≤ length symbols.old.leaves + (m - k)) }
-    ensures few { length symbols.new.leaves ≤ length symbols.old.leaves + (length items.now.nodes.now - k) }
+    ensures spent { OnOk result (length symbols.new.leaves ≤ length symbols.old.leaves + (end_at items.now k - k)) }
+    ensures few { length symbols.new.leaves ≤ length symbols.old.leaves + (length items.now.nodes - k) }
     ensures symbols { AddsNoSymbols symbols.old symbols.new }
     ensures keeps { KeepsTerms terms.old terms.new }
 {
-    let ItemText { text, nodes } = *items;
-    match argument_at(text, nodes, k) {
+    match argument_at(items, k) {
         AnchorArgument::Alone { place } => { Err(ReadFault::Text(refused(Cause::LeftOut, place))) }
         AnchorArgument::Assigned {
             place,
@@ -118,8 +115,13 @@ fn read_argument(
             sort,
             ..
         } => {
-            // Behind `:=` stand the variable, which may have its sort with it, and the term.
-            let term = node_at(nodes, k + 2).next;
+            // Behind `:=` stand the variable, which may have its sort with it, and the term, which is looked for here so that
+            // it is known to end where the argument does.
+            let end = items.node(k).next;
+            let behind = items.node(k + 1).next;
+            let Some(term) = second(items, behind, end) else {
+                unreachable!()
+            };
             let assigned = Assigned {
                 place,
                 variable,
@@ -132,6 +134,7 @@ fn read_argument(
 }
 
 /// Reads a variable with its term, behind those that were read of the anchor.
+#[tactic(auto, using(term_reader::proofs::Staying::leaf_more))]
 fn read_assigned(
     items: &ItemText<'_, '_>,
     assigned: Assigned,
@@ -140,25 +143,24 @@ fn read_assigned(
     reader: &mut TermReader<'_>,
     bound: &mut BoundVariables,
 ) -> Result<(), ReadFault>
-    requires name { (x : Name) × IsNameNode (source items.now.text.now) items.now.nodes.now assigned.variable x }
-    requires sort { (o : Option Item) × IsSortNode (source items.now.text.now) items.now.nodes.now assigned.sort o }
-    requires term { (i : Item) × (m : ℕ) × IsNode (source items.now.text.now) items.now.nodes.now assigned.term i m }
+    requires name { IsSymbolAt items.now assigned.variable }
+    requires sort { IsSortThere items.now assigned.sort }
+    requires term { assigned.term < length items.now.nodes }
     requires opening { (settings : ProofSettings) × (earlier : List (List ℕ)) × (bs : List (Var × Term)) × (p : ProofState) × IsOpening symbols.old terms.old settings reader.old bound.old earlier bs p }
-    requires room { length symbols.old.leaves + (length items.now.nodes.now - assigned.term) < 2 ^ 30 }
-    ensures read { (x : Name) (o : Option Item) (i : Item) (m : ℕ) (settings : ProofSettings) (earlier : List (List ℕ)) (bs : List (Var × Term)) (p : ProofState) → IsNameNode (source items.now.text.now) items.now.nodes.now assigned.variable x → IsSortNode (source items.now.text.now) items.now.nodes.now assigned.sort o → IsNode (source items.now.text.now) items.now.nodes.now assigned.term i m → IsOpening symbols.old terms.old settings reader.old bound.old earlier bs p → AnswersAs symbols.new terms.old terms.new (IsArgumentRead symbols.new terms.new settings reader.new bound.new earlier bs p) (argument_read settings earlier (shape.assigned assigned.place x o i) p) result }
-    ensures spent { (i : Item) (m : ℕ) → IsNode (source items.now.text.now) items.now.nodes.now assigned.term i m → OnOk result (length symbols.new.leaves ≤ length symbols.old.leaves + (m - assigned.term) + 1) }
-    ensures few { length symbols.new.leaves ≤ length symbols.old.leaves + (length items.now.nodes.now - assigned.term) + 1 }
+    requires room { length symbols.old.leaves + (length items.now.nodes - assigned.term) < 2 ^ 30 }
+    ensures read { (settings : ProofSettings) (earlier : List (List ℕ)) (bs : List (Var × Term)) (p : ProofState) → IsOpening symbols.old terms.old settings reader.old bound.old earlier bs p → AnswersAs symbols.new terms.old terms.new (IsArgumentRead symbols.new terms.new settings reader.new bound.new earlier bs p) (argument_read settings earlier (shape.assigned assigned.place (name_in items.now assigned.variable) (sort_said items.now assigned.sort) (item_at items.now assigned.term)) p) result }
+    ensures spent { OnOk result (length symbols.new.leaves ≤ length symbols.old.leaves + (end_at items.now assigned.term - assigned.term) + 1) }
+    ensures few { length symbols.new.leaves ≤ length symbols.old.leaves + (length items.now.nodes - assigned.term) + 1 }
     ensures symbols { AddsNoSymbols symbols.old symbols.new }
     ensures keeps { KeepsTerms terms.old terms.new }
 {
-    let ItemText { text, nodes } = *items;
-    let variable = named_at(text, nodes, assigned.variable);
+    let variable = named_at(items, assigned.variable);
     judge_variable(bound, variable)?;
     let wanted = Wanted {
         place: assigned.place,
-        sort: sort_wanted(text, nodes, assigned.sort, symbols)?,
+        sort: sort_wanted(items, assigned.sort, symbols)?,
     };
-    let value = reader.value_at(text, nodes, assigned.term, symbols, terms)?;
+    let value = reader.value_at(items, assigned.term, symbols, terms)?;
     let (term, sort) = (value.term, value.sort);
     let image = image_at(bound, wanted, value, symbols, terms)?;
     let leaf = symbols.variable(variable.name, sort)?;
@@ -182,17 +184,16 @@ fn judge_variable(bound: &BoundVariables, variable: Named<'_>) -> Result<(), Ref
 
 /// The sort that the text gives a variable, where it gives one.
 fn sort_wanted(
-    text: &Lexer<'_>,
-    nodes: &[Node],
+    items: &ItemText<'_, '_>,
     sort: Option<usize>,
     symbols: &Symbols,
 ) -> Result<Option<Sort>, Refusal>
-    requires { (o : Option Item) × IsSortNode (source text.now) nodes.now sort o }
-    ensures { (o : Option Item) → IsSortNode (source text.now) nodes.now sort o → result ≡ sort_given symbols.now.sorts o }
+    requires { IsSortThere items.now sort }
+    ensures { result ≡ sort_given symbols.now.sorts (sort_said items.now sort) }
 {
     match sort {
         None => Ok(None),
-        Some(k) => match sort_at(text, nodes, k, symbols) {
+        Some(k) => match sort_at(items, k, symbols) {
             Ok(sort) => Ok(Some(sort)),
             Err(refusal) => Err(refusal),
         },

@@ -1,12 +1,11 @@
 //! Anchors of a proof (Alethe specification, "Subproofs", and "The Proof Format": contexts).
-ghost use Rattle.std.specs.Prelude.{◌≡◌, ◌≤◌, ◌<◌, ◌^◌, ◌+◌, ◌-◌, List, length, OnOk};
-ghost use Rattle.sexpr.specs.Source.{source};
+ghost use Rattle.std.specs.Prelude.{◌≡◌, ◌≤◌, ◌<◌, ◌^◌, ◌+◌, ◌-◌, length, OnOk};
 ghost use Rattle.term_pool.specs.Views.{KeepsTerms};
 ghost use Rattle.rule_model.specs.RuleNames.{IsSymbolName};
 ghost use Rattle.rule_model.specs.Scopes.{next_index, next_scope};
-ghost use Rattle.text_items.specs.ItemShapes.{Name};
+ghost use Rattle.text_items.specs.ItemsAt.{items_at};
 ghost use Rattle.term_names.specs.Standing.{AddsNoSymbols};
-ghost use Rattle.alethe_commands.specs.CommandNodes.{SaysAnchor};
+ghost use Rattle.alethe_commands.specs.CommandNodes.{IsAnchorThere, name_in};
 ghost use Rattle.alethe_text.specs.Anchors.{anchor_read};
 ghost use Rattle.alethe_text.specs.Commands as shape;
 ghost use Rattle.alethe_text.specs.States.{ProofSettings, ProofState};
@@ -45,18 +44,19 @@ pub fn read_anchor(
     terms: &mut Terms<'_>,
     session: &mut Session<'_>,
 ) -> Result<(), ReadFault>
-    requires says { (n : Name) × (others : List shape.Argument) × SaysAnchor (source items.now.text.now) items.now.nodes.now anchor.place anchor.id anchor.first (shape.anchor anchor.place n others) × IsSymbolName n.name }
+    requires there { IsAnchorThere items.now anchor.id anchor.first }
+    requires name { IsSymbolName (name_in items.now anchor.id).name }
     requires session { (settings : ProofSettings) × (p : ProofState) × IsProofSession symbols.old terms.old settings session.old p }
-    requires room { length symbols.old.leaves + (length items.now.nodes.now - anchor.first) ≤ 2 ^ 30 }
+    requires room { length symbols.old.leaves + (length items.now.nodes - anchor.first) ≤ 2 ^ 30 }
     requires few { next_scope session.old.builder + 1 < 2 ^ 32 - 1 }
-    ensures read { (n : Name) (others : List shape.Argument) (settings : ProofSettings) (p : ProofState) → SaysAnchor (source items.now.text.now) items.now.nodes.now anchor.place anchor.id anchor.first (shape.anchor anchor.place n others) → IsProofSession symbols.old terms.old settings session.old p → AnswersAs symbols.new terms.old terms.new (StandsAfter symbols.new terms.new settings session.new) (anchor_read settings anchor.place n others p) result }
-    ensures few { length symbols.new.leaves ≤ length symbols.old.leaves + (length items.now.nodes.now - anchor.first) }
+    ensures read { (settings : ProofSettings) (p : ProofState) → IsProofSession symbols.old terms.old settings session.old p → AnswersAs symbols.new terms.old terms.new (StandsAfter symbols.new terms.new settings session.new) (anchor_read settings anchor.place (name_in items.now anchor.id) (shape.arguments_in (items_at items.now anchor.first (length items.now.nodes))) p) result }
+    ensures few { length symbols.new.leaves ≤ length symbols.old.leaves + (length items.now.nodes - anchor.first) }
     ensures symbols { AddsNoSymbols symbols.old symbols.new }
     ensures keeps { KeepsTerms terms.old terms.new }
     ensures commands { OnOk result (next_index session.new.builder ≡ next_index session.old.builder) }
     ensures scopes { OnOk result (next_scope session.new.builder ≡ next_scope session.old.builder + 1) }
 {
-    let id = named_at(items.text, items.nodes, anchor.id);
+    let id = named_at(items, anchor.id);
     let looked = session.ids.look(id.name);
     judge_id(looked.found, id, Cause::Repeated)?;
     let (reader, bound) = (&mut session.reader, &mut session.bound);

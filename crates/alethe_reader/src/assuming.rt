@@ -1,19 +1,15 @@
 //! Assumes of a proof (Alethe specification, "The Proof Format").
-ghost use Rattle.std.specs.Prelude.{◌≡◌, ◌≤◌, ◌<◌, ◌^◌, ◌+◌, ◌-◌, ℕ, length, OnOk};
-ghost use Rattle.sexpr.specs.Items.{Item};
-ghost use Rattle.sexpr.specs.Source.{source};
+ghost use Rattle.std.specs.Prelude.{◌≡◌, ◌≤◌, ◌<◌, ◌^◌, ◌+◌, ◌-◌, length, OnOk};
 ghost use Rattle.term_pool.specs.Views.{KeepsTerms};
 ghost use Rattle.rule_model.specs.RuleNames.{IsSymbolName};
 ghost use Rattle.rule_model.specs.Scopes.{next_index, next_scope};
-ghost use Rattle.text_items.specs.ItemShapes.{Name};
-ghost use Rattle.text_items.specs.NameNodes.{IsNameNode};
-ghost use Rattle.text_items.specs.Nodes.{IsNode};
-ghost use Rattle.text_items.specs.Stepping.{IsItemAt};
 ghost use Rattle.term_names.specs.Standing.{AddsNoSymbols};
 ghost use Rattle.alethe_text.specs.States.{ProofSettings, ProofState};
 ghost use Rattle.alethe_text.specs.Steps.{assume_read};
 ghost use Rattle.alethe_reader.specs.Answers.{AnswersAs};
 ghost use Rattle.alethe_reader.specs.Sessions.{IsProofSession, StandsAfter};
+ghost use Rattle.text_items.specs.ItemsAt.{item_at};
+ghost use Rattle.alethe_commands.specs.CommandNodes.{IsSymbolAt, name_in};
 
 use crate::formulas::formula_at;
 use crate::ids::Role;
@@ -37,19 +33,20 @@ pub fn read_assume(
     terms: &mut Terms<'_>,
     session: &mut Session<'_>,
 ) -> Result<(), ReadFault>
-    requires id { (n : Name) × IsNameNode (source items.now.text.now) items.now.nodes.now id n × IsSymbolName n.name }
-    requires term { IsItemAt (source items.now.text.now) items.now.nodes.now term }
+    requires id { IsSymbolAt items.now id }
+    requires name { IsSymbolName (name_in items.now id).name }
+    requires term { term < length items.now.nodes }
     requires session { (settings : ProofSettings) × (p : ProofState) × IsProofSession symbols.old terms.old settings session.old p }
-    requires room { length symbols.old.leaves + (length items.now.nodes.now - term) ≤ 2 ^ 30 }
+    requires room { length symbols.old.leaves + (length items.now.nodes - term) ≤ 2 ^ 30 }
     requires few { next_index session.old.builder + 1 < 2 ^ 32 - 1 }
-    ensures read { (n : Name) (i : Item) (m : ℕ) (settings : ProofSettings) (p : ProofState) → IsNameNode (source items.now.text.now) items.now.nodes.now id n → IsNode (source items.now.text.now) items.now.nodes.now term i m → IsProofSession symbols.old terms.old settings session.old p → AnswersAs symbols.new terms.old terms.new (StandsAfter symbols.new terms.new settings session.new) (assume_read settings n i p) result }
-    ensures few { length symbols.new.leaves ≤ length symbols.old.leaves + (length items.now.nodes.now - term) }
+    ensures read { (settings : ProofSettings) (p : ProofState) → IsProofSession symbols.old terms.old settings session.old p → AnswersAs symbols.new terms.old terms.new (StandsAfter symbols.new terms.new settings session.new) (assume_read settings (name_in items.now id) (item_at items.now term) p) result }
+    ensures few { length symbols.new.leaves ≤ length symbols.old.leaves + (length items.now.nodes - term) }
     ensures symbols { AddsNoSymbols symbols.old symbols.new }
     ensures keeps { KeepsTerms terms.old terms.new }
     ensures commands { OnOk result (next_index session.new.builder ≡ next_index session.old.builder + 1) }
     ensures scopes { OnOk result (next_scope session.new.builder ≡ next_scope session.old.builder) }
 {
-    let id = named_at(items.text, items.nodes, id);
+    let id = named_at(items, id);
     let looked = session.ids.look(id.name);
     judge_id(looked.found, id, Cause::BadAnchor)?;
     let formula = formula_at(items, term, symbols, terms, &mut session.reader)?;

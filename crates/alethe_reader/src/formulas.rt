@@ -1,19 +1,17 @@
 //! Formulas of a proof, read in a scope behind what the problem and the proof up to there name.
-ghost use Rattle.std.specs.Prelude.{◌≡◌, ◌≤◌, ◌^◌, ◌+◌, ◌-◌, ℕ, length, OnOk};
-ghost use Rattle.sexpr.specs.Items.{Item, Items};
-ghost use Rattle.sexpr.specs.Source.{source};
+ghost use Rattle.std.specs.Prelude.{◌≡◌, ◌<◌, ◌≤◌, ◌^◌, ◌+◌, ◌-◌, length, OnOk};
 ghost use Rattle.term_model.specs.Terms.{Var, Term, sort_eq};
 ghost use Rattle.term_model.specs.declared.symbols.Sort.TheVariants as sort;
 ghost use Rattle.term_pool.specs.Views.{KeepsTerms};
 ghost use Rattle.rule_model.specs.Scopes.{Nesting};
-ghost use Rattle.text_items.specs.Nodes.{IsNode, AreNodes};
-ghost use Rattle.text_items.specs.Stepping.{IsItemAt, AreItemsFrom};
 ghost use Rattle.term_names.specs.Standing.{AddsNoSymbols};
 ghost use Rattle.term_reader.specs.ProblemViews.{IsReaderOf};
 ghost use Rattle.alethe_text.specs.ProofTerms.{place_in, formula_in, formulas_in};
 ghost use Rattle.alethe_text.specs.States.{ProofSettings, ProofState};
 ghost use Rattle.alethe_reader.specs.Answers.{AnswersAs};
 ghost use Rattle.alethe_reader.specs.ReadTerms.{IsReadFormula, AreReadFormulas};
+ghost use Rattle.text_items.specs.ItemsAt.{end_at, item_at, items_at};
+ghost use Rattle.alethe_commands.specs.CommandNodes.{AreItemsAt};
 
 use crate::ranges::NodeRange;
 use pair_pool::Ref;
@@ -25,7 +23,6 @@ use term_pool::Terms;
 use term_reader::TermReader;
 use text_items::nodes::ItemText;
 use text_items::refusals::refused;
-use text_items::shapes::node_at;
 
 /// Reads the formula at node `k`: a term of the sort Bool (SMT-LIB 2.6, "Terms and Formulas").
 ///
@@ -38,22 +35,21 @@ pub(crate) fn formula_at(
     terms: &mut Terms<'_>,
     reader: &mut TermReader<'_>,
 ) -> Result<Ref, ReadFault>
-    requires item { IsItemAt (source items.now.text.now) items.now.nodes.now k }
+    requires item { k < length items.now.nodes }
     requires reader { (settings : ProofSettings) × (nesting : Nesting Var Term) × (p : ProofState) × IsReaderOf symbols.old terms.old reader.old p.script (place_in settings nesting) }
-    requires room { length symbols.old.leaves + (length items.now.nodes.now - k) ≤ 2 ^ 30 }
-    ensures read { (i : Item) (m : ℕ) (settings : ProofSettings) (nesting : Nesting Var Term) (p : ProofState) → IsNode (source items.now.text.now) items.now.nodes.now k i m → IsReaderOf symbols.old terms.old reader.old p.script (place_in settings nesting) → AnswersAs symbols.new terms.old terms.new (IsReadFormula symbols.new terms.new settings nesting reader.new p) (formula_in settings nesting i p) result }
+    requires room { length symbols.old.leaves + (length items.now.nodes - k) ≤ 2 ^ 30 }
+    ensures read { (settings : ProofSettings) (nesting : Nesting Var Term) (p : ProofState) → IsReaderOf symbols.old terms.old reader.old p.script (place_in settings nesting) → AnswersAs symbols.new terms.old terms.new (IsReadFormula symbols.new terms.new settings nesting reader.new p) (formula_in settings nesting (item_at items.now k) p) result }
     // Each leaf that is added has a node of the item.
-    ensures spent { (i : Item) (m : ℕ) → IsNode (source items.now.text.now) items.now.nodes.now k i m → OnOk result (length symbols.new.leaves ≤ length symbols.old.leaves + (m - k)) }
-    ensures few { length symbols.new.leaves ≤ length symbols.old.leaves + (length items.now.nodes.now - k) }
+    ensures spent { OnOk result (length symbols.new.leaves ≤ length symbols.old.leaves + (end_at items.now k - k)) }
+    ensures few { length symbols.new.leaves ≤ length symbols.old.leaves + (length items.now.nodes - k) }
     ensures symbols { AddsNoSymbols symbols.old symbols.new }
     ensures keeps { KeepsTerms terms.old terms.new }
 {
-    let ItemText { text, nodes } = *items;
-    let value = reader.value_at(text, nodes, k, symbols, terms)?;
+    let value = reader.value_at(items, k, symbols, terms)?;
     if is_bool(value.sort) {
         Ok(value.term)
     } else {
-        let place = node_at(nodes, k).token.start;
+        let place = items.node(k).token.start;
         Err(ReadFault::Text(refused(Cause::SortMismatch, place)))
     }
 }
@@ -67,6 +63,7 @@ fn is_bool(given: Sort) -> bool
 /// Reads the formulas of a range one after another, in place of what `formulas` held.
 ///
 /// Refused at the first fault of the first that has one, as `formula_at` refuses. After a refusal the reader is given up.
+#[tactic(auto, using(crate::proofs::LeftToRead::one_by_one))]
 pub(crate) fn formulas_at(
     items: &ItemText<'_, '_>,
     range: NodeRange,
@@ -75,22 +72,22 @@ pub(crate) fn formulas_at(
     reader: &mut TermReader<'_>,
     formulas: &mut Vec<Ref>,
 ) -> Result<(), ReadFault>
-    requires items { AreItemsFrom (source items.now.text.now) items.now.nodes.now range.first range.end }
+    requires items { AreItemsAt items.now range.first range.end }
     requires reader { (settings : ProofSettings) × (nesting : Nesting Var Term) × (p : ProofState) × IsReaderOf symbols.old terms.old reader.old p.script (place_in settings nesting) }
-    requires room { length symbols.old.leaves + (length items.now.nodes.now - range.first) ≤ 2 ^ 30 }
-    ensures read { (literals : Items) (settings : ProofSettings) (nesting : Nesting Var Term) (p : ProofState) → AreNodes (source items.now.text.now) items.now.nodes.now range.first literals range.end → IsReaderOf symbols.old terms.old reader.old p.script (place_in settings nesting) → AnswersAs symbols.new terms.old terms.new (AreReadFormulas symbols.new terms.new settings nesting reader.new p formulas.new.items) (formulas_in settings nesting literals p) result }
+    requires room { length symbols.old.leaves + (length items.now.nodes - range.first) ≤ 2 ^ 30 }
+    ensures read { (settings : ProofSettings) (nesting : Nesting Var Term) (p : ProofState) → IsReaderOf symbols.old terms.old reader.old p.script (place_in settings nesting) → AnswersAs symbols.new terms.old terms.new (AreReadFormulas symbols.new terms.new settings nesting reader.new p formulas.new.items) (formulas_in settings nesting (items_at items.now range.first range.end) p) result }
     // Each leaf that is added has a node of its own.
     ensures spent { OnOk result (length symbols.new.leaves ≤ length symbols.old.leaves + (range.end - range.first)) }
-    ensures few { length symbols.new.leaves ≤ length symbols.old.leaves + (length items.now.nodes.now - range.first) }
+    ensures few { length symbols.new.leaves ≤ length symbols.old.leaves + (length items.now.nodes - range.first) }
     ensures symbols { AddsNoSymbols symbols.old symbols.new }
     ensures keeps { KeepsTerms terms.old terms.new }
 {
     formulas.clear();
     let mut k = range.first;
-    'formulas: while k != range.end {
+    'formulas: while k < range.end {
         let formula = formula_at(items, k, symbols, terms, reader)?;
         formulas.push(formula)?;
-        k = node_at(items.nodes, k).next;
+        k = items.node(k).next;
     }
     Ok(())
 }

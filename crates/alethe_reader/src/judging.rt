@@ -1,18 +1,16 @@
 //! The ids of commands that close nothing (Alethe specification, "The Proof Format").
 ghost use Rattle.std.specs.Prelude.{◌≡◌, None, OnOk, Ok, Err};
 ghost use Rattle.problem_text.specs.Outcomes.{given};
-ghost use Rattle.text_items.specs.ItemShapes.{Name};
-ghost use Rattle.text_items.specs.NameNodes.{IsNameNode};
-ghost use Rattle.sexpr.specs.Source.{source};
 ghost use Rattle.alethe_text.specs.Ids as text;
 ghost use Rattle.alethe_text.specs.States.{ProofState};
 ghost use Rattle.alethe_reader.specs.Ids.{IsIdFound};
 ghost use Rattle.alethe_reader.specs.IdsInUse.{ids_in};
 ghost use Rattle.alethe_reader.specs.Judging.{cause_of, is_named};
+ghost use Rattle.alethe_commands.specs.CommandNodes.{IsSymbolAt, name_in};
 
 use crate::ids::{Found, Role};
-use sexpr::{Cause, Lexer, Refusal};
-use text_items::nodes::Node;
+use sexpr::{Cause, Refusal};
+use text_items::nodes::ItemText;
 use text_items::refusals::refused;
 use text_items::shapes::name_of;
 
@@ -24,13 +22,13 @@ pub(crate) struct Named<'a> {
 }
 
 /// The name at the node of a symbol.
-pub(crate) fn named_at<'a>(text: &Lexer<'a>, nodes: &[Node], k: usize) -> Named<'a>
-    requires { (n : Name) × IsNameNode (source text.now) nodes.now k n }
-    ensures { (n : Name) → IsNameNode (source text.now) nodes.now k n → is_named result ≡ n }
+pub(crate) fn named_at<'a>(items: &ItemText<'_, 'a>, k: usize) -> Named<'a>
+    requires { IsSymbolAt items.now k }
+    ensures { is_named result ≡ name_in items.now k }
 {
     Named {
-        place: nodes[k].token.start,
-        name: name_of(text, nodes, k),
+        place: items.node(k).token.start,
+        name: name_of(items, k),
     }
 }
 

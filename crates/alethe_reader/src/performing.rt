@@ -1,13 +1,11 @@
 //! What the commands of a proof do (Alethe, "The Proof Format").
-ghost use Rattle.std.specs.Prelude.{◌≡◌, ◌≤◌, ◌<◌, ◌^◌, ◌+◌, ◌-◌, length, OnOk};
-ghost use Rattle.sexpr.specs.Source.{source};
+ghost use Rattle.std.specs.Prelude.{◌≤◌, ◌<◌, ◌^◌, ◌+◌, ◌-◌, length, OnOk};
 ghost use Rattle.term_pool.specs.Views.{KeepsTerms};
 ghost use Rattle.rule_model.specs.Scopes.{next_index, next_scope};
 ghost use Rattle.term_names.specs.Standing.{AddsNoSymbols};
-ghost use Rattle.alethe_text.specs.Commands as shape;
+ghost use Rattle.alethe_commands.specs.CommandNodes.{IsCommandThere, command_said};
 ghost use Rattle.alethe_text.specs.ProofTexts.{performed};
 ghost use Rattle.alethe_text.specs.States.{ProofSettings, ProofState};
-ghost use Rattle.alethe_commands.specs.CommandNodes.{SaysCommand};
 ghost use Rattle.alethe_reader.specs.Answers.{AnswersAs};
 ghost use Rattle.alethe_text.specs.CommandNames.{IsNamed};
 ghost use Rattle.alethe_reader.specs.Sessions.{IsProofSession, StandsAfter};
@@ -23,6 +21,7 @@ use term_pool::Terms;
 use text_items::nodes::ItemText;
 
 /// Does what a command asks for.
+#[tactic(auto, using(alethe_text::proofs::CommandNames::rule_is_named))]
 pub(crate) fn perform(
     items: &ItemText<'_, '_>,
     symbols: &mut Symbols,
@@ -30,13 +29,14 @@ pub(crate) fn perform(
     session: &mut Session<'_>,
     command: Command,
 ) -> Result<(), ReadFault>
-    requires says { (c : shape.Command) × SaysCommand (source items.now.text.now) items.now.nodes.now command c × IsNamed c }
+    requires there { IsCommandThere items.now command }
+    requires named { IsNamed (command_said items.now command) }
     requires session { (settings : ProofSettings) × (p : ProofState) × IsProofSession symbols.old terms.old settings session.old p }
-    requires room { length symbols.old.leaves + length items.now.nodes.now ≤ 2 ^ 30 }
+    requires room { length symbols.old.leaves + length items.now.nodes ≤ 2 ^ 30 }
     requires few { next_index session.old.builder + 1 < 2 ^ 32 - 1 }
     requires few_scopes { next_scope session.old.builder + 1 < 2 ^ 32 - 1 }
-    ensures read { (c : shape.Command) (settings : ProofSettings) (p : ProofState) → SaysCommand (source items.now.text.now) items.now.nodes.now command c → IsProofSession symbols.old terms.old settings session.old p → AnswersAs symbols.new terms.old terms.new (StandsAfter symbols.new terms.new settings session.new) (performed settings c p) result }
-    ensures few { length symbols.new.leaves ≤ length symbols.old.leaves + length items.now.nodes.now }
+    ensures read { (settings : ProofSettings) (p : ProofState) → IsProofSession symbols.old terms.old settings session.old p → AnswersAs symbols.new terms.old terms.new (StandsAfter symbols.new terms.new settings session.new) (performed settings (command_said items.now command) p) result }
+    ensures few { length symbols.new.leaves ≤ length symbols.old.leaves + length items.now.nodes }
     ensures commands { OnOk result (next_index session.new.builder ≤ next_index session.old.builder + 1) }
     ensures scopes { OnOk result (next_scope session.new.builder ≤ next_scope session.old.builder + 1) }
     ensures symbols { AddsNoSymbols symbols.old symbols.new }

@@ -1,13 +1,9 @@
 //! The pivots of a resolution in a strict proof, which are its arguments two by two: a term, and behind it its truth value
 //! (Alethe specification, "List of rules": resolution).
-ghost use Rattle.std.specs.Prelude.{◌≡◌, ◌≤◌, ◌^◌, ◌+◌, ◌-◌, ℕ, Bool, List, Option, length, IfOk, IfErr, OnOk};
-ghost use Rattle.sexpr.specs.Items.{Item, Items, item};
-ghost use Rattle.sexpr.specs.Source.{source};
+ghost use Rattle.std.specs.Prelude.{◌≡◌, ◌<◌, ◌≤◌, ◌^◌, ◌+◌, ◌-◌, length, IfOk, IfErr, OnOk};
 ghost use Rattle.term_model.specs.Terms.{Var, Term};
 ghost use Rattle.term_pool.specs.Views.{KeepsTerms};
 ghost use Rattle.rule_model.specs.Scopes.{Nesting};
-ghost use Rattle.text_items.specs.Nodes.{IsNode, AreNodes};
-ghost use Rattle.text_items.specs.Stepping.{IsItemAt, AreItemsFrom, AreSomeFrom};
 ghost use Rattle.term_names.specs.Standing.{AddsNoSymbols};
 ghost use Rattle.term_names.specs.declared.faults.ReadFault.TheVariants as fault;
 ghost use Rattle.term_reader.specs.ProblemViews.{IsReaderOf};
@@ -17,18 +13,19 @@ ghost use Rattle.alethe_text.specs.States.{ProofSettings, ProofState};
 ghost use Rattle.alethe_reader.specs.Answers.{AnswersAs};
 ghost use Rattle.alethe_reader.specs.Pivots as spec;
 ghost use Rattle.alethe_reader.specs.Pivots.{EndsPair, IsReadPivot, AreReadPivots, pivot_read, held_pivots, one_pivot, both_lists};
+ghost use Rattle.text_items.specs.ItemsAt.{end_at, item_at, items_at};
+ghost use Rattle.alethe_commands.specs.CommandNodes.{AreItemsAt};
 
 use crate::arguments::names_at;
 use crate::ranges::NodeRange;
 use alethe_commands::is_symbol;
 use pair_pool::Ref;
-use sexpr::Lexer;
 use sym_table::Symbols;
 use term_names::faults::ReadFault;
 use term_pool::Terms;
 use term_reader::TermReader;
-use text_items::nodes::{ItemText, Node};
-use text_items::shapes::{node_at, second};
+use text_items::nodes::ItemText;
+use text_items::shapes::second;
 
 /// Reads the pivots of a step from its arguments, in place of what `pivots` held. There are none where an argument that should
 /// be a truth value is none, or the last term has none behind it; each term is read all the same, and so is each term that gets
@@ -36,6 +33,7 @@ use text_items::shapes::{node_at, second};
 ///
 /// Refused at the first fault of the first term that has one; and besides for want of memory, and where the pool had no room
 /// for a cell of a term that was read. After a refusal the reader is given up.
+#[tactic(auto, using(crate::proofs::LeftToRead::one_by_one))]
 pub(crate) fn pivots_at(
     items: &ItemText<'_, '_>,
     arguments: NodeRange,
@@ -44,21 +42,21 @@ pub(crate) fn pivots_at(
     reader: &mut TermReader<'_>,
     pivots: &mut Vec<(Ref, bool)>,
 ) -> Result<(), ReadFault>
-    requires items { AreItemsFrom (source items.now.text.now) items.now.nodes.now arguments.first arguments.end }
+    requires items { AreItemsAt items.now arguments.first arguments.end }
     requires reader { (settings : ProofSettings) × (nesting : Nesting Var Term) × (p : ProofState) × IsReaderOf symbols.old terms.old reader.old p.script (place_in settings nesting) }
-    requires room { length symbols.old.leaves + (length items.now.nodes.now - arguments.first) ≤ 2 ^ 30 }
-    ensures read { (others : Items) (settings : ProofSettings) (nesting : Nesting Var Term) (p : ProofState) → AreNodes (source items.now.text.now) items.now.nodes.now arguments.first others arguments.end → IsReaderOf symbols.old terms.old reader.old p.script (place_in settings nesting) → AnswersAs symbols.new terms.old terms.new (AreReadPivots symbols.new terms.new settings nesting reader.new p pivots.new.items) (pivots_from settings nesting others p) result }
+    requires room { length symbols.old.leaves + (length items.now.nodes - arguments.first) ≤ 2 ^ 30 }
+    ensures read { (settings : ProofSettings) (nesting : Nesting Var Term) (p : ProofState) → IsReaderOf symbols.old terms.old reader.old p.script (place_in settings nesting) → AnswersAs symbols.new terms.old terms.new (AreReadPivots symbols.new terms.new settings nesting reader.new p pivots.new.items) (pivots_from settings nesting (items_at items.now arguments.first arguments.end) p) result }
     // Each leaf that is added has a node of its own.
     ensures spent { OnOk result (length symbols.new.leaves ≤ length symbols.old.leaves + (arguments.end - arguments.first)) }
-    ensures few { length symbols.new.leaves ≤ length symbols.old.leaves + (length items.now.nodes.now - arguments.first) }
+    ensures few { length symbols.new.leaves ≤ length symbols.old.leaves + (length items.now.nodes - arguments.first) }
     ensures symbols { AddsNoSymbols symbols.old symbols.new }
     ensures keeps { KeepsTerms terms.old terms.new }
 {
     pivots.clear();
     let mut all = true;
     let mut k = arguments.first;
-    'pairs: while k != arguments.end {
-        let end = pair_end(items.nodes, k, arguments.end);
+    'pairs: while k < arguments.end {
+        let end = pair_end(items, k, arguments.end);
         let pair = NodeRange { first: k, end };
         let pivot = pivot_at(items, pair, symbols, terms, reader)?;
         all = hold(pivots, all, pivot)?;
@@ -72,12 +70,13 @@ pub(crate) fn pivots_at(
 }
 
 /// Where a term with what is to be its truth value ends: of some items from `first` to before `end`, the first two.
-fn pair_end(nodes: &[Node], first: usize, end: usize) -> usize
-    requires { (text : List ℕ) × AreSomeFrom text nodes.now first end }
-    ensures { (text : List ℕ) (i : Item) (others : Items) → AreNodes text nodes.now first (item i others) end → EndsPair text nodes.now first i others result end }
+fn pair_end(items: &ItemText<'_, '_>, first: usize, end: usize) -> usize
+    requires some { first < end }
+    requires items { AreItemsAt items.now first end }
+    ensures { EndsPair items.now first result end }
 {
-    match second(nodes, first, end) {
-        Some(truth) => node_at(nodes, truth).next,
+    match second(items, first, end) {
+        Some(truth) => items.node(truth).next,
         None => end,
     }
 }
@@ -92,46 +91,47 @@ fn pivot_at(
     terms: &mut Terms<'_>,
     reader: &mut TermReader<'_>,
 ) -> Result<Option<(Ref, bool)>, ReadFault>
-    requires items { AreSomeFrom (source items.now.text.now) items.now.nodes.now pair.first pair.end }
+    requires some { end_at items.now pair.first ≤ pair.end }
+    requires items { AreItemsAt items.now (end_at items.now pair.first) pair.end }
     requires reader { (settings : ProofSettings) × (nesting : Nesting Var Term) × (p : ProofState) × IsReaderOf symbols.old terms.old reader.old p.script (place_in settings nesting) }
-    requires room { length symbols.old.leaves + (length items.now.nodes.now - pair.first) ≤ 2 ^ 30 }
-    ensures read { (i : Item) (truth : Items) (settings : ProofSettings) (nesting : Nesting Var Term) (p : ProofState) → AreNodes (source items.now.text.now) items.now.nodes.now pair.first (item i truth) pair.end → IsReaderOf symbols.old terms.old reader.old p.script (place_in settings nesting) → AnswersAs symbols.new terms.old terms.new (IsReadPivot symbols.new terms.new settings nesting reader.new p) (pivot_read settings nesting i truth p) result }
+    requires room { length symbols.old.leaves + (length items.now.nodes - pair.first) ≤ 2 ^ 30 }
+    ensures read { (settings : ProofSettings) (nesting : Nesting Var Term) (p : ProofState) → IsReaderOf symbols.old terms.old reader.old p.script (place_in settings nesting) → AnswersAs symbols.new terms.old terms.new (IsReadPivot symbols.new terms.new settings nesting reader.new p) (pivot_read settings nesting (item_at items.now pair.first) (items_at items.now (end_at items.now pair.first) pair.end) p) result }
     ensures spent { OnOk result (length symbols.new.leaves ≤ length symbols.old.leaves + (pair.end - pair.first)) }
-    ensures few { length symbols.new.leaves ≤ length symbols.old.leaves + (length items.now.nodes.now - pair.first) }
+    ensures few { length symbols.new.leaves ≤ length symbols.old.leaves + (length items.now.nodes - pair.first) }
     ensures symbols { AddsNoSymbols symbols.old symbols.new }
     ensures keeps { KeepsTerms terms.old terms.new }
 {
-    let ItemText { text, nodes } = *items;
-    let value = reader.value_at(text, nodes, pair.first, symbols, terms)?;
+    let value = reader.value_at(items, pair.first, symbols, terms)?;
     let behind = NodeRange {
-        first: node_at(nodes, pair.first).next,
+        first: items.node(pair.first).next,
         end: pair.end,
     };
     names_at(items, behind, symbols, terms, reader)?;
-    let truth = truth_among(text, nodes, behind);
+    let truth = truth_among(items, behind);
     Ok(with_truth(value.term, truth))
 }
 
 /// The truth value that the first of some items is, where there is one and it is such a value.
-fn truth_among(text: &Lexer<'_>, nodes: &[Node], behind: NodeRange) -> Option<bool>
-    requires { AreItemsFrom (source text.now) nodes.now behind.first behind.end }
-    ensures { (items : Items) → AreNodes (source text.now) nodes.now behind.first items behind.end → result ≡ spec.truth_among items }
+#[tactic(auto, using(crate::proofs::NamedArguments::items_shown))]
+fn truth_among(items: &ItemText<'_, '_>, behind: NodeRange) -> Option<bool>
+    requires { behind.end ≤ length items.now.nodes }
+    ensures { result ≡ spec.truth_among (items_at items.now behind.first behind.end) }
 {
-    if behind.first == behind.end {
+    if behind.first >= behind.end {
         return None;
     }
-    truth_at(text, nodes, behind.first)
+    truth_at(items, behind.first)
 }
 
 /// The truth value that the item at a node is, where it is one.
-fn truth_at(text: &Lexer<'_>, nodes: &[Node], k: usize) -> Option<bool>
-    requires { IsItemAt (source text.now) nodes.now k }
-    ensures { (i : Item) (m : ℕ) → IsNode (source text.now) nodes.now k i m → result ≡ truth_of i }
+fn truth_at(items: &ItemText<'_, '_>, k: usize) -> Option<bool>
+    requires { k < length items.now.nodes }
+    ensures { result ≡ truth_of (item_at items.now k) }
 {
-    if is_symbol(text, nodes, b"true", k) {
+    if is_symbol(items, b"true", k) {
         return Some(true);
     }
-    if is_symbol(text, nodes, b"false", k) {
+    if is_symbol(items, b"false", k) {
         return Some(false);
     }
     None

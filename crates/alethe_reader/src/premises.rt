@@ -1,13 +1,13 @@
 //! The commands that a step names: its premises, and the assumes that it discharges (Alethe specification, "The Proof
 //! Format" and "Subproofs").
-ghost use Rattle.std.specs.Prelude.{◌≡◌, ℕ, List, find, bytes_eq};
-ghost use Rattle.sexpr.specs.Source.{source};
+ghost use Rattle.std.specs.Prelude.{◌≡◌, List, find, bytes_eq};
 ghost use Rattle.rule_model.specs.Visibility.{Sight};
-ghost use Rattle.text_items.specs.ItemShapes.{Name};
-ghost use Rattle.alethe_commands.specs.CommandNodes.{AreNameNodes};
+ghost use Rattle.alethe_text.specs.Commands.{names_in};
 ghost use Rattle.alethe_text.specs.States.{ProofState};
 ghost use Rattle.alethe_reader.specs.Reach as spec;
 ghost use Rattle.alethe_reader.specs.Reach.{IsReach, IsIndex, AreIndices};
+ghost use Rattle.text_items.specs.ItemsAt.{items_at};
+ghost use Rattle.alethe_commands.specs.CommandNodes.{AreSymbolsAt};
 
 use crate::ids::{Found, Ids, Role};
 use crate::judging::{Named, named_at};
@@ -68,15 +68,15 @@ pub(crate) fn indices_at(
     reach: Reach,
     indices: &mut Vec<u32>,
 ) -> Result<(), ReadFault>
-    requires { (ns : List Name) × AreNameNodes (source items.now.text.now) items.now.nodes.now range.first ns range.end }
-    ensures { (ns : List Name) (sights : List Sight) (p : ProofState) → AreNameNodes (source items.now.text.now) items.now.nodes.now range.first ns range.end → IsReach ids.now.used reach sights → AreIndices sights ns p indices.new.items result }
+    requires { AreSymbolsAt items.now range.first range.end }
+    ensures { (sights : List Sight) (p : ProofState) → IsReach ids.now.used reach sights → AreIndices sights (names_in (items_at items.now range.first range.end)) p indices.new.items result }
 {
     indices.clear();
     let mut k = range.first;
-    'names: while k != range.end {
-        let index = index_of(ids, reach, named_at(items.text, items.nodes, k))?;
+    'names: while k < range.end {
+        let index = index_of(ids, reach, named_at(items, k))?;
         indices.push(index)?;
-        k += 1;
+        k = items.node(k).next;
     }
     Ok(())
 }

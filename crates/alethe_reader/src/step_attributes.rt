@@ -1,23 +1,18 @@
 //! The attributes of a step, in the order of the text (Alethe specification, "The Proof Format").
-ghost use Rattle.std.specs.Prelude.{◌≡◌, ◌≤◌, ◌^◌, ◌+◌, ◌-◌, ◌&&◌, not, ℕ, List, [], length, OnOk};
+ghost use Rattle.std.specs.Prelude.{◌≡◌, ◌≤◌, ◌^◌, ◌+◌, ◌-◌, ◌&&◌, not, length, OnOk};
 ghost use Rattle.sexpr.specs.declared.causes.Cause.TheVariants.{LeftOut};
-ghost use Rattle.sexpr.specs.Items.{Items};
-ghost use Rattle.sexpr.specs.Source.{source};
 ghost use Rattle.sym_table.specs.Table.{Table};
 ghost use Rattle.term_model.specs.Terms.{Term};
 ghost use Rattle.term_pool.specs.Views.{TermsView, KeepsTerms};
 ghost use Rattle.rule_model.specs.Proofs.{Step};
 ghost use Rattle.rule_model.specs.RuleNames.{left_out_rules};
-ghost use Rattle.text_items.specs.ItemShapes.{Name};
-ghost use Rattle.text_items.specs.NameNodes.{IsNameNode};
-ghost use Rattle.text_items.specs.Nodes.{AreNodes};
-ghost use Rattle.text_items.specs.Stepping.{AreItemsFrom};
+ghost use Rattle.text_items.specs.ItemsAt.{items_at};
 ghost use Rattle.problem_text.specs.Words.{is_among};
 ghost use Rattle.term_names.specs.Standing.{AddsNoSymbols};
-ghost use Rattle.alethe_commands.specs.CommandNodes.{AreAttributes, SaysAttribute};
+ghost use Rattle.alethe_commands.specs.CommandNodes.{AreAttributesAt, IsAttributeThere, IsSymbolAt, attribute_said, name_in};
 ghost use Rattle.alethe_text.specs.Arguments as spec;
 ghost use Rattle.alethe_text.specs.Coefficients.{coefficients_from};
-ghost use Rattle.alethe_text.specs.Commands.{Attribute};
+ghost use Rattle.alethe_text.specs.Commands.{attributes_of};
 ghost use Rattle.alethe_text.specs.Ids as ids;
 ghost use Rattle.alethe_text.specs.States.{ProofSettings, ProofState, demand};
 ghost use Rattle.alethe_text.specs.Steps.{attribute_read, attributes_read};
@@ -35,11 +30,11 @@ use crate::standing::Standing;
 use alethe_commands::attributes::{StepAttribute, next_attribute};
 use coefficients::{Stop, coefficients_at};
 use rule_model::Rule;
-use sexpr::{Cause, Lexer};
+use sexpr::Cause;
 use sym_table::Symbols;
 use term_names::faults::ReadFault;
 use term_pool::Terms;
-use text_items::nodes::{ItemText, Node};
+use text_items::nodes::ItemText;
 use text_items::refusals::refused;
 
 /// Where the attributes of a step begin, the step's rule, and how it stands.
@@ -65,6 +60,7 @@ struct OneAttribute {
 /// assume of the scope that the step closes, a coefficient that is too wide, the first fault of a pivot in a strict proof, or
 /// that of a term that gets a name in other arguments; and besides for want of memory, and where the pool had no room for a cell
 /// of a term that was read. After a refusal the session is given up.
+#[tactic(auto, using(crate::proofs::AttributeReading::attributes_counted))]
 pub(crate) fn attributes_at(
     items: &ItemText<'_, '_>,
     step: StepAttributes,
@@ -72,20 +68,19 @@ pub(crate) fn attributes_at(
     terms: &mut Terms<'_>,
     session: &mut Session<'_>,
 ) -> Result<(), ReadFault>
-    requires attributes { (attributes : List Attribute) × AreAttributes (source items.now.text.now) items.now.nodes.now step.first attributes (length items.now.nodes.now) }
+    requires attributes { AreAttributesAt items.now step.first (length items.now.nodes) }
     requires stands { (settings : ProofSettings) × (at : ids.Standing) × (p : ProofState) × StandsAt symbols.old terms.old settings at session.old step.standing p }
-    requires room { length symbols.old.leaves + (length items.now.nodes.now - step.first) ≤ 2 ^ 30 }
-    ensures read { (attributes : List Attribute) (settings : ProofSettings) (at : ids.Standing) (p : ProofState) (before : Step Term) → AreAttributes (source items.now.text.now) items.now.nodes.now step.first attributes (length items.now.nodes.now) → StandsAt symbols.old terms.old settings at session.old step.standing p → before.rule ≡ step.rule → IsBare before → AnswersAs symbols.new terms.old terms.new (AreReadAttributes symbols.new terms.new settings at.nesting session.new p before) (attributes_read settings at attributes before p) result }
+    requires room { length symbols.old.leaves + (length items.now.nodes - step.first) ≤ 2 ^ 30 }
+    ensures read { (settings : ProofSettings) (at : ids.Standing) (p : ProofState) (before : Step Term) → StandsAt symbols.old terms.old settings at session.old step.standing p → before.rule ≡ step.rule → IsBare before → AnswersAs symbols.new terms.old terms.new (AreReadAttributes symbols.new terms.new settings at.nesting session.new p before) (attributes_read settings at (attributes_of (items_at items.now step.first (length items.now.nodes))) before p) result }
     // Each leaf that is added has a node of its own.
-    ensures few { length symbols.new.leaves ≤ length symbols.old.leaves + (length items.now.nodes.now - step.first) }
+    ensures few { length symbols.new.leaves ≤ length symbols.old.leaves + (length items.now.nodes - step.first) }
     ensures symbols { AddsNoSymbols symbols.old symbols.new }
     ensures keeps { KeepsTerms terms.old terms.new }
     ensures others { KeepsOthers session.old session.new }
 {
-    let ItemText { text, nodes } = *items;
     clear(&mut session.parts, takes_coefficients(step.rule));
     let mut at = step.first;
-    'attributes: while let Some(attribute) = next_attribute(text, nodes, &mut at, nodes.len()) {
+    'attributes: while let Some(attribute) = next_attribute(items, &mut at, items.count()) {
         let one = OneAttribute {
             attribute,
             rule: step.rule,
@@ -97,6 +92,7 @@ pub(crate) fn attributes_at(
 }
 
 /// Empties what attributes have of a step's parts. There are coefficients, though none so far, where its rule takes them.
+#[tactic(auto, using(crate::proofs::AttributeReading::none_among))]
 fn clear(parts: &mut StepParts, has_ratios: bool)
     ensures parts { (s : Table) (v : TermsView) (before : Step Term) → IsBare before → spec.takes_coefficients before.rule ≡ has_ratios → AreStepParts s v parts.new before }
     ensures clause { parts.new.clause ≡ parts.old.clause }
@@ -138,12 +134,12 @@ fn attribute_at(
     terms: &mut Terms<'_>,
     session: &mut Session<'_>,
 ) -> Result<(), ReadFault>
-    requires says { (a : Attribute) × SaysAttribute (source items.now.text.now) items.now.nodes.now one.attribute a }
+    requires there { IsAttributeThere items.now one.attribute }
     requires stands { (settings : ProofSettings) × (at : ids.Standing) × (p : ProofState) × StandsAt symbols.old terms.old settings at session.old one.standing p }
-    requires room { length symbols.old.leaves + nodes_from one.attribute (length items.now.nodes.now) ≤ 2 ^ 30 }
-    ensures read { (a : Attribute) (settings : ProofSettings) (at : ids.Standing) (p : ProofState) (before : Step Term) → SaysAttribute (source items.now.text.now) items.now.nodes.now one.attribute a → StandsAt symbols.old terms.old settings at session.old one.standing p → before.rule ≡ one.rule → AreStepParts symbols.old terms.old session.old.parts before → AnswersAs symbols.new terms.old terms.new (AreReadAttributes symbols.new terms.new settings at.nesting session.new p before) (attribute_read settings at a before p) result }
+    requires room { length symbols.old.leaves + nodes_from one.attribute (length items.now.nodes) ≤ 2 ^ 30 }
+    ensures read { (settings : ProofSettings) (at : ids.Standing) (p : ProofState) (before : Step Term) → StandsAt symbols.old terms.old settings at session.old one.standing p → before.rule ≡ one.rule → AreStepParts symbols.old terms.old session.old.parts before → AnswersAs symbols.new terms.old terms.new (AreReadAttributes symbols.new terms.new settings at.nesting session.new p before) (attribute_read settings at (attribute_said items.now one.attribute) before p) result }
     ensures spent { OnOk result (length symbols.new.leaves ≤ length symbols.old.leaves + own_nodes one.attribute) }
-    ensures few { length symbols.new.leaves ≤ length symbols.old.leaves + nodes_from one.attribute (length items.now.nodes.now) }
+    ensures few { length symbols.new.leaves ≤ length symbols.old.leaves + nodes_from one.attribute (length items.now.nodes) }
     ensures symbols { AddsNoSymbols symbols.old symbols.new }
     ensures keeps { KeepsTerms terms.old terms.new }
     ensures others { KeepsOthers session.old session.new }
@@ -151,7 +147,7 @@ fn attribute_at(
     let standing = one.standing;
     let parts = &mut session.parts;
     match one.attribute {
-        StepAttribute::Rule(k) => judge_rule(items.text, items.nodes, k),
+        StepAttribute::Rule(k) => judge_rule(items, k),
         StepAttribute::Premises { first, end } => {
             let range = NodeRange { first, end };
             let reach = standing.premises;
@@ -179,11 +175,12 @@ fn attribute_at(
 }
 
 /// Judges the rule whose name is at a node: refused where it is left out.
-fn judge_rule(text: &Lexer<'_>, nodes: &[Node], k: usize) -> Result<(), ReadFault>
-    requires { (n : Name) × IsNameNode (source text.now) nodes.now k n }
-    ensures { (n : Name) (p : ProofState) → IsNameNode (source text.now) nodes.now k n → IsRuleJudged (demand (not (is_among left_out_rules n.name)) LeftOut n.place p) p result }
+#[tactic(auto, using(crate::proofs::AttributeReading::rules_judged))]
+fn judge_rule(items: &ItemText<'_, '_>, k: usize) -> Result<(), ReadFault>
+    requires { IsSymbolAt items.now k }
+    ensures { (p : ProofState) → IsRuleJudged (demand (not (is_among left_out_rules (name_in items.now k).name)) LeftOut (name_in items.now k).place p) p result }
 {
-    let rule = named_at(text, nodes, k);
+    let rule = named_at(items, k);
     if is_left_out(rule.name) {
         return Err(ReadFault::Text(refused(Cause::LeftOut, rule.place)));
     }
@@ -196,20 +193,14 @@ fn ratios_at(
     arguments: NodeRange,
     parts: &mut StepParts,
 ) -> Result<(), ReadFault>
-    requires { AreItemsFrom (source items.now.text.now) items.now.nodes.now arguments.first arguments.end }
-    ensures read { (others : Items) → AreNodes (source items.now.text.now) items.now.nodes.now arguments.first others arguments.end → AreRatios parts.new result (coefficients_from others) }
+    requires { arguments.end ≤ length items.now.nodes }
+    ensures read { AreRatios parts.new result (coefficients_from (items_at items.now arguments.first arguments.end)) }
     ensures clause { parts.new.clause ≡ parts.old.clause }
     ensures premises { parts.new.premises ≡ parts.old.premises }
     ensures discharged { parts.new.discharged ≡ parts.old.discharged }
     ensures pivots { parts.new.pivots ≡ parts.old.pivots }
 {
-    let all = coefficients_at(
-        items.text,
-        items.nodes,
-        arguments.first,
-        arguments.end,
-        &mut parts.ratios,
-    );
+    let all = coefficients_at(items, arguments.first, arguments.end, &mut parts.ratios);
     match all {
         Ok(all) => {
             parts.has_ratios = all;

@@ -1,7 +1,5 @@
 //! Steps of a proof (Alethe specification, "The Proof Format" and "Subproofs").
 ghost use Rattle.std.specs.Prelude.{◌≡◌, ◌≤◌, ◌<◌, ◌^◌, ◌+◌, ◌-◌, ◌++◌, ◌∷◌, [], ℕ, List, length, take, position, bytes_eq, IfOk, IfErr, OnOk};
-ghost use Rattle.sexpr.specs.Items.{Items};
-ghost use Rattle.sexpr.specs.Source.{source};
 ghost use Rattle.sym_table.specs.Table.{Table};
 ghost use Rattle.term_model.specs.Terms.{Var, Term};
 ghost use Rattle.term_pool.specs.Views.{TermsView, KeepsTerms};
@@ -11,11 +9,11 @@ ghost use Rattle.rule_model.specs.Scopes.{Anchor, Nesting, inside, own_bindings,
 ghost use Rattle.rule_model.specs.Writing as writing;
 ghost use Rattle.rule_model.specs.Writing.{MayTake};
 ghost use Rattle.proof_store.specs.Ratios.{fractions};
-ghost use Rattle.text_items.specs.ItemShapes.{Name};
+ghost use Rattle.text_items.specs.ItemsAt.{items_at};
 ghost use Rattle.term_names.specs.Standing.{AddsNoSymbols};
 ghost use Rattle.term_names.specs.declared.faults.ReadFault.{ReadFault};
 ghost use Rattle.term_reader.specs.ProblemViews.{IsReaderOf};
-ghost use Rattle.alethe_commands.specs.CommandNodes.{SaysStep};
+ghost use Rattle.alethe_commands.specs.CommandNodes.{IsStepThere, name_in};
 ghost use Rattle.alethe_text.specs.Commands as shape;
 ghost use Rattle.alethe_text.specs.Ids as ids;
 ghost use Rattle.alethe_text.specs.ProofTerms.{place_in};
@@ -73,6 +71,7 @@ struct NewStep<'a> {
 /// Refused where the id may not be that of the step, at the first fault of its literals, and then of its attributes in the
 /// order of the text; and besides for want of memory, and where the pool had no room for a cell of a term that was read. After
 /// a refusal the session is given up.
+#[tactic(auto, using(term_reader::proofs::Staying::adds_then))]
 pub fn read_step(
     items: &ItemText<'_, '_>,
     step: StepNodes,
@@ -80,19 +79,20 @@ pub fn read_step(
     terms: &mut Terms<'_>,
     session: &mut Session<'_>,
 ) -> Result<(), ReadFault>
-    requires says { (n : Name) × (literals : Items) × (attributes : List shape.Attribute) × SaysStep (source items.now.text.now) items.now.nodes.now step.id step.first step.attributes (shape.step n literals attributes) × IsSymbolName n.name × IsSymbolName (steps.rule_word attributes) }
+    requires there { IsStepThere items.now step.id step.first step.attributes }
+    requires name { IsSymbolName (name_in items.now step.id).name }
+    requires rule { IsSymbolName (steps.rule_word (shape.attributes_of (items_at items.now step.attributes (length items.now.nodes)))) }
     requires session { (settings : ProofSettings) × (p : ProofState) × IsProofSession symbols.old terms.old settings session.old p }
-    requires room { length symbols.old.leaves + (length items.now.nodes.now - step.first) ≤ 2 ^ 30 }
+    requires room { length symbols.old.leaves + (length items.now.nodes - step.first) ≤ 2 ^ 30 }
     requires few { next_index session.old.builder + 1 < 2 ^ 32 - 1 }
-    ensures read { (n : Name) (literals : Items) (attributes : List shape.Attribute) (settings : ProofSettings) (p : ProofState) → SaysStep (source items.now.text.now) items.now.nodes.now step.id step.first step.attributes (shape.step n literals attributes) → IsProofSession symbols.old terms.old settings session.old p → AnswersAs symbols.new terms.old terms.new (StandsAfter symbols.new terms.new settings session.new) (steps.step_read settings n literals attributes p) result }
-    ensures few { length symbols.new.leaves ≤ length symbols.old.leaves + (length items.now.nodes.now - step.first) }
+    ensures read { (settings : ProofSettings) (p : ProofState) → IsProofSession symbols.old terms.old settings session.old p → AnswersAs symbols.new terms.old terms.new (StandsAfter symbols.new terms.new settings session.new) (steps.step_read settings (name_in items.now step.id) (items_at items.now step.first step.attributes) (shape.attributes_of (items_at items.now step.attributes (length items.now.nodes))) p) result }
+    ensures few { length symbols.new.leaves ≤ length symbols.old.leaves + (length items.now.nodes - step.first) }
     ensures symbols { AddsNoSymbols symbols.old symbols.new }
     ensures keeps { KeepsTerms terms.old terms.new }
     ensures commands { OnOk result (next_index session.new.builder ≡ next_index session.old.builder + 1) }
     ensures scopes { OnOk result (next_scope session.new.builder ≡ next_scope session.old.builder) }
 {
-    let ItemText { text, nodes } = *items;
-    let id = named_at(text, nodes, step.id);
+    let id = named_at(items, step.id);
     let looked = session.ids.look(id.name);
     let standing = standing_at(session, id, looked.found)?;
     stand(&mut session.reader, standing.closes);
@@ -102,7 +102,7 @@ pub fn read_step(
     };
     let (reader, clause) = (&mut session.reader, &mut session.parts.clause);
     formulas_at(items, literals, symbols, terms, reader, clause)?;
-    let word = rule_word(text, nodes, step.attributes, nodes.len());
+    let word = rule_word(items, step.attributes, items.count());
     let rule = rule_named(word);
     let attributes = StepAttributes {
         first: step.attributes,

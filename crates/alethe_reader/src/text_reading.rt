@@ -50,13 +50,14 @@ fn read_command(
     if !next_item(lexer, in_list, nodes)? {
         return Ok(false);
     }
-    let command = command_of(lexer, nodes)?;
-    let items = ItemText { text: lexer, nodes };
+    let items = ItemText::new(lexer, nodes);
+    let command = command_of(&items)?;
     perform(&items, symbols, terms, session, command)?;
     Ok(true)
 }
 
 /// Reads the commands that are left of a text.
+#[tactic(auto, using(term_reader::proofs::Staying::adds_then))]
 pub(crate) fn read_commands(
     lexer: &mut Lexer<'_>,
     in_list: bool,

@@ -1,18 +1,16 @@
 -- Amounts and coefficients as nodes spell them.
 use Rattle.std.proofs.Common.{◌≡◌, ◌⊎◌, inl, inr, ℕ, ◌+◌, ◌^◌, ◌<◌, ◌≤◌, ◌==◌, ◌∙◌, arith, Bool, true, false, ◌||◌, List, take, drop, Option, Some, None, option_map, option_and_then, refl, sym, ap, subst, if◌then◌else◌}
-use Rattle.std.specs.Prelude.{codes}
 use Rattle.std.specs.List.{position_or_len}
 use Rattle.std.proofs.lemmas.Bool.Decides.{nat_tests}
 use Rattle.std.proofs.Math.Nat.{one-le-pow}
 use Rattle.sexpr.specs.Words.{numeral_value, word_kind}
 use Rattle.sexpr.specs.declared.words.WordKind.{WordKind}
 use Rattle.sexpr.specs.declared.words.WordKind.TheVariants.{Ratio}
-use Rattle.sexpr.specs.Items.{Item, Items, no_items, item}
-use Rattle.alethe_text.specs.Commands.{is_symbol_of}
+use Rattle.sexpr.specs.Items.{Item}
 use Rattle.alethe_text.specs.Coefficients as text
-use Rattle.alethe_text.specs.Coefficients.{is_wide, figure_spelled, amount_spelled, figure_of, divisor_of, quotient_of, opposite_of, amount_of, coefficient_of, numerator_spelled, denominator_spelled}
+use Rattle.alethe_text.specs.Coefficients.{is_wide, figure_spelled, amount_spelled, figure_of, divisor_of, numerator_spelled, denominator_spelled}
 use Rattle.coefficients.specs.Fractions.{IsNarrowPair}
-use Rattle.coefficients.specs.Amounts.{IsFigureFound, IsAmountFound, ratio_spelled, quotient_among, divided, with_minus}
+use Rattle.coefficients.specs.Amounts.{IsFigureFound, IsAmountFound, ratio_spelled, divided}
 use Rattle.coefficients.specs.declared.fractions.Pair.{Pair}
 use Rattle.coefficients.specs.declared.figures.Figure.{Figure}
 use Rattle.coefficients.specs.declared.amounts.Amount.{Amount}
@@ -90,30 +88,3 @@ quotient_made place negative num den n d (f, e, is) (g, e2, is2) some =
       ap (option_and_then (λ h. option_map (text.quotient place negative h) (divisor_of d))) e ∙ ap (option_map (text.quotient place negative f)) v,
       record { above = f; below = g; same = refl; num_is = is; den_is = is2; some = some_number g.digits z },
     )
-
-abbrev quotient_by : ℕ → Item → Item → Option Item → Option text.Amount
-quotient_by place n d o = elim o [ Some m ↦ divided place true m d | None ↦ divided place false n d ]
-
-quotient_three : (place : ℕ) (items : Items) (head n d : Item) → items ≡ item head (item n (item d no_items)) → is_symbol_of (codes "/") head ≡ true → quotient_among place items ≡ quotient_by place n d (opposite_of n)
-quotient_three place items head n d split slash = ap (quotient_among place) split ∙ ap (λ b. if b then quotient_of place n d else None) slash
-
-pub quotient_alone : (start place : ℕ) (items : Items) (head n d : Item) → start ≡ place → items ≡ item head (item n (item d no_items)) → is_symbol_of (codes "/") head ≡ true
-    → opposite_of n ≡ None → divided start false n d ≡ quotient_among place items
-quotient_alone start place items head n d same split slash none =
-    ap (λ p. divided p false n d) same ∙ sym (quotient_three place items head n d split slash ∙ ap (quotient_by place n d) none)
-
-pub quotient_opposite : (start place : ℕ) (items : Items) (head n d m : Item) → start ≡ place → items ≡ item head (item n (item d no_items)) → is_symbol_of (codes "/") head ≡ true
-    → opposite_of n ≡ Some m → divided start true m d ≡ quotient_among place items
-quotient_opposite start place items head n d m same split slash some =
-    ap (λ p. divided p true m d) same ∙ sym (quotient_three place items head n d split slash ∙ ap (quotient_by place n d) some)
-
-abbrev coefficient_by : Item → Option Item → Option text.Coefficient
-coefficient_by i o = elim o [ Some j ↦ with_minus true (amount_of j) | None ↦ with_minus false (amount_of i) ]
-
-pub coefficient_alone : (i : Item) → opposite_of i ≡ None → with_minus false (amount_of i) ≡ coefficient_of i
-unfolding coefficient_of
-coefficient_alone i e = sym (ap (coefficient_by i) e)
-
-pub coefficient_opposite : (i j : Item) → opposite_of i ≡ Some j → with_minus true (amount_of j) ≡ coefficient_of i
-unfolding coefficient_of
-coefficient_opposite i j e = sym (ap (coefficient_by i) e)

@@ -1,16 +1,13 @@
 -- Coefficients one after another.
-use Rattle.std.proofs.Common.{◌≡◌, Bool, true, false, List, [], ◌∷◌, Option, Some, None, option_map, option_and_then, Result, Ok, Err, refl, sym, ap, ◌∙◌, subst}
+use Rattle.std.proofs.Common.{◌≡◌, List, [], ◌∷◌, Option, Some, None, option_map, option_and_then, Result, Ok, Err, refl, sym, ap, ◌∙◌}
 use Rattle.std.proofs.lemmas.List.{append_assoc, append-nil}
 use Rattle.sexpr.specs.declared.causes.Refusal.{Refusal}
 use Rattle.sexpr.specs.Items.{Item, Items, no_items, item}
 use Rattle.rule_model.specs.Proofs.{Fraction}
+use Rattle.text_items.proofs.ItemsAtLemmas.{items_are, no_items_are}
 use Rattle.problem_text.specs.Sorts.{result_then}
 use Rattle.alethe_text.specs.Coefficients.{coefficient_of, coefficient_read, coefficients_from}
-use Rattle.coefficients.specs.Readings.{AreCoefficients}
-use Rattle.proof_store.specs.declared.answers.Ratio.{Ratio}
-use Rattle.std.specs.Result.{IsErrAnd}
-use Rattle.coefficients.specs.declared.stops.Stop.{Stop}
-use Rattle.coefficients.specs.Prefixes.{so_far, with_one, behind_prefix}
+use Rattle.coefficients.specs.Prefixes.{with_one, behind_prefix}
 
 abbrev then_rest : Option Fraction → Option (List Fraction) → Option (List Fraction)
 then_rest q qs = option_and_then (λ first. option_map (λ others. first ∷ others) qs) q
@@ -46,10 +43,5 @@ unfolding coefficients_from
 all_read None = refl
 all_read (Some qs) = ap (λ xs. Ok (Some xs)) (append-nil qs)
 
-pub finished : (all : Bool) (qs : List Ratio) (r : Result (Option (List Fraction)) Refusal) → r ≡ Ok (so_far all qs) → AreCoefficients qs (Ok all) r
-finished true qs r e = e
-finished false qs r e = e
-
-pub fault_said : (qs : List Ratio) (r : Result Bool Stop) (refusal : Refusal) (expected : Result (Option (List Fraction)) Refusal) → IsErrAnd r (λ f. f ≡ Stop.Text refusal) → expected ≡ Err refusal → AreCoefficients qs r expected
-fault_said qs (Ok all) refusal expected h e = absurd h
-fault_said qs (Err f) refusal expected h e = subst (λ f. AreCoefficients qs (Err f) expected) (sym h) e
+-- whether an argument is left, and what the first adds
+pub ruleset arguments_read = (items_are, no_items_are, read_one, read_fault, all_read)

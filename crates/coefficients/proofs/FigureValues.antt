@@ -1,5 +1,5 @@
 -- The number of the digits before a point and behind it.
-use Rattle.std.proofs.Common.{◌≡◌, ℕ, suc, ◌+◌, ◌-◌, ◌*◌, ◌^◌, ◌≤◌, ◌==◌, ◌∙◌, arith, false, Option, None, inl, inr, subst, List, [], ◌∷◌, ◌++◌, length, fold, sym, ap}
+use Rattle.std.proofs.Common.{◌≡◌, ℕ, suc, ◌+◌, ◌-◌, ◌*◌, ◌^◌, ◌≤◌, ◌==◌, ◌∙◌, arith, false, Option, None, inl, subst, List, [], ◌∷◌, ◌++◌, length, fold, sym, ap}
 use Rattle.std.proofs.Math.Nat.{add-mul, mul_assoc, mul_comm, mul-one, pow-succ', one-le-pow, zero-mul, le-mul_of_pos_right}
 use Rattle.std.proofs.lemmas.List.Sums.{fold-append}
 use Rattle.std.proofs.lemmas.Bool.Decides.{nat_tests}

@@ -1,17 +1,16 @@
 -- Private. Coefficients as nodes spell them.
 use Rattle.std.specs.Prelude.{◌≡◌, ◌⊎◌, ℕ, ◌^◌, ◌<◌, ◌≤◌, ◌==◌, Bool, false, List, codes, Option, Some, None, option_map, option_and_then, Result, Ok, Err, if◌then◌else◌}
-use Rattle.sexpr.specs.Items.{Item, Items, no_items, item}
+use Rattle.sexpr.specs.Items.{Item, Items}
 use Rattle.sexpr.specs.declared.causes.Cause.TheVariants.{WideNumber}
 use Rattle.sexpr.specs.declared.causes.Refusal.{Refusal}
 use Rattle.rule_model.specs.Proofs.{Fraction}
-use Rattle.text_items.specs.declared.nodes.Node.{Node}
-use Rattle.text_items.specs.Nodes.{IsNode}
 use Rattle.proof_store.specs.Ratios.{fraction_of_ratio}
 use Rattle.proof_store.specs.declared.answers.Ratio.{Ratio}
 use Rattle.alethe_text.specs.Commands.{is_symbol_of}
 use Rattle.alethe_text.specs.Coefficients as text
 use Rattle.alethe_text.specs.Coefficients.{width_fault, is_negative, fraction_parts, figure_of, divisor_of, quotient_of, numerator_spelled, denominator_spelled}
 use Rattle.coefficients.specs.Fractions.{IsNarrowPair}
+use Rattle.coefficients.specs.Three.{Three, three_of}
 use Rattle.coefficients.specs.declared.fractions.Pair.{Pair}
 use Rattle.coefficients.specs.declared.figures.Figure.{Figure}
 use Rattle.coefficients.specs.declared.amounts.Amount.{Amount}
@@ -50,19 +49,16 @@ abbrev pub IsAmountFound : Option Amount → Option text.Amount → Type 0
 IsAmountFound None o = o ≡ None
 IsAmountFound (Some c) o = (a : text.Amount) × (o ≡ Some a) × IsAmount c a
 
--- the item, where there is one, begins at the node
-abbrev pub IsItemThere : List ℕ → List Node → Option ℕ → Option Item → Type 0
-IsItemThere source nodes None o = o ≡ None
-IsItemThere source nodes (Some k) o = (i : Item) × (m : ℕ) × (o ≡ Some i) × IsNode source nodes k i m
-
 -- what ratios and lists spell
 abbrev pub ratio_spelled : ℕ → List ℕ → Option text.Amount
 ratio_spelled place spelling =
     if denominator_spelled spelling == 0 then None else Some (text.ratio place (numerator_spelled spelling) (denominator_spelled spelling))
 
+abbrev pub quotient_of_three : ℕ → Three → Option text.Amount
+quotient_of_three place t = if is_symbol_of (codes "/") t.head then quotient_of place t.num t.den else None
+
 abbrev pub quotient_among : ℕ → Items → Option text.Amount
-quotient_among place (item head (item n (item d no_items))) = if is_symbol_of (codes "/") head then quotient_of place n d else None
-quotient_among place other = None
+quotient_among place items = option_and_then (quotient_of_three place) (three_of items)
 
 abbrev pub divided : ℕ → Bool → Item → Item → Option text.Amount
 divided place negative n d = option_and_then (λ f. option_map (text.quotient place negative f) (divisor_of d)) (figure_of n)

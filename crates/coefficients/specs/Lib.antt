@@ -1,5 +1,5 @@
 pub mod Readings
 pub mod Fractions
+pub mod Three
 pub mod Amounts
 pub mod Prefixes
-pub mod Three

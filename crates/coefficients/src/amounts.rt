@@ -1,10 +1,8 @@
 //! One coefficient, told by its nodes.
-ghost use Rattle.std.specs.Prelude.{◌≡◌, ℕ, option_map};
-ghost use Rattle.sexpr.specs.Items.{Item, place_of};
-ghost use Rattle.sexpr.specs.Source.{source};
+ghost use Rattle.std.specs.Prelude.{◌≡◌, ◌<◌, length, option_map};
+ghost use Rattle.sexpr.specs.Items.{place_of};
 ghost use Rattle.text_items.specs.ItemShapes.{items_of};
-ghost use Rattle.text_items.specs.Nodes.{IsNode};
-ghost use Rattle.text_items.specs.Stepping.{IsItemAt};
+ghost use Rattle.text_items.specs.ItemsAt.{item_at};
 ghost use Rattle.alethe_text.specs.Coefficients as spec;
 ghost use Rattle.coefficients.specs.Amounts.{IsFigureFound, IsAmountFound, ratio_spelled, quotient_among, divided, with_minus, read_as};
 
@@ -13,9 +11,9 @@ use crate::fractions::Pair;
 use crate::judging::read_amount;
 use crate::shapes::{is_symbol, opposite, three};
 use proof_store::Ratio;
-use sexpr::{Lexer, Refusal, TokenKind, WordKind, word_kind};
-use text_items::nodes::Node;
-use text_items::shapes::{is_list, node_at};
+use sexpr::{Refusal, TokenKind, WordKind, word_kind};
+use text_items::nodes::ItemText;
+use text_items::shapes::is_list;
 
 /// A number or a ratio of numerals, at a place; or a quotient of two numbers, the first with its sign, and the place of its
 /// bracket. The parts of the first are None where one is above 2^127 - 1.
@@ -34,31 +32,23 @@ pub(crate) enum Amount {
 }
 
 /// The coefficient at a node, and None of what is none.
-pub(crate) fn coefficient_at(
-    text: &Lexer<'_>,
-    nodes: &[Node],
-    k: usize,
-) -> Result<Option<Ratio>, Refusal>
-    requires { IsItemAt (source text.now) nodes.now k }
-    ensures { (i : Item) (m : ℕ) → IsNode (source text.now) nodes.now k i m → read_as result ≡ spec.coefficient_read (spec.coefficient_of i) }
+#[tactic(auto, unfolding(alethe_text::specs::Coefficients::coefficient_of))]
+pub(crate) fn coefficient_at(items: &ItemText<'_, '_>, k: usize) -> Result<Option<Ratio>, Refusal>
+    requires { k < length items.now.nodes }
+    ensures { read_as result ≡ spec.coefficient_read (spec.coefficient_of (item_at items.now k)) }
 {
-    let Some(inside) = opposite(text, nodes, k) else {
-        return amount_read(text, nodes, false, k);
+    let Some(inside) = opposite(items, k) else {
+        return amount_read(items, false, k);
     };
-    amount_read(text, nodes, true, inside)
+    amount_read(items, true, inside)
 }
 
 /// The coefficient that the amount at a node is with this sign, and None of what is no amount.
-fn amount_read(
-    text: &Lexer<'_>,
-    nodes: &[Node],
-    negative: bool,
-    k: usize,
-) -> Result<Option<Ratio>, Refusal>
-    requires { IsItemAt (source text.now) nodes.now k }
-    ensures { (i : Item) (m : ℕ) → IsNode (source text.now) nodes.now k i m → read_as result ≡ spec.coefficient_read (with_minus negative (spec.amount_of i)) }
+fn amount_read(items: &ItemText<'_, '_>, negative: bool, k: usize) -> Result<Option<Ratio>, Refusal>
+    requires { k < length items.now.nodes }
+    ensures { read_as result ≡ spec.coefficient_read (with_minus negative (spec.amount_of (item_at items.now k))) }
 {
-    let Some(amount) = amount_at(text, nodes, k) else {
+    let Some(amount) = amount_at(items, k) else {
         return Ok(None);
     };
     let ratio = read_amount(negative, amount)?;
@@ -66,16 +56,16 @@ fn amount_read(
 }
 
 /// The amount at a node, and None of what is none.
-fn amount_at(text: &Lexer<'_>, nodes: &[Node], k: usize) -> Option<Amount>
-    requires { IsItemAt (source text.now) nodes.now k }
-    ensures { (i : Item) (m : ℕ) → IsNode (source text.now) nodes.now k i m → IsAmountFound result (spec.amount_of i) }
+fn amount_at(items: &ItemText<'_, '_>, k: usize) -> Option<Amount>
+    requires { k < length items.now.nodes }
+    ensures { IsAmountFound result (spec.amount_of (item_at items.now k)) }
 {
-    let token = node_at(nodes, k).token;
-    if is_list(nodes, k) {
-        return quotient_at(text, nodes, k);
+    let token = items.node(k).token;
+    if is_list(items, k) {
+        return quotient_at(items, k);
     }
     match token.kind {
-        TokenKind::Word => amount_spelled(token.start, text.text(&token)),
+        TokenKind::Word => amount_spelled(token.start, items.spelling(&token)),
         _ => None,
     }
 }
@@ -92,6 +82,7 @@ fn amount_spelled(place: u64, word: &[u8]) -> Option<Amount>
 }
 
 /// The amount that a numeral or a decimal is, and None of a word that is none.
+#[tactic(auto, using(crate::proofs::AmountLemmas::plain_figure))]
 fn figure_amount(place: u64, word: &[u8]) -> Option<Amount>
     ensures { IsAmountFound result (option_map spec.figure (spec.figure_spelled place word.now)) }
 {
@@ -116,37 +107,37 @@ fn ratio_amount(place: u64, word: &[u8]) -> Option<Amount>
 }
 
 /// The quotient `(/ n d)` at the node of an item, by what stands in it.
-fn quotient_at(text: &Lexer<'_>, nodes: &[Node], k: usize) -> Option<Amount>
-    requires { IsItemAt (source text.now) nodes.now k }
-    ensures { (i : Item) (m : ℕ) → IsNode (source text.now) nodes.now k i m → IsAmountFound result (quotient_among (place_of i) (items_of i)) }
+fn quotient_at(items: &ItemText<'_, '_>, k: usize) -> Option<Amount>
+    requires { k < length items.now.nodes }
+    ensures { IsAmountFound result (quotient_among (place_of (item_at items.now k)) (items_of (item_at items.now k))) }
 {
-    let list = node_at(nodes, k);
+    let list = items.node(k);
     let place = list.token.start;
-    let places = three(nodes, k + 1, list.next)?;
-    if !is_symbol(text, nodes, b"/", k + 1) {
+    let places = three(items, k + 1, list.next)?;
+    if !is_symbol(items, b"/", k + 1) {
         return None;
     }
-    let Some(inside) = opposite(text, nodes, places.second) else {
-        return divided(text, nodes, place, false, places.second, places.third);
+    let Some(inside) = opposite(items, places.second) else {
+        return divided(items, place, false, places.second, places.third);
     };
-    divided(text, nodes, place, true, inside, places.third)
+    divided(items, place, true, inside, places.third)
 }
 
 /// The quotient of the figures at two nodes, with a sign before the first; None where one is none, or the second is 0.
+#[tactic(auto, using(crate::proofs::AmountLemmas::quotient_made))]
 fn divided(
-    text: &Lexer<'_>,
-    nodes: &[Node],
+    items: &ItemText<'_, '_>,
     place: u64,
     negative: bool,
     above: usize,
     below: usize,
 ) -> Option<Amount>
-    requires above { IsItemAt (source text.now) nodes.now above }
-    requires below { IsItemAt (source text.now) nodes.now below }
-    ensures { (n d : Item) (a b : ℕ) → IsNode (source text.now) nodes.now above n a → IsNode (source text.now) nodes.now below d b → IsAmountFound result (divided place negative n d) }
+    requires above { above < length items.now.nodes }
+    requires below { below < length items.now.nodes }
+    ensures { IsAmountFound result (divided place negative (item_at items.now above) (item_at items.now below)) }
 {
-    let num = figure_at(text, nodes, above)?;
-    let den = figure_at(text, nodes, below)?;
+    let num = figure_at(items, above)?;
+    let den = figure_at(items, below)?;
     if den.is_zero {
         return None;
     }
@@ -159,13 +150,13 @@ fn divided(
 }
 
 /// The figure at a node, and None of what is none.
-fn figure_at(text: &Lexer<'_>, nodes: &[Node], k: usize) -> Option<Figure>
-    requires { IsItemAt (source text.now) nodes.now k }
-    ensures { (i : Item) (m : ℕ) → IsNode (source text.now) nodes.now k i m → IsFigureFound result (spec.figure_of i) }
+fn figure_at(items: &ItemText<'_, '_>, k: usize) -> Option<Figure>
+    requires { k < length items.now.nodes }
+    ensures { IsFigureFound result (spec.figure_of (item_at items.now k)) }
 {
-    let token = node_at(nodes, k).token;
+    let token = items.node(k).token;
     match token.kind {
-        TokenKind::Word => figure_spelled(token.start, text.text(&token)),
+        TokenKind::Word => figure_spelled(token.start, items.spelling(&token)),
         _ => None,
     }
 }

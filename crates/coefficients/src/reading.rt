@@ -1,9 +1,6 @@
 //! Coefficients one after another.
-ghost use Rattle.std.specs.Prelude.{◌≡◌, ℕ, IfOk, IfErr, option_map};
-ghost use Rattle.sexpr.specs.Items.{Items};
-ghost use Rattle.sexpr.specs.Source.{source};
-ghost use Rattle.text_items.specs.Nodes.{AreNodes};
-ghost use Rattle.text_items.specs.Stepping.{AreItemsFrom};
+ghost use Rattle.std.specs.Prelude.{◌≡◌, ◌≤◌, length, IfOk, IfErr, option_map};
+ghost use Rattle.text_items.specs.ItemsAt.{items_at};
 ghost use Rattle.alethe_text.specs.Coefficients as spec;
 ghost use Rattle.proof_store.specs.Ratios.{fraction_of_ratio};
 ghost use Rattle.coefficients.specs.Prefixes.{so_far, with_one};
@@ -13,31 +10,29 @@ ghost use Rattle.coefficients.specs.declared.stops.Stop.TheVariants as Stop;
 use crate::amounts::coefficient_at;
 use crate::stops::Stop;
 use proof_store::Ratio;
-use sexpr::Lexer;
-use text_items::nodes::Node;
-use text_items::shapes::node_at;
+use text_items::nodes::ItemText;
 
 /// Reads the coefficients that the items from `first` to before `end` are, in place of what `ratios` held. Answers whether all
 /// of them are coefficients; where not, nothing is said of `ratios`.
 ///
 /// Refused at the first number above 2^127 - 1, also where another item is no coefficient; and besides for want of memory.
+#[tactic(auto, using(crate::proofs::CoefficientLists::arguments_read))]
 pub fn coefficients_at(
-    text: &Lexer<'_>,
-    nodes: &[Node],
+    items: &ItemText<'_, '_>,
     first: usize,
     end: usize,
     ratios: &mut Vec<Ratio>,
 ) -> Result<bool, Stop>
-    requires { AreItemsFrom (source text.now) nodes.now first end }
-    ensures { (items : Items) → AreNodes (source text.now) nodes.now first items end → AreCoefficients ratios.new.items result (spec.coefficients_from items) }
+    requires { end ≤ length items.now.nodes }
+    ensures { AreCoefficients ratios.new.items result (spec.coefficients_from (items_at items.now first end)) }
 {
     ratios.clear();
     let mut all = true;
     let mut k = first;
-    'arguments: while k != end {
-        let found = coefficient_at(text, nodes, k)?;
+    'arguments: while k < end {
+        let found = coefficient_at(items, k)?;
         all = keep(all, found, ratios)?;
-        k = node_at(nodes, k).next;
+        k = items.node(k).next;
     }
     Ok(all)
 }

@@ -1,17 +1,12 @@
 //! The shapes of lists that coefficients are: a minus before an item, and three items.
-ghost use Rattle.std.specs.Prelude.{◌≡◌, ◌<◌, ℕ, List, length};
-ghost use Rattle.sexpr.specs.Items.{Item, Items};
-ghost use Rattle.sexpr.specs.Source.{source};
-ghost use Rattle.text_items.specs.Nodes.{IsNode, AreNodes};
-ghost use Rattle.text_items.specs.Stepping.{IsItemAt, AreItemsFrom};
+ghost use Rattle.std.specs.Prelude.{◌≡◌, ◌<◌, ◌≤◌, length, option_map, IfSome};
+ghost use Rattle.text_items.specs.ItemsAt.{item_at, items_at};
 ghost use Rattle.alethe_text.specs.Commands as shape;
 ghost use Rattle.alethe_text.specs.Coefficients.{opposite_of};
-ghost use Rattle.coefficients.specs.Amounts.{IsItemThere};
-ghost use Rattle.coefficients.specs.Three.{AreThree};
+ghost use Rattle.coefficients.specs.Three.{three_of, three_at};
 
-use sexpr::Lexer;
-use text_items::nodes::Node;
-use text_items::shapes::{name_at, node_at, second};
+use text_items::nodes::ItemText;
+use text_items::shapes::{name_at, second};
 
 /// Where the second and the third of three items begin.
 #[derive(Clone, Copy)]
@@ -21,28 +16,30 @@ pub(crate) struct Places {
 }
 
 /// Whether the item at a node is the symbol of this name.
-pub(crate) fn is_symbol(text: &Lexer<'_>, nodes: &[Node], name: &[u8], k: usize) -> bool
-    requires item { IsItemAt (source text.now) nodes.now k }
+pub(crate) fn is_symbol(items: &ItemText<'_, '_>, name: &[u8], k: usize) -> bool
+    requires item { k < length items.now.nodes }
     requires some { 0 < length name.now }
-    ensures { (i : Item) (m : ℕ) → IsNode (source text.now) nodes.now k i m → result ≡ shape.is_symbol_of name.now i }
+    ensures { result ≡ shape.is_symbol_of name.now (item_at items.now k) }
 {
-    match name_at(text, nodes, k) {
+    match name_at(items, k) {
         Some(found) => found == name,
         None => false,
     }
 }
 
 /// The node of what stands behind the minus of `(- i)`.
-pub(crate) fn opposite(text: &Lexer<'_>, nodes: &[Node], k: usize) -> Option<usize>
-    requires { IsItemAt (source text.now) nodes.now k }
-    ensures { (i : Item) (m : ℕ) → IsNode (source text.now) nodes.now k i m → IsItemThere (source text.now) nodes.now result (opposite_of i) }
+#[tactic(auto, using(crate::proofs::ListShapes::list_shapes))]
+pub(crate) fn opposite(items: &ItemText<'_, '_>, k: usize) -> Option<usize>
+    requires { k < length items.now.nodes }
+    ensures same { option_map (item_at items.now) result ≡ opposite_of (item_at items.now k) }
+    ensures inside { IfSome result (λ j. j < length items.now.nodes) }
 {
-    let end = node_at(nodes, k).next;
-    let inside = second(nodes, k + 1, end)?;
-    if node_at(nodes, inside).next != end {
+    let end = items.node(k).next;
+    let inside = second(items, k + 1, end)?;
+    if items.node(inside).next < end {
         return None;
     }
-    if is_symbol(text, nodes, b"-", k + 1) {
+    if is_symbol(items, b"-", k + 1) {
         Some(inside)
     } else {
         None
@@ -50,16 +47,15 @@ pub(crate) fn opposite(text: &Lexer<'_>, nodes: &[Node], k: usize) -> Option<usi
 }
 
 /// The second and the third of the items from `first` to before `end`, where these are three.
-pub(crate) fn three(nodes: &[Node], first: usize, end: usize) -> Option<Places>
-    requires { (text : List ℕ) × AreItemsFrom text nodes.now first end }
-    ensures { (text : List ℕ) (items : Items) → AreNodes text nodes.now first items end → AreThree text nodes.now first items end result }
+#[tactic(auto, using(crate::proofs::ListShapes::list_shapes))]
+pub(crate) fn three(items: &ItemText<'_, '_>, first: usize, end: usize) -> Option<Places>
+    requires { end ≤ length items.now.nodes }
+    ensures same { option_map (three_at items.now first) result ≡ three_of (items_at items.now first end) }
+    ensures inside { IfSome result (λ p. (first < p.second) × (p.second < p.third) × (p.third < end)) }
 {
-    let above = second(nodes, first, end)?;
-    let below = node_at(nodes, above).next;
-    if below == end {
-        return None;
-    }
-    if node_at(nodes, below).next != end {
+    let above = second(items, first, end)?;
+    let below = second(items, above, end)?;
+    if items.node(below).next < end {
         return None;
     }
     Some(Places {

@@ -79,3 +79,5 @@ with_word checked i head items e name is w named p q start word_start =
 
 pub without_word : (checked : Bool) (i head : Item) (items : Items) → items_of i ≡ item head items → None ≡ head_word head → (q : ℕ) → q ≡ place_of head → script_command_of checked i ≡ refused BadCommand q
 without_word checked i head items e is q word_start = has_head checked i head items e None is ∙ ap (λ r. refused {A = Shape} BadCommand r) (sym word_start)
+
+pub ruleset command_read = (lacks_word, with_word, without_word)

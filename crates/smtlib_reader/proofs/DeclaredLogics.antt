@@ -48,3 +48,5 @@ module _ (s : Table) (v : TermsView) (d : Session) (replaces : Bool) (x : Name) 
         has_logic = refl;
         is_checked = is.is_checked;
       })
+
+pub ruleset logic_set = (logic_repeated, logic_left_out)

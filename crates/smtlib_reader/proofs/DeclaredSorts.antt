@@ -118,3 +118,5 @@ module _ (s : Table) (v : TermsView) (d : Session) (replaces : Bool) (x : Name) 
       (performs_done (with_sort_name s x.name) v d (script_performed replaces (declare_sort x place arity) sc) (spec.with_sort x.name sc) (sort_parts false true taken none) (sort_session s v x.name sc kept d is))
   sort_added z (Err f) taken none added fault keeps =
       subst (λ (g : ReadFault). Performs z v v d (script_performed replaces (declare_sort x place arity) sc) (Err g)) (sym fault) (performs_memory z v d (script_performed replaces (declare_sort x place arity) sc))
+
+pub ruleset sort_declared = (sort_repeated, sort_left_out, sort_added)

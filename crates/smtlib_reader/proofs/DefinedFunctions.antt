@@ -24,7 +24,7 @@ use Rattle.problem_text.specs.Sorts.{result_then, sort_from, parameters_from}
 use Rattle.term_names.specs.Standing.{AddsNoSymbols}
 use Rattle.problem_text.specs.Words.{is_among, is_built_in}
 use Rattle.term_names.specs.declared.faults.ReadFault.{ReadFault}
-use Rattle.text_items.specs.declared.nodes.Node.{Node}
+use Rattle.text_items.specs.ItemsAt.{ItemsView}
 use Rattle.smtlib_reader.specs.declared.parameters.Parameter.{Parameter}
 use Rattle.term_reader.specs.declared.reader.Reader.{Reader}
 use Rattle.smtlib_reader.specs.declared.session.Session.{Session}
@@ -98,14 +98,14 @@ module _ (replaces : Bool) (n : Name) (parameters : Items) (target body : Item) 
           comes_to ∙ ap (λ b. by_name b (signature_from sc.sorts parameters target)) free
           ∙ ap (λ (sorts : List (List ℕ)). signed (signature_from sorts parameters target)) (sym session.idle.script.sorts) ∙ ap signed e
 
-      pub signature_fails : (source : List ℕ) (nodes : List Node) (first last : ℕ) (ps : List Parameter) (e : Session) (fault : ReadFault)
-          → IsSignatureRead source nodes first last ps (signature_from s.sorts parameters target) (Err fault) → Performs s v v e (script_performed replaces command sc) (Err fault)
-      signature_fails source nodes first last ps e (ReadFault.Text refusal) h = record {
+      pub signature_fails : (items : ItemsView) (end : ℕ) (ps : List Parameter) (e : Session) (fault : ReadFault)
+          → IsSignatureRead items end ps (signature_from s.sorts parameters target) (Err fault) → Performs s v v e (script_performed replaces command sc) (Err fault)
+      signature_fails items end ps e (ReadFault.Text refusal) h = record {
         outcome = ap (λ (o : Outcome Script ⊤). o.result) (named_so (Err refusal) h);
         placed = places_none s v.pass v.pass _ refl;
       }
-      signature_fails source nodes first last ps e ReadFault.PoolFull h = absurd h
-      signature_fails source nodes first last ps e ReadFault.Memory h = record { outcome = tt; placed = places_none s v.pass v.pass _ refl }
+      signature_fails items end ps e ReadFault.PoolFull h = absurd h
+      signature_fails items end ps e ReadFault.Memory h = record { outcome = tt; placed = places_none s v.pass v.pass _ refl }
 
       -- the name is taken for the macro
       pub is_defining : (k : KnownView) (name : List ℕ) → name ≡ n.name → TakesName d.reader.known k name → IsDefining s v (record d.reader { known = k }) name (with_name n.name sc)

@@ -1,5 +1,6 @@
 -- The parameters of a defined function get their leaves and stand in scope, each for itself.
-use Rattle.std.proofs.Common.{◌≡◌, ℕ, zero, suc, ◌<◌, ◌≤◌, ◌+◌, arith, List, [], ◌∷◌, ◌++◌, map, drop, length, get_or, refl, sym, ◌∙◌, ap, subst, append_assoc, false}
+use Rattle.std.proofs.Common.{◌≡◌, ℕ, ◌<◌, ◌+◌, List, [], ◌∷◌, ◌++◌, map, take, length, get_or, refl, ◌∙◌, ap, subst, false}
+use Rattle.std.proofs.lemmas.List.{map-append, take_more}
 use Rattle.pair_pool.specs.Trees.{leaf}
 use Rattle.pair_pool.specs.Views.{PassView, Knows}
 use Rattle.sym_table.specs.Leaf as symbol
@@ -12,7 +13,7 @@ use Rattle.smtlib_reader.specs.Defining.{AddsParameter, AreListed, IsReadyForBod
 use Rattle.rule_model.specs.Heights.{height}
 use Rattle.term_names.specs.InScope.{IsScope, AreValuesBound}
 use Rattle.problem_text.specs.Names.{Bound, Place, itself, inside}
-use Rattle.smtlib_reader.specs.Parameters.{IsParameter, AreParameters}
+use Rattle.smtlib_reader.specs.Parameters.{parameter_said, parameters_said}
 use Rattle.term_reader.specs.Reading.{IsReaderIdle}
 use Rattle.term_names.specs.Scope.{Scoped}
 use Rattle.problem_text.specs.Scripts.{Script}
@@ -20,7 +21,7 @@ use Rattle.smtlib_reader.specs.Sessions.{top}
 use Rattle.term_names.specs.Standing.{AreLeavesOf, AddsNoSymbols}
 use Rattle.term_expansion.specs.Values.{IsValue}
 use Rattle.smtlib_reader.specs.declared.defining.Listed.{Listed}
-use Rattle.text_items.specs.declared.nodes.Node.{Node}
+use Rattle.text_items.specs.ItemsAt.{ItemsView}
 use Rattle.smtlib_reader.specs.declared.parameters.Parameter.{Parameter}
 use Rattle.term_reader.specs.declared.reader.Reader.{Reader}
 use Rattle.term_expansion.specs.declared.values.Value.{Value}
@@ -57,79 +58,16 @@ bound_more s v (j ∷ ks) [] bs k c b h l is = absurd h
 bound_more s v (j ∷ ks) (d ∷ cs) [] k c b h l is = absurd h
 bound_more s v (j ∷ ks) (d ∷ cs) (e ∷ bs) k c b h l is = (h.0, h.1, bound_more s v ks cs bs k c b h.2 l is)
 
-themselves_more : (xs : List Var) (x : Var) → map itself (xs ++ x ∷ []) ≡ map itself xs ++ itself x ∷ []
-themselves_more [] x = refl
-themselves_more (y ∷ xs) x = ap (λ bs. itself y ∷ bs) (themselves_more xs x)
-
-left_after : {X : Type 0} (xs : List X) (i : ℕ) (d : X) → i < length xs → drop i xs ≡ get_or xs i d ∷ drop (suc i) xs
-left_after [] i d h = absurd (omega arith)
-left_after (x ∷ xs) zero d h = refl
-left_after (x ∷ xs) (suc i) d h = left_after xs i d (omega arith)
-
-pub next_left : {X : Type 0} (xs : List X) (i : ℕ) (d : X) → i < length xs → drop i xs ≡ get_or xs i d ∷ drop (i + 1) xs
-next_left xs i d h = let e : suc i ≡ i + 1 = omega arith in subst (λ j. drop i xs ≡ get_or xs i d ∷ drop j xs) e (left_after xs i d h)
-
-pub none_left_over : {X : Type 0} (xs : List X) (i : ℕ) → length xs ≤ i → drop i xs ≡ []
-none_left_over [] zero h = refl
-none_left_over [] (suc i) h = refl
-none_left_over (x ∷ xs) zero h = absurd (omega arith)
-none_left_over (x ∷ xs) (suc i) h = none_left_over xs i (omega arith)
-
--- The parameters before place i have their leaves, and the others are left.
-pub record AreListedUpTo (source : List ℕ) (nodes : List Node) (s : Table) (v : TermsView) (left : List Parameter) (leaves : List ℕ) (values : List Value) (xs : List Var) : Type 0 where
-  pub front : List Var
-  pub back : List Var
-  pub split : xs ≡ front ++ back
-  pub bound : AreValuesBound s v leaves values (map itself front)
-  pub others : AreParameters source nodes left back
-
-pub none_listed : (source : List ℕ) (nodes : List Node) (s : Table) (v : TermsView) (ps : List Parameter) (values : List Value) (xs : List Var) → values ≡ [] → AreParameters source nodes ps xs
-    → AreListedUpTo source nodes s v ps [] values xs
-none_listed source nodes s v ps values xs none are = record {
-  front = [];
-  back = xs;
-  split = refl;
-  bound = subst (λ (cs : List Value). AreValuesBound s v [] cs []) (sym none) tt;
-  others = are;
-}
-
--- each one is a parameter
-pub parameter_there : (source : List ℕ) (nodes : List Node) (ps : List Parameter) (xs : List Var) (i : ℕ) (d : Parameter) → AreParameters source nodes ps xs → i < length ps → (x : Var) × IsParameter source nodes (get_or ps i d) x
-parameter_there source nodes [] xs i d are less = absurd (omega arith)
-parameter_there source nodes (p ∷ ps) [] i d are less = absurd are
-parameter_there source nodes (p ∷ ps) (x ∷ xs) zero d are less = (x, are.0)
-parameter_there source nodes (p ∷ ps) (x ∷ xs) (suc i) d are less = parameter_there source nodes ps xs i d are.1 (omega arith)
-
-pub one_listed : (source : List ℕ) (nodes : List Node) (s z : Table) (v : TermsView) (p : Parameter) (left ps : List Parameter) (leaves more : List ℕ) (values new : List Value) (k : ℕ) (xs : List Var)
-    → ps ≡ p ∷ left → AreListedUpTo source nodes s v ps leaves values xs → Keeps s z → ((x : Var) → IsParameter source nodes p x → AddsParameter z v values new k x) → more ≡ leaves ++ k ∷ []
-    → AreListedUpTo source nodes z v left more new xs
-one_listed source nodes s z v p left ps leaves more values new k xs e h keeps added pushed = go h.back h.split (rw e at h.others)
-  where
-    go : (back : List Var) → xs ≡ h.front ++ back → AreParameters source nodes (p ∷ left) back → AreListedUpTo source nodes z v left more new xs
-    go [] split are = absurd are
-    go (x ∷ back) split are =
-        let a = added x are.0 in
-        let before = bound_stays s z v v keeps (keeps_none v) leaves values (map itself h.front) h.bound in
-        let now = bound_more z v leaves values (map itself h.front) k a.value (itself x) before a.leaf a.is in
-        record {
-          front = h.front ++ x ∷ [];
-          back = back;
-          split = split ∙ sym (append_assoc h.front (x ∷ []) back);
-          bound = rw (pushed, a.pushed, themselves_more h.front x) now;
-          others = are.1;
-        }
-
-pub all_listed : (source : List ℕ) (nodes : List Node) (s : Table) (v : TermsView) (left : List Parameter) (leaves : List ℕ) (values : List Value) (xs : List Var)
-    → left ≡ [] → AreListedUpTo source nodes s v left leaves values xs → AreValuesBound s v leaves values (map itself xs)
-all_listed source nodes s v left leaves values xs none h = go h.back h.split (rw none at h.others)
-  where
-    ended : (ys : List Var) → ys ++ [] ≡ ys
-    ended [] = refl
-    ended (y ∷ ys) = ap (λ zs. y ∷ zs) (ended ys)
-
-    go : (back : List Var) → xs ≡ h.front ++ back → AreParameters source nodes [] back → AreValuesBound s v leaves values (map itself xs)
-    go [] split are = subst (λ ys. AreValuesBound s v leaves values (map itself ys)) (sym (split ∙ ended h.front)) h.bound
-    go (x ∷ back) split are = absurd are
+-- one parameter more has its leaf
+pub one_listed : (items : ItemsView) (s z : Table) (v : TermsView) (ps : List Parameter) (i : ℕ) (d : Parameter) (leaves more : List ℕ) (values new : List Value) (k : ℕ) → i < length ps
+    → AreValuesBound s v leaves values (map itself (parameters_said items (take i ps))) → Keeps s z → AddsParameter z v values new k (parameter_said items (get_or ps i d)) → more ≡ leaves ++ k ∷ []
+    → AreValuesBound z v more new (map itself (parameters_said items (take (i + 1) ps)))
+one_listed items s z v ps i d leaves more values new k less h keeps a pushed =
+    let front = parameters_said items (take i ps) in
+    let x = parameter_said items (get_or ps i d) in
+    let before = bound_stays s z v v keeps (keeps_none v) leaves values (map itself front) h in
+    let now = bound_more z v leaves values (map itself front) k a.value (itself x) before a.leaf a.is in
+    rw (pushed, a.pushed, take_more ps i d less, map-append (parameter_said items) (take i ps) (get_or ps i d ∷ []), map-append itself front (x ∷ [])) now
 
 -- leaves and sorts of what is bound
 leaves_bound : (s : Table) (v : TermsView) (ks : List ℕ) (cs : List Value) (xs : List Var) → AreValuesBound s v ks cs (map itself xs) → AreLeavesOf s ks xs

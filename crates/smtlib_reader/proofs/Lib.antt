@@ -1,8 +1,7 @@
 pub mod SortItems
-pub mod SortNodes
+pub mod ReadLists
 pub mod CommandWords
 pub mod NumeralWords
-pub mod Pairs
 pub mod ParameterLists
 pub mod Zero
 pub mod DefinedParameters

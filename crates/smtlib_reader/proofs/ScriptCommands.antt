@@ -1,14 +1,15 @@
 -- The commands of a text, the first one after the other.
-use Rattle.std.proofs.Common.{◌≡◌, refl, sym, ◌∙◌, ap, subst, ℕ, List, length, Bool, true, false, Result, Ok, Err}
+use Rattle.std.proofs.Common.{◌≡◌, ◌<◌, refl, sym, ◌∙◌, ap, subst, ℕ, List, length, Bool, true, false, Result, Ok, Err}
 use Rattle.std.specs.Prelude.{⊤, Contains}
 use Rattle.sexpr.specs.declared.causes.Refusal.{Refusal}
 use Rattle.sexpr.specs.Items.{Item, Items, no_items, item}
 use Rattle.sym_table.specs.Table.{Table}
 use Rattle.term_model.specs.Terms.{Term}
 use Rattle.term_pool.specs.Views.{TermsView}
-use Rattle.smtlib_reader.specs.CommandShapes.{IsScriptCommand, SaysScriptCommand}
+use Rattle.smtlib_reader.specs.CommandShapes.{command_said}
 use Rattle.problem_text.specs.Commands.{ScriptCommand, script_command_of}
-use Rattle.text_items.specs.Nodes.{IsNode}
+use Rattle.text_items.specs.ItemsAt.{ItemsView, end_at, item_at}
+use Rattle.text_items.specs.Nesting.{AreNested}
 use Rattle.smtlib_reader.specs.ProblemReading.{HasItems, IsFirstItem, AreLeft, ReadsCommand}
 use Rattle.problem_text.specs.Problems.{script_performed, ends, goes_on_after, script_commands}
 use Rattle.term_reader.specs.Reading.{EndsWith}
@@ -64,89 +65,55 @@ done_goes_on : (replaces : Bool) (rest : Items) (sc : Script) (o : Outcome Scrip
 done_goes_on replaces rest sc o e = ap (then_rest replaces rest) e
 
 -- No command but an exit ends the text.
-goes_further : (source : List ℕ) (nodes : List Node) (c : code.Command) (d : ScriptCommand) → (c ≡ Exit → ⊥) → SaysScriptCommand source nodes c d → ends d ≡ false
-goes_further source nodes (SetLogic name) d other (n, e, _) = ap ends e
-goes_further source nodes WithoutEffect d other e = ap ends e
-goes_further source nodes (DeclareSort head) d other says = ap ends says.same
-goes_further source nodes (DeclareFun head) d other says = ap ends says.same
-goes_further source nodes (DefineFun head body) d other says = ap ends says.same
-goes_further source nodes (Assert t) d other (i, m, e, _) = ap ends e
-goes_further source nodes CheckSat d other e = ap ends e
-goes_further source nodes Exit d other e = absurd (other refl)
+goes_further : (items : ItemsView) (c : code.Command) → (c ≡ Exit → ⊥) → ends (command_said items c) ≡ false
+goes_further items (SetLogic name) other = refl
+goes_further items WithoutEffect other = refl
+goes_further items (DeclareSort head) other = refl
+goes_further items (DeclareFun head) other = refl
+goes_further items (DefineFun head body) other = refl
+goes_further items (Assert t) other = refl
+goes_further items CheckSat other = refl
+goes_further items Exit other = absurd (other refl)
 
-is_end : (source : List ℕ) (nodes : List Node) (c : code.Command) (d : ScriptCommand) → c ≡ Exit → SaysScriptCommand source nodes c d → ends d ≡ true
-is_end source nodes c d is says = ap ends (subst (λ (x : code.Command). SaysScriptCommand source nodes x d) is says)
-
--- the nodes are those of the first command that is left, and the others stand from this place on
-pub record HasFirst (source : List ℕ) (nodes : List Node) (at : ℕ) (replaces : Bool) (sc : Script) (whole : Outcome Script ⊤) : Type 0 where
-  pub first : Item
+-- The nodes are those of the first command that is left, and the others stand from this place on.
+pub record HasFirst (source : List ℕ) (items : ItemsView) (at : ℕ) (replaces : Bool) (sc : Script) (whole : Outcome Script ⊤) : Type 0 where
   pub others : Items
-  pub here : IsNode source nodes 0 first (length nodes)
+  pub some : 0 < length items.nodes
+  pub all : end_at items 0 ≡ length items.nodes
   pub left : HasItems source at others
-  pub comes : script_commands replaces (item first others) sc ≡ whole
+  pub comes : script_commands replaces (item (item_at items 0) others) sc ≡ whole
 
-pub has_first : (old new : List ℕ) (nodes : List Node) (from at : ℕ) (replaces : Bool) (sc : Script) (whole : Outcome Script ⊤)
-    → ((items : Items) → HasItems old from items → IsFirstItem new nodes at items)
-    → AreLeft old replaces from sc whole → HasFirst new nodes at replaces sc whole
-has_first old new nodes from at replaces sc whole found h =
-    let f = found h.items h.here in
-    record { first = f.first; others = f.others; here = f.here; left = f.left; comes = ap (λ x. script_commands replaces x sc) (sym f.split) ∙ h.comes }
+module _ {old new : List ℕ} {nodes slice : List Node} {from at : ℕ} {replaces : Bool} (found : (items : Items) → HasItems old from items → IsFirstItem new nodes at items) (same : slice ≡ nodes)
+    {sc : Script} {whole : Outcome Script ⊤} (h : AreLeft old replaces from sc whole) where
+  pub has_first : (view : ItemsView) → view ≡ record { source = new; nodes = slice } → HasFirst new view at replaces sc whole
+  has_first view is =
+      let f = found h.items h.here in
+      rw (is, same) (record {
+        others = f.others;
+        some = f.here.some;
+        all = f.here.whole;
+        left = f.left;
+        comes = ap (λ (i : Item). script_commands replaces (item i f.others) sc) f.here.item ∙ ap (λ x. script_commands replaces x sc) (sym f.split) ∙ h.comes;
+      })
 
-pub nothing_left : (source : List ℕ) (at : ℕ) (replaces : Bool) (sc : Script) (whole : Outcome Script ⊤)
+  pub are_nested : AreNested new slice
+  are_nested = rw same (found h.items h.here).here.nested
+
+ends_here : (source : List ℕ) (s : Table) (v : TermsView) (d : Session) (at : ℕ) (sc : Script) (whole : Outcome Script ⊤)
+    → whole ≡ done tt sc → IsSession s v d sc → ReadsCommand source s v v d at whole (Ok false)
+ends_here source s v d at sc whole is session = record {
+  outcome = (sc, is, session);
+  placed = places_none s v.pass v.pass (IsReadBy whole) refl;
+}
+
+pub nothing_left : {source : List ℕ} {s : Table} {v : TermsView} {d : Session} {at : ℕ} {replaces : Bool} {sc : Script} {whole : Outcome Script ⊤}
     → ((items : Items) → HasItems source at items → items ≡ no_items)
-    → AreLeft source replaces at sc whole → whole ≡ done tt sc
-nothing_left source at replaces sc whole none h =
-    sym h.comes ∙ (ap (λ x. script_commands replaces x sc) (none h.items h.here) ∙ no_commands replaces sc)
-
--- what the first command is found to be, where a check stands before it or none does
-abbrev IsFoundAs : List ℕ → List Node → Bool → Result code.Command Refusal → Type 0
-IsFoundAs source nodes checked r = (i : Item) → IsNode source nodes 0 i (length nodes) → IsScriptCommand source nodes r (script_command_of checked i)
-
-pub command_fault : (source : List ℕ) (nodes : List Node) (at : ℕ) (replaces : Bool) (sc : Script) (whole : Outcome Script ⊤) (checked : Bool) (r : Refusal)
-    → checked ≡ sc.is_checked → HasFirst source nodes at replaces sc whole → IsFoundAs source nodes checked (Err r) → whole.result ≡ Err r
-command_fault source nodes at replaces sc whole checked r same h found =
-    ap (λ (o : Outcome Script ⊤). o.result)
-    (sym (first_comes replaces h.first h.others sc whole (Err r) (ap (λ b. script_command_of b h.first) (sym same) ∙ found h.first h.here) h.comes))
-
--- the shape of the first command, and what comes of it and of the others
-pub record IsShaped (source : List ℕ) (nodes : List Node) (replaces : Bool) (sc : Script) (whole : Outcome Script ⊤) (others : Items) (c : code.Command) : Type 0 where
-  pub shape : ScriptCommand
-  pub says : SaysScriptCommand source nodes c shape
-  pub comes : comes_of replaces sc others (Ok shape) ≡ whole
-
-pub command_read : (source : List ℕ) (nodes : List Node) (at : ℕ) (replaces : Bool) (sc : Script) (whole : Outcome Script ⊤) (checked : Bool) (c : code.Command)
-    → checked ≡ sc.is_checked → (h : HasFirst source nodes at replaces sc whole) → IsFoundAs source nodes checked (Ok c) → IsShaped source nodes replaces sc whole h.others c
-command_read source nodes at replaces sc whole checked c same h found =
-    let (d, is, says) = found h.first h.here in
-    record {
-      shape = d;
-      says = says;
-      comes = first_comes replaces h.first h.others sc whole (Ok d) (ap (λ b. script_command_of b h.first) (sym same) ∙ is) h.comes;
-    }
-
-pub exit_read : (source : List ℕ) (nodes : List Node) (replaces : Bool) (sc : Script) (whole : Outcome Script ⊤) (others : Items) (c : code.Command)
-    → c ≡ Exit → IsShaped source nodes replaces sc whole others c → whole ≡ done tt sc
-exit_read source nodes replaces sc whole others c is h =
-    sym h.comes ∙ exits replaces h.shape others sc (is_end source nodes c h.shape is h.says)
-
-pub performed_read : (source : List ℕ) (nodes : List Node) (replaces : Bool) (sc : Script) (whole : Outcome Script ⊤) (others : Items) (c : code.Command)
-    → (c ≡ Exit → ⊥) → (h : IsShaped source nodes replaces sc whole others c) → then_rest replaces others (script_performed replaces h.shape sc) ≡ whole
-performed_read source nodes replaces sc whole others c other h =
-    sym (performs_first replaces h.shape others sc (goes_further source nodes c h.shape other h.says)) ∙ h.comes
+    → AreLeft source replaces at sc whole → IsSession s v d sc → (after : List ℕ) (behind : ℕ) → ReadsCommand after s v v d behind whole (Ok false)
+nothing_left {source} {s} {v} {d} {at} {replaces} {sc} {whole} none h session after behind =
+    ends_here after s v d behind sc whole (sym h.comes ∙ (ap (λ x. script_commands replaces x sc) (none h.items h.here) ∙ no_commands replaces sc)) session
 
 read_by_whole : (replaces : Bool) (rest : Items) (o whole : Outcome Script ⊤) → then_rest replaces rest o ≡ whole → (t : Term) → IsReadBy o t → IsReadBy whole t
 read_by_whole replaces rest o whole e t h = subst (λ (w : Outcome Script ⊤). Contains w.state.terms t) e (read_by_end replaces rest o t h)
-
--- a command more
-pub performs_well : (source : List ℕ) (s : Table) (old new : TermsView) (d : Session) (at : ℕ) (replaces : Bool) (rest : Items) (o whole : Outcome Script ⊤)
-    → d.reader.replaces_lets ≡ replaces → HasItems source at rest → then_rest replaces rest o ≡ whole
-    → Performs s old new d o (Ok tt) → ReadsCommand source s old new d at whole (Ok true)
-performs_well source s old new d at replaces rest o whole same here comes h =
-    let (sc, is, session) = h.outcome in
-    record {
-      outcome = (sc, record { items = rest; here = here; comes = ap (λ b. script_commands b rest sc) same ∙ (sym (done_goes_on replaces rest sc o is) ∙ comes) }, session);
-      placed = places_more s old.pass new.pass (IsReadBy o) (IsReadBy whole) (read_by_whole replaces rest o whole comes) h.placed;
-    }
 
 ends_whole : (s : Table) (v : TermsView) (replaces : Bool) (rest : Items) (o whole : Outcome Script ⊤) (fault : ReadFault)
     → then_rest replaces rest o ≡ whole → EndsWith s v.pass o.result (IsReadBy o) fault → EndsWith s v.pass whole.result (IsReadBy whole) fault
@@ -154,52 +121,40 @@ ends_whole s v replaces rest o whole (ReadFault.Text r) comes h = sym (ap (λ (w
 ends_whole s v replaces rest o whole ReadFault.PoolFull comes h = lacks_more s v.pass (IsReadBy o) (IsReadBy whole) (read_by_whole replaces rest o whole comes) h
 ends_whole s v replaces rest o whole ReadFault.Memory comes h = h
 
-pub performs_not : (source : List ℕ) (s : Table) (old new : TermsView) (d : Session) (at : ℕ) (replaces : Bool) (rest : Items) (o whole : Outcome Script ⊤) (fault : ReadFault)
-    → then_rest replaces rest o ≡ whole
-    → Performs s old new d o (Err fault) → ReadsCommand source s old new d at whole (Err fault)
-performs_not source s old new d at replaces rest o whole fault comes h = record {
-  outcome = ends_whole s new replaces rest o whole fault comes h.outcome;
-  placed = places_more s old.pass new.pass (IsReadBy o) (IsReadBy whole) (read_by_whole replaces rest o whole comes) h.placed;
-}
+module _ {source : List ℕ} {items : ItemsView} {at : ℕ} {replaces : Bool} {sc : Script} {whole : Outcome Script ⊤} (h : HasFirst source items at replaces sc whole) {checked : Bool} (same : checked ≡ sc.is_checked) where
+  first_is : (r : Result ScriptCommand Refusal) → script_command_of checked (item_at items 0) ≡ r → comes_of replaces sc h.others r ≡ whole
+  first_is r found = first_comes replaces (item_at items 0) h.others sc whole r (ap (λ b. script_command_of b (item_at items 0)) (sym same) ∙ found) h.comes
 
-pub some_first : (old new : List ℕ) (nodes slice : List Node) (from at : ℕ) (replaces : Bool) (s : Table) (v : TermsView) (d : Session)
-    → slice ≡ nodes
-    → ((items : Items) → HasItems old from items → IsFirstItem new nodes at items)
-    → (sc : Script) × (whole : Outcome Script ⊤) × AreLeft old replaces from sc whole × IsSession s v d sc
-    → (i : Item) × IsNode new slice 0 i (length slice)
-some_first old new nodes slice from at replaces s v d same found (sc, whole, left, _) =
-    let h = has_first old new nodes from at replaces sc whole found left in
-    (h.first, subst (λ (x : List Node). IsNode new x 0 h.first (length x)) (sym same) h.here)
+  pub command_fault : (s : Table) (v : TermsView) (d : Session) (r : Refusal) → script_command_of checked (item_at items 0) ≡ Err r → ReadsCommand source s v v d at whole (Err (ReadFault.Text r))
+  command_fault s v d r found = record {
+    outcome = ap (λ (o : Outcome Script ⊤). o.result) (sym (first_is (Err r) found));
+    placed = places_none s v.pass v.pass (IsReadBy whole) refl;
+  }
 
--- as the nodes are those of the slice
-pub found_in : (source : List ℕ) (nodes slice : List Node) (checked : Bool) (r : Result code.Command Refusal)
-    → slice ≡ nodes
-    → ((i : Item) → IsNode source slice 0 i (length slice) → IsScriptCommand source slice r (script_command_of checked i))
-    → IsFoundAs source nodes checked r
-found_in source nodes slice checked r same found =
-    subst (λ (x : List Node). (i : Item) → IsNode source x 0 i (length x) → IsScriptCommand source x r (script_command_of checked i)) same found
+  module _ (c : code.Command) (found : script_command_of checked (item_at items 0) ≡ Ok (command_said items c)) where
+    pub exit_read : {s : Table} {v : TermsView} {d : Session} → c ≡ Exit → IsSession s v d sc → ReadsCommand source s v v d at whole (Ok false)
+    exit_read {s} {v} {d} is session =
+        ends_here source s v d at sc whole
+        (sym (first_is (Ok (command_said items c)) found) ∙ exits replaces (command_said items c) h.others sc (ap (λ x. ends (command_said items x)) is)) session
 
-pub ends_here : (source : List ℕ) (s : Table) (v : TermsView) (d : Session) (at : ℕ) (sc : Script) (whole : Outcome Script ⊤)
-    → whole ≡ done tt sc → IsSession s v d sc → ReadsCommand source s v v d at whole (Ok false)
-ends_here source s v d at sc whole is session = record {
-  outcome = (sc, is, session);
-  placed = places_none s v.pass v.pass (IsReadBy whole) refl;
-}
+    module _ (other : c ≡ Exit → ⊥) where
+      abbrev first_does : Outcome Script ⊤
+      first_does = script_performed replaces (command_said items c) sc
 
-pub refused_here : (source : List ℕ) (s : Table) (v : TermsView) (d : Session) (at : ℕ) (whole : Outcome Script ⊤) (r : Refusal)
-    → whole.result ≡ Err r → ReadsCommand source s v v d at whole (Err (ReadFault.Text r))
-refused_here source s v d at whole r is = record {
-  outcome = is;
-  placed = places_none s v.pass v.pass (IsReadBy whole) refl;
-}
+      comes : then_rest replaces h.others first_does ≡ whole
+      comes = sym (performs_first replaces (command_said items c) h.others sc (goes_further items c other)) ∙ first_is (Ok (command_said items c)) found
 
-pub some_shape : (old new : List ℕ) (nodes slice more : List Node) (from at : ℕ) (replaces : Bool) (s : Table) (v : TermsView) (d : Session) (c : code.Command)
-    → slice ≡ nodes → more ≡ nodes
-    → ((items : Items) → HasItems old from items → IsFirstItem new nodes at items)
-    → ((i : Item) → IsNode new slice 0 i (length slice) → IsScriptCommand new slice (Ok c) (script_command_of d.is_checked i))
-    → (sc : Script) × (whole : Outcome Script ⊤) × AreLeft old replaces from sc whole × IsSession s v d sc
-    → (x : ScriptCommand) × SaysScriptCommand new more c x
-some_shape old new nodes slice more from at replaces s v d c same also found read (sc, whole, left, session) =
-    let h = has_first old new nodes from at replaces sc whole found left in
-    let shaped = command_read new nodes at replaces sc whole d.is_checked c session.is_checked h (found_in new nodes slice d.is_checked (Ok c) same read) in
-    (shaped.shape, subst (λ (x : List Node). SaysScriptCommand new x c shaped.shape) (sym also) shaped.says)
+      -- a command more
+      pub performed : {s : Table} {old new : TermsView} {d : Session} → d.reader.replaces_lets ≡ replaces → Performs s old new d first_does (Ok tt) → ReadsCommand source s old new d at whole (Ok true)
+      performed {s} {old} {new} {d} kept does =
+          let (after, is, session) = does.outcome in
+          record {
+            outcome = (after, record { items = h.others; here = h.left; comes = ap (λ b. script_commands b h.others after) kept ∙ (sym (done_goes_on replaces h.others after first_does is) ∙ comes) }, session);
+            placed = places_more s old.pass new.pass (IsReadBy first_does) (IsReadBy whole) (read_by_whole replaces h.others first_does whole comes) does.placed;
+          }
+
+      pub not_performed : {s : Table} {old new : TermsView} {d : Session} (fault : ReadFault) → Performs s old new d first_does (Err fault) → ReadsCommand source s old new d at whole (Err fault)
+      not_performed {s} {old} {new} {d} fault does = record {
+        outcome = ends_whole s new replaces h.others first_does whole fault comes does.outcome;
+        placed = places_more s old.pass new.pass (IsReadBy first_does) (IsReadBy whole) (read_by_whole replaces h.others first_does whole comes) does.placed;
+      }

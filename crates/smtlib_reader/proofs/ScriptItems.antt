@@ -1,5 +1,5 @@
 -- The items of a text, the first one after the other.
-use Rattle.std.proofs.Common.{◌≡◌, refl, sym, ◌∙◌, ap, subst, ℕ, List, [], ◌∷◌, length, Ok, Err, Some, None}
+use Rattle.std.proofs.Common.{◌≡◌, refl, sym, ◌∙◌, ap, subst, ℕ, List, [], ◌∷◌, Ok, Err, Some, None}
 use Rattle.sexpr.specs.declared.causes.Refusal.{Refusal}
 use Rattle.sexpr.specs.declared.lexing.Lexer.{Lexer}
 use Rattle.sexpr.specs.declared.lexing.Token.{Token}
@@ -7,7 +7,7 @@ use Rattle.sexpr.specs.Items.{Item, word, quoted, string, list, Items, no_items,
 use Rattle.sexpr.specs.Source.{source, position}
 use Rattle.sexpr.specs.Tokens.{Read, next_token, AreTokens}
 use Rattle.text_items.specs.Lexers.{GoesOnWith}
-use Rattle.text_items.specs.Nodes.{IsNode}
+use Rattle.text_items.specs.Nesting.{AreItsNodes}
 use Rattle.smtlib_reader.specs.ProblemReading.{HasItems, IsFirstItem}
 use Rattle.text_items.specs.declared.nodes.Node.{Node}
 
@@ -90,7 +90,7 @@ some_item l text at t e behind is (items, h) =
 
 -- the nodes are those of the first item, and the lexer stands behind it
 pub item_found : (l m : Lexer) (text : List ℕ) (at : ℕ) (t : Token) (nodes : List Node) → source l ≡ text → source m ≡ source l → position l ≡ t.end → next_token text at ≡ Ok (Some t)
-    → ((i : Item) (rest : List Token) → GoesOnWith l t i rest → IsNode (source m) nodes 0 i (length nodes))
+    → ((i : Item) (rest : List Token) → GoesOnWith l t i rest → AreItsNodes (source m) nodes i)
     → ((i : Item) (rest : List Token) → GoesOnWith l t i rest → AreTokens (source m) (position m) rest)
     → (items : Items) → HasItems text at items → IsFirstItem (source m) nodes (position m) items
 item_found l m text at t nodes e same behind is here left items h =

@@ -1,69 +1,71 @@
 -- Private. Commands as nodes spell them.
-use Rattle.std.specs.Prelude.{◌≡◌, ℕ, ◌≤◌, ◌==◌, Bool, List, [], ◌∷◌, Option, Some, None, if◌then◌else◌, codes, bytes_eq, Result, Ok, Err}
+use Rattle.std.specs.Prelude.{◌≡◌, ℕ, ◌<◌, ◌≤◌, ◌==◌, ⊤, Bool, List, [], ◌∷◌, length, Option, Some, None, if◌then◌else◌, codes, bytes_eq, Result, Ok, Err}
 use Rattle.sexpr.specs.declared.causes.Cause.TheVariants.{BadCommand, LeftOut, UnknownCommand}
 use Rattle.sexpr.specs.declared.causes.Refusal.{Refusal}
 use Rattle.sexpr.specs.Words.{is_symbol}
-use Rattle.sexpr.specs.Items.{Item, word, quoted, string, list, Items}
-use Rattle.text_items.specs.declared.nodes.Node.{Node}
+use Rattle.sexpr.specs.Items.{Item, word, quoted, string, list, Items, place_of}
 use Rattle.smtlib_reader.specs.declared.commands.Command.{Command}
 use Rattle.smtlib_reader.specs.declared.commands.FunctionHead.{FunctionHead}
 use Rattle.smtlib_reader.specs.declared.commands.SortHead.{SortHead}
 use Rattle.smtlib_reader.specs.declared.command_words.CommandWord.{CommandWord}
 use Rattle.problem_text.specs.Words.{is_among, left_out_commands}
-use Rattle.text_items.specs.ItemShapes.{Name, excess, pairs_fault}
-use Rattle.problem_text.specs.Commands.{ScriptCommand as Shape, set_logic, without_effect, declare_sort, declare_fun, define_fun, assert_term, check_sat, exit, refused, script_shaped, assert_shape, declare_fun_shape, declare_const_shape, define_fun_shape, declare_sort_shape, set_logic_shape, attribute_shape}
-use Rattle.text_items.specs.Nodes.{IsNode, AreNodes}
-use Rattle.text_items.specs.NameNodes.{BeginsAt, IsNameNode}
+use Rattle.text_items.specs.ItemShapes.{Name, name_at, excess, symbol_fault, pairs_fault}
+use Rattle.problem_text.specs.Commands.{ScriptCommand as Shape, set_logic, without_effect, declare_sort, declare_fun, define_fun, assert_term, check_sat, exit, refused, script_shaped, assert_shape, declare_fun_shape, declare_const_shape, define_fun_shape, declare_sort_shape, set_logic_shape, attribute_shape, value_of_numeral}
+use Rattle.text_items.specs.ItemsAt.{ItemsView, item_at, items_at}
 
--- The nodes say the command: a name and nodes of sorts, parameters and terms, with what kind of numeral an arity is.
-pub record SaysSort (source : List ℕ) (nodes : List Node) (head : SortHead) (d : Shape) : Type 0 where
-  pub named : Name
-  pub place : ℕ
-  pub value : ℕ
-  pub same : d ≡ declare_sort named place value
-  pub name_here : IsNameNode source nodes head.name named
-  pub arity_here : BeginsAt nodes head.arity place
-  pub zero : head.is_zero ≡ (value == 0)
+abbrev pub name_in : ItemsView → ℕ → Name
+name_in items k = name_at (item_at items k)
 
-pub record SaysFun (source : List ℕ) (nodes : List Node) (head : FunctionHead) (d : Shape) : Type 0 where
-  pub named : Name
-  pub sorts : Items
-  pub result : Item
-  pub after : ℕ
-  pub same : d ≡ declare_fun named sorts result
-  pub name_here : IsNameNode source nodes head.name named
-  pub sorts_here : AreNodes source nodes head.first sorts head.end
-  pub result_here : IsNode source nodes head.target result after
+-- the command that nodes say
+abbrev pub command_said : ItemsView → Command → Shape
+command_said items (Command.SetLogic name) = set_logic (name_in items name)
+command_said items Command.WithoutEffect = without_effect
+command_said items (Command.DeclareSort head) = declare_sort (name_in items head.name) (place_of (item_at items head.arity)) (value_of_numeral (item_at items head.arity))
+command_said items (Command.DeclareFun head) = declare_fun (name_in items head.name) (items_at items head.first head.end) (item_at items head.target)
+command_said items (Command.DefineFun head body) = define_fun (name_in items head.name) (items_at items head.first head.end) (item_at items head.target) (item_at items body)
+command_said items (Command.Assert term) = assert_term (item_at items term)
+command_said items Command.CheckSat = check_sat
+command_said items Command.Exit = exit
 
-pub record SaysDefinition (source : List ℕ) (nodes : List Node) (head : FunctionHead) (body : ℕ) (d : Shape) : Type 0 where
-  pub named : Name
-  pub parameters : Items
-  pub result : Item
-  pub value : Item
-  pub after : ℕ
-  pub behind : ℕ
-  pub same : d ≡ define_fun named parameters result value
-  pub name_here : IsNameNode source nodes head.name named
-  pub parameters_here : AreNodes source nodes head.first parameters head.end
-  pub pairs : pairs_fault parameters ≡ None
-  pub result_here : IsNode source nodes head.target result after
-  pub value_here : IsNode source nodes body value behind
+-- the item at node k is a symbol
+pub record IsSymbolAt (items : ItemsView) (k : ℕ) : Type 0 where
+  pub inside : k < length items.nodes
+  pub symbol : symbol_fault (item_at items k) ≡ None
+
+-- the parts of a declaration of a sort are there, and it says whether the numeral is 0
+pub record IsSortThere (items : ItemsView) (head : SortHead) : Type 0 where
+  pub name_there : IsSymbolAt items head.name
+  pub arity_there : head.arity < length items.nodes
+  pub zero : head.is_zero ≡ (value_of_numeral (item_at items head.arity) == 0)
+
+-- the parts of a function are there, but for its body
+pub record IsFunctionThere (items : ItemsView) (head : FunctionHead) : Type 0 where
+  pub name_there : IsSymbolAt items head.name
+  pub inside : head.end ≤ length items.nodes
+  pub target_there : head.target < length items.nodes
+
+-- the parts of a defined function are there, and its parameters are pairs
+pub record IsDefinitionThere (items : ItemsView) (head : FunctionHead) (body : ℕ) : Type 0 where
+  pub head_there : IsFunctionThere items head
+  pub pairs : pairs_fault (items_at items head.first head.end) ≡ None
+  pub body_there : body < length items.nodes
   pub in_order : head.end ≤ body
 
-abbrev pub SaysScriptCommand : List ℕ → List Node → Command → Shape → Type 0
-SaysScriptCommand source nodes (Command.SetLogic name) d = (n : Name) × (d ≡ set_logic n) × IsNameNode source nodes name n
-SaysScriptCommand source nodes Command.WithoutEffect d = d ≡ without_effect
-SaysScriptCommand source nodes (Command.DeclareSort head) d = SaysSort source nodes head d
-SaysScriptCommand source nodes (Command.DeclareFun head) d = SaysFun source nodes head d
-SaysScriptCommand source nodes (Command.DefineFun head body) d = SaysDefinition source nodes head body d
-SaysScriptCommand source nodes (Command.Assert t) d = (i : Item) × (m : ℕ) × (d ≡ assert_term i) × IsNode source nodes t i m
-SaysScriptCommand source nodes Command.CheckSat d = d ≡ check_sat
-SaysScriptCommand source nodes Command.Exit d = d ≡ exit
+-- the nodes of a command are there
+abbrev pub IsCommandThere : ItemsView → Command → Type 0
+IsCommandThere items (Command.SetLogic name) = IsSymbolAt items name
+IsCommandThere items Command.WithoutEffect = ⊤
+IsCommandThere items (Command.DeclareSort head) = IsSortThere items head
+IsCommandThere items (Command.DeclareFun head) = IsFunctionThere items head
+IsCommandThere items (Command.DefineFun head body) = IsDefinitionThere items head body
+IsCommandThere items (Command.Assert term) = term < length items.nodes
+IsCommandThere items Command.CheckSat = ⊤
+IsCommandThere items Command.Exit = ⊤
 
 -- the result is the command or the refusal that is expected
-abbrev pub IsScriptCommand : List ℕ → List Node → Result Command Refusal → Result Shape Refusal → Type 0
-IsScriptCommand source nodes (Err r) expected = expected ≡ Err r
-IsScriptCommand source nodes (Ok c) expected = (d : Shape) × (expected ≡ Ok d) × SaysScriptCommand source nodes c d
+abbrev pub IsScriptCommand : ItemsView → Result Command Refusal → Result Shape Refusal → Type 0
+IsScriptCommand items (Err r) expected = expected ≡ Err r
+IsScriptCommand items (Ok c) expected = (expected ≡ Ok (command_said items c)) × IsCommandThere items c
 
 -- the word of a command, where the item is one
 abbrev pub head_word : Item → Option (List ℕ)

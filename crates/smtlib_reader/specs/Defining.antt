@@ -1,5 +1,5 @@
 -- Private. The parts of a command that defines a function (SMT-LIB 2.6, "Commands"), as the code holds them.
-use Rattle.std.specs.Prelude.{◌≡◌, ◌≤◌, ◌+◌, ℕ, true, if◌then◌else◌, List, [], ◌∷◌, ◌++◌, map, length, None, Result, Ok, Err, ⊤}
+use Rattle.std.specs.Prelude.{◌≡◌, ◌≤◌, ℕ, true, if◌then◌else◌, List, [], ◌∷◌, ◌++◌, map, length, All, None, Result, Ok, Err, ⊤}
 use Rattle.sexpr.specs.declared.causes.Cause.TheVariants.{SortMismatch}
 use Rattle.sexpr.specs.declared.causes.Refusal.{Refusal}
 use Rattle.sexpr.specs.Items.{Item, Items, place_of}
@@ -13,7 +13,7 @@ use Rattle.term_names.specs.InScope.{IsScope}
 use Rattle.term_names.specs.Making.{PlacesCellsOf}
 use Rattle.problem_text.specs.Limits.{limited}
 use Rattle.problem_text.specs.Names.{Place, itself}
-use Rattle.smtlib_reader.specs.Parameters.{AreParameters}
+use Rattle.smtlib_reader.specs.Parameters.{IsParameterThere, parameters_said}
 use Rattle.term_reader.specs.Reading.{IsReadTerm, EndsWith, IsReaderIdle}
 use Rattle.problem_text.specs.TypedTerms.{Typed}
 use Rattle.problem_text.specs.Outcomes.{Outcome, done, refuse, and_then}
@@ -25,7 +25,7 @@ use Rattle.problem_text.specs.Terms.{read_term}
 use Rattle.term_expansion.specs.Values.{IsValue}
 use Rattle.smtlib_reader.specs.declared.defining.Listed.{Listed}
 use Rattle.term_names.specs.declared.faults.ReadFault.{ReadFault}
-use Rattle.text_items.specs.declared.nodes.Node.{Node}
+use Rattle.text_items.specs.ItemsAt.{ItemsView}
 use Rattle.smtlib_reader.specs.declared.parameters.Parameter.{Parameter}
 use Rattle.term_reader.specs.declared.reader.Reader.{Reader}
 use Rattle.term_expansion.specs.declared.values.Value.{Value}
@@ -39,14 +39,14 @@ abbrev pub signature_from : List (List ℕ) → Items → Item → Result Signat
 signature_from sorts parameters target =
     result_then (parameters_from sorts [] parameters) (λ xs. result_then (sort_from sorts target) (λ t. Ok (record { parameters = xs; target = t })))
 
--- What was read of the nodes from `first` on is the signature that is expected, unless memory was refused. Each parameter
+-- What was read of the nodes before this one is the signature that is expected, unless memory was refused. Each parameter
 -- has a node of its own.
-abbrev pub IsSignatureRead : List ℕ → List Node → ℕ → ℕ → List Parameter → Result Signature Refusal → Result Sort ReadFault → Type 0
-IsSignatureRead source nodes first last ps expected (Ok target) =
-    (xs : List Var) × (expected ≡ Ok (record { parameters = xs; target = target })) × AreParameters source nodes ps xs × (first + length ps ≤ last)
-IsSignatureRead source nodes first last ps expected (Err (ReadFault.Text r)) = expected ≡ Err r
-IsSignatureRead source nodes first last ps expected (Err ReadFault.PoolFull) = ⊥
-IsSignatureRead source nodes first last ps expected (Err ReadFault.Memory) = Unit {0}
+abbrev pub IsSignatureRead : ItemsView → ℕ → List Parameter → Result Signature Refusal → Result Sort ReadFault → Type 0
+IsSignatureRead items end ps expected (Ok target) =
+    (expected ≡ Ok (record { parameters = parameters_said items ps; target = target })) × All (IsParameterThere items) ps × (length ps ≤ end)
+IsSignatureRead items end ps expected (Err (ReadFault.Text r)) = expected ≡ Err r
+IsSignatureRead items end ps expected (Err ReadFault.PoolFull) = ⊥
+IsSignatureRead items end ps expected (Err ReadFault.Memory) = Unit {0}
 
 -- where the body stands: only the parameters are in scope, and lets are replaced
 abbrev pub within : List Var → Place

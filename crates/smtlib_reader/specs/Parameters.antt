@@ -1,26 +1,25 @@
 -- Private. The parameters of a defined function as nodes spell them.
-use Rattle.std.specs.Prelude.{◌≡◌, ℕ, List, [], ◌∷◌, bytes_eq, Result, Ok, Err}
+use Rattle.std.specs.Prelude.{◌≡◌, ◌≤◌, ℕ, List, ◌∷◌, map, length, All, bytes_eq, Result, Ok, Err}
 use Rattle.std.specs.Borrow.{Bor}
 use Rattle.std.specs.List.{list_any}
 use Rattle.sexpr.specs.declared.causes.Refusal.{Refusal}
 use Rattle.term_model.specs.Terms.{Var}
 use Rattle.term_names.specs.declared.faults.ReadFault.{ReadFault}
-use Rattle.text_items.specs.declared.nodes.Node.{Node}
 use Rattle.smtlib_reader.specs.declared.parameters.Parameter.{Parameter}
 use Rattle.problem_text.specs.Words.{is_among}
-use Rattle.text_items.specs.NameNodes.{IsNameNode}
+use Rattle.text_items.specs.ItemsAt.{ItemsView}
+use Rattle.smtlib_reader.specs.CommandShapes.{name_in, IsSymbolAt}
 
--- The parameter's node has the name of the variable, and its sort is the variable's.
-pub record IsParameter (source : List ℕ) (nodes : List Node) (p : Parameter) (x : Var) : Type 0 where
-  pub place : ℕ
-  pub name_here : IsNameNode source nodes p.name (record { place = place; name = x.name })
-  pub same_sort : p.sort ≡ x.sort
+-- the variable that a parameter is
+abbrev pub parameter_said : ItemsView → Parameter → Var
+parameter_said items p = record { name = (name_in items p.name).name; sort = p.sort }
 
-abbrev pub AreParameters : List ℕ → List Node → List Parameter → List Var → Type 0
-AreParameters source nodes [] [] = Unit {0}
-AreParameters source nodes [] (x ∷ xs) = ⊥
-AreParameters source nodes (p ∷ ps) [] = ⊥
-AreParameters source nodes (p ∷ ps) (x ∷ xs) = IsParameter source nodes p x × AreParameters source nodes ps xs
+abbrev pub parameters_said : ItemsView → List Parameter → List Var
+parameters_said items ps = map (parameter_said items) ps
+
+-- the name of a parameter is there
+abbrev pub IsParameterThere : ItemsView → Parameter → Type 0
+IsParameterThere items p = IsSymbolAt items p.name
 
 -- The keys of the set are these names.
 abbrev pub AreKeysOf : List (Bor (List ℕ)) → List (List ℕ) → Type 0
@@ -28,14 +27,16 @@ AreKeysOf keys names = (name : List ℕ) → list_any (λ key. bytes_eq name key
 
 -- The reading of a parameter, where those before it have these names, comes to what is expected, unless memory was
 -- refused. Where one was read the keys have its name too.
-abbrev pub IsParameterRead : List ℕ → List Node → List (List ℕ) → List (Bor (List ℕ)) → Result Parameter ReadFault → Result Var Refusal → Type 0
-IsParameterRead source nodes names keys (Ok p) expected = (x : Var) × (expected ≡ Ok x) × IsParameter source nodes p x × AreKeysOf keys (x.name ∷ names)
-IsParameterRead source nodes names keys (Err (ReadFault.Text r)) expected = expected ≡ Err r
-IsParameterRead source nodes names keys (Err ReadFault.PoolFull) expected = ⊥
-IsParameterRead source nodes names keys (Err ReadFault.Memory) expected = Unit {0}
+abbrev pub IsParameterRead : ItemsView → List (List ℕ) → List (Bor (List ℕ)) → Result Parameter ReadFault → Result Var Refusal → Type 0
+IsParameterRead items names keys (Ok p) expected =
+    (expected ≡ Ok (parameter_said items p)) × IsParameterThere items p × AreKeysOf keys ((parameter_said items p).name ∷ names)
+IsParameterRead items names keys (Err (ReadFault.Text r)) expected = expected ≡ Err r
+IsParameterRead items names keys (Err ReadFault.PoolFull) expected = ⊥
+IsParameterRead items names keys (Err ReadFault.Memory) expected = Unit {0}
 
-abbrev pub AreParametersRead : List ℕ → List Node → Result Unit ReadFault → List Parameter → Result (List Var) Refusal → Type 0
-AreParametersRead source nodes (Ok done) ps expected = (xs : List Var) × (expected ≡ Ok xs) × AreParameters source nodes ps xs
-AreParametersRead source nodes (Err (ReadFault.Text r)) ps expected = expected ≡ Err r
-AreParametersRead source nodes (Err ReadFault.PoolFull) ps expected = ⊥
-AreParametersRead source nodes (Err ReadFault.Memory) ps expected = Unit {0}
+-- The parameters of nodes before this one were read. Each has a node of its own.
+abbrev pub AreParametersRead : ItemsView → ℕ → Result Unit ReadFault → List Parameter → Result (List Var) Refusal → Type 0
+AreParametersRead items end (Ok done) ps expected = (expected ≡ Ok (parameters_said items ps)) × All (IsParameterThere items) ps × (length ps ≤ end)
+AreParametersRead items end (Err (ReadFault.Text r)) ps expected = expected ≡ Err r
+AreParametersRead items end (Err ReadFault.PoolFull) ps expected = ⊥
+AreParametersRead items end (Err ReadFault.Memory) ps expected = Unit {0}

@@ -6,7 +6,7 @@ use Rattle.sexpr.specs.declared.lexing.Token.{Token}
 use Rattle.sym_table.specs.Table.{Table}
 use Rattle.term_pool.specs.Views.{TermsView}
 use Rattle.term_names.specs.Making.{PlacesCellsOf}
-use Rattle.text_items.specs.Nodes.{IsNode}
+use Rattle.text_items.specs.Nesting.{AreItsNodes}
 use Rattle.problem_text.specs.Problems.{script_commands}
 use Rattle.term_reader.specs.Reading.{EndsWith}
 use Rattle.problem_text.specs.Outcomes.{Outcome, done}
@@ -27,7 +27,7 @@ pub record IsFirstItem (source : List ℕ) (nodes : List Node) (at : ℕ) (items
   pub first : Item
   pub others : Items
   pub split : items ≡ item first others
-  pub here : IsNode source nodes 0 first (length nodes)
+  pub here : AreItsNodes source nodes first
   pub left : HasItems source at others
 
 -- whether there was an item

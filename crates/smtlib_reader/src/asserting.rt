@@ -1,10 +1,8 @@
 //! Assertions (SMT-LIB 2.6, "Commands").
 ghost use Rattle.std.specs.Prelude.{◌≡◌, ◌≤◌, ◌^◌, ◌+◌, length};
-ghost use Rattle.sexpr.specs.Source.{source};
 ghost use Rattle.sym_table.specs.Table.{Keeps};
 ghost use Rattle.term_pool.specs.Views.{KeepsTerms};
-ghost use Rattle.smtlib_reader.specs.CommandShapes.{SaysScriptCommand};
-ghost use Rattle.problem_text.specs.Commands as shape;
+ghost use Rattle.smtlib_reader.specs.CommandShapes.{command_said, IsCommandThere};
 ghost use Rattle.problem_text.specs.Problems.{script_performed};
 ghost use Rattle.problem_text.specs.Scripts.{Script};
 ghost use Rattle.smtlib_reader.specs.Sessions.{IsSession, Performs};
@@ -27,21 +25,20 @@ pub(crate) fn assert_term(
     session: &mut Session<'_>,
     term: usize,
 ) -> Result<(), ReadFault>
-    requires says { (c : shape.ScriptCommand) × SaysScriptCommand (source items.now.text.now) items.now.nodes.now (command.Assert term) c }
+    requires there { IsCommandThere items.now (command.Assert term) }
     requires session { (sc : Script) × IsSession symbols.old terms.old session.old sc }
-    requires room { length symbols.old.leaves + length items.now.nodes.now ≤ 2 ^ 30 }
-    requires room_for_sorts { length symbols.old.sorts + length items.now.nodes.now ≤ 2 ^ 30 }
-    ensures performs { (c : shape.ScriptCommand) (sc : Script) → SaysScriptCommand (source items.now.text.now) items.now.nodes.now (command.Assert term) c → IsSession symbols.old terms.old session.old sc → Performs symbols.new terms.old terms.new session.new (script_performed session.old.reader.replaces_lets c sc) result }
+    requires room { length symbols.old.leaves + length items.now.nodes ≤ 2 ^ 30 }
+    requires room_for_sorts { length symbols.old.sorts + length items.now.nodes ≤ 2 ^ 30 }
+    ensures performs { (sc : Script) → IsSession symbols.old terms.old session.old sc → Performs symbols.new terms.old terms.new session.new (script_performed session.old.reader.replaces_lets (command_said items.now (command.Assert term)) sc) result }
     ensures symbols { Keeps symbols.old symbols.new }
-    ensures few { length symbols.new.leaves ≤ length symbols.old.leaves + length items.now.nodes.now }
-    ensures few_sorts { length symbols.new.sorts ≤ length symbols.old.sorts + length items.now.nodes.now }
+    ensures few { length symbols.new.leaves ≤ length symbols.old.leaves + length items.now.nodes }
+    ensures few_sorts { length symbols.new.sorts ≤ length symbols.old.sorts + length items.now.nodes }
     ensures replaces { session.new.reader.replaces_lets ≡ session.old.reader.replaces_lets }
     ensures base { session.new.reader.known.base ≡ session.old.reader.known.base }
     ensures keeps { KeepsTerms terms.old terms.new }
 {
-    let ItemText { text, nodes } = *items;
-    let value = read(text, nodes, symbols, terms, &mut session.reader, term)?;
-    expect_sort(nodes, term, value.sort, Sort::Bool)?;
+    let value = read(items, symbols, terms, &mut session.reader, term)?;
+    expect_sort(items, term, value.sort, Sort::Bool)?;
     session.assertions.push(value.term)?;
     Ok(())
 }

@@ -1,17 +1,14 @@
-//! Where a node has another shape than its place in a command wants: the places of the faults.
-ghost use Rattle.std.specs.Prelude.{◌≡◌, ◌<◌, ◌≤◌, ◌==◌, ℕ, List, length, Some, None, if◌then◌else◌, option_copied, IsTrue, ◌↔◌, codes, bytes_eq};
-ghost use Rattle.sexpr.specs.Items.{Item, Items};
-ghost use Rattle.sexpr.specs.Source.{source};
+//! What the item at a node is, and where it has another shape than its place in a command wants: the places of the faults.
+ghost use Rattle.std.specs.Prelude.{◌≡◌, ◌<◌, ◌==◌, ◌+◌, length, None, if◌then◌else◌, option_copied, IsTrue, ◌↔◌, codes, bytes_eq};
 ghost use Rattle.sexpr.specs.Words as spell;
 ghost use Rattle.problem_text.specs.Commands as shape;
-ghost use Rattle.text_items.specs.ItemShapes as item_shape;
-ghost use Rattle.text_items.specs.Nodes.{IsNode, AreNodes};
-ghost use Rattle.text_items.specs.Children.{AreSpans};
+ghost use Rattle.text_items.specs.ItemShapes.{items_of};
+ghost use Rattle.text_items.specs.ItemsAt.{end_at, item_at, items_at};
 ghost use Rattle.smtlib_reader.specs.CommandShapes.{head_word};
 
-use sexpr::{Lexer, TokenKind, WordKind, symbol_name, word_kind};
-use text_items::children::excess;
-use text_items::nodes::{Node, node_at};
+use sexpr::{TokenKind, WordKind, word_kind};
+use text_items::nodes::ItemText;
+use text_items::shapes::{is_keyword, is_list, pairs_fault};
 
 fn fault_unless(fits: bool, place: u64) -> Option<u64>
     ensures { result ≡ (if fits then None else Some place) }
@@ -20,68 +17,47 @@ fn fault_unless(fits: bool, place: u64) -> Option<u64>
 }
 
 /// The word of a symbol without bars.
-pub(crate) fn head_word<'a>(text: &Lexer<'a>, nodes: &[Node], k: usize) -> Option<&'a [u8]>
-    requires spans { AreSpans (source text.now) nodes.now }
-    requires inside { k < length nodes.now }
-    ensures { (i : Item) (m : ℕ) → IsNode (source text.now) nodes.now k i m → option_copied result ≡ head_word i }
+pub(crate) fn head_word<'t>(items: &ItemText<'_, 't>, k: usize) -> Option<&'t [u8]>
+    requires { k < length items.now.nodes }
+    ensures { option_copied result ≡ head_word (item_at items.now k) }
 {
-    let token = node_at(nodes, k).token;
+    let token = items.node(k).token;
     match token.kind {
-        TokenKind::Word => symbol_name(text, &token),
+        TokenKind::Word => items.symbol(&token),
         _ => None,
     }
 }
 
-/// Where a symbol has to stand.
-pub(crate) fn symbol_fault(text: &Lexer<'_>, nodes: &[Node], k: usize) -> Option<u64>
-    requires spans { AreSpans (source text.now) nodes.now }
-    requires inside { k < length nodes.now }
-    ensures { (i : Item) (m : ℕ) → IsNode (source text.now) nodes.now k i m → result ≡ item_shape.symbol_fault i }
-{
-    let token = node_at(nodes, k).token;
-    fault_unless(symbol_name(text, &token).is_some(), token.start)
-}
-
 /// Where a list has to stand.
-pub(crate) fn list_fault(nodes: &[Node], k: usize) -> Option<u64>
-    requires { k < length nodes.now }
-    ensures { (source : List ℕ) (i : Item) (m : ℕ) → IsNode source nodes.now k i m → result ≡ shape.list_fault i }
+pub(crate) fn list_fault(items: &ItemText<'_, '_>, k: usize) -> Option<u64>
+    requires { k < length items.now.nodes }
+    ensures fault { result ≡ shape.list_fault (item_at items.now k) }
+    ensures inside { items_of (item_at items.now k) ≡ items_at items.now (k + 1) (end_at items.now k) }
 {
-    let token = node_at(nodes, k).token;
-    match token.kind {
-        TokenKind::Open => None,
-        _ => Some(token.start),
+    let list = items.node(k);
+    if is_list(items, k) {
+        None
+    } else {
+        Some(list.token.start)
     }
 }
 
 /// Where a keyword has to stand.
-pub(crate) fn keyword_fault(text: &Lexer<'_>, nodes: &[Node], k: usize) -> Option<u64>
-    requires spans { AreSpans (source text.now) nodes.now }
-    requires inside { k < length nodes.now }
-    ensures { (i : Item) (m : ℕ) → IsNode (source text.now) nodes.now k i m → result ≡ shape.keyword_fault i }
+pub(crate) fn keyword_fault(items: &ItemText<'_, '_>, k: usize) -> Option<u64>
+    requires { k < length items.now.nodes }
+    ensures { result ≡ shape.keyword_fault (item_at items.now k) }
 {
-    let token = node_at(nodes, k).token;
-    match token.kind {
-        TokenKind::Word => fault_unless(is_keyword(text.text(&token)), token.start),
-        _ => Some(token.start),
-    }
-}
-
-fn is_keyword(word: &[u8]) -> bool
-    ensures { result ≡ spell.is_keyword word.now }
-{
-    matches!(word, [b':', ..])
+    fault_unless(is_keyword(items, k), items.node(k).token.start)
 }
 
 /// Where a numeral has to stand.
-pub(crate) fn numeral_fault(text: &Lexer<'_>, nodes: &[Node], k: usize) -> Option<u64>
-    requires spans { AreSpans (source text.now) nodes.now }
-    requires inside { k < length nodes.now }
-    ensures { (i : Item) (m : ℕ) → IsNode (source text.now) nodes.now k i m → result ≡ shape.numeral_fault i }
+pub(crate) fn numeral_fault(items: &ItemText<'_, '_>, k: usize) -> Option<u64>
+    requires { k < length items.now.nodes }
+    ensures { result ≡ shape.numeral_fault (item_at items.now k) }
 {
-    let token = node_at(nodes, k).token;
+    let token = items.node(k).token;
     match token.kind {
-        TokenKind::Word => fault_unless(is_numeral(text.text(&token)), token.start),
+        TokenKind::Word => fault_unless(is_numeral(items.spelling(&token)), token.start),
         _ => Some(token.start),
     }
 }
@@ -101,14 +77,14 @@ fn is_numeral_kind(kind: WordKind) -> bool
     matches!(kind, WordKind::Numeral)
 }
 
-/// Whether the node is the numeral 0.
-pub(crate) fn is_zero(text: &Lexer<'_>, nodes: &[Node], k: usize) -> bool
-    requires spans { AreSpans (source text.now) nodes.now }
-    requires inside { k < length nodes.now }
-    ensures { (i : Item) (m : ℕ) → IsNode (source text.now) nodes.now k i m → shape.numeral_fault i ≡ None → result ≡ (shape.value_of_numeral i == 0) }
+/// Whether the numeral at a node is 0.
+#[tactic(auto, using(crate::proofs::Zero::zero_told))]
+pub(crate) fn is_zero(items: &ItemText<'_, '_>, k: usize) -> bool
+    requires { k < length items.now.nodes }
+    ensures { shape.numeral_fault (item_at items.now k) ≡ None → result ≡ (shape.value_of_numeral (item_at items.now k) == 0) }
 {
-    let token = node_at(nodes, k).token;
-    is_nought(text.text(&token))
+    let token = items.node(k).token;
+    is_nought(items.spelling(&token))
 }
 
 fn is_nought(word: &[u8]) -> bool
@@ -118,49 +94,15 @@ fn is_nought(word: &[u8]) -> bool
 }
 
 /// Where a list of pairs, each of a symbol and another item, has to stand: the parameters of a defined function.
-pub(crate) fn parameters_fault(text: &Lexer<'_>, nodes: &[Node], k: usize) -> Option<u64>
-    requires spans { AreSpans (source text.now) nodes.now }
-    requires inside { k < length nodes.now }
-    ensures { (i : Item) (m : ℕ) → IsNode (source text.now) nodes.now k i m → result ≡ shape.parameters_fault i }
+pub(crate) fn parameters_fault(items: &ItemText<'_, '_>, k: usize) -> Option<u64>
+    requires { k < length items.now.nodes }
+    ensures fault { result ≡ shape.parameters_fault (item_at items.now k) }
+    ensures inside { items_of (item_at items.now k) ≡ items_at items.now (k + 1) (end_at items.now k) }
 {
-    let node = node_at(nodes, k);
-    match node.token.kind {
-        TokenKind::Open => pairs_fault(text, nodes, k + 1, node.next),
-        _ => Some(node.token.start),
+    let list = items.node(k);
+    if is_list(items, k) {
+        pairs_fault(items, k + 1, list.next)
+    } else {
+        Some(list.token.start)
     }
-}
-
-/// Where pairs have to stand, from `first` to before `end`.
-fn pairs_fault(text: &Lexer<'_>, nodes: &[Node], first: usize, end: usize) -> Option<u64>
-    requires spans { AreSpans (source text.now) nodes.now }
-    requires inside { end ≤ length nodes.now }
-    ensures { (items : Items) → AreNodes (source text.now) nodes.now first items end → result ≡ item_shape.pairs_fault items }
-{
-    let mut k = first;
-    while k < end {
-        let next = node_at(nodes, k).next;
-        match pair_fault(text, nodes, k) {
-            Some(place) => return Some(place),
-            None => k = next,
-        }
-    }
-    None
-}
-
-/// Where a pair of a symbol and another item has to stand. What lacks an item is faulty at its bracket.
-fn pair_fault(text: &Lexer<'_>, nodes: &[Node], k: usize) -> Option<u64>
-    requires spans { AreSpans (source text.now) nodes.now }
-    requires inside { k < length nodes.now }
-    ensures { (i : Item) (m : ℕ) → IsNode (source text.now) nodes.now k i m → result ≡ item_shape.pair_fault i }
-{
-    let pair = node_at(nodes, k);
-    if k + 1 >= pair.next {
-        return Some(pair.token.start);
-    }
-    let second = node_at(nodes, k + 1).next;
-    if second >= pair.next {
-        return Some(pair.token.start);
-    }
-    let behind = node_at(nodes, second).next;
-    symbol_fault(text, nodes, k + 1).or(excess(nodes, behind, pair.next))
 }

@@ -1,20 +1,18 @@
 //! The commands of a problem (SMT-LIB 2.6, "Scripts" and "Commands") and their shapes, over the nodes of one top item.
-ghost use Rattle.std.specs.Prelude.{◌≡◌, ◌<◌, ℕ, List, length};
-ghost use Rattle.sexpr.specs.Items.{Item, Items};
-ghost use Rattle.sexpr.specs.Source.{source};
+ghost use Rattle.std.specs.Prelude.{◌≡◌, ◌<◌, length};
 ghost use Rattle.problem_text.specs.Commands as spec;
-ghost use Rattle.text_items.specs.Nodes.{IsNode, AreNodes};
-ghost use Rattle.text_items.specs.Children.{AreSpans};
+ghost use Rattle.text_items.specs.ItemsAt.{end_at, item_at, items_at};
 ghost use Rattle.smtlib_reader.specs.CommandShapes.{IsScriptCommand, script_command_so, script_unless};
 
 use crate::command_shapes::{
-    head_word, is_zero, keyword_fault, list_fault, numeral_fault, parameters_fault, symbol_fault,
+    head_word, is_zero, keyword_fault, list_fault, numeral_fault, parameters_fault,
 };
 use crate::command_words::{CommandWord, word_named};
-use sexpr::{Cause, Lexer, Refusal};
-use text_items::children::{bad_command, excess, place_at, take};
-use text_items::nodes::Node;
+use sexpr::{Cause, Refusal};
+use text_items::children::{bad_command, take};
+use text_items::nodes::ItemText;
 use text_items::refusals::refused;
+use text_items::shapes::{excess, symbol_fault};
 
 /// A sort that is declared, by the nodes of its name and of its arity, and whether this is zero.
 #[derive(Clone, Copy)]
@@ -49,30 +47,20 @@ pub(crate) enum Command {
 
 /// The command that a top item is, where all these nodes are its own and `checked` says whether a check stands
 /// before it, or the first fault of its shape in the order of the text.
-pub(crate) fn command_of(
-    text: &Lexer<'_>,
-    nodes: &[Node],
-    checked: bool,
-) -> Result<Command, Refusal>
-    requires { (i : Item) × IsNode (source text.now) nodes.now 0 i (length nodes.now) }
-    ensures { (i : Item) → IsNode (source text.now) nodes.now 0 i (length nodes.now) → IsScriptCommand (source text.now) nodes.now result (spec.script_command_of checked i) }
+#[tactic(auto, using(crate::proofs::CommandWords::command_read))]
+pub(crate) fn command_of(items: &ItemText<'_, '_>, checked: bool) -> Result<Command, Refusal>
+    requires some { 0 < length items.now.nodes }
+    requires whole { end_at items.now 0 ≡ length items.now.nodes }
+    ensures { IsScriptCommand items.now result (spec.script_command_of checked (item_at items.now 0)) }
 {
-    command_in(text, nodes, checked)
-}
-
-fn command_in(text: &Lexer<'_>, nodes: &[Node], checked: bool) -> Result<Command, Refusal>
-    requires spans { AreSpans (source text.now) nodes.now }
-    requires some { 0 < length nodes.now }
-    ensures { (i : Item) → IsNode (source text.now) nodes.now 0 i (length nodes.now) → IsScriptCommand (source text.now) nodes.now result (spec.script_command_of checked i) }
-{
-    let start = place_at(nodes, 0);
+    let start = items.node(0).token.start;
     let mut at = 1;
-    let head = take(nodes, &mut at, nodes.len(), start)?;
-    let word_start = place_at(nodes, head);
-    match head_word(text, nodes, head) {
+    let head = take(items, &mut at, items.count(), start)?;
+    let word_start = items.node(head).token.start;
+    match head_word(items, head) {
         Some(word) => {
             let places = Places { start, word_start };
-            command_so(text, nodes, word_named(word), checked, places, at)
+            command_so(items, word_named(word), checked, places, at)
         }
         None => Err(bad_command(word_start)),
     }
@@ -87,28 +75,26 @@ struct Places {
 
 /// The command of a word, whose other items stand from `at` to the end.
 fn command_so(
-    text: &Lexer<'_>,
-    nodes: &[Node],
+    items: &ItemText<'_, '_>,
     word: CommandWord,
     checked: bool,
     places: Places,
     at: usize,
 ) -> Result<Command, Refusal>
-    requires { AreSpans (source text.now) nodes.now }
-    ensures { (items : Items) → AreNodes (source text.now) nodes.now at items (length nodes.now) → IsScriptCommand (source text.now) nodes.now result (script_command_so word checked places.start places.word_start items) }
+    ensures { IsScriptCommand items.now result (script_command_so word checked places.start places.word_start (items_at items.now at (length items.now.nodes))) }
 {
     match word {
         CommandWord::Assert if checked => Err(refused(Cause::LeftOut, places.word_start)),
-        CommandWord::Assert => assertion(nodes, places.start, at),
-        CommandWord::DeclareFun => declare_fun(text, nodes, places.start, at),
-        CommandWord::DeclareConst => declare_const(text, nodes, places.start, at),
-        CommandWord::DefineFun => define_fun(text, nodes, places.start, at),
-        CommandWord::DeclareSort => declare_sort(text, nodes, places.start, at),
-        CommandWord::SetLogic => set_logic(text, nodes, places.start, at),
-        CommandWord::Attribute => attribute(text, nodes, places.start, at),
-        CommandWord::CheckSat => unless(excess(nodes, at, nodes.len()), Command::CheckSat),
-        CommandWord::Question => unless(excess(nodes, at, nodes.len()), Command::WithoutEffect),
-        CommandWord::Exit => unless(excess(nodes, at, nodes.len()), Command::Exit),
+        CommandWord::Assert => assertion(items, places.start, at),
+        CommandWord::DeclareFun => declare_fun(items, places.start, at),
+        CommandWord::DeclareConst => declare_const(items, places.start, at),
+        CommandWord::DefineFun => define_fun(items, places.start, at),
+        CommandWord::DeclareSort => declare_sort(items, places.start, at),
+        CommandWord::SetLogic => set_logic(items, places.start, at),
+        CommandWord::Attribute => attribute(items, places.start, at),
+        CommandWord::CheckSat => unless(excess(items, at, items.count()), Command::CheckSat),
+        CommandWord::Question => unless(excess(items, at, items.count()), Command::WithoutEffect),
+        CommandWord::Exit => unless(excess(items, at, items.count()), Command::Exit),
         CommandWord::LeftOut => Err(refused(Cause::LeftOut, places.word_start)),
         CommandWord::Unknown => Err(refused(Cause::UnknownCommand, places.word_start)),
     }
@@ -123,36 +109,33 @@ fn unless(fault: Option<u64>, command: Command) -> Result<Command, Refusal>
     }
 }
 
-fn set_logic(text: &Lexer<'_>, nodes: &[Node], start: u64, at: usize) -> Result<Command, Refusal>
-    requires { AreSpans (source text.now) nodes.now }
-    ensures { (items : Items) → AreNodes (source text.now) nodes.now at items (length nodes.now) → IsScriptCommand (source text.now) nodes.now result (spec.set_logic_shape start items) }
+fn set_logic(items: &ItemText<'_, '_>, start: u64, at: usize) -> Result<Command, Refusal>
+    ensures { IsScriptCommand items.now result (spec.set_logic_shape start (items_at items.now at (length items.now.nodes))) }
 {
     let mut rest = at;
-    let name = take(nodes, &mut rest, nodes.len(), start)?;
-    let fault = symbol_fault(text, nodes, name).or(excess(nodes, rest, nodes.len()));
+    let name = take(items, &mut rest, items.count(), start)?;
+    let fault = symbol_fault(items, name).or(excess(items, rest, items.count()));
     unless(fault, Command::SetLogic { name })
 }
 
 /// An information or an option that is set. What stands after its keyword may be anything.
-fn attribute(text: &Lexer<'_>, nodes: &[Node], start: u64, at: usize) -> Result<Command, Refusal>
-    requires { AreSpans (source text.now) nodes.now }
-    ensures { (items : Items) → AreNodes (source text.now) nodes.now at items (length nodes.now) → IsScriptCommand (source text.now) nodes.now result (spec.attribute_shape start items) }
+fn attribute(items: &ItemText<'_, '_>, start: u64, at: usize) -> Result<Command, Refusal>
+    ensures { IsScriptCommand items.now result (spec.attribute_shape start (items_at items.now at (length items.now.nodes))) }
 {
     let mut rest = at;
-    let keyword = take(nodes, &mut rest, nodes.len(), start)?;
-    unless(keyword_fault(text, nodes, keyword), Command::WithoutEffect)
+    let keyword = take(items, &mut rest, items.count(), start)?;
+    unless(keyword_fault(items, keyword), Command::WithoutEffect)
 }
 
-fn declare_sort(text: &Lexer<'_>, nodes: &[Node], start: u64, at: usize) -> Result<Command, Refusal>
-    requires { AreSpans (source text.now) nodes.now }
-    ensures { (items : Items) → AreNodes (source text.now) nodes.now at items (length nodes.now) → IsScriptCommand (source text.now) nodes.now result (spec.declare_sort_shape start items) }
+fn declare_sort(items: &ItemText<'_, '_>, start: u64, at: usize) -> Result<Command, Refusal>
+    ensures { IsScriptCommand items.now result (spec.declare_sort_shape start (items_at items.now at (length items.now.nodes))) }
 {
     let mut rest = at;
-    let name = take(nodes, &mut rest, nodes.len(), start)?;
-    let arity = take(nodes, &mut rest, nodes.len(), start)?;
-    let later = numeral_fault(text, nodes, arity).or(excess(nodes, rest, nodes.len()));
-    let fault = symbol_fault(text, nodes, name).or(later);
-    let is_zero = is_zero(text, nodes, arity);
+    let name = take(items, &mut rest, items.count(), start)?;
+    let arity = take(items, &mut rest, items.count(), start)?;
+    let later = numeral_fault(items, arity).or(excess(items, rest, items.count()));
+    let fault = symbol_fault(items, name).or(later);
+    let is_zero = is_zero(items, arity);
     let head = SortHead {
         name,
         arity,
@@ -161,16 +144,15 @@ fn declare_sort(text: &Lexer<'_>, nodes: &[Node], start: u64, at: usize) -> Resu
     unless(fault, Command::DeclareSort(head))
 }
 
-fn declare_fun(text: &Lexer<'_>, nodes: &[Node], start: u64, at: usize) -> Result<Command, Refusal>
-    requires { AreSpans (source text.now) nodes.now }
-    ensures { (items : Items) → AreNodes (source text.now) nodes.now at items (length nodes.now) → IsScriptCommand (source text.now) nodes.now result (spec.declare_fun_shape start items) }
+fn declare_fun(items: &ItemText<'_, '_>, start: u64, at: usize) -> Result<Command, Refusal>
+    ensures { IsScriptCommand items.now result (spec.declare_fun_shape start (items_at items.now at (length items.now.nodes))) }
 {
     let mut rest = at;
-    let name = take(nodes, &mut rest, nodes.len(), start)?;
-    let sorts = take(nodes, &mut rest, nodes.len(), start)?;
-    let target = take(nodes, &mut rest, nodes.len(), start)?;
-    let later = list_fault(nodes, sorts).or(excess(nodes, rest, nodes.len()));
-    let fault = symbol_fault(text, nodes, name).or(later);
+    let name = take(items, &mut rest, items.count(), start)?;
+    let sorts = take(items, &mut rest, items.count(), start)?;
+    let target = take(items, &mut rest, items.count(), start)?;
+    let later = list_fault(items, sorts).or(excess(items, rest, items.count()));
+    let fault = symbol_fault(items, name).or(later);
     let head = FunctionHead {
         name,
         first: sorts + 1,
@@ -180,19 +162,14 @@ fn declare_fun(text: &Lexer<'_>, nodes: &[Node], start: u64, at: usize) -> Resul
     unless(fault, Command::DeclareFun(head))
 }
 
-fn declare_const(
-    text: &Lexer<'_>,
-    nodes: &[Node],
-    start: u64,
-    at: usize,
-) -> Result<Command, Refusal>
-    requires { AreSpans (source text.now) nodes.now }
-    ensures { (items : Items) → AreNodes (source text.now) nodes.now at items (length nodes.now) → IsScriptCommand (source text.now) nodes.now result (spec.declare_const_shape start items) }
+#[tactic(auto, using(text_items::proofs::ItemsAtLemmas::no_items_are))]
+fn declare_const(items: &ItemText<'_, '_>, start: u64, at: usize) -> Result<Command, Refusal>
+    ensures { IsScriptCommand items.now result (spec.declare_const_shape start (items_at items.now at (length items.now.nodes))) }
 {
     let mut rest = at;
-    let name = take(nodes, &mut rest, nodes.len(), start)?;
-    let target = take(nodes, &mut rest, nodes.len(), start)?;
-    let fault = symbol_fault(text, nodes, name).or(excess(nodes, rest, nodes.len()));
+    let name = take(items, &mut rest, items.count(), start)?;
+    let target = take(items, &mut rest, items.count(), start)?;
+    let fault = symbol_fault(items, name).or(excess(items, rest, items.count()));
     let head = FunctionHead {
         name,
         first: target,
@@ -202,18 +179,16 @@ fn declare_const(
     unless(fault, Command::DeclareFun(head))
 }
 
-#[tactic(auto, using(text_items::proofs::NodeSteps::node_behind))]
-fn define_fun(text: &Lexer<'_>, nodes: &[Node], start: u64, at: usize) -> Result<Command, Refusal>
-    requires { AreSpans (source text.now) nodes.now }
-    ensures { (items : Items) → AreNodes (source text.now) nodes.now at items (length nodes.now) → IsScriptCommand (source text.now) nodes.now result (spec.define_fun_shape start items) }
+fn define_fun(items: &ItemText<'_, '_>, start: u64, at: usize) -> Result<Command, Refusal>
+    ensures { IsScriptCommand items.now result (spec.define_fun_shape start (items_at items.now at (length items.now.nodes))) }
 {
     let mut rest = at;
-    let name = take(nodes, &mut rest, nodes.len(), start)?;
-    let parameters = take(nodes, &mut rest, nodes.len(), start)?;
-    let target = take(nodes, &mut rest, nodes.len(), start)?;
-    let body = take(nodes, &mut rest, nodes.len(), start)?;
-    let later = parameters_fault(text, nodes, parameters).or(excess(nodes, rest, nodes.len()));
-    let fault = symbol_fault(text, nodes, name).or(later);
+    let name = take(items, &mut rest, items.count(), start)?;
+    let parameters = take(items, &mut rest, items.count(), start)?;
+    let target = take(items, &mut rest, items.count(), start)?;
+    let body = take(items, &mut rest, items.count(), start)?;
+    let later = parameters_fault(items, parameters).or(excess(items, rest, items.count()));
+    let fault = symbol_fault(items, name).or(later);
     let head = FunctionHead {
         name,
         first: parameters + 1,
@@ -223,10 +198,10 @@ fn define_fun(text: &Lexer<'_>, nodes: &[Node], start: u64, at: usize) -> Result
     unless(fault, Command::DefineFun { head, body })
 }
 
-fn assertion(nodes: &[Node], start: u64, at: usize) -> Result<Command, Refusal>
-    ensures { (source : List ℕ) (items : Items) → AreNodes source nodes.now at items (length nodes.now) → IsScriptCommand source nodes.now result (spec.assert_shape start items) }
+fn assertion(items: &ItemText<'_, '_>, start: u64, at: usize) -> Result<Command, Refusal>
+    ensures { IsScriptCommand items.now result (spec.assert_shape start (items_at items.now at (length items.now.nodes))) }
 {
     let mut rest = at;
-    let term = take(nodes, &mut rest, nodes.len(), start)?;
-    unless(excess(nodes, rest, nodes.len()), Command::Assert { term })
+    let term = take(items, &mut rest, items.count(), start)?;
+    unless(excess(items, rest, items.count()), Command::Assert { term })
 }

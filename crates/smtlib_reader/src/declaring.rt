@@ -1,11 +1,9 @@
 //! Declarations of sorts and functions, and the logic (SMT-LIB 2.6, "Commands").
 ghost use Rattle.std.specs.Prelude.{◌≡◌, ◌≤◌, ◌<◌, ◌^◌, ◌+◌, ◌||◌, ◌++◌, [], ◌∷◌, length, position, bytes_eq, false, None, OnOk, IfErr};
-ghost use Rattle.sexpr.specs.Source.{source};
 ghost use Rattle.sym_table.specs.Leaf.{function};
 ghost use Rattle.sym_table.specs.Table.{Keeps, IsFunctionName, with_leaf, with_sort_name};
 ghost use Rattle.term_pool.specs.Views.{KeepsTerms};
-ghost use Rattle.smtlib_reader.specs.CommandShapes.{SaysScriptCommand};
-ghost use Rattle.problem_text.specs.Commands as shape;
+ghost use Rattle.smtlib_reader.specs.CommandShapes.{command_said, IsCommandThere};
 ghost use Rattle.problem_text.specs.Problems.{script_performed};
 ghost use Rattle.problem_text.specs.Scripts.{Script};
 ghost use Rattle.smtlib_reader.specs.Sessions.{IsSession, Performs};
@@ -25,11 +23,12 @@ use term_names::words::is_logic;
 use term_pool::Terms;
 use term_reader::repeats;
 use term_reader::taken::is_taken;
-use text_items::nodes::{ItemText, node_at};
+use text_items::nodes::ItemText;
 use text_items::refusals::refused;
 use text_items::shapes::name_of;
 
 /// Sets the logic by the name at a node, once.
+#[tactic(auto, using(crate::proofs::DeclaredLogics::logic_set))]
 pub(crate) fn set_logic(
     items: &ItemText<'_, '_>,
     symbols: &mut Symbols,
@@ -37,21 +36,20 @@ pub(crate) fn set_logic(
     session: &mut Session<'_>,
     name: usize,
 ) -> Result<(), ReadFault>
-    requires says { (c : shape.ScriptCommand) × SaysScriptCommand (source items.now.text.now) items.now.nodes.now (command.SetLogic name) c }
+    requires there { IsCommandThere items.now (command.SetLogic name) }
     requires session { (sc : Script) × IsSession symbols.old terms.old session.old sc }
-    requires room { length symbols.old.leaves + length items.now.nodes.now ≤ 2 ^ 30 }
-    requires room_for_sorts { length symbols.old.sorts + length items.now.nodes.now ≤ 2 ^ 30 }
-    ensures performs { (c : shape.ScriptCommand) (sc : Script) → SaysScriptCommand (source items.now.text.now) items.now.nodes.now (command.SetLogic name) c → IsSession symbols.old terms.old session.old sc → Performs symbols.new terms.old terms.new session.new (script_performed session.old.reader.replaces_lets c sc) result }
+    requires room { length symbols.old.leaves + length items.now.nodes ≤ 2 ^ 30 }
+    requires room_for_sorts { length symbols.old.sorts + length items.now.nodes ≤ 2 ^ 30 }
+    ensures performs { (sc : Script) → IsSession symbols.old terms.old session.old sc → Performs symbols.new terms.old terms.new session.new (script_performed session.old.reader.replaces_lets (command_said items.now (command.SetLogic name)) sc) result }
     ensures symbols { Keeps symbols.old symbols.new }
-    ensures few { length symbols.new.leaves ≤ length symbols.old.leaves + length items.now.nodes.now }
-    ensures few_sorts { length symbols.new.sorts ≤ length symbols.old.sorts + length items.now.nodes.now }
+    ensures few { length symbols.new.leaves ≤ length symbols.old.leaves + length items.now.nodes }
+    ensures few_sorts { length symbols.new.sorts ≤ length symbols.old.sorts + length items.now.nodes }
     ensures replaces { session.new.reader.replaces_lets ≡ session.old.reader.replaces_lets }
     ensures base { session.new.reader.known.base ≡ session.old.reader.known.base }
     ensures keeps { KeepsTerms terms.old terms.new }
 {
-    let ItemText { text, nodes } = *items;
-    let spelled = name_of(text, nodes, name);
-    let place = node_at(nodes, name).token.start;
+    let spelled = name_of(items, name);
+    let place = items.node(name).token.start;
     if session.has_logic {
         return Err(ReadFault::Text(refused(Cause::Repeated, place)));
     }
@@ -63,6 +61,7 @@ pub(crate) fn set_logic(
 }
 
 /// Declares the sort of the name at a node. One with parameters is left out, at its numeral.
+#[tactic(auto, using(crate::proofs::DeclaredSorts::sort_declared))]
 pub(crate) fn declare_sort(
     items: &ItemText<'_, '_>,
     symbols: &mut Symbols,
@@ -70,37 +69,37 @@ pub(crate) fn declare_sort(
     session: &mut Session<'_>,
     head: SortHead,
 ) -> Result<(), ReadFault>
-    requires says { (c : shape.ScriptCommand) × SaysScriptCommand (source items.now.text.now) items.now.nodes.now (command.DeclareSort head) c }
+    requires there { IsCommandThere items.now (command.DeclareSort head) }
     requires session { (sc : Script) × IsSession symbols.old terms.old session.old sc }
-    requires room { length symbols.old.leaves + length items.now.nodes.now ≤ 2 ^ 30 }
-    requires room_for_sorts { length symbols.old.sorts + length items.now.nodes.now ≤ 2 ^ 30 }
-    ensures performs { (c : shape.ScriptCommand) (sc : Script) → SaysScriptCommand (source items.now.text.now) items.now.nodes.now (command.DeclareSort head) c → IsSession symbols.old terms.old session.old sc → Performs symbols.new terms.old terms.new session.new (script_performed session.old.reader.replaces_lets c sc) result }
+    requires room { length symbols.old.leaves + length items.now.nodes ≤ 2 ^ 30 }
+    requires room_for_sorts { length symbols.old.sorts + length items.now.nodes ≤ 2 ^ 30 }
+    ensures performs { (sc : Script) → IsSession symbols.old terms.old session.old sc → Performs symbols.new terms.old terms.new session.new (script_performed session.old.reader.replaces_lets (command_said items.now (command.DeclareSort head)) sc) result }
     ensures symbols { Keeps symbols.old symbols.new }
-    ensures few { length symbols.new.leaves ≤ length symbols.old.leaves + length items.now.nodes.now }
-    ensures few_sorts { length symbols.new.sorts ≤ length symbols.old.sorts + length items.now.nodes.now }
+    ensures few { length symbols.new.leaves ≤ length symbols.old.leaves + length items.now.nodes }
+    ensures few_sorts { length symbols.new.sorts ≤ length symbols.old.sorts + length items.now.nodes }
     ensures replaces { session.new.reader.replaces_lets ≡ session.old.reader.replaces_lets }
     ensures base { session.new.reader.known.base ≡ session.old.reader.known.base }
     ensures keeps { KeepsTerms terms.old terms.new }
 {
-    let ItemText { text, nodes } = *items;
     let SortHead {
         name,
         arity,
         is_zero,
     } = head;
-    let spelled = name_of(text, nodes, name);
+    let spelled = name_of(items, name);
     if is_sort_taken(symbols, spelled) {
-        let place = node_at(nodes, name).token.start;
+        let place = items.node(name).token.start;
         return Err(ReadFault::Text(refused(Cause::Repeated, place)));
     }
     if !is_zero {
-        let place = node_at(nodes, arity).token.start;
+        let place = items.node(arity).token.start;
         return Err(ReadFault::Text(refused(Cause::LeftOut, place)));
     }
     add_sort(symbols, spelled)
 }
 
 /// Whether no sort may have this name: it is a built-in word or that of a declared sort.
+#[tactic(auto, using(crate::proofs::DeclaredSorts::sort_is_among))]
 fn is_sort_taken(symbols: &Symbols, name: &[u8]) -> bool
     ensures { result ≡ (is_built_in name.now || is_among symbols.now.sorts name.now) }
 {
@@ -108,6 +107,7 @@ fn is_sort_taken(symbols: &Symbols, name: &[u8]) -> bool
 }
 
 /// Adds a sort of a name that is free. Refused for want of memory alone.
+#[tactic(auto, using(crate::proofs::DeclaredSorts::sort_is_free))]
 fn add_sort(symbols: &mut Symbols, name: &[u8]) -> Result<(), ReadFault>
     requires free { (is_built_in name.now || is_among symbols.old.sorts name.now) ≡ false }
     requires room { length symbols.old.sorts < 2 ^ 30 }
@@ -132,33 +132,25 @@ pub(crate) fn declare_fun(
     session: &mut Session<'_>,
     head: FunctionHead,
 ) -> Result<(), ReadFault>
-    requires says { (c : shape.ScriptCommand) × SaysScriptCommand (source items.now.text.now) items.now.nodes.now (command.DeclareFun head) c }
+    requires there { IsCommandThere items.now (command.DeclareFun head) }
     requires session { (sc : Script) × IsSession symbols.old terms.old session.old sc }
-    requires room { length symbols.old.leaves + length items.now.nodes.now ≤ 2 ^ 30 }
-    requires room_for_sorts { length symbols.old.sorts + length items.now.nodes.now ≤ 2 ^ 30 }
-    ensures performs { (c : shape.ScriptCommand) (sc : Script) → SaysScriptCommand (source items.now.text.now) items.now.nodes.now (command.DeclareFun head) c → IsSession symbols.old terms.old session.old sc → Performs symbols.new terms.old terms.new session.new (script_performed session.old.reader.replaces_lets c sc) result }
+    requires room { length symbols.old.leaves + length items.now.nodes ≤ 2 ^ 30 }
+    requires room_for_sorts { length symbols.old.sorts + length items.now.nodes ≤ 2 ^ 30 }
+    ensures performs { (sc : Script) → IsSession symbols.old terms.old session.old sc → Performs symbols.new terms.old terms.new session.new (script_performed session.old.reader.replaces_lets (command_said items.now (command.DeclareFun head)) sc) result }
     ensures symbols { Keeps symbols.old symbols.new }
-    ensures few { length symbols.new.leaves ≤ length symbols.old.leaves + length items.now.nodes.now }
-    ensures few_sorts { length symbols.new.sorts ≤ length symbols.old.sorts + length items.now.nodes.now }
+    ensures few { length symbols.new.leaves ≤ length symbols.old.leaves + length items.now.nodes }
+    ensures few_sorts { length symbols.new.sorts ≤ length symbols.old.sorts + length items.now.nodes }
     ensures replaces { session.new.reader.replaces_lets ≡ session.old.reader.replaces_lets }
     ensures base { session.new.reader.known.base ≡ session.old.reader.known.base }
     ensures keeps { KeepsTerms terms.old terms.new }
 {
-    let ItemText { text, nodes } = *items;
-    let spelled = name_of(text, nodes, head.name);
+    let spelled = name_of(items, head.name);
     if is_taken(symbols, &session.reader.known, spelled) {
-        let place = node_at(nodes, head.name).token.start;
+        let place = items.node(head.name).token.start;
         return Err(ReadFault::Text(refused(Cause::Repeated, place)));
     }
-    sorts_at(
-        text,
-        nodes,
-        head.first,
-        head.end,
-        symbols,
-        &mut session.sorts,
-    )?;
-    let sort = sort_at(text, nodes, head.target, symbols)?;
+    sorts_at(items, head.first, head.end, symbols, &mut session.sorts)?;
+    let sort = sort_at(items, head.target, symbols)?;
     add_function(
         symbols,
         &mut session.functions,

@@ -1,18 +1,15 @@
 //! Defined functions (SMT-LIB 2.6, "Commands").
-ghost use Rattle.std.specs.Prelude.{◌≡◌, ◌≤◌, ◌<◌, ◌^◌, ◌+◌, ◌-◌, ℕ, List, [], map, length, None, IfOk, IfErr};
-ghost use Rattle.sexpr.specs.Items.{Item, Items};
-ghost use Rattle.sexpr.specs.Source.{source};
+ghost use Rattle.std.specs.Prelude.{◌≡◌, ◌≤◌, ◌<◌, ◌^◌, ◌+◌, ◌-◌, List, [], map, length, All, None, IfOk, IfErr};
 ghost use Rattle.sym_table.specs.Table.{Keeps};
 ghost use Rattle.term_model.specs.Terms.{Var};
 ghost use Rattle.term_pool.specs.Views.{TermsView, KeepsTerms};
-ghost use Rattle.smtlib_reader.specs.CommandShapes.{SaysScriptCommand};
-ghost use Rattle.problem_text.specs.Commands as shape;
+ghost use Rattle.smtlib_reader.specs.CommandShapes.{command_said, IsCommandThere, IsFunctionThere};
 ghost use Rattle.smtlib_reader.specs.Defining.{IsSignatureRead, signature_from, IsDefining, Defines, macro_defined, AreListed, IsReadyForBody, AddsParameter, ReadsBody, body_read};
 ghost use Rattle.text_items.specs.ItemShapes.{pairs_fault};
 ghost use Rattle.term_names.specs.InScope.{AreValuesBound};
 ghost use Rattle.problem_text.specs.Names.{itself};
-ghost use Rattle.text_items.specs.Nodes.{IsNode, AreNodes};
-ghost use Rattle.smtlib_reader.specs.Parameters.{IsParameter, AreParameters};
+ghost use Rattle.text_items.specs.ItemsAt.{item_at, items_at};
+ghost use Rattle.smtlib_reader.specs.Parameters.{IsParameterThere, parameter_said, parameters_said};
 ghost use Rattle.problem_text.specs.Problems.{script_performed};
 ghost use Rattle.term_reader.specs.Reading.{IsReaderIdle};
 ghost use Rattle.problem_text.specs.Scripts.{Script};
@@ -39,7 +36,7 @@ use term_pool::Terms;
 use term_reader::reader::Reader;
 use term_reader::reading::read;
 use term_reader::taken::is_taken;
-use text_items::nodes::{ItemText, node_at};
+use text_items::nodes::ItemText;
 use text_items::refusals::refused;
 use text_items::shapes::name_of;
 
@@ -52,22 +49,21 @@ pub(crate) fn define_fun(
     head: FunctionHead,
     body: usize,
 ) -> Result<(), ReadFault>
-    requires says { (c : shape.ScriptCommand) × SaysScriptCommand (source items.now.text.now) items.now.nodes.now (command.DefineFun head body) c }
+    requires there { IsCommandThere items.now (command.DefineFun head body) }
     requires session { (sc : Script) × IsSession symbols.old terms.old session.old sc }
-    requires room { length symbols.old.leaves + length items.now.nodes.now ≤ 2 ^ 30 }
-    requires room_for_sorts { length symbols.old.sorts + length items.now.nodes.now ≤ 2 ^ 30 }
-    ensures performs { (c : shape.ScriptCommand) (sc : Script) → SaysScriptCommand (source items.now.text.now) items.now.nodes.now (command.DefineFun head body) c → IsSession symbols.old terms.old session.old sc → Performs symbols.new terms.old terms.new session.new (script_performed session.old.reader.replaces_lets c sc) result }
+    requires room { length symbols.old.leaves + length items.now.nodes ≤ 2 ^ 30 }
+    requires room_for_sorts { length symbols.old.sorts + length items.now.nodes ≤ 2 ^ 30 }
+    ensures performs { (sc : Script) → IsSession symbols.old terms.old session.old sc → Performs symbols.new terms.old terms.new session.new (script_performed session.old.reader.replaces_lets (command_said items.now (command.DefineFun head body)) sc) result }
     ensures symbols { Keeps symbols.old symbols.new }
-    ensures few { length symbols.new.leaves ≤ length symbols.old.leaves + length items.now.nodes.now }
-    ensures few_sorts { length symbols.new.sorts ≤ length symbols.old.sorts + length items.now.nodes.now }
+    ensures few { length symbols.new.leaves ≤ length symbols.old.leaves + length items.now.nodes }
+    ensures few_sorts { length symbols.new.sorts ≤ length symbols.old.sorts + length items.now.nodes }
     ensures replaces { session.new.reader.replaces_lets ≡ session.old.reader.replaces_lets }
     ensures base { session.new.reader.known.base ≡ session.old.reader.known.base }
     ensures keeps { KeepsTerms terms.old terms.new }
 {
-    let ItemText { text, nodes } = *items;
-    let spelled = name_of(text, nodes, head.name);
+    let spelled = name_of(items, head.name);
     if is_taken(symbols, &session.reader.known, spelled) {
-        let place = node_at(nodes, head.name).token.start;
+        let place = items.node(head.name).token.start;
         return Err(ReadFault::Text(refused(Cause::Repeated, place)));
     }
     session.reader.known.reserve(spelled)?;
@@ -82,6 +78,7 @@ pub(crate) fn define_fun(
 }
 
 /// Reads what stands before the body: the parameters, into `parameters`, and the sort of the uses.
+#[tactic(auto, using(crate::proofs::DefinedSignatures::signature_there))]
 fn signature_at(
     alloc: Global,
     items: &ItemText<'_, '_>,
@@ -89,12 +86,12 @@ fn signature_at(
     parameters: &mut Vec<Parameter>,
     head: FunctionHead,
 ) -> Result<Sort, ReadFault>
-    requires parameters { (pairs : Items) × AreNodes (source items.now.text.now) items.now.nodes.now head.first pairs head.end × (pairs_fault pairs ≡ None) }
-    requires target { (i : Item) × (m : ℕ) × IsNode (source items.now.text.now) items.now.nodes.now head.target i m }
-    ensures { (pairs : Items) (i : Item) (m : ℕ) → AreNodes (source items.now.text.now) items.now.nodes.now head.first pairs head.end → pairs_fault pairs ≡ None → IsNode (source items.now.text.now) items.now.nodes.now head.target i m → IsSignatureRead (source items.now.text.now) items.now.nodes.now head.first head.end parameters.new.items (signature_from symbols.now.sorts pairs i) result }
+    requires there { IsFunctionThere items.now head }
+    requires pairs { pairs_fault (items_at items.now head.first head.end) ≡ None }
+    ensures { IsSignatureRead items.now head.end parameters.new.items (signature_from symbols.now.sorts (items_at items.now head.first head.end) (item_at items.now head.target)) result }
 {
     parameters_at(alloc, items, head.first, head.end, symbols, parameters)?;
-    let sort = sort_at(items.text, items.nodes, head.target, symbols)?;
+    let sort = sort_at(items, head.target, symbols)?;
     Ok(sort)
 }
 
@@ -115,21 +112,21 @@ fn define_macro(
     new: &NewMacro<'_>,
     body: usize,
 ) -> Result<(), ReadFault>
-    requires parameters { (xs : List Var) × AreParameters (source items.now.text.now) items.now.nodes.now new.now.parameters.now xs }
-    requires body { (i : Item) × (m : ℕ) × IsNode (source items.now.text.now) items.now.nodes.now body i m }
+    requires parameters { All (IsParameterThere items.now) new.now.parameters.now }
+    requires body { body < length items.now.nodes }
     requires defining { (sc : Script) × IsDefining symbols.old terms.old reader.old new.now.name.now sc }
     requires few_parameters { length new.now.parameters.now ≤ body }
-    requires room { length symbols.old.leaves + length items.now.nodes.now ≤ 2 ^ 30 }
-    ensures defines { (xs : List Var) (i : Item) (m : ℕ) (sc : Script) → AreParameters (source items.now.text.now) items.now.nodes.now new.now.parameters.now xs → IsNode (source items.now.text.now) items.now.nodes.now body i m → IsDefining symbols.old terms.old reader.old new.now.name.now sc → Defines symbols.new terms.old terms.new reader.new (macro_defined new.now.name.now xs new.now.target i sc) result }
+    requires room { length symbols.old.leaves + length items.now.nodes ≤ 2 ^ 30 }
+    ensures defines { (sc : Script) → IsDefining symbols.old terms.old reader.old new.now.name.now sc → Defines symbols.new terms.old terms.new reader.new (macro_defined new.now.name.now (parameters_said items.now new.now.parameters.now) new.now.target (item_at items.now body) sc) result }
     ensures symbols { AddsNoSymbols symbols.old symbols.new }
-    ensures few { length symbols.new.leaves ≤ length symbols.old.leaves + length items.now.nodes.now }
+    ensures few { length symbols.new.leaves ≤ length symbols.old.leaves + length items.now.nodes }
     ensures replaces { reader.new.replaces_lets ≡ reader.old.replaces_lets }
     ensures base { reader.new.known.base ≡ reader.old.known.base }
     ensures keeps { KeepsTerms terms.old terms.new }
 {
     let listed = enter_parameters(items, symbols, reader, new.parameters)?;
     let value = read_body(items, symbols, terms, reader, body)?;
-    expect_sort(items.nodes, body, value.sort, new.target)?;
+    expect_sort(items, body, value.sort, new.target)?;
     reader
         .known
         .define(new.name, listed.leaves, listed.sorts, new.target, value)?;
@@ -150,10 +147,10 @@ fn enter_parameters(
     reader: &mut Reader<'_>,
     parameters: &[Parameter],
 ) -> Result<Listed, ReadFault>
-    requires parameters { (xs : List Var) × AreParameters (source items.now.text.now) items.now.nodes.now parameters.now xs }
+    requires parameters { All (IsParameterThere items.now) parameters.now }
     requires idle { (v : TermsView) × (sc : Script) × IsReaderIdle symbols.old v reader.old sc (top reader.old.replaces_lets) }
     requires room { length symbols.old.leaves + length parameters.now ≤ 2 ^ 30 }
-    ensures entered { (v : TermsView) (xs : List Var) (sc : Script) → AreParameters (source items.now.text.now) items.now.nodes.now parameters.now xs → IsReaderIdle symbols.old v reader.old sc (top reader.old.replaces_lets) → IfOk result (λ l. AreListed symbols.new l xs × IsReadyForBody symbols.new v reader.new xs sc) }
+    ensures entered { (v : TermsView) (sc : Script) → IsReaderIdle symbols.old v reader.old sc (top reader.old.replaces_lets) → IfOk result (λ l. AreListed symbols.new l (parameters_said items.now parameters.now) × IsReadyForBody symbols.new v reader.new (parameters_said items.now parameters.now) sc) }
     ensures memory { IfErr result (λ fault. fault ≡ ReadFault.Memory) }
     ensures symbols { AddsNoSymbols symbols.old symbols.new }
     ensures few { length symbols.new.leaves ≤ length symbols.old.leaves + length parameters.now }
@@ -175,6 +172,7 @@ fn enter_parameters(
 }
 
 /// The leaves of the parameters. Each parameter, as a term, is put on the values.
+#[tactic(auto, using(std::proofs::lemmas::List::take_all))]
 fn list_parameters(
     items: &ItemText<'_, '_>,
     symbols: &mut Symbols,
@@ -182,10 +180,10 @@ fn list_parameters(
     alloc: Global,
     parameters: &[Parameter],
 ) -> Result<Vec<u32>, ReadFault>
-    requires parameters { (xs : List Var) × AreParameters (source items.now.text.now) items.now.nodes.now parameters.now xs }
+    requires parameters { All (IsParameterThere items.now) parameters.now }
     requires no_values { values.old ≡ [] }
     requires room { length symbols.old.leaves + length parameters.now ≤ 2 ^ 30 }
-    ensures bound { (v : TermsView) (xs : List Var) → AreParameters (source items.now.text.now) items.now.nodes.now parameters.now xs → IfOk result (λ leaves. AreValuesBound symbols.new v leaves.items values.new (map itself xs)) }
+    ensures bound { (v : TermsView) → IfOk result (λ leaves. AreValuesBound symbols.new v leaves.items values.new (map itself (parameters_said items.now parameters.now))) }
     ensures memory { IfErr result (λ fault. fault ≡ ReadFault.Memory) }
     ensures symbols { AddsNoSymbols symbols.old symbols.new }
     ensures few { length symbols.new.leaves ≤ length symbols.old.leaves + length parameters.now }
@@ -199,20 +197,21 @@ fn list_parameters(
 }
 
 /// The leaf of a parameter, which is put on the values as a term.
+#[tactic(auto, using(crate::proofs::DefinedParameters::is_added, term_reader::proofs::Staying::adds_variable))]
 fn add_parameter(
     items: &ItemText<'_, '_>,
     symbols: &mut Symbols,
     values: &mut Values,
     parameter: &Parameter,
 ) -> Result<u32, ReadFault>
-    requires parameter { (x : Var) × IsParameter (source items.now.text.now) items.now.nodes.now parameter.now x }
+    requires parameter { IsParameterThere items.now parameter.now }
     requires room { length symbols.old.leaves < 2 ^ 30 }
-    ensures added { (v : TermsView) (x : Var) → IsParameter (source items.now.text.now) items.now.nodes.now parameter.now x → IfOk result (λ leaf. AddsParameter symbols.new v values.old values.new leaf x) }
+    ensures added { (v : TermsView) → IfOk result (λ leaf. AddsParameter symbols.new v values.old values.new leaf (parameter_said items.now parameter.now)) }
     ensures memory { IfErr result (λ fault. fault ≡ ReadFault.Memory) }
     ensures symbols { AddsNoSymbols symbols.old symbols.new }
     ensures few { length symbols.new.leaves ≤ length symbols.old.leaves + 1 }
 {
-    let name = name_of(items.text, items.nodes, parameter.name);
+    let name = name_of(items, parameter.name);
     let leaf = symbols.variable(name, parameter.sort)?;
     // There are few enough leaves for a reference.
     let _leaves = symbols.count();
@@ -234,19 +233,19 @@ fn read_body(
     reader: &mut Reader<'_>,
     body: usize,
 ) -> Result<Value, ReadFault>
-    requires body { (i : Item) × (m : ℕ) × IsNode (source items.now.text.now) items.now.nodes.now body i m }
+    requires body { body < length items.now.nodes }
     requires ready { (xs : List Var) × (sc : Script) × IsReadyForBody symbols.old terms.old reader.old xs sc }
-    requires room { length symbols.old.leaves + (length items.now.nodes.now - body) ≤ 2 ^ 30 }
-    ensures reads { (xs : List Var) (i : Item) (m : ℕ) (sc : Script) → IsNode (source items.now.text.now) items.now.nodes.now body i m → IsReadyForBody symbols.old terms.old reader.old xs sc → ReadsBody symbols.new terms.old terms.new reader.new (body_read xs i sc) result }
+    requires room { length symbols.old.leaves + (length items.now.nodes - body) ≤ 2 ^ 30 }
+    ensures reads { (xs : List Var) (sc : Script) → IsReadyForBody symbols.old terms.old reader.old xs sc → ReadsBody symbols.new terms.old terms.new reader.new (body_read xs (item_at items.now body) sc) result }
     ensures symbols { AddsNoSymbols symbols.old symbols.new }
-    ensures few { length symbols.new.leaves ≤ length symbols.old.leaves + (length items.now.nodes.now - body) }
+    ensures few { length symbols.new.leaves ≤ length symbols.old.leaves + (length items.now.nodes - body) }
     ensures replaces { reader.new.replaces_lets ≡ reader.old.replaces_lets }
     ensures base { reader.new.known.base ≡ reader.old.known.base }
     ensures keeps { KeepsTerms terms.old terms.new }
 {
     let replaces_lets = reader.replaces_lets;
     reader.replaces_lets = true;
-    let outcome = read(items.text, items.nodes, symbols, terms, reader, body);
+    let outcome = read(items, symbols, terms, reader, body);
     reader.replaces_lets = replaces_lets;
     let value = outcome?;
     let count = reader.scope.len();

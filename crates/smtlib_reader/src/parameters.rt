@@ -1,23 +1,21 @@
 //! The parameters of a defined function (SMT-LIB 2.6, "Commands").
-ghost use Rattle.std.specs.Prelude.{◌≡◌, ℕ, not, ◌||◌, List, [], ◌∷◌, None, IsTrue, IfOk, IfErr};
-ghost use Rattle.sexpr.specs.Items.{Item, Items};
-ghost use Rattle.sexpr.specs.Source.{source};
+ghost use Rattle.std.specs.Prelude.{◌≡◌, ◌<◌, ◌≤◌, not, ◌||◌, List, [], ◌∷◌, ℕ, length, None, IsTrue, IfOk, IfErr};
 ghost use Rattle.problem_text.specs.Words.{is_among, is_built_in};
 ghost use Rattle.text_items.specs.ItemShapes.{pair_fault, pairs_fault};
-ghost use Rattle.text_items.specs.Nodes.{IsNode, AreNodes};
+ghost use Rattle.text_items.specs.ItemsAt.{item_at, items_at};
 ghost use Rattle.problem_text.specs.Sorts.{parameter_from, parameters_from};
 ghost use Rattle.smtlib_reader.specs.Parameters.{AreKeysOf, IsParameterRead, AreParametersRead};
 
 use crate::sorts_at::sort_at;
 use indexmap::IndexSet;
-use sexpr::{Cause, Lexer};
+use sexpr::Cause;
 use std::alloc::Global;
 use sym_table::{Symbols, is_built_in};
 use term_model::Sort;
 use term_names::faults::ReadFault;
-use text_items::nodes::{ItemText, Node, node_at};
+use text_items::nodes::ItemText;
 use text_items::refusals::refused;
-use text_items::shapes::name_of;
+use text_items::shapes::{name_of, second};
 
 /// A parameter: the node of its name, and its sort.
 #[derive(Clone, Copy)]
@@ -37,8 +35,9 @@ pub(crate) fn parameters_at(
     symbols: &Symbols,
     out: &mut Vec<Parameter>,
 ) -> Result<(), ReadFault>
-    requires { (pairs : Items) × AreNodes (source items.now.text.now) items.now.nodes.now first pairs end × (pairs_fault pairs ≡ None) }
-    ensures { (pairs : Items) → AreNodes (source items.now.text.now) items.now.nodes.now first pairs end → pairs_fault pairs ≡ None → AreParametersRead (source items.now.text.now) items.now.nodes.now result out.new.items (parameters_from symbols.now.sorts [] pairs) }
+    requires inside { end ≤ length items.now.nodes }
+    requires pairs { pairs_fault (items_at items.now first end) ≡ None }
+    ensures { AreParametersRead items.now end result out.new.items (parameters_from symbols.now.sorts [] (items_at items.now first end)) }
 {
     out.clear();
     let mut earlier = IndexSet::new(alloc);
@@ -46,6 +45,7 @@ pub(crate) fn parameters_at(
 }
 
 /// Reads the parameters whose pairs stand from `first` to before `end`, where none stands before them.
+#[tactic(auto, using(crate::proofs::ReadLists::parameters_read))]
 fn read_all<'a>(
     items: &ItemText<'_, 'a>,
     first: usize,
@@ -54,40 +54,45 @@ fn read_all<'a>(
     earlier: &mut IndexSet<&'a [u8]>,
     out: &mut Vec<Parameter>,
 ) -> Result<(), ReadFault>
-    requires pairs { (pairs : Items) × AreNodes (source items.now.text.now) items.now.nodes.now first pairs end × (pairs_fault pairs ≡ None) }
+    requires inside { end ≤ length items.now.nodes }
+    requires pairs { pairs_fault (items_at items.now first end) ≡ None }
     requires no_names { earlier.old.keys ≡ [] }
     requires none_read { out.old.items ≡ [] }
-    ensures { (pairs : Items) → AreNodes (source items.now.text.now) items.now.nodes.now first pairs end → pairs_fault pairs ≡ None → AreParametersRead (source items.now.text.now) items.now.nodes.now result out.new.items (parameters_from symbols.now.sorts [] pairs) }
+    ensures { AreParametersRead items.now end result out.new.items (parameters_from symbols.now.sorts [] (items_at items.now first end)) }
 {
-    let ItemText { text, nodes } = *items;
     let mut k = first;
-    while k < end {
-        let next = node_at(nodes, k).next;
-        match parameter_at(text, nodes, k, symbols, earlier) {
+    'pairs: while k < end {
+        match parameter_at(items, k, symbols, earlier) {
             Ok(parameter) => out.push(parameter)?,
             Err(fault) => return Err(fault),
         }
-        k = next;
+        k = items.node(k).next;
     }
     Ok(())
 }
 
 /// Reads one parameter, whose pair begins at `k`, where `earlier` has the names of those before it, and gets its own.
 fn parameter_at<'a>(
-    text: &Lexer<'a>,
-    nodes: &[Node],
+    items: &ItemText<'_, 'a>,
     k: usize,
     symbols: &Symbols,
     earlier: &mut IndexSet<&'a [u8]>,
 ) -> Result<Parameter, ReadFault>
-    requires { (i : Item) × (m : ℕ) × IsNode (source text.now) nodes.now k i m × (pair_fault i ≡ None) }
-    ensures { (i : Item) (m : ℕ) (names : List (List ℕ)) → IsNode (source text.now) nodes.now k i m → pair_fault i ≡ None → AreKeysOf earlier.old.keys names → IsParameterRead (source text.now) nodes.now names earlier.new.keys result (parameter_from symbols.now.sorts names i) }
+    requires inside { k < length items.now.nodes }
+    requires pair { pair_fault (item_at items.now k) ≡ None }
+    ensures { (names : List (List ℕ)) → AreKeysOf earlier.old.keys names → IsParameterRead items.now names earlier.new.keys result (parameter_from symbols.now.sorts names (item_at items.now k)) }
 {
-    let name = name_of(text, nodes, k + 1);
+    let pair = items.node(k);
+    // A pair without a fault has two items.
+    let Some(target) = second(items, k + 1, pair.next) else {
+        unreachable!()
+    };
+    let name = name_of(items, k + 1);
     if !add_name(name, earlier)? {
-        return Err(ReadFault::Text(refused(Cause::Repeated, node_at(nodes, k + 1).token.start)));
+        let place = items.node(k + 1).token.start;
+        return Err(ReadFault::Text(refused(Cause::Repeated, place)));
     }
-    let sort = sort_at(text, nodes, k + 2, symbols)?;
+    let sort = sort_at(items, target, symbols)?;
     Ok(Parameter { name: k + 1, sort })
 }
 

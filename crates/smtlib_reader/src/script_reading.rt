@@ -74,11 +74,11 @@ fn read_command(
     if !next_item(lexer, nodes)? {
         return Ok(false);
     }
-    let command = command_of(lexer, nodes, session.is_checked)?;
+    let items = ItemText::new(lexer, nodes);
+    let command = command_of(&items, session.is_checked)?;
     if is_exit(command) {
         return Ok(false);
     }
-    let items = ItemText { text: lexer, nodes };
     perform(&items, symbols, terms, session, command)?;
     Ok(true)
 }

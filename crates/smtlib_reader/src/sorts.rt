@@ -64,6 +64,7 @@ fn sort_named(name: &[u8], place: u64, symbols: &Symbols) -> Result<Sort, Refusa
 }
 
 /// The declared sort of this name.
+#[tactic(auto, using(crate::proofs::SortItems::declared_found, crate::proofs::SortItems::declared_nowhere))]
 fn declared_sort(name: &[u8], place: u64, symbols: &Symbols) -> Result<Sort, Refusal>
     ensures { result ≡ spec.declared_sort place (position (bytes_eq name.now) symbols.now.sorts) }
 {

@@ -16,7 +16,6 @@ use Rattle.problem_text.specs.Forms.{symbol}
 use Rattle.term_names.specs.Heads.{HeadMeans}
 use Rattle.rule_model.specs.Heights.{height}
 use Rattle.term_names.specs.Known.{KnownView}
-use Rattle.text_items.specs.NameNodes.{BeginsAt, IsNameNode}
 use Rattle.term_names.specs.LookingUp.{IsFoundMeaning}
 use Rattle.term_names.specs.Making.{PlacesCellsOf, IsExpected, IsMade, Makes}
 use Rattle.problem_text.specs.Limits.{most_height}
@@ -30,7 +29,6 @@ use Rattle.problem_text.specs.Terms.{settled, term_from}
 use Rattle.term_names.specs.declared.faults.ReadFault.{ReadFault}
 use Rattle.term_names.specs.declared.heads.Head.{Head}
 use Rattle.term_names.specs.declared.looking_up.Found.{Found}
-use Rattle.text_items.specs.declared.nodes.Node.{Node}
 use Rattle.term_expansion.specs.declared.values.Value.{Value}
 use Rattle.term_reader.proofs.StillRead.{settled_is_read}
 use Rattle.term_reader.proofs.Resuming.{known_symbol, unknown_symbol}
@@ -127,7 +125,3 @@ symbol_unknown s v x p sc r place none is same =
 pub found_named : (s : Table) (v : TermsView) (k : KnownView) (p : Place) (sc : Script) (x : Name) (found : Found) (name : List ℕ) → name ≡ x.name → IsFoundMeaning s v k p found (meaning_of p sc name)
     → IsFoundMeaning s v k p found (meaning_of p sc x.name)
 found_named s v k p sc x found name same is = subst (λ (n : List ℕ). IsFoundMeaning s v k p found (meaning_of p sc n)) same is
-
--- a symbol begins at its place
-pub name_begins : (source : List ℕ) (nodes : List Node) (k : ℕ) (x : Name) → IsNameNode source nodes k x → BeginsAt nodes k x.place
-name_begins source nodes k x is = (is.node, is.here, is.same_place)

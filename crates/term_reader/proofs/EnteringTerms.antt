@@ -4,25 +4,22 @@ use Rattle.std.proofs.Math.Seq.{take-length, drop-length}
 use Rattle.pair_pool.specs.Views.{PassView}
 use Rattle.sexpr.specs.declared.causes.Cause.TheVariants.{UnknownName, Repeated}
 use Rattle.sexpr.specs.declared.causes.Refusal.{Refusal}
-use Rattle.sexpr.specs.Items.{Item}
+use Rattle.sexpr.specs.Items.{place_of}
 use Rattle.sym_table.specs.Table.{Table}
 use Rattle.term_model.specs.declared.symbols.Sort.{Sort}
 use Rattle.term_model.specs.Terms.{Term, numeral}
 use Rattle.term_pool.specs.Views.{TermsView, KeepsTerms}
 use Rattle.term_reader.specs.Entering.{HasTop, IsNumber, IsHeadFound, ReadsAlone}
 use Rattle.term_reader.specs.Leaving.{with_open}
-use Rattle.text_items.specs.ItemShapes.{Name}
-use Rattle.problem_text.specs.Forms.{Form, number, symbol, application, let_form, form, LetBinds, bind, form_of}
+use Rattle.problem_text.specs.Forms.{Form, number, symbol, application, let_form, annotated, Forms, form, LetBinds, bind}
 use Rattle.term_reader.specs.Frames.{WholeReading, AreFrames}
 use Rattle.rule_model.specs.Heights.{height}
 use Rattle.problem_text.specs.Limits.{most_height}
 use Rattle.term_names.specs.Known.{KnownView, known_entry}
-use Rattle.text_items.specs.NameNodes.{BeginsAt, IsNameNode}
-use Rattle.term_reader.specs.Layers.{AreBinds}
+use Rattle.term_reader.specs.Layers.{form_at, forms_at, AreBinds, symbol_at, IsSymbolAt, names_at, AreTermAttributes}
 use Rattle.term_reader.specs.ShapeFaults.{IsLayer}
 use Rattle.term_names.specs.Making.{PlacesCellsOf}
 use Rattle.problem_text.specs.Names.{Place, meaning_of}
-use Rattle.text_items.specs.Nodes.{IsNode}
 use Rattle.term_reader.specs.Reading.{IsReadTerm, EndsWith}
 use Rattle.term_reader.specs.Turns.{ReaderStands, IsAt, Goes}
 use Rattle.term_reader.specs.Resuming.{Waiting, arguments, bindings, naming, resumed}
@@ -39,12 +36,11 @@ use Rattle.term_reader.specs.declared.frames.Frame.{Frame}
 use Rattle.term_names.specs.declared.heads.Head.{Head}
 use Rattle.term_names.specs.declared.known.KnownEntry.{KnownEntry}
 use Rattle.term_reader.specs.declared.layers.Layer.{Layer}
-use Rattle.text_items.specs.declared.nodes.Node.{Node}
+use Rattle.text_items.specs.ItemsAt.{ItemsView, end_at, item_at}
 use Rattle.term_reader.specs.declared.reader.Reader.{Reader}
 use Rattle.term_reader.specs.declared.reader.Turn.{Turn}
 use Rattle.term_expansion.specs.declared.values.Value.{Value}
-use Rattle.term_reader.proofs.AtomLemmas.{name_begins}
-use Rattle.term_reader.proofs.FormSteps.{form_layer, form_behind, form_inside, forms_after, binds_more}
+use Rattle.term_reader.proofs.FormSteps.{forms_more, range_on, binds_more}
 use Rattle.term_reader.proofs.StillRead.{by_resumed}
 use Rattle.term_reader.proofs.RepeatLemmas.{repeat_here, repeat_on}
 use Rattle.term_reader.proofs.Limited.{limit_so}
@@ -113,43 +109,43 @@ module _ (s : Table) (pass : PassView) (ws : List Waiting) (o whole : Outcome Sc
   ends_whole ReadFault.PoolFull h = lacks_more s pass (IsReadTerm o) (IsReadTerm whole) read_by_end h
   ends_whole ReadFault.Memory h = tt
 
-module _ (source : List ℕ) (nodes : List Node) (g : WholeReading) (s : Table) (v : TermsView) (r : Reader) (k : ℕ) where
+module _ (items : ItemsView) (g : WholeReading) (s : Table) (v : TermsView) (r : Reader) (k : ℕ) where
   abbrev Top : Layer → Type 0
-  Top layer = HasTop source nodes g s v r k layer
+  Top layer = HasTop items g s v r k layer
 
-  abbrev comes_of : IsAt source nodes g s v r k → Outcome Script Typed
-  comes_of a = term_from a.spelled a.place a.script
+  abbrev comes_of : IsAt items g s v r k → Outcome Script Typed
+  comes_of a = term_from (form_at items k) a.place a.script
 
   -- the top of the term's form, as it is told of each item
-  pub top_of : (layer : Layer) → ((i : Item) (m : ℕ) → IsNode source nodes k i m → IsLayer source nodes k layer (form_of i) m) → IsAt source nodes g s v r k → Top layer
-  top_of layer told a = record { at = a; top = form_layer source nodes k a.spelled a.behind layer told a.here }
+  pub top_of : (layer : Layer) → IsLayer items k layer (form_at items k) → IsAt items g s v r k → Top layer
+  top_of layer told a = record { at = a; top = told }
 
-  -- what the node of a form's first byte is told to be
+  -- where the item at a node begins
   abbrev IsStart : ℕ → ℕ → Type 0
-  IsStart j place = (p : ℕ) → BeginsAt nodes j p → place ≡ p
+  IsStart j place = place ≡ place_of (item_at items j)
 
-  pub memory_goes : (z : Table) (q : Reader) → Goes source nodes g z v v q (Err ReadFault.Memory)
+  pub memory_goes : (z : Table) (q : Reader) → Goes items g z v v q (Err ReadFault.Memory)
   memory_goes z q = record { step = tt; placed = places_none z v.pass v.pass (IsReadTerm g.whole) refl }
 
   -- the term's own fault
-  fault_goes : (w : TermsView) (q : Reader) (f : ReadFault) (a : IsAt source nodes g s v r k) → EndsWith s w.pass (comes_of a).result (IsReadTerm (comes_of a)) f
-      → PlacesCellsOf s v.pass w.pass (IsReadTerm (comes_of a)) → Goes source nodes g s v w q (Err f)
+  fault_goes : (w : TermsView) (q : Reader) (f : ReadFault) (a : IsAt items g s v r k) → EndsWith s w.pass (comes_of a).result (IsReadTerm (comes_of a)) f
+      → PlacesCellsOf s v.pass w.pass (IsReadTerm (comes_of a)) → Goes items g s v w q (Err f)
   fault_goes w q f a ends placed = record {
     step = ends_whole s w.pass a.waiting (comes_of a) g.whole a.comes f ends;
     placed = places_more s v.pass w.pass (IsReadTerm (comes_of a)) (IsReadTerm g.whole) (read_by_end s w.pass a.waiting (comes_of a) g.whole a.comes) placed;
   }
 
-  refusal_goes : (q : Reader) (refusal : Refusal) (a : IsAt source nodes g s v r k) → (comes_of a).result ≡ Err refusal → Goes source nodes g s v v q (Err (ReadFault.Text refusal))
+  refusal_goes : (q : Reader) (refusal : Refusal) (a : IsAt items g s v r k) → (comes_of a).result ≡ Err refusal → Goes items g s v v q (Err (ReadFault.Text refusal))
   refusal_goes q refusal a e = fault_goes v q (ReadFault.Text refusal) a e (places_none s v.pass v.pass (IsReadTerm (comes_of a)) refl)
 
-  pub faulty_goes : (refusal : Refusal) → Top (Layer.Faulty refusal) → Goes source nodes g s v v r (Err (ReadFault.Text refusal))
+  pub faulty_goes : (refusal : Refusal) → Top (Layer.Faulty refusal) → Goes items g s v v r (Err (ReadFault.Text refusal))
   unfolding term_from
   faulty_goes refusal h = refusal_goes r refusal h.at (ap (λ (f : Form). (term_from f h.at.place h.at.script).result) h.top)
 
   -- a term of one node is read
-  value_goes : (z : Table) (w : TermsView) (c : Value) (t : Typed) (a : IsAt source nodes g s v r k) → AddsNoSymbols s z → KeepsTerms v w → a.behind ≡ k + 1
+  value_goes : (z : Table) (w : TermsView) (c : Value) (t : Typed) (a : IsAt items g s v r k) → AddsNoSymbols s z → KeepsTerms v w → end_at items k ≡ k + 1
       → comes_of a ≡ done t (with_term t.tree a.script) → IsValue z w c t → c.height ≤ most_height → PlacesCellsOf z v.pass w.pass (IsReadTerm (comes_of a))
-      → Goes source nodes g z v w r (Ok (Turn.Use c (k + 1)))
+      → Goes items g z v w r (Ok (Turn.Use c (k + 1)))
   value_goes z w c t a adds keeps alone e is low placed = record {
     step = record {
       script = with_term t.tree a.script;
@@ -160,8 +156,8 @@ module _ (source : List ℕ) (nodes : List Node) (g : WholeReading) (s : Table) 
       is = is;
       low = low;
       frames =
-          subst (λ (n : ℕ). AreFrames source nodes g z w r.known r.frames r.values r.leaves.items r.scope a.place n a.waiting) alone
-          (frames_stay s z v w adds.keeps keeps source nodes g r.known r.known (λ which. refl) r.frames r.values r.leaves.items r.scope a.place a.behind a.waiting a.frames);
+          subst (λ (n : ℕ). AreFrames items g z w r.known r.frames r.values r.leaves.items r.scope a.place n a.waiting) alone
+          (frames_stay s z v w adds.keeps keeps items g r.known r.known (λ which. refl) r.frames r.values r.leaves.items r.scope a.place (end_at items k) a.waiting a.frames);
       comes = ap (resumed a.waiting) (sym e) ∙ a.comes;
     };
     placed = places_more z v.pass w.pass (IsReadTerm (comes_of a)) (IsReadTerm g.whole) (read_by_end z w.pass a.waiting (comes_of a) g.whole a.comes) placed;
@@ -171,115 +167,107 @@ module _ (source : List ℕ) (nodes : List Node) (g : WholeReading) (s : Table) 
   unfolding term_from height
   number_comes place n p sc limited = ap (λ (limit : Option ℕ). settled limit place (Some (record { tree = numeral n; sort = Sort.Int })) sc) limited
 
-  pub number_goes : (z : Table) (c : Value) (n : ℤ) → Top (Layer.Number n) → AddsNoSymbols s z → IsNumber z c n → Goes source nodes g z v v r (Ok (Turn.Use c (k + 1)))
+  pub number_goes : (z : Table) (c : Value) (n : ℤ) → Top (Layer.Number n) → AddsNoSymbols s z → IsNumber z c n → Goes items g z v v r (Ok (Turn.Use c (k + 1)))
   number_goes z c n h adds is =
-      let (place, m, e, begins, same, alone) = h.top in
+      let (m, e, same, alone) = h.top in
       value_goes z v c (record { tree = numeral m; sort = Sort.Int }) h.at adds (keeps_none v) alone
-      (ap (λ (f : Form). term_from f h.at.place h.at.script) e ∙ number_comes place m h.at.place h.at.script (limit_so h.at.place.settings r.replaces_lets h.at.stands.settings)) (is.is v m same) is.low
+      (ap (λ (f : Form). term_from f h.at.place h.at.script) e ∙ number_comes (place_of (item_at items k)) m h.at.place h.at.script (limit_so h.at.place.settings r.replaces_lets h.at.stands.settings)) (is.is v m same) is.low
       (places_none z v.pass v.pass (IsReadTerm (comes_of h.at)) refl)
 
   -- what a call says that reads a symbol alone
   abbrev IsSymbolRead : TermsView → Result Value ReadFault → Type 0
-  IsSymbolRead w result = (sc : Script) (p : Place) (x : Name) → ReaderStands s v r sc p → IsNameNode source nodes k x → ReadsAlone s v w (term_from (symbol x) p sc) sc result
+  IsSymbolRead w result = (sc : Script) (p : Place) → ReaderStands s v r sc p → ReadsAlone s v w (term_from (symbol (symbol_at items k)) p sc) sc result
 
   symbol_read : (w : TermsView) (result : Result Value ReadFault) (h : Top Layer.Symbol) → IsSymbolRead w result → ReadsAlone s v w (comes_of h.at) h.at.script result
   symbol_read w result h reads =
-      let (x, e, named, alone) = h.top in
-      subst (λ (f : Form). ReadsAlone s v w (term_from f h.at.place h.at.script) h.at.script result) (sym e) (reads h.at.script h.at.place x h.at.stands named)
+      let (e, named, alone) = h.top in
+      subst (λ (f : Form). ReadsAlone s v w (term_from f h.at.place h.at.script) h.at.script result) (sym e) (reads h.at.script h.at.place h.at.stands)
 
-  pub symbol_goes : (w : TermsView) (c : Value) → Top Layer.Symbol → KeepsTerms v w → IsSymbolRead w (Ok c) → Goes source nodes g s v w r (Ok (Turn.Use c (k + 1)))
+  pub symbol_goes : (w : TermsView) (c : Value) → Top Layer.Symbol → KeepsTerms v w → IsSymbolRead w (Ok c) → Goes items g s v w r (Ok (Turn.Use c (k + 1)))
   symbol_goes w c h keeps reads =
-      let (x, e, named, alone) = h.top in
+      let (e, named, alone) = h.top in
       let read = symbol_read w (Ok c) h reads in
       let (t, comes, is, low) = read.answer in
       value_goes s w c t h.at (adds_none s) keeps alone comes is low read.placed
 
-  pub symbol_fails_goes : (w : TermsView) (f : ReadFault) → Top Layer.Symbol → IsSymbolRead w (Err f) → Goes source nodes g s v w r (Err f)
+  pub symbol_fails_goes : (w : TermsView) (f : ReadFault) → Top Layer.Symbol → IsSymbolRead w (Err f) → Goes items g s v w r (Err f)
   symbol_fails_goes w f h reads = let read = symbol_read w (Err f) h reads in fault_goes w r f h.at read.answer read.placed
 
   -- the frames with one more
-  all_values : (fs : List Frame) (ls : List ℕ) (p : Place) (m n : ℕ) (ws : List Waiting) → m ≡ n → AreFrames source nodes g s v r.known fs r.values ls r.scope p m ws
-      → AreFrames source nodes g s v r.known fs (take (length r.values) r.values) ls r.scope p n ws
+  all_values : (fs : List Frame) (ls : List ℕ) (p : Place) (m n : ℕ) (ws : List Waiting) → m ≡ n → AreFrames items g s v r.known fs r.values ls r.scope p m ws
+      → AreFrames items g s v r.known fs (take (length r.values) r.values) ls r.scope p n ws
   all_values fs ls p m n ws e h =
-      subst (λ (values : List Value). AreFrames source nodes g s v r.known fs values ls r.scope p n ws) (sym (take-length r.values))
-      (subst (λ (j : ℕ). AreFrames source nodes g s v r.known fs r.values ls r.scope p j ws) e h)
+      subst (λ (values : List Value). AreFrames items g s v r.known fs values ls r.scope p n ws) (sym (take-length r.values))
+      (subst (λ (j : ℕ). AreFrames items g s v r.known fs r.values ls r.scope p j ws) e h)
 
   -- an argument is read, or the first one
   pub application_goes : (head first end place : ℕ) (applied : Head) → Top (Layer.Application head first end) → IsStart k place
-      → ((w : TermsView) (sc : Script) (p : Place) (x : Name) → ReaderStands s w r sc p → IsNameNode source nodes head x → IsHeadFound s w r.known (Some applied) (meaning_of p sc x.name))
-      → Goes source nodes g s v v (with_open r (Frame.Arguments (record { place = place; head = applied; from = length r.values; end = end }))) (Ok (Turn.Read first))
+      → ((w : TermsView) (sc : Script) (p : Place) → ReaderStands s w r sc p → IsHeadFound s w r.known (Some applied) (meaning_of p sc (symbol_at items head).name))
+      → Goes items g s v v (with_open r (Frame.Arguments (record { place = place; head = applied; from = length r.values; end = end }))) (Ok (Turn.Read first))
   application_goes head first end place applied h starts found =
       let a = h.at in
-      let (at, x, f, fs, e, begins, named, are, same_end, later) = h.top in
-      let (m, known, applies) = found v a.script a.place x a.stands named in
-      let (behind, here, others) = forms_after source nodes first f fs end are in
+      let (e, named, range, less, same_end, later) = h.top in
+      let (m, known, applies) = found v a.script a.place a.stands in
       record {
         step = record {
           script = a.script;
           place = a.place;
-          spelled = f;
-          behind = behind;
-          waiting = arguments place m [] fs a.place ∷ a.waiting;
+          waiting = arguments place m [] (forms_at items (end_at items first) end) a.place ∷ a.waiting;
           stands = stands_opened s v r _ a.script a.place a.stands;
-          here = here;
+          inside = let h = range.inside in omega arith;
           frames = (
             m,
             [],
-            fs,
             a.waiting,
             refl,
             record {
               applies = applies;
               within = omega arith;
               read_values = subst (λ (values : List Value). AreValues s v values []) (sym (drop-length r.values)) tt;
-              left_here = others;
+              left_here = range_on items first end range less;
             },
-            all_values r.frames r.leaves.items a.place a.behind end a.waiting (sym same_end) a.frames,
+            all_values r.frames r.leaves.items a.place (end_at items k) end a.waiting (sym same_end) a.frames,
           );
           comes =
-              sym (first_argument a.waiting place x m f fs a.place a.script known)
-              ∙ ap (λ (n : ℕ). resumed a.waiting (term_from (application n x (form f fs)) a.place a.script)) (starts at begins)
+              sym (first_argument a.waiting place (symbol_at items head) m (form_at items first) (forms_at items (end_at items first) end) a.place a.script known)
+              ∙ ap (λ (n : ℕ). resumed a.waiting (term_from (application n (symbol_at items head) (form (form_at items first) (forms_at items (end_at items first) end))) a.place a.script)) starts
+              ∙ ap (λ (fs : Forms). resumed a.waiting (term_from (application (place_of (item_at items k)) (symbol_at items head) fs) a.place a.script)) (sym (forms_more items first end range less))
               ∙ ap (λ (q : Form). resumed a.waiting (term_from q a.place a.script)) (sym e) ∙ a.comes;
         };
         placed = places_none s v.pass v.pass (IsReadTerm g.whole) refl;
       }
 
   pub application_unknown : (head first end place : ℕ) (refusal : Refusal) → Top (Layer.Application head first end) → IsStart head place → refusal ≡ record { cause = UnknownName; at = place }
-      → ((w : TermsView) (sc : Script) (p : Place) (x : Name) → ReaderStands s w r sc p → IsNameNode source nodes head x → IsHeadFound s w r.known None (meaning_of p sc x.name))
-      → Goes source nodes g s v v r (Err (ReadFault.Text refusal))
+      → ((w : TermsView) (sc : Script) (p : Place) → ReaderStands s w r sc p → IsHeadFound s w r.known None (meaning_of p sc (symbol_at items head).name))
+      → Goes items g s v v r (Err (ReadFault.Text refusal))
   application_unknown head first end place refusal h starts is found =
       let a = h.at in
-      let (at, x, f, fs, e, begins, named, are, same_end, later) = h.top in
-      let none = found v a.script a.place x a.stands named in
-      let same : refusal ≡ record { cause = UnknownName; at = x.place } = is ∙ ap (λ (n : ℕ). record { cause = UnknownName; at = n }) (starts x.place (name_begins source nodes head x named)) in
+      let (e, named, range, less, same_end, later) = h.top in
+      let none = found v a.script a.place a.stands in
+      let same : refusal ≡ record { cause = UnknownName; at = (symbol_at items head).place } = is ∙ ap (λ (n : ℕ). record { cause = UnknownName; at = n }) starts in
       refusal_goes r refusal a
-      (ap (λ (q : Form). (term_from q a.place a.script).result) e ∙ ap (λ (o : Outcome Script Typed). o.result) (unknown_head at x (form f fs) a.place a.script none) ∙ ap Err (sym same))
+      (ap (λ (q : Form). (term_from q a.place a.script).result) e ∙ ap (λ (o : Outcome Script Typed). o.result) (unknown_head (place_of (item_at items k)) (symbol_at items head) (forms_at items first end) a.place a.script none) ∙ ap Err (sym same))
 
   -- the term of a let's first binding is read, or its variable may not be bound
   pub let_goes : (first body repeat place from leaf : ℕ) → Top (Layer.Let first body) → IsStart k place → from ≡ length r.values → leaf ≡ length r.leaves.items → repeat ≢ first
-      → ((bs : LetBinds) → AreBinds source nodes first bs body → IsFirstRepeat source nodes first [] bs repeat body)
-      → Goes source nodes g s v v (with_open r (Frame.Bindings (record { place = place; from = from; leaves = leaf; name = first + 1; repeat = repeat; body = body }))) (Ok (Turn.Read (first + 2)))
+      → ((bs : LetBinds) → AreBinds items first bs body → IsFirstRepeat items first [] bs repeat body)
+      → Goes items g s v v (with_open r (Frame.Bindings (record { place = place; from = from; leaves = leaf; name = first + 1; repeat = repeat; body = body }))) (Ok (Turn.Read (first + 2)))
   let_goes first body repeat place from leaf h starts from_is leaf_is differs repeats =
       let a = h.at in
-      let (at, bs, f, e, begins, are, some, body_here, later) = h.top in
-      let b = binds_more source nodes first bs body are (λ same. absurd (omega arith)) in
-      let (free, further) = repeat_on source nodes first b.next [] b.name b.first b.others repeat body b.here (subst (λ (q : LetBinds). IsFirstRepeat source nodes first [] q repeat body) b.split (repeats bs are)) (λ same. differs (sym same)) in
+      let (bs, e, are, some, body_here, body_ends, later) = h.top in
+      let b = binds_more items first bs body are (λ same. absurd (omega arith)) in
+      let (free, further) = repeat_on items first [] (symbol_at items (first + 1)) (form_at items (first + 2)) b.others repeat body (subst (λ (q : LetBinds). IsFirstRepeat items first [] q repeat body) b.split (repeats bs are)) (λ same. differs (sym same)) in
       record {
         step = record {
-          script = with_let_name b.name.name a.script;
+          script = with_let_name (symbol_at items (first + 1)).name a.script;
           place = a.place;
-          spelled = b.first;
-          behind = b.next;
-          waiting = bindings place [] b.name [] b.others f a.place ∷ a.waiting;
-          stands = stands_opened s v r _ (with_let_name b.name.name a.script) a.place (stands_alike s v a.script _ _ r a.place a.stands);
-          here = b.here;
+          waiting = bindings place [] (symbol_at items (first + 1)) [] b.others (form_at items body) a.place ∷ a.waiting;
+          stands = stands_opened s v r _ (with_let_name (symbol_at items (first + 1)).name a.script) a.place (stands_alike s v a.script _ _ r a.place a.stands);
+          inside = b.inside;
           frames = (
             [],
-            b.name,
             [],
             b.others,
-            f,
-            a.behind,
             a.waiting,
             refl,
             record {
@@ -293,51 +281,56 @@ module _ (source : List ℕ) (nodes : List Node) (g : WholeReading) (s : Table) 
               first_faulty = further;
               body_here = body_here;
             },
-            subst (λ (values : List Value). AreFrames source nodes g s v r.known r.frames values (take leaf r.leaves.items) r.scope a.place a.behind a.waiting)
+            subst (λ (values : List Value). AreFrames items g s v r.known r.frames values (take leaf r.leaves.items) r.scope a.place (end_at items body) a.waiting)
                 (sym (ap (λ (n : ℕ). take n r.values) from_is ∙ take-length r.values))
-                (subst (λ (ks : List ℕ). AreFrames source nodes g s v r.known r.frames r.values ks r.scope a.place a.behind a.waiting)
-                (sym (ap (λ (n : ℕ). take n r.leaves.items) leaf_is ∙ take-length r.leaves.items)) a.frames),
+                (subst (λ (ks : List ℕ). AreFrames items g s v r.known r.frames r.values ks r.scope a.place (end_at items body) a.waiting)
+                (sym (ap (λ (n : ℕ). take n r.leaves.items) leaf_is ∙ take-length r.leaves.items))
+                (subst (λ (n : ℕ). AreFrames items g s v r.known r.frames r.values r.leaves.items r.scope a.place n a.waiting) (sym body_ends) a.frames)),
           );
           comes =
-              sym (first_binding a.waiting place b.name b.first b.others f a.place a.script free)
-              ∙ ap (λ (n : ℕ). resumed a.waiting (term_from (let_form n (bind b.name b.first b.others) f) a.place a.script)) (starts at begins)
-              ∙ ap (λ (q : LetBinds). resumed a.waiting (term_from (let_form at q f) a.place a.script)) (sym b.split)
+              sym (first_binding a.waiting place (symbol_at items (first + 1)) (form_at items (first + 2)) b.others (form_at items body) a.place a.script free)
+              ∙ ap (λ (n : ℕ). resumed a.waiting (term_from (let_form n (bind (symbol_at items (first + 1)) (form_at items (first + 2)) b.others) (form_at items body)) a.place a.script)) starts
+              ∙ ap (λ (q : LetBinds). resumed a.waiting (term_from (let_form (place_of (item_at items k)) q (form_at items body)) a.place a.script)) (sym b.split)
               ∙ ap (λ (q : Form). resumed a.waiting (term_from q a.place a.script)) (sym e) ∙ a.comes;
         };
         placed = places_none s v.pass v.pass (IsReadTerm g.whole) refl;
       }
 
   pub let_repeated : (first body repeat place : ℕ) (refusal : Refusal) → Top (Layer.Let first body) → IsStart (first + 1) place → refusal ≡ record { cause = Repeated; at = place } → repeat ≡ first
-      → ((bs : LetBinds) → AreBinds source nodes first bs body → IsFirstRepeat source nodes first [] bs repeat body) → Goes source nodes g s v v r (Err (ReadFault.Text refusal))
+      → ((bs : LetBinds) → AreBinds items first bs body → IsFirstRepeat items first [] bs repeat body) → Goes items g s v v r (Err (ReadFault.Text refusal))
   let_repeated first body repeat place refusal h starts is here repeats =
       let a = h.at in
-      let (at, bs, f, e, begins, are, some, body_here, later) = h.top in
-      let b = binds_more source nodes first bs body are (λ same. absurd (omega arith)) in
-      let bound : AreBinds source nodes first (bind b.name b.first b.others) body = (b.next, b.later, b.named, b.here, b.there) in
-      let taken = repeat_here source nodes first [] b.name b.first b.others body bound (subst (λ (n : ℕ). IsFirstRepeat source nodes first [] (bind b.name b.first b.others) n body) here (repeats (bind b.name b.first b.others) bound)) in
-      let same : refusal ≡ record { cause = Repeated; at = b.name.place } =
-      is ∙ ap (λ (n : ℕ). record { cause = Repeated; at = n }) (starts b.name.place (name_begins source nodes (first + 1) b.name b.named)) in
+      let (bs, e, are, some, body_here, body_ends, later) = h.top in
+      let b = binds_more items first bs body are (λ same. absurd (omega arith)) in
+      let bound : AreBinds items first (bind (symbol_at items (first + 1)) (form_at items (first + 2)) b.others) body = (b.named, refl, b.inside, refl, b.there) in
+      let taken = repeat_here items first [] (symbol_at items (first + 1)) (form_at items (first + 2)) b.others body bound (subst (λ (n : ℕ). IsFirstRepeat items first [] (bind (symbol_at items (first + 1)) (form_at items (first + 2)) b.others) n body) here (repeats (bind (symbol_at items (first + 1)) (form_at items (first + 2)) b.others) bound)) in
+      let same : refusal ≡ record { cause = Repeated; at = (symbol_at items (first + 1)).place } =
+      is ∙ ap (λ (n : ℕ). record { cause = Repeated; at = n }) starts in
       refusal_goes r refusal a
       (ap (λ (q : Form). (term_from q a.place a.script).result) e
-      ∙ ap (λ (q : LetBinds). (term_from (let_form at q f) a.place a.script).result) b.split
-      ∙ ap (λ (o : Outcome Script Typed). o.result) (first_binding_refused [] at b.name b.first b.others f a.place a.script taken) ∙ ap Err (sym same))
+      ∙ ap (λ (q : LetBinds). (term_from (let_form (place_of (item_at items k)) q (form_at items body)) a.place a.script).result) b.split
+      ∙ ap (λ (o : Outcome Script Typed). o.result) (first_binding_refused [] (place_of (item_at items k)) (symbol_at items (first + 1)) (form_at items (first + 2)) b.others (form_at items body) a.place a.script taken) ∙ ap Err (sym same))
 
   -- the term of an annotation is read
-  pub annotation_goes : (t first end : ℕ) → Top (Layer.Annotated t first end) → Goes source nodes g s v v (with_open r (Frame.Names end)) (Ok (Turn.Read t))
+  pub annotation_goes : (t first end : ℕ) → Top (Layer.Annotated t first end) → Goes items g s v v (with_open r (Frame.Names end)) (Ok (Turn.Read t))
   annotation_goes t first end h =
       let a = h.at in
-      let (at, names, f, e, begins, here, attributes, same_end, later) = h.top in
+      let (e, here, ends, attributes, same_end, later) = h.top in
       record {
         step = record {
           script = a.script;
           place = a.place;
-          spelled = f;
-          behind = first;
-          waiting = naming names ∷ a.waiting;
+          waiting = naming (names_at items (end_at items t) end) ∷ a.waiting;
           stands = stands_opened s v r _ a.script a.place a.stands;
-          here = here;
-          frames = (names, a.waiting, refl, attributes, subst (λ (n : ℕ). AreFrames source nodes g s v r.known r.frames r.values r.leaves.items r.scope a.place n a.waiting) (sym same_end) a.frames);
-          comes = sym (annotation_begins a.waiting at f names a.place a.script) ∙ ap (λ (q : Form). resumed a.waiting (term_from q a.place a.script)) (sym e) ∙ a.comes;
+          inside = here;
+          frames = (
+            a.waiting,
+            refl,
+            subst (λ (n : ℕ). AreTermAttributes items n end) (sym ends) attributes,
+            subst (λ (n : ℕ). AreFrames items g s v r.known r.frames r.values r.leaves.items r.scope a.place n a.waiting) (sym same_end) a.frames,
+          );
+          comes = sym (annotation_begins a.waiting (place_of (item_at items k)) (form_at items t) (names_at items (end_at items t) end) a.place a.script)
+              ∙ ap (λ (n : ℕ). resumed a.waiting (term_from (annotated (place_of (item_at items k)) (form_at items t) (names_at items n end)) a.place a.script)) ends ∙ ap (λ (q : Form). resumed a.waiting (term_from q a.place a.script)) (sym e) ∙ a.comes;
         };
         placed = places_none s v.pass v.pass (IsReadTerm g.whole) refl;
       }
@@ -345,36 +338,34 @@ module _ (source : List ℕ) (nodes : List Node) (g : WholeReading) (s : Table) 
   -- the node that is read next is further on, and within the text
   pub record IsFurther (next : ℕ) : Type 0 where
     pub later : k < next
-    pub within : next < length nodes
+    pub within : next < length items.nodes
 
   pub application_further : (head first end : ℕ) → Top (Layer.Application head first end) → IsFurther first
   application_further head first end h =
-      let (at, x, f, fs, e, begins, named, are, same_end, later) = h.top in
-      let (behind, here, others) = forms_after source nodes first f fs end are in
-      record { later = later; within = omega (arith, form_behind source nodes first f behind here, form_inside source nodes first f behind here) }
+      let (e, named, range, less, same_end, later) = h.top in
+      record { later = later; within = (let h = range.inside in omega arith) }
 
   pub let_further : (first body : ℕ) → Top (Layer.Let first body) → IsFurther first × IsFurther (first + 2)
   let_further first body h =
-      let (at, bs, f, e, begins, are, some, body_here, later) = h.top in
-      let b = binds_more source nodes first bs body are (λ same. absurd (omega arith)) in
-      let behind = form_behind source nodes (first + 2) b.first b.next b.here in
-      let inside = form_inside source nodes (first + 2) b.first b.next b.here in
+      let (bs, e, are, some, body_here, body_ends, later) = h.top in
+      let b = binds_more items first bs body are (λ same. absurd (omega arith)) in
+      let inside = b.inside in
       (record { later = later; within = omega arith }, record { later = omega arith; within = omega arith })
 
   -- the variable of a let's first binding
-  pub variable_begins : (first body : ℕ) → Top (Layer.Let first body) → (place : ℕ) × BeginsAt nodes (first + 1) place
-  variable_begins first body h =
-      let (at, bs, f, e, begins, are, some, body_here, later) = h.top in
-      let b = binds_more source nodes first bs body are (λ same. absurd (omega arith)) in
-      (b.name.place, name_begins source nodes (first + 1) b.name b.named)
+  pub variable_there : (first body : ℕ) → Top (Layer.Let first body) → IsSymbolAt items (first + 1)
+  variable_there first body h =
+      let (bs, e, are, some, body_here, body_ends, later) = h.top in
+      let b = binds_more items first bs body are (λ same. absurd (omega arith)) in
+      b.named
 
   pub annotation_further : (t first end : ℕ) → Top (Layer.Annotated t first end) → IsFurther t
   annotation_further t first end h =
-      let (at, names, f, e, begins, here, attributes, same_end, later) = h.top in
-      record { later = later; within = omega (arith, form_behind source nodes t f first here, form_inside source nodes t f first here) }
+      let (e, here, ends, attributes, same_end, later) = h.top in
+      record { later = later; within = here }
 
-  pub node_within : IsAt source nodes g s v r k → k < length nodes
-  node_within a = omega (arith, form_behind source nodes k a.spelled a.behind a.here, form_inside source nodes k a.spelled a.behind a.here)
+  pub node_within : IsAt items g s v r k → k < length items.nodes
+  node_within a = a.inside
 
 -- what comes of opening a form, at what it answers
 module _ (r new : Reader) (frame : Frame) (next : ℕ) (result : Result Turn ReadFault) (is : IfOk result (λ (t : Turn). (t ≡ Turn.Read next) × (new ≡ with_open r frame))) where
@@ -385,10 +376,10 @@ module _ (r new : Reader) (frame : Frame) (next : ℕ) (result : Result Turn Rea
       go (Ok t) (e, same) = subst (λ (q : Reader). P q t) (sym same) (subst (P (with_open r frame)) (sym e) h)
       go (Err f) e = tt
 
-  pub opened_goes : (source : List ℕ) (nodes : List Node) (g : WholeReading) (s : Table) (v : TermsView) → IfErr result (λ (f : ReadFault). f ≡ ReadFault.Memory)
-      → Goes source nodes g s v v (with_open r frame) (Ok (Turn.Read next)) → Goes source nodes g s v v new result
-  opened_goes source nodes g s v fault h = go result is fault
+  pub opened_goes : (items : ItemsView) (g : WholeReading) (s : Table) (v : TermsView) → IfErr result (λ (f : ReadFault). f ≡ ReadFault.Memory)
+      → Goes items g s v v (with_open r frame) (Ok (Turn.Read next)) → Goes items g s v v new result
+  opened_goes items g s v fault h = go result is fault
     where
-      go : (a : Result Turn ReadFault) → IfOk a (λ (t : Turn). (t ≡ Turn.Read next) × (new ≡ with_open r frame)) → IfErr a (λ (f : ReadFault). f ≡ ReadFault.Memory) → Goes source nodes g s v v new a
-      go (Ok t) (e, same) none = subst (λ (q : Reader). Goes source nodes g s v v q (Ok t)) (sym same) (subst (λ (u : Turn). Goes source nodes g s v v (with_open r frame) (Ok u)) (sym e) h)
-      go (Err f) e same = subst (λ (u : ReadFault). Goes source nodes g s v v new (Err u)) (sym same) (memory_goes source nodes g s v r next s new)
+      go : (a : Result Turn ReadFault) → IfOk a (λ (t : Turn). (t ≡ Turn.Read next) × (new ≡ with_open r frame)) → IfErr a (λ (f : ReadFault). f ≡ ReadFault.Memory) → Goes items g s v v new a
+      go (Ok t) (e, same) none = subst (λ (q : Reader). Goes items g s v v q (Ok t)) (sym same) (subst (λ (u : Turn). Goes items g s v v (with_open r frame) (Ok u)) (sym e) h)
+      go (Err f) e same = subst (λ (u : ReadFault). Goes items g s v v new (Err u)) (sym same) (memory_goes items g s v r next s new)

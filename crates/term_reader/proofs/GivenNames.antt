@@ -10,7 +10,6 @@ use Rattle.sexpr.specs.declared.causes.Refusal.{Refusal}
 use Rattle.term_names.specs.Entries.{EntriesView}
 use Rattle.text_items.specs.ItemShapes.{Name}
 use Rattle.term_names.specs.Known.{KnownView, known_entry, PutsKnown, macro_of, named_of}
-use Rattle.text_items.specs.NameNodes.{IsNameNode}
 use Rattle.problem_text.specs.TypedTerms.{Typed}
 use Rattle.problem_text.specs.Outcomes.{Outcome, done, refuse}
 use Rattle.problem_text.specs.Scripts.{Named, Script, is_taken, with_named}
@@ -22,7 +21,6 @@ use Rattle.term_names.specs.declared.entries.Named as named
 use Rattle.term_names.specs.declared.known.KnownEntry.{KnownEntry}
 use Rattle.term_names.specs.declared.known.Which.{Which}
 use Rattle.term_names.specs.declared.known.Which.TheVariants.{Base, Own}
-use Rattle.text_items.specs.declared.nodes.Node.{Node}
 use Rattle.term_names.proofs.HeldVariables.{slice_get-last}
 
 -- what entries say after one more named term
@@ -196,13 +194,6 @@ no_entry s v k sc name is untaken = go (known_entry k name) (is.names name)
     go (Some KnownEntry.Reserved) r = absurd (both r.taken)
     go (Some (KnownEntry.Macro w)) m = absurd (both m.taken)
     go (Some (KnownEntry.Named w)) n = absurd (both n.taken)
-
--- the place of a name is that of its node
-pub name_place : (s : List ℕ) (ns : List Node) (k : ℕ) (x : Name) (node : Node) → IsNameNode s ns k x → slice_get ns k ≡ Some node → node.token.start ≡ x.place
-name_place s ns k x node is e =
-    let same : Some node ≡ Some is.node = sym e ∙ is.here in
-    let start = is.same_place in
-    cc
 
 -- one name, which is taken or not, and what comes after it
 abbrev pub one_name : Typed → Name → Script → (Script → Outcome Script Typed) → Bool → Outcome Script Typed

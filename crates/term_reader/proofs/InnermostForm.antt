@@ -8,7 +8,7 @@ use Rattle.term_reader.specs.Turns.{HasRead, Goes}
 use Rattle.term_reader.specs.Credits.{node_of, bound_of, effort}
 use Rattle.term_names.specs.declared.faults.ReadFault.{ReadFault}
 use Rattle.term_reader.specs.declared.frames.Frame.{Frame}
-use Rattle.text_items.specs.declared.nodes.Node.{Node}
+use Rattle.text_items.specs.ItemsAt.{ItemsView}
 use Rattle.term_reader.specs.declared.reader.Reader.{Reader}
 use Rattle.term_reader.specs.declared.reader.Turn.{Turn}
 use Rattle.term_expansion.specs.declared.values.Value.{Value}
@@ -17,7 +17,7 @@ use Rattle.term_expansion.specs.declared.values.Value.{Value}
 abbrev pub around : Reader → List Frame → Reader
 around r frames = record r { frames = frames }
 
-module _ (source : List ℕ) (nodes : List Node) (s : Table) (v : TermsView) (r : Reader) (c : Value) (n : ℕ) (frame : Frame) (frames : List Frame) (is : r.frames ≡ frame ∷ frames) where
+module _ (items : ItemsView) (s : Table) (v : TermsView) (r : Reader) (c : Value) (n : ℕ) (frame : Frame) (frames : List Frame) (is : r.frames ≡ frame ∷ frames) where
   pub same_reader : r ≡ with_open (around r frames) frame
   same_reader = ap (around r) is
 
@@ -25,27 +25,27 @@ module _ (source : List ℕ) (nodes : List Node) (s : Table) (v : TermsView) (r 
     -- what is done with the form
     abbrev pub Done : Type 0
     Done =
-        (g : WholeReading) → HasRead source nodes g s v (with_open (around r frames) frame) c n
-        → Leaves source nodes g s v (with_open (around r frames) frame) c n t w q result
+        (g : WholeReading) → HasRead items g s v (with_open (around r frames) frame) c n
+        → Leaves items g s v (with_open (around r frames) frame) c n t w q result
 
-    pub done_goes : Done → (g : WholeReading) → HasRead source nodes g s v r c n → Goes source nodes g t v w q result
-    done_goes leaves g h = (leaves g (subst (λ (x : Reader). HasRead source nodes g s v x c n) same_reader h)).goes
+    pub done_goes : Done → (g : WholeReading) → HasRead items g s v r c n → Goes items g t v w q result
+    done_goes leaves g h = (leaves g (subst (λ (x : Reader). HasRead items g s v x c n) same_reader h)).goes
 
-    pub done_spends : Done → (g : WholeReading) × HasRead source nodes g s v r c n → n ≤ length nodes → IfOk result (λ (x : Turn). Spends nodes s r (Turn.Use c n) t q x)
+    pub done_spends : Done → (g : WholeReading) × HasRead items g s v r c n → n ≤ length items.nodes → IfOk result (λ (x : Turn). Spends items s r (Turn.Use c n) t q x)
     done_spends leaves (g, h) within =
-        subst (λ (x : Reader). IfOk result (λ (y : Turn). Spends nodes s x (Turn.Use c n) t q y)) (sym same_reader)
-        ((leaves g (subst (λ (x : Reader). HasRead source nodes g s v x c n) same_reader h)).spends within)
+        subst (λ (x : Reader). IfOk result (λ (y : Turn). Spends items s x (Turn.Use c n) t q y)) (sym same_reader)
+        ((leaves g (subst (λ (x : Reader). HasRead items g s v x c n) same_reader h)).spends within)
 
 -- What a turn says of what is left to be done.
-module _ (nodes : List Node) (s : Table) (r : Reader) (turn : Turn) (t : Table) (q : Reader) where
-  pub spends_inside : (result : Result Turn ReadFault) → IfOk result (λ (x : Turn). Spends nodes s r turn t q x) → IfOk result (λ (x : Turn). node_of x ≤ length nodes)
+module _ (items : ItemsView) (s : Table) (r : Reader) (turn : Turn) (t : Table) (q : Reader) where
+  pub spends_inside : (result : Result Turn ReadFault) → IfOk result (λ (x : Turn). Spends items s r turn t q x) → IfOk result (λ (x : Turn). node_of x ≤ length items.nodes)
   spends_inside (Ok x) h = h.inside
   spends_inside (Err fault) h = tt
 
-  pub spends_few : (result : Result Turn ReadFault) → IfOk result (λ (x : Turn). Spends nodes s r turn t q x) → IfOk result (λ (x : Turn). bound_of t nodes q (node_of x) ≤ bound_of s nodes r (node_of turn))
+  pub spends_few : (result : Result Turn ReadFault) → IfOk result (λ (x : Turn). Spends items s r turn t q x) → IfOk result (λ (x : Turn). bound_of t items.nodes q (node_of x) ≤ bound_of s items.nodes r (node_of turn))
   spends_few (Ok x) h = h.few
   spends_few (Err fault) h = tt
 
-  pub spends_progress : (result : Result Turn ReadFault) → IfOk result (λ (x : Turn). Spends nodes s r turn t q x) → IfOk result (λ (x : Turn). effort nodes q x < effort nodes r turn)
+  pub spends_progress : (result : Result Turn ReadFault) → IfOk result (λ (x : Turn). Spends items s r turn t q x) → IfOk result (λ (x : Turn). effort items.nodes q x < effort items.nodes r turn)
   spends_progress (Ok x) h = h.progress
   spends_progress (Err fault) h = tt

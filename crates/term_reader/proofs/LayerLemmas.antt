@@ -1,16 +1,18 @@
 -- The tops of forms by the nodes of items.
 use Rattle.std.proofs.Common.{◌≡◌, ℕ, ◌+◌, ◌<◌, ◌≢◌, arith, List, [], ◌∷◌, Some, None, Option, is_some, unwrap_or, cond, not, ◌&&◌, ◌||◌, ◌==◌, codes, refl, sym, ap, ◌∙◌, subst, Bool, true, false}
-use Rattle.std.specs.Prelude.{bytes_eq, nat_le, if◌then◌else◌}
+use Rattle.std.specs.Prelude.{bytes_eq, length, ◌≤◌, nat_le, nat_lt, slice_get, if◌then◌else◌}
+use Rattle.std.proofs.lemmas.Bool.Decides.{nat_tests}
 use Rattle.std.proofs.lemmas.Slice.Eq.{bytes_eq-Decides}
 use Rattle.std.specs.Option.{option_or}
 use Rattle.std.specs.Char.{is_ascii_digit}
 use Rattle.sexpr.specs.declared.causes.Cause.TheVariants.{BadCommand, LeftOut}
 use Rattle.sexpr.specs.declared.lexing.TokenKind.{TokenKind}
-use Rattle.sexpr.specs.declared.lexing.TokenKind.TheVariants.{Word}
+use Rattle.sexpr.specs.declared.lexing.TokenKind.TheVariants.{Open, Close, Text, Quoted, Word}
+use Rattle.sexpr.specs.Tokens.{token_text}
 use Rattle.sexpr.specs.Words.{is_symbol, is_keyword, between_bars}
 use Rattle.sexpr.specs.Items.{Item, word, quoted, string, list, Items, no_items, item, place_of, name_spelled, symbol_name}
-use Rattle.text_items.specs.ItemShapes.{Name, name_at, symbol_fault, pairs_fault}
-use Rattle.problem_text.specs.Forms.{Form, faulty, application, let_form, annotated, Forms, form, first_form, LetBinds, form_of, forms_of, binds_of, binds_in, word_form, number_form, symbol_form, list_form, symbol_list_form, unless_faulty, bindings_fault, let_fault, naming_keyword, annotation_fault, names_given}
+use Rattle.text_items.specs.ItemShapes.{Name, name_at, symbol_fault, pairs_fault, items_of}
+use Rattle.problem_text.specs.Forms.{Form, faulty, symbol, application, let_form, annotated, Forms, form, first_form, LetBinds, form_of, forms_of, binds_of, binds_in, word_form, number_form, symbol_form, list_form, symbol_list_form, unless_faulty, bindings_fault, let_fault, naming_keyword, annotation_fault, names_after, names_given}
 use Rattle.text_items.specs.Keywords.{Known, after_item, after_keyword, next_fault, misplaced, at_end, is_value, lacks_keyword, earlier, repeated, word_next, attributes_fault}
 use Rattle.text_items.specs.declared.keywords.Next.{Next}
 use Rattle.text_items.specs.declared.keywords.Wanted.TheVariants as Wanted
@@ -19,57 +21,62 @@ use Rattle.text_items.specs.Spelling.{is_list_item}
 use Rattle.problem_text.specs.Words.{is_among, left_out_words}
 use Rattle.term_reader.specs.declared.layers.Layer.{Layer}
 use Rattle.text_items.specs.declared.nodes.Node.{Node}
-use Rattle.text_items.specs.Nodes.{IsNode, AreNodes}
-use Rattle.text_items.specs.NameNodes.{BeginsAt, IsNameNode}
-use Rattle.term_reader.specs.Layers.{IsForm, AreBinds, NamesAreSymbols, AreTermAttributes}
+use Rattle.text_items.specs.ItemsAt.{ItemsView, end_by, item_of_token, item_of_node, end_at, item_at, items_at}
+use Rattle.term_reader.specs.Layers.{IsRange, form_at, forms_at, AreBinds, symbol_at, IsSymbolAt, NamesAreSymbols, names_at, AreTermAttributes}
 use Rattle.term_reader.specs.ShapeFaults.{IsLayer}
-use Rattle.term_reader.specs.Shapes.{IsApplied}
+use Rattle.term_reader.specs.Shapes.{IsApplied, others_of, arguments_of, applied_form}
 use Rattle.term_reader.specs.ShapeFaults.{IsSymbolLayer, IsTokenLayer}
-use Rattle.text_items.specs.Stepping.{BeginsItem, has_two, HasSecond}
-use Rattle.text_items.proofs.NodeSteps.{node_behind, nodes_ordered, name_node, name_next}
-use Rattle.text_items.proofs.ShapeLemmas.{IsListAt}
+use Rattle.text_items.specs.Stepping.{AreInside, BeginsItem, has_two}
+use Rattle.text_items.proofs.ItemsAtLemmas.{ends_behind, ends_inside, item_is, items_are, no_items_are}
+use Rattle.text_items.proofs.ShapeLemmas.{list_is}
+use Rattle.term_reader.proofs.FormSteps.{range_on}
 
-pub begins_at : (s : List ℕ) (ns : List Node) (k : ℕ) (i : Item) (m : ℕ) → IsNode s ns k i m → BeginsAt ns k (place_of i)
-begins_at s ns k (word place spelling) m is = (is.node, is.has.here, is.has.same_place)
-begins_at s ns k (quoted place spelling) m is = (is.node, is.has.here, is.has.same_place)
-begins_at s ns k (string place spelling) m is = (is.node, is.has.here, is.has.same_place)
-begins_at s ns k (list place items) m (node, has, inside) = (node, has.here, has.same_place)
+pub is_symbol_item : (i : Item) → symbol_fault i ≡ None → is_some (symbol_name i) ≡ true
+is_symbol_item i e = go (is_some (symbol_name i)) refl e
+  where
+    go : (b : Bool) → is_some (symbol_name i) ≡ b → cond b None (Some (place_of i)) ≡ None → is_some (symbol_name i) ≡ true
+    go true h e = h
+    go false h e = absurd cc
 
-token_alone : (s : List ℕ) (ns : List Node) (k : ℕ) (i : Item) (m : ℕ) → IsNode s ns k i m → is_list_item i ≡ false → m ≡ k + 1
-token_alone s ns k (word place spelling) m is e = is.alone
-token_alone s ns k (quoted place spelling) m is e = is.alone
-token_alone s ns k (string place spelling) m is e = is.alone
-token_alone s ns k (list place items) m is e = cc
+-- a symbol is no list
+symbol_alone : (i : Item) → is_some (symbol_name i) ≡ true → is_list_item i ≡ false
+symbol_alone (word place spelling) e = refl
+symbol_alone (quoted place spelling) e = refl
+symbol_alone (string place spelling) e = refl
+symbol_alone (list place items) e = absurd cc
 
 -- a symbol's name, where it stands
-named_at : (i : Item) (name : List ℕ) → symbol_name i ≡ Some name → name_at i ≡ record { place = place_of i; name = name }
+pub named_at : (i : Item) (name : List ℕ) → symbol_name i ≡ Some name → name_at i ≡ record { place = place_of i; name = name }
 named_at i name e = ap (λ o. record { place = place_of i; name = unwrap_or o [] }) e
 
-is_some_name : (i : Item) (name : List ℕ) → symbol_name i ≡ Some name → is_some (symbol_name i) ≡ true
-is_some_name i name e = ap is_some e
-
-pub name_there : (s : List ℕ) (ns : List Node) (k : ℕ) (i : Item) (m : ℕ) (name : List ℕ) → IsNode s ns k i m → symbol_name i ≡ Some name → IsNameNode s ns k (record { place = place_of i; name = name })
-name_there s ns k i m name is e = subst (λ (n : Name). IsNameNode s ns k n) (named_at i name e) (name_node s ns k i m is (is_some_name i name e))
+pub symbol_there : (items : ItemsView) (k : ℕ) (name : List ℕ) → k < length items.nodes → symbol_name (item_at items k) ≡ Some name → IsSymbolAt items k
+symbol_there items k name inside e = record {
+  inside = inside;
+  symbol = ap (λ (o : Option (List ℕ)). if is_some o then None else Some (place_of (item_at items k))) e;
+  same = refl;
+}
 
 -- the top of a symbol, and that of another token
-pub symbol_top : (s : List ℕ) (ns : List Node) (k : ℕ) (i : Item) (m : ℕ) (name : List ℕ) (top : Layer) (f : Form) → IsNode s ns k i m → symbol_name i ≡ Some name
-    → IsSymbolLayer (place_of i) name top f → IsLayer s ns k top f m
-symbol_top s ns k i m name (Layer.Faulty r) f is e h = h
-symbol_top s ns k i m name (Layer.Number v) f is e h = absurd h
-symbol_top s ns k i m name Layer.Symbol f is e h =
-    (record { place = place_of i; name = name }, h, name_there s ns k i m name is e, name_next s ns k i m is (is_some_name i name e))
-symbol_top s ns k i m name (Layer.Application head first end) f is e h = absurd h
-symbol_top s ns k i m name (Layer.Let first body) f is e h = absurd h
-symbol_top s ns k i m name (Layer.Annotated t first end) f is e h = absurd h
+module _ (items : ItemsView) (k : ℕ) (inside : k < length items.nodes) (nested : AreInside items) where
+  pub symbol_top : (name : List ℕ) (top : Layer) (f : Form) → symbol_name (item_at items k) ≡ Some name → IsSymbolLayer (place_of (item_at items k)) name top f → IsLayer items k top f
+  symbol_top name (Layer.Faulty r) f e h = h
+  symbol_top name (Layer.Number v) f e h = absurd h
+  symbol_top name Layer.Symbol f e h = (
+    h ∙ ap symbol (sym (named_at (item_at items k) name e)),
+    symbol_there items k name inside e,
+    nested.alone k inside (symbol_alone (item_at items k) (ap is_some e)),
+  )
+  symbol_top name (Layer.Application head first end) f e h = absurd h
+  symbol_top name (Layer.Let first body) f e h = absurd h
+  symbol_top name (Layer.Annotated t first end) f e h = absurd h
 
-pub token_top : (s : List ℕ) (ns : List Node) (k : ℕ) (i : Item) (m : ℕ) (top : Layer) (f : Form) → IsNode s ns k i m → is_list_item i ≡ false
-    → IsTokenLayer (place_of i) top f → IsLayer s ns k top f m
-token_top s ns k i m (Layer.Faulty r) f is e h = h
-token_top s ns k i m (Layer.Number v) f is e (n, same, value) = (place_of i, n, same, begins_at s ns k i m is, value, token_alone s ns k i m is e)
-token_top s ns k i m Layer.Symbol f is e h = absurd h
-token_top s ns k i m (Layer.Application head first end) f is e h = absurd h
-token_top s ns k i m (Layer.Let first body) f is e h = absurd h
-token_top s ns k i m (Layer.Annotated t first end) f is e h = absurd h
+  pub token_top : (top : Layer) (f : Form) → is_list_item (item_at items k) ≡ false → IsTokenLayer (place_of (item_at items k)) top f → IsLayer items k top f
+  token_top (Layer.Faulty r) f e h = h
+  token_top (Layer.Number v) f e (n, same, value) = (n, same, value, nested.alone k inside e)
+  token_top Layer.Symbol f e h = absurd h
+  token_top (Layer.Application head first end) f e h = absurd h
+  token_top (Layer.Let first body) f e h = absurd h
+  token_top (Layer.Annotated t first end) f e h = absurd h
 
 -- a word that is a symbol
 symbol_word : (keyword literal digit : Bool) (a c d e : Form) → (not digit && not keyword && not literal) ≡ true
@@ -97,13 +104,6 @@ named_so spelling name e = go (is_symbol spelling) refl e
     go : (b : Bool) → is_symbol spelling ≡ b → cond b (Some spelling) None ≡ Some name → IsNamedSo spelling name
     go true h e = record { spelled = h; same = cc }
     go false h e = absurd cc
-
-unnamed_so : (spelling : List ℕ) → name_spelled Word spelling ≡ None → is_symbol spelling ≡ false
-unnamed_so spelling e = go (is_symbol spelling) refl e
-  where
-    go : (b : Bool) → is_symbol spelling ≡ b → cond b (Some spelling) None ≡ None → is_symbol spelling ≡ false
-    go true h e = absurd cc
-    go false h e = h
 
 pub symbol_spelled : (i : Item) (name : List ℕ) → symbol_name i ≡ Some name → form_of i ≡ symbol_form (record { place = place_of i; name = name })
 unfolding form_of
@@ -155,57 +155,47 @@ pub named_head : (place : ℕ) (head : Item) (items : Items) (f : Form) (fs : Fo
 named_head place head items f fs bs name e =
     ap (λ b. cond b (symbol_list_form place (name_at head) items f fs bs) (cond (is_list_item head) (faulty LeftOut (place_of head)) (faulty BadCommand (place_of head)))) (ap is_some e)
 
--- the items of an application
-abbrev pub applied_of : (s : List ℕ) (ns : List Node) (k : ℕ) (place : ℕ) (items : Items) (first m : ℕ) → IsNode s ns k (list place items) m → HasSecond s ns (k + 1) items first m → IsApplied s ns k first m
-applied_of s ns k place items first m is h = record {
-  place = place;
-  head = h.one;
-  arg = h.two;
-  rest = h.rest;
-  behind = h.behind;
-  here = subst (λ (v : Items). IsNode s ns k (list place v) m) h.split is;
-  head_there = h.first_there;
-  arg_there = h.second_there;
-  rest_there = h.rest_there;
-}
+-- the first of some items, and none
+record AreFirst (items : ItemsView) (k m : ℕ) (i : Item) (rest : Items) : Type 0 where
+  less : k < m
+  first : item_at items k ≡ i
+  others : items_at items (end_at items k) m ≡ rest
 
-pub applied_at : (s : List ℕ) (ns : List Node) (k first m : ℕ) → IsApplied s ns k first m → (i : Item) × (n : ℕ) × IsNode s ns k i n
-applied_at s ns k first m a = (list a.place (item a.head (item a.arg a.rest)), m, a.here)
+firsts : (items : ItemsView) (k m : ℕ) (i : Item) (rest : Items) → m ≤ length items.nodes → items_at items k m ≡ item i rest → AreFirst items k m i rest
+firsts items k m i rest inside e = go (nat_lt k m) refl
+  where
+    go : (b : Bool) → nat_lt k m ≡ b → AreFirst items k m i rest
+    go true h =
+        let less : k < m = grind (arith, nat_tests) in
+        let split = sym (items_are items k m less inside) ∙ e in
+        record { less = less; first = cc split; others = cc split }
+    go false h = let none = no_items_are items k m (grind (arith, nat_tests)) in absurd cc
 
--- where its arguments stand
-pub arguments_there : (s : List ℕ) (ns : List Node) (k first m end : ℕ) (a : IsApplied s ns k first m) → end ≡ m → AreNodes s ns first (item a.arg a.rest) end
-arguments_there s ns k first m end a e = subst (λ (v : ℕ). AreNodes s ns first (item a.arg a.rest) v) (sym e) (a.behind, a.arg_there, a.rest_there)
+none_left : (items : ItemsView) (k m : ℕ) → m ≤ length items.nodes → items_at items k m ≡ no_items → m ≤ k
+none_left items k m inside e = go (nat_lt k m) refl
+  where
+    go : (b : Bool) → nat_lt k m ≡ b → m ≤ k
+    go true h = let some = items_are items k m (grind (arith, nat_tests)) inside in absurd cc
+    go false h = grind (arith, nat_tests)
+
+-- what stands in a list
+inside_list : (items : ItemsView) (k place : ℕ) (its : Items) → k < length items.nodes → item_at items k ≡ list place its → items_at items (k + 1) (end_at items k) ≡ its
+inside_list items k place its inside e = go (slice_get items.nodes k) (sym (item_is items k inside) ∙ e)
+  where
+    token : (kind : TokenKind) (at : ℕ) (spelling : List ℕ) (those : Items) → item_of_token kind at spelling those ≡ list place its → those ≡ its
+    token Word at spelling those h = absurd cc
+    token Quoted at spelling those h = absurd cc
+    token Text at spelling those h = absurd cc
+    token Open at spelling those h = cc
+    token Close at spelling those h = cc
+
+    go : (o : Option Node) → item_of_node items.source o (items_at items (k + 1) (end_by (length items.nodes) k o)) ≡ list place its → items_at items (k + 1) (end_by (length items.nodes) k o) ≡ its
+    go None h = let none = no_items_are items (k + 1) (k + 1) (omega arith) in cc
+    go (Some node) h = token node.token.kind node.token.start (token_text items.source node.token) _ h
 
 third : (p q r : Bool) (a b c d : Form) → p ≡ false → q ≡ false → r ≡ false → cond p a (cond q b (cond r c d)) ≡ d
 third p q r a b c d e f g = rw (e, f, g) refl
 
-after_head : (s : List ℕ) (ns : List Node) (k first m : ℕ) → IsApplied s ns k first m → k < first
-after_head s ns k first m a = omega (arith, node_behind s ns (k + 1) a.head first a.head_there)
-
-pub application_top : (s : List ℕ) (ns : List Node) (k first m end : ℕ) (name : List ℕ) (a : IsApplied s ns k first m) → symbol_name a.head ≡ Some name
-    → bytes_eq name (codes "let") ≡ false → bytes_eq name (codes "!") ≡ false → is_among left_out_words name ≡ false → end ≡ m
-    → IsLayer s ns k (Layer.Application (k + 1) first end) (symbol_list_form a.place (name_at a.head) (item a.arg a.rest) (form_of a.arg) (forms_of a.rest) (binds_of a.arg)) m
-unfolding form_of
-application_top s ns k first m end name a e no_let no_mark kept same =
-    let items = item a.arg a.rest in (
-      a.place,
-      record { place = place_of a.head; name = name },
-      form_of a.arg,
-      forms_of a.rest,
-      ap (λ n. symbol_list_form a.place n items (form_of a.arg) (forms_of a.rest) (binds_of a.arg)) (named_at a.head name e)
-          ∙ third (bytes_eq name (codes "let")) (bytes_eq name (codes "!")) (is_among left_out_words name)
-          (unless_faulty (let_fault a.place items) (let_form a.place (binds_of a.arg) (first_form (forms_of a.rest))))
-          (unless_faulty (annotation_fault a.place items) (annotated a.place (form_of a.arg) (names_given items)))
-          (faulty LeftOut (place_of a.head)) (application a.place (record { place = place_of a.head; name = name }) (form (form_of a.arg) (forms_of a.rest)))
-          no_let no_mark kept,
-      begins_at s ns k (list a.place (item a.head items)) m a.here,
-      name_there s ns (k + 1) a.head first name a.head_there e,
-      record { what = items; there = arguments_there s ns k first m end a same; spell = refl },
-      same,
-      after_head s ns k first m a,
-    )
-
--- A let without fault of shape: the first of its items is a list of pairs, and the second its body.
 none_first : (o p : Option ℕ) → option_or o p ≡ None → o ≡ None
 none_first None p e = refl
 none_first (Some n) p e = absurd cc
@@ -214,78 +204,168 @@ none_second : (o p : Option ℕ) → option_or o p ≡ None → p ≡ None
 none_second None p e = e
 none_second (Some n) p e = absurd cc
 
-is_symbol_item : (i : Item) → symbol_fault i ≡ None → is_some (symbol_name i) ≡ true
-is_symbol_item i e = go (is_some (symbol_name i)) refl e
-  where
-    go : (b : Bool) → is_some (symbol_name i) ≡ b → cond b None (Some (place_of i)) ≡ None → is_some (symbol_name i) ≡ true
-    go true h e = h
-    go false h e = absurd cc
+-- Pairs without fault are bindings.
+module _ (items : ItemsView) (nested : AreInside items) where
+  -- a pair of a symbol and another item
+  record IsPair (k : ℕ) (x t : Item) : Type 0 where
+    named : IsSymbolAt items (k + 1)
+    called : name_at x ≡ symbol_at items (k + 1)
+    below : k + 2 < length items.nodes
+    spelled : form_of t ≡ form_at items (k + 2)
+    ends : end_at items k ≡ end_at items (k + 2)
 
-pub pairs_bind : (s : List ℕ) (ns : List Node) (k : ℕ) (items : Items) (m : ℕ) → AreNodes s ns k items m → pairs_fault items ≡ None → AreBinds s ns k (binds_in items) m
-unfolding form_of
-pairs_bind s ns k no_items m are e = are
-pairs_bind s ns k (item (word place spelling) others) m are e = absurd cc
-pairs_bind s ns k (item (quoted place spelling) others) m are e = absurd cc
-pairs_bind s ns k (item (string place spelling) others) m are e = absurd cc
-pairs_bind s ns k (item (list place no_items) others) m are e = absurd cc
-pairs_bind s ns k (item (list place (item x no_items)) others) m are e = absurd cc
-pairs_bind s ns k (item (list place (item x (item t (item y rest)))) others) m are e =
-    absurd (some_none (symbol_fault x) (none_first (option_or (symbol_fault x) (Some (place_of y))) (pairs_fault others) e))
-  where
-    some_none : (o : Option ℕ) → option_or o (Some (place_of y)) ≡ None → ⊥
-    some_none None h = cc
-    some_none (Some n) h = cc
-pairs_bind s ns k (item (list place (item x (item t no_items))) others) m (n, (node, has, (after, named, (end, is, last))), are) e =
-    let first : symbol_fault x ≡ None = none_first (symbol_fault x) None (none_first (option_or (symbol_fault x) None) (pairs_fault others) e) in
-    let there = name_next s ns (k + 1) x after named (is_symbol_item x first) in
-    let here : after ≡ k + 2 = omega arith in (
-      n,
-      has.behind,
-      name_node s ns (k + 1) x after named (is_symbol_item x first),
-      record { what = t; there = subst (λ (v : ℕ). IsNode s ns (k + 2) t v) last (subst (λ (v : ℕ). IsNode s ns v t end) here is); spells = refl },
-      pairs_bind s ns n others m are (none_second (option_or (symbol_fault x) None) (pairs_fault others) e),
-    )
+  is_pair : (k place : ℕ) (x t : Item) → k < length items.nodes → item_at items k ≡ list place (item x (item t no_items)) → symbol_fault x ≡ None → IsPair k x t
+  is_pair k place x t inside e fit =
+      let end = ends_inside items k inside in
+      let a = firsts items (k + 1) (end_at items k) x (item t no_items) end (inside_list items k place _ inside e) in
+      let named : symbol_fault (item_at items (k + 1)) ≡ None = ap symbol_fault a.first ∙ fit in
+      let less = a.less in
+      let next = nested.alone (k + 1) (omega arith) (symbol_alone (item_at items (k + 1)) (is_symbol_item (item_at items (k + 1)) named)) in
+      let two : (k + 1) + 1 ≡ k + 2 = omega arith in
+      let b = firsts items (k + 2) (end_at items k) t no_items end (ap (λ n. items_at items n (end_at items k)) (sym (next ∙ two)) ∙ a.others) in
+      let below = b.less in
+      let last = none_left items (end_at items (k + 2)) (end_at items k) end b.others in
+      let within = nested.ends k (k + 2) (omega arith) below in
+      record {
+        named = record { inside = omega arith; symbol = named; same = refl };
+        called = ap name_at (sym a.first);
+        below = omega arith;
+        spelled = ap form_of (sym b.first);
+        ends = omega arith;
+      }
 
--- what a let binds, and its body
-record IsLetShape (s : List ℕ) (ns : List Node) (first behind : ℕ) (arg : Item) (rest : Items) (m : ℕ) : Type 0 where
-  binds : AreBinds s ns (first + 1) (binds_of arg) behind
-  some : first + 1 < behind
-  body : IsForm s ns behind (first_form (forms_of rest)) m
+  pub pairs_bind : (k m : ℕ) (its : Items) → IsRange items k m → items_at items k m ≡ its → pairs_fault its ≡ None → AreBinds items k (binds_in its) m
+  unfolding form_of
+  pairs_bind k m no_items range e h = let none = none_left items k m range.inside e in omega (arith, none, range.before)
+  pairs_bind k m (item (word place spelling) others) range e h = absurd cc
+  pairs_bind k m (item (quoted place spelling) others) range e h = absurd cc
+  pairs_bind k m (item (string place spelling) others) range e h = absurd cc
+  pairs_bind k m (item (list place no_items) others) range e h = absurd cc
+  pairs_bind k m (item (list place (item x no_items)) others) range e h = absurd cc
+  pairs_bind k m (item (list place (item x (item t (item y rest)))) others) range e h =
+      absurd (some_none (symbol_fault x) (none_first (option_or (symbol_fault x) (Some (place_of y))) (pairs_fault others) h))
+    where
+      some_none : (o : Option ℕ) → option_or o (Some (place_of y)) ≡ None → ⊥
+      some_none None h = cc
+      some_none (Some n) h = cc
+  pairs_bind k m (item (list place (item x (item t no_items))) others) range e h =
+      let inside = range.inside in
+      let a = firsts items k m _ others inside e in
+      let less = a.less in
+      let p = is_pair k place x t (omega arith) a.first (none_first (symbol_fault x) None (none_first (option_or (symbol_fault x) None) (pairs_fault others) h)) in (
+        p.named,
+        p.called,
+        p.below,
+        p.spelled,
+        subst (λ (n : ℕ). AreBinds items n (binds_in others) m) p.ends
+            (pairs_bind (end_at items k) m others (range_on items k m range less) a.others (none_second (option_or (symbol_fault x) None) (pairs_fault others) h)),
+      )
 
-let_shape : (s : List ℕ) (ns : List Node) (place first behind : ℕ) (arg : Item) (rest : Items) (m : ℕ) → IsNode s ns first arg behind → AreNodes s ns behind rest m
-    → let_fault place (item arg rest) ≡ None → IsLetShape s ns first behind arg rest m
-unfolding form_of
-let_shape s ns place first behind arg no_items m is are e = absurd cc
-let_shape s ns place first behind arg (item body (item more rest)) m is are e = absurd (go (bindings_fault arg) e)
-  where
-    go : (o : Option ℕ) → option_or o (Some (place_of more)) ≡ None → ⊥
-    go None h = cc
-    go (Some n) h = cc
-let_shape s ns place first behind (word at spelling) (item body no_items) m is are e = absurd cc
-let_shape s ns place first behind (quoted at spelling) (item body no_items) m is are e = absurd cc
-let_shape s ns place first behind (string at spelling) (item body no_items) m is are e = absurd cc
-let_shape s ns place first behind (list at no_items) (item body no_items) m is are e = absurd cc
-let_shape s ns place first behind (list at (item pair others)) (item body no_items) m (node, has, inside) (n, there, last) e =
-    record {
-      binds = pairs_bind s ns (first + 1) (item pair others) behind inside (none_first (pairs_fault (item pair others)) None e);
-      some = omega (arith, node_behind s ns (first + 1) pair inside.0 inside.1, nodes_ordered s ns inside.0 others behind inside.2);
-      body = record { what = body; there = subst (λ (v : ℕ). IsNode s ns behind body v) last there; spells = refl };
-    }
+-- An application, of which the first argument is at node `first`.
+module _ (items : ItemsView) (k first : ℕ) (a : IsApplied items k first) (nested : AreInside items) where
+  abbrev place : ℕ
+  place = place_of (item_at items k)
 
-pub let_top : (s : List ℕ) (ns : List Node) (k first m body : ℕ) (a : IsApplied s ns k first m) → let_fault a.place (item a.arg a.rest) ≡ None → body ≡ a.behind
-    → IsLayer s ns k (Layer.Let (first + 1) body) (unless_faulty (let_fault a.place (item a.arg a.rest)) (let_form a.place (binds_of a.arg) (first_form (forms_of a.rest)))) m
-let_top s ns k first m body a none same =
-    let shape = let_shape s ns a.place first a.behind a.arg a.rest m a.arg_there a.rest_there none in (
-      a.place,
-      binds_of a.arg,
-      first_form (forms_of a.rest),
-      ap (λ o. unless_faulty o (let_form a.place (binds_of a.arg) (first_form (forms_of a.rest)))) none,
-      begins_at s ns k (list a.place (item a.head (item a.arg a.rest))) m a.here,
-      subst (λ (v : ℕ). AreBinds s ns (first + 1) (binds_of a.arg) v) (sym same) shape.binds,
-      subst (λ (v : ℕ). first + 1 < v) (sym same) shape.some,
-      subst (λ (v : ℕ). IsForm s ns v (first_form (forms_of a.rest)) m) (sym same) shape.body,
-      omega (arith, after_head s ns k first m a),
-    )
+  pub behind_head : k < first
+  behind_head = let later = a.second.later in omega arith
+
+  end_within : end_at items k ≤ length items.nodes
+  end_within = ends_inside items k a.inside
+
+  pub first_within : first < length items.nodes
+  first_within = let e = end_within in let less = a.second.less in omega arith
+
+  pub arguments_range : IsRange items first (end_at items k)
+  arguments_range = let less = a.second.less in let h = behind_head in record { before = omega arith; inside = end_within; nested = λ j from to. nested.ends k j (omega arith) to }
+
+  arguments_are : items_at items first (end_at items k) ≡ arguments_of items k first
+  arguments_are = items_are items first (end_at items k) a.second.less end_within
+
+  pub applied_spelled : (name : List ℕ) → symbol_name (item_at items (k + 1)) ≡ Some name → form_of (item_at items k) ≡ applied_form items k first
+  unfolding form_of
+  applied_spelled name e =
+      let is = list_is (item_at items k) a.is in
+      let those = sym (inside_list items k place (items_of (item_at items k)) a.inside is) ∙ a.second.split in
+      ap form_of (is ∙ ap (list place) those) ∙ headed_list place (item_at items (k + 1)) (item_at items first) (others_of items k first)
+      ∙ named_head place (item_at items (k + 1)) (arguments_of items k first) (form_of (item_at items first)) (forms_of (others_of items k first)) (binds_of (item_at items first)) name e
+
+  pub application_top : (end : ℕ) (name : List ℕ) → symbol_name (item_at items (k + 1)) ≡ Some name
+      → bytes_eq name (codes "let") ≡ false → bytes_eq name (codes "!") ≡ false → is_among left_out_words name ≡ false → end ≡ end_at items k
+      → IsLayer items k (Layer.Application (k + 1) first end) (applied_form items k first)
+  unfolding form_of
+  application_top end name e no_let no_mark kept same =
+      let those = arguments_of items k first in
+      let less = a.second.less in
+      let named : name_at (item_at items (k + 1)) ≡ record { place = place_of (item_at items (k + 1)); name = name } = named_at (item_at items (k + 1)) name e in (
+        ap (λ n. symbol_list_form place n those (form_of (item_at items first)) (forms_of (others_of items k first)) (binds_of (item_at items first))) named
+            ∙ third (bytes_eq name (codes "let")) (bytes_eq name (codes "!")) (is_among left_out_words name)
+            (unless_faulty (let_fault place those) (let_form place (binds_of (item_at items first)) (first_form (forms_of (others_of items k first)))))
+            (unless_faulty (annotation_fault place those) (annotated place (form_of (item_at items first)) (names_given those)))
+            (faulty LeftOut (place_of (item_at items (k + 1)))) (application place (record { place = place_of (item_at items (k + 1)); name = name }) (form (form_of (item_at items first)) (forms_of (others_of items k first))))
+            no_let no_mark kept
+            ∙ ap (λ v. application place (record { place = place_of (item_at items (k + 1)); name = name }) v) (sym (ap forms_of arguments_are) ∙ ap (λ n. forms_at items first n) (sym same))
+            ∙ ap (λ n. application place n (forms_at items first end)) (sym named),
+        symbol_there items (k + 1) name (let w = first_within in let h = a.second.later in omega arith) e,
+        subst (λ (n : ℕ). IsRange items first n) (sym same) arguments_range,
+        omega arith,
+        same,
+        behind_head,
+      )
+
+  -- what a let binds, and its body
+  record IsLetShape : Type 0 where
+    binds : AreBinds items (first + 1) (binds_of (item_at items first)) (end_at items first)
+    some : first + 1 < end_at items first
+    within : end_at items first < length items.nodes
+    body : first_form (forms_of (others_of items k first)) ≡ form_at items (end_at items first)
+    ends : end_at items (end_at items first) ≡ end_at items k
+
+  let_shape : (arg : Item) (rest : Items) → item_at items first ≡ arg → others_of items k first ≡ rest → let_fault place (item arg rest) ≡ None → IsLetShape
+  unfolding form_of
+  let_shape arg no_items is are e = absurd cc
+  let_shape arg (item body (item more rest)) is are e = absurd (go (bindings_fault arg) e)
+    where
+      go : (o : Option ℕ) → option_or o (Some (place_of more)) ≡ None → ⊥
+      go None h = cc
+      go (Some n) h = cc
+  let_shape (word at spelling) (item body no_items) is are e = absurd cc
+  let_shape (quoted at spelling) (item body no_items) is are e = absurd cc
+  let_shape (string at spelling) (item body no_items) is are e = absurd cc
+  let_shape (list at no_items) (item body no_items) is are e = absurd cc
+  let_shape (list at (item pair others)) (item body no_items) is are e =
+      let those = inside_list items first at (item pair others) first_within is in
+      let within = ends_inside items first first_within in
+      let p = firsts items (first + 1) (end_at items first) pair others within those in
+      let some = p.less in
+      let b = firsts items (end_at items first) (end_at items k) body no_items end_within are in
+      let below = b.less in
+      let over = end_within in
+      let head = behind_head in
+      let later = ends_behind items first in
+      let last = none_left items (end_at items (end_at items first)) (end_at items k) end_within b.others in
+      let inner = nested.ends k (end_at items first) (omega arith) below in
+      record {
+        binds = rw is (pairs_bind items nested (first + 1) (end_at items first) (item pair others) (record { before = omega arith; inside = within; nested = λ j from to. nested.ends first j (omega arith) to }) those
+            (none_first (pairs_fault (item pair others)) None e));
+        some = some;
+        within = omega arith;
+        body = ap (λ (v : Items). first_form (forms_of v)) are ∙ ap form_of (sym b.first);
+        ends = omega arith;
+      }
+
+  pub let_top : (body : ℕ) → let_fault place (arguments_of items k first) ≡ None → body ≡ end_at items first
+      → IsLayer items k (Layer.Let (first + 1) body) (unless_faulty (let_fault place (arguments_of items k first)) (let_form place (binds_of (item_at items first)) (first_form (forms_of (others_of items k first)))))
+  let_top body none same =
+      let shape = let_shape (item_at items first) (others_of items k first) refl refl none in (
+        binds_of (item_at items first),
+        ap (λ o. unless_faulty o (let_form place (binds_of (item_at items first)) (first_form (forms_of (others_of items k first))))) none
+            ∙ ap (let_form place (binds_of (item_at items first))) (shape.body ∙ ap (form_at items) (sym same)),
+        subst (λ (v : ℕ). AreBinds items (first + 1) (binds_of (item_at items first)) v) (sym same) shape.binds,
+        subst (λ (v : ℕ). first + 1 < v) (sym same) shape.some,
+        subst (λ (v : ℕ). v < length items.nodes) (sym same) shape.within,
+        ap (end_at items) same ∙ shape.ends,
+        let h = behind_head in omega arith,
+      )
 
 -- Attributes without fault of shape: after each `:named` stands a symbol.
 abbrev naming : List Known
@@ -301,18 +381,11 @@ no_fault : (a b : Option ℕ) → option_or a b ≡ None → (a ≡ None) × (b 
 no_fault None b e = (refl, e)
 no_fault (Some n) b e = absurd cc
 
-is_a_symbol : (i : Item) → symbol_fault i ≡ None → is_some (symbol_name i) ≡ true
-is_a_symbol i e = go (is_some (symbol_name i)) e
-  where
-    go : (b : Bool) → (if b then None else Some (place_of i)) ≡ None → b ≡ true
-    go true f = refl
-    go false f = absurd cc
-
 names_symbols : (before : Item) (others : Items) → misplaced naming (after_item naming before) others ≡ None → NamesAreSymbols before others
 names_symbols before no_items e = tt
 names_symbols before (item i rest) e =
     let (none, later) = no_fault (next_fault (after_item naming before) i) (misplaced naming (after_item naming i) rest) e in (
-      λ named. is_a_symbol i (ap (λ (n : Next). next_fault n i) (sym (name_wanted before named)) ∙ none),
+      λ named. is_symbol_item i (ap (λ (n : Next). next_fault n i) (sym (name_wanted before named)) ∙ none),
       names_symbols i rest later,
     )
 
@@ -333,58 +406,34 @@ attributes_fit place first rest e =
     go true f = absurd cc
     go false f = earliest (misplaced naming word_next (item first rest)) (repeated naming (item first rest)) f
 
-attributes_there : (s : List ℕ) (ns : List Node) (place behind end m : ℕ) (arg : Item) (rest : Items) → AreNodes s ns behind rest m → annotation_fault place (item arg rest) ≡ None → end ≡ m
-    → AreTermAttributes s ns behind (names_given (item arg rest)) end
-attributes_there s ns place behind end m arg no_items are e same = absurd cc
-attributes_there s ns place behind end m arg (item first others) are e same = record {
-  first = first;
-  others = others;
-  there = subst (λ (v : ℕ). AreNodes s ns behind (item first others) v) (sym same) are;
-  give = refl;
-  named = names_symbols first others (attributes_fit place first others e);
-}
+record GivesAttributes (items : ItemsView) (k : ℕ) (names : List Name) (m : ℕ) : Type 0 where
+  are : AreTermAttributes items k m
+  give : names ≡ names_at items k m
 
-pub annotation_top : (s : List ℕ) (ns : List Node) (k first m behind end : ℕ) (a : IsApplied s ns k first m) → annotation_fault a.place (item a.arg a.rest) ≡ None → behind ≡ a.behind → end ≡ m
-    → IsLayer s ns k (Layer.Annotated first behind end) (unless_faulty (annotation_fault a.place (item a.arg a.rest)) (annotated a.place (form_of a.arg) (names_given (item a.arg a.rest)))) m
-annotation_top s ns k first m behind end a none same last = (
-  a.place,
-  names_given (item a.arg a.rest),
-  form_of a.arg,
-  ap (λ o. unless_faulty o (annotated a.place (form_of a.arg) (names_given (item a.arg a.rest)))) none,
-  begins_at s ns k (list a.place (item a.head (item a.arg a.rest))) m a.here,
-  record { what = a.arg; there = subst (λ (v : ℕ). IsNode s ns first a.arg v) (sym same) a.arg_there; spells = refl },
-  subst (λ (v : ℕ). AreTermAttributes s ns v (names_given (item a.arg a.rest)) end) (sym same) (attributes_there s ns a.place a.behind end m a.arg a.rest a.rest_there none last),
-  last,
-  after_head s ns k first m a,
-)
+attributes_there : (items : ItemsView) (place k m : ℕ) (arg : Item) (rest : Items) → IsRange items k m → items_at items k m ≡ rest → annotation_fault place (item arg rest) ≡ None
+    → GivesAttributes items k (names_given (item arg rest)) m
+attributes_there items place k m arg no_items range are e = absurd cc
+attributes_there items place k m arg (item first others) range are e =
+    let a = firsts items k m first others range.inside are in
+    record {
+      are = record { some = a.less; range = range; named = rw (a.first, a.others) (names_symbols first others (attributes_fit place first others e)) };
+      give = ap (λ i. names_after i others) (sym a.first) ∙ ap (names_after (item_at items k)) (sym a.others);
+    }
+
+pub annotation_top : (items : ItemsView) (k first : ℕ) (a : IsApplied items k first) → AreInside items → (behind end : ℕ) → annotation_fault (place_of (item_at items k)) (arguments_of items k first) ≡ None → behind ≡ end_at items first → end ≡ end_at items k
+    → IsLayer items k (Layer.Annotated first behind end) (unless_faulty (annotation_fault (place_of (item_at items k)) (arguments_of items k first)) (annotated (place_of (item_at items k)) (form_of (item_at items first)) (names_given (arguments_of items k first))))
+annotation_top items k first a nested behind end none same last =
+    let head = behind_head items k first a nested in
+    let given = attributes_there items (place_of (item_at items k)) (end_at items first) (end_at items k) (item_at items first) (others_of items k first) (range_on items first (end_at items k) (arguments_range items k first a nested) a.second.less) refl none in (
+      ap (λ o. unless_faulty o (annotated (place_of (item_at items k)) (form_of (item_at items first)) (names_given (arguments_of items k first)))) none
+          ∙ ap (annotated (place_of (item_at items k)) (form_at items first)) (given.give ∙ ap (λ n. names_at items n (end_at items k)) (sym same) ∙ ap (λ n. names_at items behind n) (sym last)),
+      first_within items k first a nested,
+      sym same,
+      subst (λ (v : ℕ). AreTermAttributes items v end) (sym same) (subst (λ (v : ℕ). AreTermAttributes items (end_at items first) v) (sym last) given.are),
+      last,
+      head,
+    )
 
 -- a shape that is faulty
-pub faulty_top : (o : Option ℕ) (f : Form) (place : ℕ) → Some place ≡ o → unless_faulty o f ≡ faulty BadCommand place
-faulty_top o f place e = ap (λ v. unless_faulty v f) (sym e)
-
-pub list_named : (s : List ℕ) (ns : List Node) (k m : ℕ) (i : Item) (l : IsListAt s ns k i m) → IsNode s ns k i m → IsNode s ns k (list l.place l.items) m
-list_named s ns k m i l is = subst (λ (j : Item). IsNode s ns k j m) l.split is
-
--- the form of a list of two items or more
-pub form_split : (s : List ℕ) (ns : List Node) (k m first end : ℕ) (i : Item) (l : IsListAt s ns k i m) → (h : HasSecond s ns (k + 1) l.items first end)
-    → form_of i ≡ list_form l.place h.one (item h.two h.rest) (form_of h.two) (forms_of h.rest) (binds_of h.two)
-form_split s ns k m first end i l h = ap form_of (l.split ∙ ap (list l.place) h.split) ∙ headed_list l.place h.one h.two h.rest
-
-pub form_short : (s : List ℕ) (ns : List Node) (k m at : ℕ) (i : Item) (l : IsListAt s ns k i m) → has_two l.items ≡ false → at ≡ place_of i → form_of i ≡ faulty BadCommand at
-form_short s ns k m at i l short same = ap form_of l.split ∙ short_list l.place l.items short ∙ ap (faulty BadCommand) (sym (same ∙ ap place_of l.split))
-
--- the same items, told by where the list ends
-pub list_inside_to : (s : List ℕ) (ns : List Node) (k m end : ℕ) (i : Item) (l : IsListAt s ns k i m) → end ≡ m → AreNodes s ns (k + 1) l.items end
-list_inside_to s ns k m end i l e = subst (λ (v : ℕ). AreNodes s ns (k + 1) l.items v) (sym e) l.there
-
-pub second_to : (s : List ℕ) (ns : List Node) (k : ℕ) (items : Items) (first m end : ℕ) → end ≡ m → HasSecond s ns k items first end → HasSecond s ns k items first m
-second_to s ns k items first m end e h = subst (λ (v : ℕ). HasSecond s ns k items first v) e h
-
--- the top of a list whose head is a symbol
-pub list_top : (s : List ℕ) (ns : List Node) (k m first : ℕ) (i : Item) (name : List ℕ) (top : Layer) (l : IsListAt s ns k i m) → IsNode s ns k i m → (h : HasSecond s ns (k + 1) l.items first m) → symbol_name h.one ≡ Some name
-    → ((n : ℕ) (a : IsApplied s ns k first n) → symbol_name a.head ≡ Some name → IsLayer s ns k top (symbol_list_form a.place (name_at a.head) (item a.arg a.rest) (form_of a.arg) (forms_of a.rest) (binds_of a.arg)) n)
-    → IsLayer s ns k top (form_of i) m
-list_top s ns k m first i name top l is h named topped =
-    let a = applied_of s ns k l.place l.items first m (list_named s ns k m i l is) h in
-    let same = form_split s ns k m first m i l h ∙ named_head l.place h.one (item h.two h.rest) (form_of h.two) (forms_of h.rest) (binds_of h.two) name named in
-    subst (λ (f : Form). IsLayer s ns k top f m) (sym same) (topped m a named)
+pub faulty_top : (o : Option ℕ) (f : Form) (at : ℕ) → Some at ≡ o → unless_faulty o f ≡ faulty BadCommand at
+faulty_top o f at e = ap (λ v. unless_faulty v f) (sym e)

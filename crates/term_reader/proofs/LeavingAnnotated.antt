@@ -1,13 +1,11 @@
 -- The term of an annotation was read.
 use Rattle.std.proofs.Common.{◌≡◌, ◌∙◌, arith, ap, sym, ℕ, List, Result, Ok, Err}
 use Rattle.pair_pool.specs.Views.{IsUnchanged}
-use Rattle.sexpr.specs.Items.{item}
 use Rattle.sym_table.specs.Table.{Table}
 use Rattle.term_pool.specs.Views.{TermsView, KeepsTerms}
-use Rattle.text_items.specs.ItemShapes.{Name}
 use Rattle.term_reader.specs.Frames.{WholeReading}
 use Rattle.term_names.specs.Known.{KnownView, macro_of}
-use Rattle.term_reader.specs.Layers.{AreTermAttributes}
+use Rattle.term_reader.specs.Layers.{names_at}
 use Rattle.term_reader.specs.Leaving.{with_open, Leaves}
 use Rattle.term_reader.specs.Naming.{GivesNames}
 use Rattle.term_reader.specs.Reading.{EndsWith, IsReadTerm}
@@ -22,33 +20,31 @@ use Rattle.term_expansion.specs.Values.{IsValue}
 use Rattle.term_names.specs.declared.faults.ReadFault.{ReadFault}
 use Rattle.term_reader.specs.declared.frames.Frame.{Frame}
 use Rattle.term_names.specs.declared.known.Which.{Which}
-use Rattle.text_items.specs.declared.nodes.Node.{Node}
+use Rattle.text_items.specs.ItemsAt.{ItemsView}
 use Rattle.term_reader.specs.declared.reader.Reader.{Reader}
 use Rattle.term_reader.specs.declared.reader.Turn.{Turn}
 use Rattle.term_expansion.specs.declared.values.Value.{Value}
-use Rattle.term_reader.proofs.FormSteps.{attributes_ordered}
-use Rattle.text_items.proofs.NodeSteps.{nodes_inside}
 use Rattle.term_reader.proofs.Resuming.{annotated_read}
 use Rattle.term_reader.proofs.Settled.{fault_of_whole}
 use Rattle.term_reader.proofs.Staying.{table_keeps_none, value_stays, scope_stays, frames_stay, places_none}
 
-module _ (source : List ℕ) (nodes : List Node) (g : WholeReading) (s : Table) (v : TermsView) (r : Reader) (c : Value) (n end : ℕ) (h : HasRead source nodes g s v (with_open r (Frame.Names end)) c n) where
+module _ (items : ItemsView) (g : WholeReading) (s : Table) (v : TermsView) (r : Reader) (c : Value) (n end : ℕ) (h : HasRead items g s v (with_open r (Frame.Names end)) c n) where
   -- what comes of the names, for what waits around the annotation
-  names_come : resumed h.frames.1 (with_names h.term h.frames.0 h.script) ≡ g.whole
+  names_come : resumed h.frames.0 (with_names h.term (names_at items n end) h.script) ≡ g.whole
   names_come =
-      let (names, rest, is, here, outer) = h.frames in
-      sym (annotated_read rest names h.term h.script) ∙ ap (λ (ws : List Waiting). resumed ws (done h.term h.script)) (sym is) ∙ h.comes
+      let (rest, is, here, outer) = h.frames in
+      sym (annotated_read rest (names_at items n end) h.term h.script) ∙ ap (λ (ws : List Waiting). resumed ws (done h.term h.script)) (sym is) ∙ h.comes
 
   abbrev pub Given : TermsView → KnownView → Result Unit ReadFault → Type 0
   Given w known result =
-      (names : List Name) (t : Typed) (sc : Script) → AreTermAttributes source nodes n names end → IsValue s v c t → IsScript s v r.known sc → GivesNames s w known t (with_names t names sc) result
+      (t : Typed) (sc : Script) → IsValue s v c t → IsScript s v r.known sc → GivesNames s w known t (with_names t (names_at items n end) sc) result
 
   pub names_given : (w : TermsView) → KeepsTerms v w → IsUnchanged v.pass w.pass → (known : KnownView) → ((m : Which) → macro_of known m ≡ macro_of r.known m) → Given w known (Ok tt)
-      → Leaves source nodes g s v (with_open r (Frame.Names end)) c n s w (record r { known = known }) (Ok (Turn.Use c end))
+      → Leaves items g s v (with_open r (Frame.Names end)) c n s w (record r { known = known }) (Ok (Turn.Use c end))
   names_given w keeps same known macros given =
-      let (names, rest, is, here, outer) = h.frames in
-      let (sc, whole, script) = given names h.term h.script here h.is h.stands.script in
-      let later = attributes_ordered source nodes n names end here in
+      let (rest, is, here, outer) = h.frames in
+      let (sc, whole, script) = given h.term h.script h.is h.stands.script in
+      let later = here.some in
       record {
         goes = record {
           step = record {
@@ -64,31 +60,31 @@ module _ (source : List ℕ) (nodes : List Node) (g : WholeReading) (s : Table) 
             };
             is = value_stays s s v w (table_keeps_none s) keeps c h.term h.is;
             low = h.low;
-            frames = frames_stay s s v w (table_keeps_none s) keeps source nodes g r.known known macros r.frames r.values r.leaves.items r.scope h.place end rest outer;
+            frames = frames_stay s s v w (table_keeps_none s) keeps items g r.known known macros r.frames r.values r.leaves.items r.scope h.place end rest outer;
             comes = ap (resumed rest) (sym whole) ∙ names_come;
           };
           placed = places_none s v.pass w.pass (IsReadTerm g.whole) same.placed;
         };
         spends = λ within. record {
-          inside = nodes_inside source nodes n (item here.first here.others) end here.there within;
+          inside = here.range.inside;
           few = omega (arith, later);
           progress = omega (arith, later);
         };
       }
 
   pub names_refused : (w : TermsView) → IsUnchanged v.pass w.pass → (known : KnownView) (fault : ReadFault) → Given w known (Err fault) → (q : Reader)
-      → Leaves source nodes g s v (with_open r (Frame.Names end)) c n s w q (Err fault)
+      → Leaves items g s v (with_open r (Frame.Names end)) c n s w q (Err fault)
   names_refused w same known fault given q =
-      let (names, rest, is, here, outer) = h.frames in
+      let (rest, is, here, outer) = h.frames in
       record {
         goes = record {
-          step = ends fault (given names h.term h.script here h.is h.stands.script);
+          step = ends fault (given h.term h.script h.is h.stands.script);
           placed = places_none s v.pass w.pass (IsReadTerm g.whole) same.placed;
         };
         spends = λ _. tt;
       }
     where
-      ends : (f : ReadFault) → GivesNames s w known h.term (with_names h.term h.frames.0 h.script) (Err f) → EndsWith s w.pass g.whole.result (IsReadTerm g.whole) f
-      ends (ReadFault.Text x) is = fault_of_whole h.frames.1 (with_names h.term h.frames.0 h.script) x g.whole is names_come
+      ends : (f : ReadFault) → GivesNames s w known h.term (with_names h.term (names_at items n end) h.script) (Err f) → EndsWith s w.pass g.whole.result (IsReadTerm g.whole) f
+      ends (ReadFault.Text x) is = fault_of_whole h.frames.0 (with_names h.term (names_at items n end) h.script) x g.whole is names_come
       ends ReadFault.PoolFull is = absurd is
       ends ReadFault.Memory is = tt

@@ -1,5 +1,5 @@
 -- An argument of an application was read.
-use Rattle.std.proofs.Common.{◌≡◌, ◌≢◌, ◌∙◌, ◌≤◌, arith, ap, sym, subst, refl, ℕ, List, [], ◌∷◌, ◌++◌, length, take, drop, Option, Result, Ok, Err, true, false}
+use Rattle.std.proofs.Common.{◌<◌, ◌≡◌, ◌≢◌, ◌∙◌, ◌≤◌, arith, ap, sym, subst, refl, ℕ, List, [], ◌∷◌, ◌++◌, length, take, drop, Option, Result, Ok, Err, true, false}
 use Rattle.std.proofs.lemmas.Bool.{eqb-true, eqb-false, not-true, not-false, false≢true}
 use Rattle.std.proofs.lemmas.List.{take-append-le, length-append}
 use Rattle.sym_table.specs.Table.{Table}
@@ -7,6 +7,7 @@ use Rattle.term_pool.specs.Views.{TermsView, KeepsTerms}
 use Rattle.problem_text.specs.Forms.{Forms, no_forms}
 use Rattle.term_names.specs.Heads.{HeadMeans}
 use Rattle.term_reader.specs.Frames.{WholeReading, AreFrames}
+use Rattle.term_reader.specs.Layers.{form_at, forms_at}
 use Rattle.term_reader.specs.Leaving.{with_open, Spends, Leaves}
 use Rattle.term_reader.specs.OpenApplications.{wants_more}
 use Rattle.term_names.specs.InScope.{AreLow}
@@ -23,11 +24,11 @@ use Rattle.term_expansion.specs.Values.{AreValues}
 use Rattle.term_names.specs.declared.faults.ReadFault.{ReadFault}
 use Rattle.term_reader.specs.declared.frames.Frame.{Frame}
 use Rattle.term_reader.specs.declared.frames.OpenArguments.{OpenArguments}
-use Rattle.text_items.specs.declared.nodes.Node.{Node}
+use Rattle.text_items.specs.ItemsAt.{ItemsView, end_at}
 use Rattle.term_reader.specs.declared.reader.Reader.{Reader}
 use Rattle.term_reader.specs.declared.reader.Turn.{Turn}
 use Rattle.term_expansion.specs.declared.values.Value.{Value}
-use Rattle.term_reader.proofs.FormSteps.{forms_done, forms_more, forms_ordered, forms_inside}
+use Rattle.term_reader.proofs.FormSteps.{forms_done, forms_more, range_on}
 use Rattle.term_reader.proofs.InnermostForm.{around, same_reader}
 use Rattle.term_reader.proofs.Limited.{limit_so}
 use Rattle.term_reader.proofs.MoreRead.{low_below, values_pushed}
@@ -39,10 +40,10 @@ use Rattle.term_reader.proofs.Staying.{table_keeps_none, adds_none, script_stays
 abbrev pub pushed : Reader → Value → List Value
 pushed r c = r.values ++ c ∷ []
 
-module _ (source : List ℕ) (nodes : List Node) (g : WholeReading) (s : Table) (v : TermsView) (r : Reader) (c : Value) (n : ℕ) (opened : OpenArguments) (h : HasRead source nodes g s v (with_open r (Frame.Arguments opened)) c n) where
+module _ (items : ItemsView) (g : WholeReading) (s : Table) (v : TermsView) (r : Reader) (c : Value) (n : ℕ) (opened : OpenArguments) (h : HasRead items g s v (with_open r (Frame.Arguments opened)) c n) where
   -- the frames around it stay, over what is left of the stack
   take_pushed : take opened.from (pushed r c) ≡ take opened.from r.values
-  take_pushed = let (m, read, left, rest, is, here, outer) = h.frames in take-append-le opened.from r.values (c ∷ []) here.within
+  take_pushed = let (m, read, rest, is, here, outer) = h.frames in take-append-le opened.from r.values (c ∷ []) here.within
 
   low_pushed : AreLow (pushed r c)
   low_pushed = all_at_end _ r.values c h.stands.low h.low
@@ -50,21 +51,21 @@ module _ (source : List ℕ) (nodes : List Node) (g : WholeReading) (s : Table) 
   -- what is applied to the arguments
   pub applied_here : (m : Meaning) × (ts : List Typed) × HeadMeans s v r.known opened.head m × AreValues s v (drop opened.from (pushed r c)) ts
   applied_here =
-      let (m, read, left, rest, is, here, outer) = h.frames in
+      let (m, read, rest, is, here, outer) = h.frames in
       (m, read ++ h.term ∷ [], here.applies, values_pushed s v opened.from r.values read c h.term here.within here.read_values h.is)
 
-  pub arguments_bounds : n ≤ length nodes → (n ≤ opened.end) × (opened.end ≤ length nodes)
+  pub arguments_bounds : n ≤ length items.nodes → (n ≤ opened.end) × (opened.end ≤ length items.nodes)
   arguments_bounds inside =
-      let (m, read, left, rest, is, here, outer) = h.frames in
-      (forms_ordered source nodes n left opened.end here.left_here, forms_inside source nodes n left opened.end here.left_here inside)
+      let (m, read, rest, is, here, outer) = h.frames in
+      (here.left_here.before, here.left_here.inside)
 
   -- it was the last one
   arguments_whole : n ≡ opened.end → (w : TermsView) (made : Result (Option Value) ReadFault)
       → ((m : Meaning) (ts : List Typed) → HeadMeans s v r.known opened.head m → AreValues s v (drop opened.from (pushed r c)) ts → Makes s v w (meaning_applied m ts) made)
       → IsWhole g s v w opened.place made
   arguments_whole last w made makes =
-      let (m, read, left, rest, is, here, outer) = h.frames in
-      let none : left ≡ no_forms = forms_done source nodes n left opened.end here.left_here last in
+      let (m, read, rest, is, here, outer) = h.frames in
+      let none : forms_at items n opened.end ≡ no_forms = forms_done items n opened.end last in
       record {
         script = h.script;
         expected = meaning_applied m (read ++ h.term ∷ []);
@@ -78,10 +79,10 @@ module _ (source : List ℕ) (nodes : List Node) (g : WholeReading) (s : Table) 
 
   arguments_close : n ≡ opened.end → (w : TermsView) → KeepsTerms v w → (made : Result (Option Value) ReadFault)
       → ((m : Meaning) (ts : List Typed) → HeadMeans s v r.known opened.head m → AreValues s v (drop opened.from (pushed r c)) ts → Makes s v w (meaning_applied m ts) made)
-      → Closes source nodes g s v w (record r { values = take opened.from (pushed r c) }) opened.place opened.end made
+      → Closes items g s v w (record r { values = take opened.from (pushed r c) }) opened.place opened.end made
   unfolding arguments_whole
   arguments_close last w keeps made makes =
-      let (m, read, left, rest, is, here, outer) = h.frames in
+      let (m, read, rest, is, here, outer) = h.frames in
       record {
         whole = arguments_whole last w made makes;
         around = h.place;
@@ -91,39 +92,38 @@ module _ (source : List ℕ) (nodes : List Node) (g : WholeReading) (s : Table) 
           settings = h.stands.settings;
           low = low_below opened.from (pushed r c) low_pushed;
         };
-        frames = frames_stay s s v w (table_keeps_none s) keeps source nodes g r.known r.known (λ _. refl) r.frames (take opened.from (pushed r c)) r.leaves.items r.scope h.place opened.end rest
-            (subst (λ values. AreFrames source nodes g s v r.known r.frames values r.leaves.items r.scope h.place opened.end rest) (sym take_pushed) outer);
+        frames = frames_stay s s v w (table_keeps_none s) keeps items g r.known r.known (λ _. refl) r.frames (take opened.from (pushed r c)) r.leaves.items r.scope h.place opened.end rest
+            (subst (λ values. AreFrames items g s v r.known r.frames values r.leaves.items r.scope h.place opened.end rest) (sym take_pushed) outer);
       }
 
   -- the next one is read
-  pub arguments_go_on : n ≢ opened.end → IsAt source nodes g s v (record r { values = pushed r c; frames = Frame.Arguments opened ∷ r.frames }) n
+  pub arguments_go_on : n ≢ opened.end → IsAt items g s v (record r { values = pushed r c; frames = Frame.Arguments opened ∷ r.frames }) n
   arguments_go_on more =
-      let (m, read, left, rest, is, here, outer) = h.frames in
-      let a = forms_more source nodes n left opened.end here.left_here more in
+      let (m, read, rest, is, here, outer) = h.frames in
+      let before = here.left_here.before in
+      let less : n < opened.end = omega arith in
+      let left = forms_at items (end_at items n) opened.end in
       record {
         script = h.script;
         place = h.place;
-        spelled = a.first;
-        behind = a.next;
-        waiting = arguments opened.place m (read ++ h.term ∷ []) a.others h.place ∷ rest;
+        waiting = arguments opened.place m (read ++ h.term ∷ []) left h.place ∷ rest;
         stands = record { script = h.stands.script; scope = h.stands.scope; settings = h.stands.settings; low = low_pushed };
-        here = a.here;
+        inside = let h = here.left_here.inside in omega arith;
         frames = (
           m,
           read ++ h.term ∷ [],
-          a.others,
           rest,
           refl,
           record {
             applies = here.applies;
             within = pushed_within here.within;
             read_values = values_pushed s v opened.from r.values read c h.term here.within here.read_values h.is;
-            left_here = a.there;
+            left_here = range_on items n opened.end here.left_here less;
           },
-          subst (λ values. AreFrames source nodes g s v r.known r.frames values r.leaves.items r.scope h.place opened.end rest) (sym take_pushed) outer,
+          subst (λ values. AreFrames items g s v r.known r.frames values r.leaves.items r.scope h.place opened.end rest) (sym take_pushed) outer,
         );
-        comes = sym (next_argument_read rest opened.place m read h.term a.first a.others h.place h.script)
-            ∙ ap (λ (fs : Forms). resumed (arguments opened.place m read fs h.place ∷ rest) (done h.term h.script)) (sym a.split)
+        comes = sym (next_argument_read rest opened.place m read h.term (form_at items n) left h.place h.script)
+            ∙ ap (λ (fs : Forms). resumed (arguments opened.place m read fs h.place ∷ rest) (done h.term h.script)) (sym (forms_more items n opened.end here.left_here less))
             ∙ ap (λ (ws : List Waiting). resumed ws (done h.term h.script)) (sym is) ∙ h.comes;
       }
     where
@@ -131,8 +131,8 @@ module _ (source : List ℕ) (nodes : List Node) (g : WholeReading) (s : Table) 
       pushed_within e = omega (arith, e, length-append r.values (c ∷ []))
 
   -- what is left to be done
-  pub arguments_closed_spend : n ≡ opened.end → (t : Value) (values : List Value) → n ≤ length nodes
-      → Spends nodes s (with_open r (Frame.Arguments opened)) (Turn.Use c n) s (record r { values = values }) (Turn.Use t opened.end)
+  pub arguments_closed_spend : n ≡ opened.end → (t : Value) (values : List Value) → n ≤ length items.nodes
+      → Spends items s (with_open r (Frame.Arguments opened)) (Turn.Use c n) s (record r { values = values }) (Turn.Use t opened.end)
   arguments_closed_spend last t values inside =
       let e = arguments_bounds inside in
       record { inside = e.1; few = omega (arith, last); progress = omega (arith, last) }
@@ -140,41 +140,41 @@ module _ (source : List ℕ) (nodes : List Node) (g : WholeReading) (s : Table) 
   -- What is done, by the stacks as the code has them.
   pub arguments_fault : n ≡ opened.end → (w : TermsView) → (values : List Value) → values ≡ pushed r c → (fault : ReadFault)
       → ((m : Meaning) (ts : List Typed) → HeadMeans s v r.known opened.head m → AreValues s v (drop opened.from values) ts → Makes s v w (meaning_applied m ts) (Err fault)) → (q : Reader)
-      → Leaves source nodes g s v (with_open r (Frame.Arguments opened)) c n s w q (Err fault)
+      → Leaves items g s v (with_open r (Frame.Arguments opened)) c n s w q (Err fault)
   arguments_fault last w values are fault makes q = record {
-    goes = unmade_ends source nodes g s v w opened.place fault q (arguments_whole last w (Err fault) (rw are at makes));
+    goes = unmade_ends items g s v w opened.place fault q (arguments_whole last w (Err fault) (rw are at makes));
     spends = λ _. tt;
   }
 
   pub arguments_refused : n ≡ opened.end → (w : TermsView) → (values : List Value) → values ≡ pushed r c → (made : Option Value)
       → ((m : Meaning) (ts : List Typed) → HeadMeans s v r.known opened.head m → AreValues s v (drop opened.from values) ts → Makes s v w (meaning_applied m ts) (Ok made)) → (fault : ReadFault)
       → ((s : Table) (v : TermsView) (o : Option Typed) (sc : Script) → IsMade s v o (Ok made) → SettlesTerm s v opened.place o sc (Err fault)) → (q : Reader)
-      → Leaves source nodes g s v (with_open r (Frame.Arguments opened)) c n s w q (Err fault)
+      → Leaves items g s v (with_open r (Frame.Arguments opened)) c n s w q (Err fault)
   arguments_refused last w values are made makes fault settles q = record {
-    goes = unsettled_ends source nodes g s v w opened.place made fault q (arguments_whole last w (Ok made) (rw are at makes)) settles;
+    goes = unsettled_ends items g s v w opened.place made fault q (arguments_whole last w (Ok made) (rw are at makes)) settles;
     spends = λ _. tt;
   }
 
   pub arguments_settled : n ≡ opened.end → (w : TermsView) → KeepsTerms v w → (values : List Value) → values ≡ pushed r c → (made : Option Value)
       → ((m : Meaning) (ts : List Typed) → HeadMeans s v r.known opened.head m → AreValues s v (drop opened.from values) ts → Makes s v w (meaning_applied m ts) (Ok made)) → (t : Value)
       → ((s : Table) (v : TermsView) (o : Option Typed) (sc : Script) → IsMade s v o (Ok made) → SettlesTerm s v opened.place o sc (Ok t)) → (kept : List Value) → kept ≡ take opened.from values
-      → Leaves source nodes g s v (with_open r (Frame.Arguments opened)) c n s w (record r { values = kept }) (Ok (Turn.Use t opened.end))
+      → Leaves items g s v (with_open r (Frame.Arguments opened)) c n s w (record r { values = kept }) (Ok (Turn.Use t opened.end))
   arguments_settled last w keeps values are made makes t settles kept take_is = record {
-    goes = subst (λ (vs : List Value). Goes source nodes g s v w (record r { values = vs }) (Ok (Turn.Use t opened.end))) (sym (take_is ∙ ap (take opened.from) are))
-        (settled_goes_on source nodes g s v w opened.place _ opened.end made t (arguments_close last w keeps (Ok made) (rw are at makes)) settles);
+    goes = subst (λ (vs : List Value). Goes items g s v w (record r { values = vs }) (Ok (Turn.Use t opened.end))) (sym (take_is ∙ ap (take opened.from) are))
+        (settled_goes_on items g s v w opened.place _ opened.end made t (arguments_close last w keeps (Ok made) (rw are at makes)) settles);
     spends = arguments_closed_spend last t kept;
   }
 
 -- The next argument is read, and the form stays where it is.
-module _ (source : List ℕ) (nodes : List Node) (g : WholeReading) (s : Table) (v : TermsView) (r : Reader) (c : Value) (n : ℕ) (values : List Value) (are : values ≡ pushed r c) where
-  pub argument_goes_on : (frames : List Frame) → r.frames ≡ frames → wants_more frames n ≡ true → HasRead source nodes g s v r c n
-      → Goes source nodes g s v v (record r { values = values }) (Ok (Turn.Read n))
+module _ (items : ItemsView) (g : WholeReading) (s : Table) (v : TermsView) (r : Reader) (c : Value) (n : ℕ) (values : List Value) (are : values ≡ pushed r c) where
+  pub argument_goes_on : (frames : List Frame) → r.frames ≡ frames → wants_more frames n ≡ true → HasRead items g s v r c n
+      → Goes items g s v v (record r { values = values }) (Ok (Turn.Read n))
   argument_goes_on (Frame.Arguments opened ∷ frames) is more h =
-      let same = same_reader source nodes s v r c n (Frame.Arguments opened) frames is in
-      nothing_made source nodes g s v _ (Ok (Turn.Read n))
-      (subst (λ (x : Reader). IsAt source nodes g s v (record x { values = values }) n) (sym same)
+      let same = same_reader items s v r c n (Frame.Arguments opened) frames is in
+      nothing_made items g s v _ (Ok (Turn.Read n))
+      (subst (λ (x : Reader). IsAt items g s v (record x { values = values }) n) (sym same)
       (rw are
-      (arguments_go_on source nodes g s v (around r frames) c n opened (subst (λ (x : Reader). HasRead source nodes g s v x c n) same h)
+      (arguments_go_on items g s v (around r frames) c n opened (subst (λ (x : Reader). HasRead items g s v x c n) same h)
       (eqb-false n opened.end (not-true _ more)))))
   argument_goes_on [] is more h = absurd (false≢true more)
   argument_goes_on (Frame.Bindings opened ∷ frames) is more h = absurd (false≢true more)

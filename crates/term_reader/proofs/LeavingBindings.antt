@@ -1,5 +1,5 @@
 -- The term of a binding was read.
-use Rattle.std.proofs.Common.{◌≡◌, ◌≢◌, ◌∙◌, ◌≤◌, ◌<◌, ◌+◌, ◌-◌, arith, refl, ap, sym, subst, ℕ, List, [], ◌∷◌, ◌++◌, length, take, drop, slice_get, Some, Ok, Err}
+use Rattle.std.proofs.Common.{◌≡◌, ◌≢◌, ◌∙◌, ◌≤◌, ◌<◌, ◌+◌, ◌-◌, arith, refl, ap, sym, subst, ℕ, List, [], ◌∷◌, ◌++◌, length, take, drop, Ok, Err}
 use Rattle.std.proofs.lemmas.List.{take-append-le, length-append, length-drop}
 use Rattle.sexpr.specs.declared.causes.Cause.TheVariants.{Repeated}
 use Rattle.sexpr.specs.declared.causes.Refusal.{Refusal}
@@ -7,12 +7,10 @@ use Rattle.sym_table.specs.Leaf as leaf
 use Rattle.sym_table.specs.Table.{Table, IsLeaf}
 use Rattle.term_model.specs.declared.symbols.Sort.{Sort}
 use Rattle.term_pool.specs.Views.{TermsView}
-use Rattle.text_items.specs.ItemShapes.{Name}
 use Rattle.problem_text.specs.Forms.{LetBinds, no_binds, bind}
 use Rattle.term_reader.specs.Frames.{WholeReading, AreFrames}
 use Rattle.term_names.specs.InScope.{IsScope, AreLow, AreValuesBound}
-use Rattle.text_items.specs.NameNodes.{IsNameNode}
-use Rattle.term_reader.specs.Layers.{AreBinds}
+use Rattle.term_reader.specs.Layers.{form_at, AreBinds, symbol_at, IsSymbolAt}
 use Rattle.term_reader.specs.Leaving.{with_open, Leaves}
 use Rattle.problem_text.specs.Names.{Bound, Place, inside}
 use Rattle.term_reader.specs.Turns.{HasRead, IsAt}
@@ -26,11 +24,12 @@ use Rattle.term_names.specs.Standing.{AddsNoSymbols}
 use Rattle.term_names.specs.declared.faults.ReadFault.{ReadFault}
 use Rattle.term_reader.specs.declared.frames.Frame.{Frame}
 use Rattle.term_reader.specs.declared.frames.OpenBindings.{OpenBindings}
-use Rattle.text_items.specs.declared.nodes.Node.{Node}
+use Rattle.text_items.specs.ItemsAt.{ItemsView, end_at, item_at}
+use Rattle.sexpr.specs.Items.{place_of}
 use Rattle.term_reader.specs.declared.reader.Reader.{Reader}
 use Rattle.term_reader.specs.declared.reader.Turn.{Turn}
 use Rattle.term_expansion.specs.declared.values.Value.{Value}
-use Rattle.term_reader.proofs.FormSteps.{binds_done, binds_more, form_behind, form_inside}
+use Rattle.term_reader.proofs.FormSteps.{binds_done, binds_more}
 use Rattle.term_reader.proofs.Limited.{replaces_so}
 use Rattle.term_reader.proofs.MoreRead.{bound_pushed, same_script}
 use Rattle.problem_text.proofs.Outcomes.{all_at_end}
@@ -39,19 +38,19 @@ use Rattle.term_reader.proofs.Resuming.{next_binding_read, next_binding_refused,
 use Rattle.term_reader.proofs.Settled.{nothing_made}
 use Rattle.term_reader.proofs.Staying.{keeps_none, value_stays, bound_stays, script_stays, scope_stays, frames_stay}
 
-module _ (source : List ℕ) (nodes : List Node) (g : WholeReading) (s : Table) (v : TermsView) (r : Reader) (c : Value) (n : ℕ) (opened : OpenBindings) (h : HasRead source nodes g s v (with_open r (Frame.Bindings opened)) c n) where
+module _ (items : ItemsView) (g : WholeReading) (s : Table) (v : TermsView) (r : Reader) (c : Value) (n : ℕ) (opened : OpenBindings) (h : HasRead items g s v (with_open r (Frame.Bindings opened)) c n) where
   -- the binding has its leaf and its value on the stacks
   pub record IsAdded (t : Table) (leaves : List ℕ) (values : List Value) : Type 0 where
     pub adds : AddsNoSymbols s t
-    pub leaf : (x : Name) → IsNameNode source nodes opened.name x → (k : ℕ) × IsLeaf t k (leaf.variable x.name c.sort) × (leaves ≡ r.leaves.items ++ k ∷ [])
+    pub leaf : (k : ℕ) × IsLeaf t k (leaf.variable (symbol_at items opened.name).name c.sort) × (leaves ≡ r.leaves.items ++ k ∷ [])
     pub values_are : values ≡ r.values ++ c ∷ []
 
-  pub variable_there : (x : Name) × IsNameNode source nodes opened.name x
-  variable_there = let (read, x, earlier, left, f, m, rest, is, here, outer) = h.frames in (x, here.variable)
+  pub variable_there : IsSymbolAt items opened.name
+  variable_there = let (read, earlier, left, rest, is, here, outer) = h.frames in here.variable
 
   -- the bindings that were read, with this one
   abbrev all_read : List Bound
-  all_read = h.frames.0 ++ bound_to h.frames.1 h.term ∷ []
+  all_read = h.frames.0 ++ bound_to (symbol_at items opened.name) h.term ∷ []
 
   module _ (t : Table) (leaves : List ℕ) (values : List Value) (added : IsAdded t leaves values) where
     low_now : AreLow values
@@ -59,32 +58,32 @@ module _ (source : List ℕ) (nodes : List Node) (g : WholeReading) (s : Table) 
 
     bound_now : AreValuesBound t v (drop opened.leaves leaves) (drop opened.from values) all_read
     bound_now =
-        let (read, x, earlier, left, f, m, rest, is, here, outer) = h.frames in
-        let (k, leaf_is, leaves_are) = added.leaf x here.variable in
+        let (read, earlier, left, rest, is, here, outer) = h.frames in
+        let (k, leaf_is, leaves_are) = added.leaf in
         rw (leaves_are, added.values_are)
-        (bound_pushed t v opened.leaves opened.from r.leaves.items r.values read k c (bound_to x h.term) here.leaves_within here.within
+        (bound_pushed t v opened.leaves opened.from r.leaves.items r.values read k c (bound_to (symbol_at items opened.name) h.term) here.leaves_within here.within
         (bound_stays s t v v added.adds.keeps (keeps_none v) (drop opened.leaves r.leaves.items) (drop opened.from r.values) read here.read_bound)
-        (subst (λ (sort : Sort). IsLeaf t k (leaf.variable x.name sort)) h.is.sort leaf_is) (value_stays s t v v added.adds.keeps (keeps_none v) c h.term h.is))
+        (subst (λ (sort : Sort). IsLeaf t k (leaf.variable (symbol_at items opened.name).name sort)) h.is.sort leaf_is) (value_stays s t v v added.adds.keeps (keeps_none v) c h.term h.is))
 
     within_now : opened.from ≤ length values
     within_now =
-        let (read, x, earlier, left, f, m, rest, is, here, outer) = h.frames in
+        let (read, earlier, left, rest, is, here, outer) = h.frames in
         rw added.values_are (let e = here.within in omega (arith, e, length-append r.values (c ∷ [])))
 
     pub leaves_within_now : opened.leaves < length leaves
     leaves_within_now =
-        let (read, x, earlier, left, f, m, rest, is, here, outer) = h.frames in
-        let (k, leaf_is, leaves_are) = added.leaf x here.variable in
+        let (read, earlier, left, rest, is, here, outer) = h.frames in
+        let (k, leaf_is, leaves_are) = added.leaf in
         rw leaves_are (let e = here.leaves_within in omega (arith, e, length-append r.leaves.items (k ∷ [])))
 
-    frames_now : AreFrames source nodes g t v r.known r.frames (take opened.from values) (take opened.leaves leaves) r.scope h.place h.frames.5 h.frames.6
+    frames_now : AreFrames items g t v r.known r.frames (take opened.from values) (take opened.leaves leaves) r.scope h.place (end_at items opened.body) h.frames.3
     frames_now =
-        let (read, x, earlier, left, f, m, rest, is, here, outer) = h.frames in
-        let (k, leaf_is, leaves_are) = added.leaf x here.variable in
+        let (read, earlier, left, rest, is, here, outer) = h.frames in
+        let (k, leaf_is, leaves_are) = added.leaf in
         let values_same : take opened.from values ≡ take opened.from r.values = ap (take opened.from) added.values_are ∙ take-append-le opened.from r.values (c ∷ []) here.within in
         let leaves_same : take opened.leaves leaves ≡ take opened.leaves r.leaves.items = ap (take opened.leaves) leaves_are ∙ take-append-le opened.leaves r.leaves.items (k ∷ []) here.leaves_within in
         rw (values_same, leaves_same)
-        (frames_stay s t v v added.adds.keeps (keeps_none v) source nodes g r.known r.known (λ _. refl) r.frames (take opened.from r.values) (take opened.leaves r.leaves.items) r.scope h.place m rest outer)
+        (frames_stay s t v v added.adds.keeps (keeps_none v) items g r.known r.known (λ _. refl) r.frames (take opened.from r.values) (take opened.leaves r.leaves.items) r.scope h.place (end_at items opened.body) rest outer)
 
     pub bindings_bound : (w : TermsView) × (bs : List Bound) × AreValuesBound t w (drop opened.leaves leaves) (drop opened.from values) bs
     bindings_bound = (v, all_read, bound_now)
@@ -93,17 +92,15 @@ module _ (source : List ℕ) (nodes : List Node) (g : WholeReading) (s : Table) 
     pub body_begins : n ≡ opened.body → (scope inner : List Scoped) (ks : List ℕ) → ks ≡ drop opened.leaves leaves
         → ((w : TermsView) (bs : List Bound) (p : Place) → AreValuesBound t w ks (drop opened.from values) bs → IsScope t w r.scope p.scope → p.settings.replaces_lets ≡ r.replaces_lets → IsScope t w scope (inside bs p).scope)
         → scope ≡ inner ++ r.scope → length inner ≡ length ks → (q : Reader) → q.leaves.items ≡ leaves
-        → IsAt source nodes g t v (record r { scope = scope; values = values; leaves = q.leaves; frames = Frame.Body (record { place = opened.place; from = opened.from; leaves = opened.leaves }) ∷ r.frames }) opened.body
+        → IsAt items g t v (record r { scope = scope; values = values; leaves = q.leaves; frames = Frame.Body (record { place = opened.place; from = opened.from; leaves = opened.leaves }) ∷ r.frames }) opened.body
     body_begins last scope inner ks are binds split each q leaves_are =
-        let (read, x, earlier, left, f, m, rest, is, here, outer) = h.frames in
-        let none : left ≡ no_binds = binds_done source nodes n left opened.body here.left_here last in
+        let (read, earlier, left, rest, is, here, outer) = h.frames in
+        let none : left ≡ no_binds = binds_done items n left opened.body here.left_here last in
         let around = scope_stays s t v v added.adds.keeps (keeps_none v) r.scope h.place.scope h.stands.scope in
         let counted : length inner ≡ length leaves - opened.leaves = each ∙ ap length are ∙ length-drop opened.leaves leaves in
         record {
           script = h.script;
           place = inside all_read h.place;
-          spelled = f;
-          behind = m;
           waiting = body_of opened.place all_read h.place ∷ rest;
           stands = record {
             script = script_stays s t v v added.adds (keeps_none v) r.known h.script h.stands.script;
@@ -111,7 +108,7 @@ module _ (source : List ℕ) (nodes : List Node) (g : WholeReading) (s : Table) 
             settings = h.stands.settings;
             low = low_now;
           };
-          here = here.body_here;
+          inside = here.body_here;
           frames = rw leaves_are (
             all_read,
             r.scope,
@@ -130,39 +127,34 @@ module _ (source : List ℕ) (nodes : List Node) (g : WholeReading) (s : Table) 
             },
             frames_now,
           );
-          comes = sym (last_binding_read rest opened.place read x earlier f h.place h.term h.script)
-              ∙ ap (λ (bs : LetBinds). resumed (bindings opened.place read x earlier bs f h.place ∷ rest) (done h.term h.script)) (sym none)
+          comes = sym (last_binding_read rest opened.place read (symbol_at items opened.name) earlier (form_at items opened.body) h.place h.term h.script)
+              ∙ ap (λ (bs : LetBinds). resumed (bindings opened.place read (symbol_at items opened.name) earlier bs (form_at items opened.body) h.place ∷ rest) (done h.term h.script)) (sym none)
               ∙ ap (λ (ws : List Waiting). resumed ws (done h.term h.script)) (sym is) ∙ h.comes;
         }
 
     -- The next one is read.
     pub binding_goes_on : n ≢ opened.body → n ≢ opened.repeat → (q : Reader) → q.leaves.items ≡ leaves
-        → IsAt source nodes g t v (record r { values = values; leaves = q.leaves; frames = Frame.Bindings (record opened { name = n + 1 }) ∷ r.frames }) (n + 2)
+        → IsAt items g t v (record r { values = values; leaves = q.leaves; frames = Frame.Bindings (record opened { name = n + 1 }) ∷ r.frames }) (n + 2)
     binding_goes_on more free q leaves_are =
-        let (read, x, earlier, left, f, m, rest, is, here, outer) = h.frames in
-        let a = binds_more source nodes n left opened.body here.left_here more in
-        let faulty : IsFirstRepeat source nodes n (x.name ∷ earlier) (bind a.name a.first a.others) opened.repeat opened.body = subst (λ (bs : LetBinds). IsFirstRepeat source nodes n (x.name ∷ earlier) bs opened.repeat opened.body) a.split here.first_faulty in
-        let next = repeat_on source nodes n a.next (x.name ∷ earlier) a.name a.first a.others opened.repeat opened.body a.here faulty free in
+        let (read, earlier, left, rest, is, here, outer) = h.frames in
+        let a = binds_more items n left opened.body here.left_here more in
+        let faulty : IsFirstRepeat items n ((symbol_at items opened.name).name ∷ earlier) (bind (symbol_at items (n + 1)) (form_at items (n + 2)) a.others) opened.repeat opened.body = subst (λ (bs : LetBinds). IsFirstRepeat items n ((symbol_at items opened.name).name ∷ earlier) bs opened.repeat opened.body) a.split here.first_faulty in
+        let next = repeat_on items n ((symbol_at items opened.name).name ∷ earlier) (symbol_at items (n + 1)) (form_at items (n + 2)) a.others opened.repeat opened.body faulty free in
         record {
-          script = with_let_name a.name.name h.script;
+          script = with_let_name (symbol_at items (n + 1)).name h.script;
           place = h.place;
-          spelled = a.first;
-          behind = a.next;
-          waiting = bindings opened.place all_read a.name (x.name ∷ earlier) a.others f h.place ∷ rest;
+          waiting = bindings opened.place all_read (symbol_at items (n + 1)) ((symbol_at items opened.name).name ∷ earlier) a.others (form_at items opened.body) h.place ∷ rest;
           stands = record {
-            script = same_script t v r.known h.script.terms (h.script.let_names ++ a.name.name ∷ []) h.script (script_stays s t v v added.adds (keeps_none v) r.known h.script h.stands.script);
+            script = same_script t v r.known h.script.terms (h.script.let_names ++ (symbol_at items (n + 1)).name ∷ []) h.script (script_stays s t v v added.adds (keeps_none v) r.known h.script h.stands.script);
             scope = scope_stays s t v v added.adds.keeps (keeps_none v) r.scope h.place.scope h.stands.scope;
             settings = h.stands.settings;
             low = low_now;
           };
-          here = a.here;
+          inside = a.inside;
           frames = rw leaves_are (
             all_read,
-            a.name,
-            x.name ∷ earlier,
+            (symbol_at items opened.name).name ∷ earlier,
             a.others,
-            f,
-            m,
             rest,
             refl,
             record {
@@ -176,58 +168,54 @@ module _ (source : List ℕ) (nodes : List Node) (g : WholeReading) (s : Table) 
             },
             frames_now,
           );
-          comes = sym (next_binding_read rest opened.place read x earlier a.name a.first a.others f h.place h.term h.script next.0)
-              ∙ ap (λ (bs : LetBinds). resumed (bindings opened.place read x earlier bs f h.place ∷ rest) (done h.term h.script)) (sym a.split)
+          comes = sym (next_binding_read rest opened.place read (symbol_at items opened.name) earlier (symbol_at items (n + 1)) (form_at items (n + 2)) a.others (form_at items opened.body) h.place h.term h.script next.0)
+              ∙ ap (λ (bs : LetBinds). resumed (bindings opened.place read (symbol_at items opened.name) earlier bs (form_at items opened.body) h.place ∷ rest) (done h.term h.script)) (sym a.split)
               ∙ ap (λ (ws : List Waiting). resumed ws (done h.term h.script)) (sym is) ∙ h.comes;
         }
 
   -- There is a node behind each name.
-  pub more_nodes_there : n ≢ opened.body → n + 2 < length nodes
+  pub more_nodes_there : n ≢ opened.body → n + 2 < length items.nodes
   more_nodes_there more =
-      let (read, x, earlier, left, f, m, rest, is, here, outer) = h.frames in
-      let a = binds_more source nodes n left opened.body here.left_here more in
-      let behind = form_behind source nodes (n + 2) a.first a.next a.here in
-      let within = form_inside source nodes (n + 2) a.first a.next a.here in
-      omega (arith, behind, within)
+      let (read, earlier, left, rest, is, here, outer) = h.frames in
+      let a = binds_more items n left opened.body here.left_here more in
+      a.inside
 
   -- The next one may not be bound.
-  pub binding_refused : n ≢ opened.body → n ≡ opened.repeat → (node : Node) → slice_get nodes (n + 1) ≡ Some node → g.whole.result ≡ Err (record { cause = Repeated; at = node.token.start })
-  binding_refused more faulty node there =
-      let (read, x, earlier, left, f, m, rest, is, here, outer) = h.frames in
-      let a = binds_more source nodes n left opened.body here.left_here more in
-      let first_one : IsFirstRepeat source nodes n (x.name ∷ earlier) (bind a.name a.first a.others) n opened.body =
-      subst (λ (k : ℕ). IsFirstRepeat source nodes n (x.name ∷ earlier) (bind a.name a.first a.others) k opened.body) (sym faulty)
-      (subst (λ (bs : LetBinds). IsFirstRepeat source nodes n (x.name ∷ earlier) bs opened.repeat opened.body) a.split here.first_faulty) in
-      let taken = repeat_here source nodes n (x.name ∷ earlier) a.name a.first a.others opened.body (subst (λ (bs : LetBinds). AreBinds source nodes n bs opened.body) a.split here.left_here) first_one in
-      let whole : g.whole ≡ refuse Repeated a.name.place h.script =
+  pub binding_refused : n ≢ opened.body → n ≡ opened.repeat → g.whole.result ≡ Err (record { cause = Repeated; at = place_of (item_at items (n + 1)) })
+  binding_refused more faulty =
+      let (read, earlier, left, rest, is, here, outer) = h.frames in
+      let a = binds_more items n left opened.body here.left_here more in
+      let first_one : IsFirstRepeat items n ((symbol_at items opened.name).name ∷ earlier) (bind (symbol_at items (n + 1)) (form_at items (n + 2)) a.others) n opened.body =
+      subst (λ (k : ℕ). IsFirstRepeat items n ((symbol_at items opened.name).name ∷ earlier) (bind (symbol_at items (n + 1)) (form_at items (n + 2)) a.others) k opened.body) (sym faulty)
+      (subst (λ (bs : LetBinds). IsFirstRepeat items n ((symbol_at items opened.name).name ∷ earlier) bs opened.repeat opened.body) a.split here.first_faulty) in
+      let taken = repeat_here items n ((symbol_at items opened.name).name ∷ earlier) (symbol_at items (n + 1)) (form_at items (n + 2)) a.others opened.body (subst (λ (bs : LetBinds). AreBinds items n bs opened.body) a.split here.left_here) first_one in
+      let whole : g.whole ≡ refuse Repeated (symbol_at items (n + 1)).place h.script =
       sym h.comes ∙ ap (λ (ws : List Waiting). resumed ws (done h.term h.script)) is
-      ∙ ap (λ (bs : LetBinds). resumed (bindings opened.place read x earlier bs f h.place ∷ rest) (done h.term h.script)) a.split
-      ∙ next_binding_refused rest opened.place read x earlier a.name a.first a.others f h.place h.term h.script taken in
-      let same_node : a.named.node ≡ node = cc (a.named.here, there) in
-      let at : a.name.place ≡ node.token.start = sym a.named.same_place ∙ ap (λ (k : Node). k.token.start) same_node in
-      ap (λ (o : Outcome Script Typed). o.result) whole ∙ ap (λ (p : ℕ). Err (record { cause = Repeated; at = p })) at
+      ∙ ap (λ (bs : LetBinds). resumed (bindings opened.place read (symbol_at items opened.name) earlier bs (form_at items opened.body) h.place ∷ rest) (done h.term h.script)) a.split
+      ∙ next_binding_refused rest opened.place read (symbol_at items opened.name) earlier (symbol_at items (n + 1)) (form_at items (n + 2)) a.others (form_at items opened.body) h.place h.term h.script taken in
+      ap (λ (o : Outcome Script Typed). o.result) whole
 
   -- What is done, by the stacks as the code has them.
   pub body_next : (t : Table) (q : Reader) → IsAdded t q.leaves.items q.values → length t.leaves ≤ length s.leaves + 1 → n ≡ opened.body → (inner : List Scoped) (ks : List ℕ) → ks ≡ drop opened.leaves q.leaves.items
       → ((w : TermsView) (bs : List Bound) (p : Place) → AreValuesBound t w ks (drop opened.from q.values) bs → IsScope t w r.scope p.scope → p.settings.replaces_lets ≡ r.replaces_lets → IsScope t w q.scope (inside bs p).scope)
       → q.scope ≡ inner ++ r.scope → length inner ≡ length ks → q.frames ≡ Frame.Body (record { place = opened.place; from = opened.from; leaves = opened.leaves }) ∷ r.frames
-      → Leaves source nodes g s v (with_open r (Frame.Bindings opened)) c n t v (record r { scope = q.scope; values = q.values; leaves = q.leaves; frames = q.frames }) (Ok (Turn.Read opened.body))
+      → Leaves items g s v (with_open r (Frame.Bindings opened)) c n t v (record r { scope = q.scope; values = q.values; leaves = q.leaves; frames = q.frames }) (Ok (Turn.Read opened.body))
   body_next t q added one_more last inner ks are binds split each frames_are = record {
-    goes = nothing_made source nodes g t v _ (Ok (Turn.Read opened.body)) (rw frames_are (body_begins t q.leaves.items q.values added last q.scope inner ks are binds split each q refl));
+    goes = nothing_made items g t v _ (Ok (Turn.Read opened.body)) (rw frames_are (body_begins t q.leaves.items q.values added last q.scope inner ks are binds split each q refl));
     spends = λ within. rw frames_are (record { inside = omega (arith, last, within); few = omega (arith, last, one_more); progress = omega (arith, last) });
   }
 
   pub binding_next : (t : Table) (q : Reader) → IsAdded t q.leaves.items q.values → length t.leaves ≤ length s.leaves + 1 → n ≢ opened.body → n ≢ opened.repeat
       → q.frames ≡ Frame.Bindings (record opened { name = n + 1 }) ∷ r.frames
-      → Leaves source nodes g s v (with_open r (Frame.Bindings opened)) c n t v (record r { values = q.values; leaves = q.leaves; frames = q.frames }) (Ok (Turn.Read (n + 2)))
+      → Leaves items g s v (with_open r (Frame.Bindings opened)) c n t v (record r { values = q.values; leaves = q.leaves; frames = q.frames }) (Ok (Turn.Read (n + 2)))
   binding_next t q added one_more more free frames_are = record {
-    goes = nothing_made source nodes g t v _ (Ok (Turn.Read (n + 2))) (rw frames_are (binding_goes_on t q.leaves.items q.values added more free q refl));
+    goes = nothing_made items g t v _ (Ok (Turn.Read (n + 2))) (rw frames_are (binding_goes_on t q.leaves.items q.values added more free q refl));
     spends = λ within. let below = more_nodes_there more in rw frames_are (record { inside = omega (arith, below); few = omega (arith, below, one_more); progress = omega (arith, below) });
   }
 
-  pub binding_faulty : (t : Table) (q : Reader) → n ≢ opened.body → n ≡ opened.repeat → (node : Node) → slice_get nodes (n + 1) ≡ Some node → (refusal : Refusal) → refusal ≡ record { cause = Repeated; at = node.token.start }
-      → Leaves source nodes g s v (with_open r (Frame.Bindings opened)) c n t v q (Err (ReadFault.Text refusal))
-  binding_faulty t q more faulty node there refusal is = record {
-    goes = nothing_made source nodes g t v q (Err (ReadFault.Text refusal)) (binding_refused more faulty node there ∙ ap Err (sym is));
+  pub binding_faulty : (t : Table) (q : Reader) → n ≢ opened.body → n ≡ opened.repeat → (refusal : Refusal) → refusal ≡ record { cause = Repeated; at = place_of (item_at items (n + 1)) }
+      → Leaves items g s v (with_open r (Frame.Bindings opened)) c n t v q (Err (ReadFault.Text refusal))
+  binding_faulty t q more faulty refusal is = record {
+    goes = nothing_made items g t v q (Err (ReadFault.Text refusal)) (binding_refused more faulty ∙ ap Err (sym is));
     spends = λ _. tt;
   }

@@ -21,7 +21,7 @@ use Rattle.term_expansion.specs.Values.{IsValue}
 use Rattle.term_names.specs.declared.faults.ReadFault.{ReadFault}
 use Rattle.term_reader.specs.declared.frames.Frame.{Frame}
 use Rattle.term_reader.specs.declared.frames.OpenBody.{OpenBody}
-use Rattle.text_items.specs.declared.nodes.Node.{Node}
+use Rattle.text_items.specs.ItemsAt.{ItemsView}
 use Rattle.term_reader.specs.declared.reader.Reader.{Reader}
 use Rattle.term_reader.specs.declared.reader.Turn.{Turn}
 use Rattle.term_expansion.specs.declared.values.Value.{Value}
@@ -37,7 +37,7 @@ scope_around scope inner around first count split each =
     let k : count - first ≡ length inner = omega (arith, each) in
     rw (k, split) (drop-append_seam inner around)
 
-module _ (source : List ℕ) (nodes : List Node) (g : WholeReading) (s : Table) (v : TermsView) (r : Reader) (c : Value) (n : ℕ) (opened : OpenBody) (h : HasRead source nodes g s v (with_open r (Frame.Body opened)) c n) where
+module _ (items : ItemsView) (g : WholeReading) (s : Table) (v : TermsView) (r : Reader) (c : Value) (n : ℕ) (opened : OpenBody) (h : HasRead items g s v (with_open r (Frame.Body opened)) c n) where
   -- the reader without what the let owned
   abbrev pub Without : Reader → Type 0
   Without q = (q.scope ≡ drop (length r.leaves.items - opened.leaves) r.scope) × (q.values ≡ take opened.from r.values) × (q.leaves.items ≡ take opened.leaves r.leaves.items)
@@ -65,7 +65,7 @@ module _ (source : List ℕ) (nodes : List Node) (g : WholeReading) (s : Table) 
         makes = makes outer bound h.term (rw are here.bound_here) h.is (replaces_so outer.settings r.replaces_lets (outer_settings outer bound here.same_place));
       }
 
-  body_closes : (q : Reader) → Without q → (w : TermsView) → KeepsTerms v w → (made : Result (Option Value) ReadFault) → Closed w made → Closes source nodes g s v w (without q) opened.place n made
+  body_closes : (q : Reader) → Without q → (w : TermsView) → KeepsTerms v w → (made : Result (Option Value) ReadFault) → Closed w made → Closes items g s v w (without q) opened.place n made
   unfolding body_whole
   body_closes q (scope_is, values_are, leaves_are) w keeps made closed =
       let (bound, around, outer, rest, is, here, frames) = h.frames in
@@ -80,22 +80,22 @@ module _ (source : List ℕ) (nodes : List Node) (g : WholeReading) (s : Table) 
           low = rw values_are (low_below opened.from r.values h.stands.low);
         };
         frames = rw (values_are, leaves_are, scope_same)
-            (frames_stay s s v w (table_keeps_none s) keeps source nodes g r.known r.known (λ _. refl) r.frames (take opened.from r.values) (take opened.leaves r.leaves.items) around outer n rest frames);
+            (frames_stay s s v w (table_keeps_none s) keeps items g r.known r.known (λ _. refl) r.frames (take opened.from r.values) (take opened.leaves r.leaves.items) around outer n rest frames);
       }
 
   -- What is done.
-  pub body_fault : (w : TermsView) (fault : ReadFault) → Closed w (Err fault) → (q : Reader) → Leaves source nodes g s v (with_open r (Frame.Body opened)) c n s w q (Err fault)
-  body_fault w fault made q = record { goes = unmade_ends source nodes g s v w opened.place fault q (body_whole w (Err fault) made); spends = λ _. tt }
+  pub body_fault : (w : TermsView) (fault : ReadFault) → Closed w (Err fault) → (q : Reader) → Leaves items g s v (with_open r (Frame.Body opened)) c n s w q (Err fault)
+  body_fault w fault made q = record { goes = unmade_ends items g s v w opened.place fault q (body_whole w (Err fault) made); spends = λ _. tt }
 
   pub body_refused : (w : TermsView) (made : Option Value) → Closed w (Ok made) → (fault : ReadFault)
       → ((s : Table) (v : TermsView) (o : Option Typed) (sc : Script) → IsMade s v o (Ok made) → SettlesTerm s v opened.place o sc (Err fault)) → (q : Reader)
-      → Leaves source nodes g s v (with_open r (Frame.Body opened)) c n s w q (Err fault)
-  body_refused w made closed fault settles q = record { goes = unsettled_ends source nodes g s v w opened.place made fault q (body_whole w (Ok made) closed) settles; spends = λ _. tt }
+      → Leaves items g s v (with_open r (Frame.Body opened)) c n s w q (Err fault)
+  body_refused w made closed fault settles q = record { goes = unsettled_ends items g s v w opened.place made fault q (body_whole w (Ok made) closed) settles; spends = λ _. tt }
 
   pub body_settled : (q : Reader) → Without q → (w : TermsView) → KeepsTerms v w → (made : Option Value) → Closed w (Ok made) → (t : Value)
       → ((s : Table) (v : TermsView) (o : Option Typed) (sc : Script) → IsMade s v o (Ok made) → SettlesTerm s v opened.place o sc (Ok t))
-      → Leaves source nodes g s v (with_open r (Frame.Body opened)) c n s w (without q) (Ok (Turn.Use t n))
+      → Leaves items g s v (with_open r (Frame.Body opened)) c n s w (without q) (Ok (Turn.Use t n))
   body_settled q is w keeps made closed t settles = record {
-    goes = settled_goes_on source nodes g s v w opened.place (without q) n made t (body_closes q is w keeps (Ok made) closed) settles;
+    goes = settled_goes_on items g s v w opened.place (without q) n made t (body_closes q is w keeps (Ok made) closed) settles;
     spends = λ within. record { inside = within; few = omega arith; progress = omega arith };
   }

@@ -17,7 +17,7 @@ use Rattle.problem_text.specs.Scripts.{Script, with_term}
 use Rattle.term_reader.specs.Settling.{SettlesTerm}
 use Rattle.problem_text.specs.Terms.{settled}
 use Rattle.term_names.specs.declared.faults.ReadFault.{ReadFault}
-use Rattle.text_items.specs.declared.nodes.Node.{Node}
+use Rattle.text_items.specs.ItemsAt.{ItemsView}
 use Rattle.term_reader.specs.declared.reader.Reader.{Reader}
 use Rattle.term_reader.specs.declared.reader.Turn.{Turn}
 use Rattle.term_expansion.specs.declared.values.Value.{Value}
@@ -35,11 +35,11 @@ pub record IsWhole (g : WholeReading) (s : Table) (v w : TermsView) (place : ℕ
   pub makes : Makes s v w expected made
 
 -- and the reader is at what waits
-pub record Closes (source : List ℕ) (nodes : List Node) (g : WholeReading) (s : Table) (v w : TermsView) (r : Reader) (place n : ℕ) (made : Result (Option Value) ReadFault) : Type 0 where
+pub record Closes (items : ItemsView) (g : WholeReading) (s : Table) (v w : TermsView) (r : Reader) (place n : ℕ) (made : Result (Option Value) ReadFault) : Type 0 where
   pub whole : IsWhole g s v w place made
   pub around : Place
   pub stands : ReaderStands s w r whole.script around
-  pub frames : AreFrames source nodes g s w r.known r.frames r.values r.leaves.items r.scope around n whole.waiting
+  pub frames : AreFrames items g s w r.known r.frames r.values r.leaves.items r.scope around n whole.waiting
 
 -- a fault of what is read now is the fault of the whole
 pub fault_of_whole : (ws : List Waiting) (o : Outcome Script Typed) (r : Refusal) (whole : Outcome Script Typed) → o.result ≡ Err r → resumed ws o ≡ whole → whole.result ≡ Err r
@@ -47,10 +47,10 @@ fault_of_whole ws o r whole fails comes =
     ap (λ (x : Outcome Script Typed). x.result) (sym comes ∙ ap (λ x. resumed ws (record { result = x; state = o.state })) fails ∙ refused_whole ws r o.state)
 
 -- memory ran out, or nothing was placed
-pub nothing_made : (source : List ℕ) (nodes : List Node) (g : WholeReading) (s : Table) (v : TermsView) (r : Reader) (result : Result Turn ReadFault) → GoesOnReading source nodes g s v r result → Goes source nodes g s v v r result
-nothing_made source nodes g s v r result step = record { step = step; placed = places_none s v.pass v.pass (IsReadTerm g.whole) refl }
+pub nothing_made : (items : ItemsView) (g : WholeReading) (s : Table) (v : TermsView) (r : Reader) (result : Result Turn ReadFault) → GoesOnReading items g s v r result → Goes items g s v v r result
+nothing_made items g s v r result step = record { step = step; placed = places_none s v.pass v.pass (IsReadTerm g.whole) refl }
 
-module _ (source : List ℕ) (nodes : List Node) (g : WholeReading) (s : Table) (v w : TermsView) (place : ℕ) where
+module _ (items : ItemsView) (g : WholeReading) (s : Table) (v w : TermsView) (place : ℕ) where
   expected_read : (made : Result (Option Value) ReadFault) (h : IsWhole g s v w place made) (t : Term) → IsExpected h.expected t → IsReadTerm g.whole t
   expected_read made h t (d, is, same) =
       subst (IsReadTerm g.whole) same
@@ -60,7 +60,7 @@ module _ (source : List ℕ) (nodes : List Node) (g : WholeReading) (s : Table) 
   whole_places made h = places_more s v.pass w.pass (IsExpected h.expected) (IsReadTerm g.whole) (expected_read made h) h.makes.placed
 
   -- it is not made
-  pub unmade_ends : (fault : ReadFault) (q : Reader) → IsWhole g s v w place (Err fault) → Goes source nodes g s v w q (Err fault)
+  pub unmade_ends : (fault : ReadFault) (q : Reader) → IsWhole g s v w place (Err fault) → Goes items g s v w q (Err fault)
   unmade_ends fault q h = record { step = ends fault h.makes.answer (expected_read (Err fault) h); placed = whole_places (Err fault) h }
     where
       ends : (f : ReadFault) → IsMade s w h.expected (Err f) → ((t : Term) → IsExpected h.expected t → IsReadTerm g.whole t) → EndsWith s w.pass g.whole.result (IsReadTerm g.whole) f
@@ -70,7 +70,7 @@ module _ (source : List ℕ) (nodes : List Node) (g : WholeReading) (s : Table) 
 
   -- it is not settled
   pub unsettled_ends : (made : Option Value) (fault : ReadFault) (q : Reader) → IsWhole g s v w place (Ok made)
-      → ((s : Table) (v : TermsView) (o : Option Typed) (sc : Script) → IsMade s v o (Ok made) → SettlesTerm s v place o sc (Err fault)) → Goes source nodes g s v w q (Err fault)
+      → ((s : Table) (v : TermsView) (o : Option Typed) (sc : Script) → IsMade s v o (Ok made) → SettlesTerm s v place o sc (Err fault)) → Goes items g s v w q (Err fault)
   unsettled_ends made fault q h settles = record { step = ends fault (settles s w h.expected h.script h.makes.answer); placed = whole_places (Ok made) h }
     where
       ends : (f : ReadFault) → SettlesTerm s w place h.expected h.script (Err f) → EndsWith s w.pass g.whole.result (IsReadTerm g.whole) f
@@ -79,11 +79,11 @@ module _ (source : List ℕ) (nodes : List Node) (g : WholeReading) (s : Table) 
       ends ReadFault.Memory is = absurd is
 
   -- it is the next term that was read
-  pub settled_goes_on : (r : Reader) (n : ℕ) (made : Option Value) (c : Value) → Closes source nodes g s v w r place n (Ok made)
-      → ((s : Table) (v : TermsView) (o : Option Typed) (sc : Script) → IsMade s v o (Ok made) → SettlesTerm s v place o sc (Ok c)) → Goes source nodes g s v w r (Ok (Turn.Use c n))
+  pub settled_goes_on : (r : Reader) (n : ℕ) (made : Option Value) (c : Value) → Closes items g s v w r place n (Ok made)
+      → ((s : Table) (v : TermsView) (o : Option Typed) (sc : Script) → IsMade s v o (Ok made) → SettlesTerm s v place o sc (Ok c)) → Goes items g s v w r (Ok (Turn.Use c n))
   settled_goes_on r n made c h settles = record { step = read (settles s w h.whole.expected h.whole.script h.whole.makes.answer); placed = whole_places (Ok made) h.whole }
     where
-      read : SettlesTerm s w place h.whole.expected h.whole.script (Ok c) → HasRead source nodes g s w r c n
+      read : SettlesTerm s w place h.whole.expected h.whole.script (Ok c) → HasRead items g s w r c n
       read (t, is, settles_to, value, low) = record {
         script = with_term t.tree h.whole.script;
         place = h.around;

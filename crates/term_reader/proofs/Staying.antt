@@ -10,8 +10,7 @@ use Rattle.term_model.specs.Terms.{Var, Fun, Term, Terms, Bindings, numeral, var
 use Rattle.term_pool.specs.Building.{IsCellIn, IsFullIn, PlacesOnlyIn}
 use Rattle.term_pool.specs.StandsFor.{variable_leaf, function_leaf, IsLeafOf, StandsFor, StandsForApplication, StandsForList, StandsForBindings}
 use Rattle.term_pool.specs.Views.{TermsView, RefersTo, KeepsPass, KeepsTerms}
-use Rattle.text_items.specs.ItemShapes.{Name}
-use Rattle.problem_text.specs.Forms.{Form, Forms, LetBinds}
+use Rattle.problem_text.specs.Forms.{LetBinds}
 use Rattle.term_names.specs.Heads.{IsSymbolOf, IsMacroMeant, HeadMeans}
 use Rattle.term_reader.specs.Frames.{HasArgumentsSoFar, HasBindings, HasBody, WholeReading, AreFrames}
 use Rattle.term_expansion.specs.Free.{AreFreeLeaves}
@@ -34,7 +33,7 @@ use Rattle.term_reader.specs.declared.frames.Frame.{Frame}
 use Rattle.term_names.specs.declared.heads.Head.{Head}
 use Rattle.term_names.specs.declared.known.KnownEntry.{KnownEntry}
 use Rattle.term_names.specs.declared.known.Which.{Which}
-use Rattle.text_items.specs.declared.nodes.Node.{Node}
+use Rattle.text_items.specs.ItemsAt.{ItemsView, end_at}
 use Rattle.term_reader.specs.declared.reader.Reader.{Reader}
 use Rattle.term_expansion.specs.declared.values.Bound as bound
 use Rattle.term_expansion.specs.declared.values.Value.{Value}
@@ -222,18 +221,18 @@ module _ (s z : Table) (v w : TermsView) (keeps : Keeps s z) (terms : KeepsTerms
   head_stays k l same Head.Fixed m h = h
 
   -- open forms
-  arguments_stay : (source : List ℕ) (nodes : List Node) (k l : KnownView) → ((w : Which) → macro_of l w ≡ macro_of k w) → (head : Head) (from end n : ℕ) (values : List Value) (m : Meaning) (read : List Typed) (left : Forms)
-      → HasArgumentsSoFar source nodes s v k head from end n values m read left → HasArgumentsSoFar source nodes z w l head from end n values m read left
-  arguments_stay source nodes k l same head from end n values m read left h = record {
+  arguments_stay : (items : ItemsView) (k l : KnownView) → ((w : Which) → macro_of l w ≡ macro_of k w) → (head : Head) (from end n : ℕ) (values : List Value) (m : Meaning) (read : List Typed)
+      → HasArgumentsSoFar items s v k head from end n values m read → HasArgumentsSoFar items z w l head from end n values m read
+  arguments_stay items k l same head from end n values m read h = record {
     applies = head_stays k l same head m h.applies;
     within = h.within;
     read_values = values_stay (drop from values) read h.read_values;
     left_here = h.left_here;
   }
 
-  bindings_stay_open : (source : List ℕ) (nodes : List Node) (from first name repeat body n : ℕ) (values : List Value) (leaves : List ℕ) (read : List Bound) (x : Name) (earlier : List (List ℕ)) (left : LetBinds) (f : Form) (m : ℕ)
-      → HasBindings source nodes s v from first name repeat body n values leaves read x earlier left f m → HasBindings source nodes z w from first name repeat body n values leaves read x earlier left f m
-  bindings_stay_open source nodes from first name repeat body n values leaves read x earlier left f m h = record {
+  bindings_stay_open : (items : ItemsView) (from first name repeat body n : ℕ) (values : List Value) (leaves : List ℕ) (read : List Bound) (earlier : List (List ℕ)) (left : LetBinds)
+      → HasBindings items s v from first name repeat body n values leaves read earlier left → HasBindings items z w from first name repeat body n values leaves read earlier left
+  bindings_stay_open items from first name repeat body n values leaves read earlier left h = record {
     within = h.within;
     leaves_within = h.leaves_within;
     read_bound = bound_stays (drop first leaves) (drop from values) read h.read_bound;
@@ -256,42 +255,38 @@ module _ (s z : Table) (v w : TermsView) (keeps : Keeps s z) (terms : KeepsTerms
     around_here = scope_stays around outer.scope h.around_here;
   }
 
-  pub frames_stay : (source : List ℕ) (nodes : List Node) (g : WholeReading) (k l : KnownView) → ((w : Which) → macro_of l w ≡ macro_of k w)
+  pub frames_stay : (items : ItemsView) (g : WholeReading) (k l : KnownView) → ((w : Which) → macro_of l w ≡ macro_of k w)
       → (fs : List Frame) (values : List Value) (leaves : List ℕ) (scope : List Scoped) (p : Place) (n : ℕ) (ws : List Waiting)
-      → AreFrames source nodes g s v k fs values leaves scope p n ws → AreFrames source nodes g z w l fs values leaves scope p n ws
-  frames_stay source nodes g k l same [] values leaves scope p n ws h = h
-  frames_stay source nodes g k l same (Frame.Arguments opened ∷ fs) values leaves scope p n ws (m, read, left, rest, is, here, outer) = (
+      → AreFrames items g s v k fs values leaves scope p n ws → AreFrames items g z w l fs values leaves scope p n ws
+  frames_stay items g k l same [] values leaves scope p n ws h = h
+  frames_stay items g k l same (Frame.Arguments opened ∷ fs) values leaves scope p n ws (m, read, rest, is, here, outer) = (
     m,
     read,
-    left,
     rest,
     is,
-    arguments_stay source nodes k l same opened.head opened.from opened.end n values m read left here,
-    frames_stay source nodes g k l same fs (take opened.from values) leaves scope p opened.end rest outer,
+    arguments_stay items k l same opened.head opened.from opened.end n values m read here,
+    frames_stay items g k l same fs (take opened.from values) leaves scope p opened.end rest outer,
   )
-  frames_stay source nodes g k l same (Frame.Bindings opened ∷ fs) values leaves scope p n ws (read, x, earlier, left, f, m, rest, is, here, outer) = (
+  frames_stay items g k l same (Frame.Bindings opened ∷ fs) values leaves scope p n ws (read, earlier, left, rest, is, here, outer) = (
     read,
-    x,
     earlier,
     left,
-    f,
-    m,
     rest,
     is,
-    bindings_stay_open source nodes opened.from opened.leaves opened.name opened.repeat opened.body n values leaves read x earlier left f m here,
-    frames_stay source nodes g k l same fs (take opened.from values) (take opened.leaves leaves) scope p m rest outer,
+    bindings_stay_open items opened.from opened.leaves opened.name opened.repeat opened.body n values leaves read earlier left here,
+    frames_stay items g k l same fs (take opened.from values) (take opened.leaves leaves) scope p (end_at items opened.body) rest outer,
   )
-  frames_stay source nodes g k l same (Frame.Body opened ∷ fs) values leaves scope p n ws (bs, around, outside, rest, is, here, outer) = (
+  frames_stay items g k l same (Frame.Body opened ∷ fs) values leaves scope p n ws (bs, around, outside, rest, is, here, outer) = (
     bs,
     around,
     outside,
     rest,
     is,
     body_stays opened.from opened.leaves values leaves scope p bs around outside here,
-    frames_stay source nodes g k l same fs (take opened.from values) (take opened.leaves leaves) around outside n rest outer,
+    frames_stay items g k l same fs (take opened.from values) (take opened.leaves leaves) around outside n rest outer,
   )
-  frames_stay source nodes g k l same (Frame.Names end ∷ fs) values leaves scope p n ws (names, rest, is, here, outer) =
-      (names, rest, is, here, frames_stay source nodes g k l same fs values leaves scope p end rest outer)
+  frames_stay items g k l same (Frame.Names end ∷ fs) values leaves scope p n ws (rest, is, here, outer) =
+      (rest, is, here, frames_stay items g k l same fs values leaves scope p end rest outer)
 
 -- what a script stands for
 module _ (s z : Table) (v w : TermsView) (adds : AddsNoSymbols s z) (terms : KeepsTerms v w) where

@@ -1,5 +1,5 @@
 -- Private. The tops of terms as they are met, and what comes of them.
-use Rattle.std.specs.Prelude.{◌≡◌, ◌≤◌, ℕ, ℤ, Bool, true, false, pos, List, Option, Some, None, Result, Ok, Err}
+use Rattle.std.specs.Prelude.{◌≡◌, ◌≤◌, ℕ, ℤ, Bool, true, false, pos, Option, Some, None, Result, Ok, Err}
 use Rattle.sym_table.specs.Table.{Table}
 use Rattle.term_model.specs.declared.symbols.Sort.{Sort}
 use Rattle.term_model.specs.Terms.{numeral}
@@ -8,6 +8,7 @@ use Rattle.term_names.specs.Heads.{HeadMeans}
 use Rattle.term_reader.specs.Frames.{WholeReading}
 use Rattle.problem_text.specs.Limits.{most_height}
 use Rattle.term_names.specs.Known.{KnownView}
+use Rattle.term_reader.specs.Layers.{form_at}
 use Rattle.term_reader.specs.ShapeFaults.{IsLayer}
 use Rattle.term_names.specs.Making.{PlacesCellsOf}
 use Rattle.problem_text.specs.Names.{Meaning}
@@ -21,14 +22,14 @@ use Rattle.term_names.specs.declared.faults.ReadFault.{ReadFault}
 use Rattle.term_names.specs.declared.heads.Head.{Head}
 use Rattle.term_reader.specs.declared.layers.Layer.{Layer}
 use Rattle.term_names.specs.declared.looking_up.Found.{Found}
-use Rattle.text_items.specs.declared.nodes.Node.{Node}
+use Rattle.text_items.specs.ItemsAt.{ItemsView}
 use Rattle.term_reader.specs.declared.reader.Reader.{Reader}
 use Rattle.term_expansion.specs.declared.values.Value.{Value}
 
 -- the term that is read now has this top
-pub record HasTop (source : List ℕ) (nodes : List Node) (g : WholeReading) (s : Table) (v : TermsView) (r : Reader) (k : ℕ) (layer : Layer) : Type 0 where
-  pub at : IsAt source nodes g s v r k
-  pub top : IsLayer source nodes k layer at.spelled at.behind
+pub record HasTop (items : ItemsView) (g : WholeReading) (s : Table) (v : TermsView) (r : Reader) (k : ℕ) (layer : Layer) : Type 0 where
+  pub at : IsAt items g s v r k
+  pub top : IsLayer items k layer (form_at items k)
 
 -- the value is this number, and not too high
 pub record IsNumber (s : Table) (c : Value) (n : ℤ) : Type 0 where

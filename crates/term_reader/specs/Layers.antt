@@ -1,40 +1,49 @@
 -- Private. Forms as nodes spell them, and the tops of forms.
-use Rattle.std.specs.Prelude.{◌≡◌, ℕ, ◌+◌, ◌<◌, List, true, is_some, IsTrue}
+use Rattle.std.specs.Prelude.{◌≡◌, ℕ, ◌+◌, ◌<◌, ◌≤◌, List, length, true, is_some, IsTrue}
 use Rattle.sexpr.specs.Items.{Item, Items, no_items, item, symbol_name}
-use Rattle.text_items.specs.ItemShapes.{Name}
+use Rattle.text_items.specs.ItemShapes.{Name, name_at}
+use Rattle.text_items.specs.ItemsAt.{ItemsView, end_at, item_at, items_at}
+use Rattle.text_items.specs.Stepping.{EndBy, IsNameAt}
 use Rattle.problem_text.specs.Forms.{Form, Forms, LetBinds, no_binds, bind, form_of, forms_of, names_after}
 use Rattle.problem_text.specs.NamedItems.{is_named_item}
-use Rattle.text_items.specs.declared.nodes.Node.{Node}
-use Rattle.text_items.specs.Nodes.{IsNode, AreNodes}
-use Rattle.text_items.specs.NameNodes.{IsNameNode}
 
--- the nodes from k on, up to m, are those of an item that spells the form
-pub record IsForm (source : List ℕ) (nodes : List Node) (k : ℕ) (f : Form) (m : ℕ) : Type 0 where
-  pub what : Item
-  pub there : IsNode source nodes k what m
-  pub spells : form_of what ≡ f
+-- The nodes from k on, to before m, are some of the list's, and what begins there ends there.
+pub record IsRange (items : ItemsView) (k m : ℕ) : Type 0 where
+  pub before : k ≤ m
+  pub inside : m ≤ length items.nodes
+  pub nested : EndBy items k m
 
--- the nodes from k on, up to m, are those of items that spell the forms
-pub record AreForms (source : List ℕ) (nodes : List Node) (k : ℕ) (fs : Forms) (m : ℕ) : Type 0 where
-  pub what : Items
-  pub there : AreNodes source nodes k what m
-  pub spell : forms_of what ≡ fs
+-- the form that the item at a node spells, and those of the items of a range
+abbrev pub form_at : ItemsView → ℕ → Form
+form_at items k = form_of (item_at items k)
+
+abbrev pub forms_at : ItemsView → ℕ → ℕ → Forms
+forms_at items k m = forms_of (items_at items k m)
+
+-- the symbol at a node, where it stands
+abbrev pub symbol_at : ItemsView → ℕ → Name
+symbol_at items k = name_at (item_at items k)
+
+abbrev pub IsSymbolAt : ItemsView → ℕ → Type 0
+IsSymbolAt items k = IsNameAt items k (symbol_at items k)
 
 -- The nodes from k on, up to m, are those of pairs that spell the bindings: the bracket, the variable, and the term.
-abbrev pub AreBinds : List ℕ → List Node → ℕ → LetBinds → ℕ → Type 0
-AreBinds source nodes k no_binds m = k ≡ m
-AreBinds source nodes k (bind x f bs) m =
-    (n : ℕ) × (k < n) × IsNameNode source nodes (k + 1) x × IsForm source nodes (k + 2) f n × AreBinds source nodes n bs m
+abbrev pub AreBinds : ItemsView → ℕ → LetBinds → ℕ → Type 0
+AreBinds items k no_binds m = k ≡ m
+AreBinds items k (bind x f bs) m =
+    IsSymbolAt items (k + 1) × (x ≡ symbol_at items (k + 1)) × (k + 2 < length items.nodes) × (f ≡ form_at items (k + 2)) × AreBinds items (end_at items (k + 2)) bs m
 
 -- after `:named` stands a symbol, all along a list of attributes
 abbrev pub NamesAreSymbols : Item → Items → Type 0
 NamesAreSymbols before no_items = Unit {0}
 NamesAreSymbols before (item i rest) = (is_named_item before ≡ true → IsTrue (is_some (symbol_name i))) × NamesAreSymbols i rest
 
--- The nodes from k on, up to m, are those of one attribute or more, in a shape without fault, which give these names.
-pub record AreTermAttributes (source : List ℕ) (nodes : List Node) (k : ℕ) (names : List Name) (m : ℕ) : Type 0 where
-  pub first : Item
-  pub others : Items
-  pub there : AreNodes source nodes k (item first others) m
-  pub give : names_after first others ≡ names
-  pub named : NamesAreSymbols first others
+-- the names that the attributes give that stand from node k on, to before node m
+abbrev pub names_at : ItemsView → ℕ → ℕ → List Name
+names_at items k m = names_after (item_at items k) (items_at items (end_at items k) m)
+
+-- they are one or more, in a shape without fault
+pub record AreTermAttributes (items : ItemsView) (k m : ℕ) : Type 0 where
+  pub some : k < m
+  pub range : IsRange items k m
+  pub named : NamesAreSymbols (item_at items k) (items_at items (end_at items k) m)

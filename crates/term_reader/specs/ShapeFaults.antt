@@ -1,11 +1,9 @@
 -- Private. What the parts of a term's shape answer.
-use Rattle.std.specs.Prelude.{◌≡◌, ℕ, ◌+◌, ◌<◌, pos, List, if◌then◌else◌, Bool, true, false, bytes_eq, Option, Some}
-use Rattle.text_items.specs.ItemShapes.{Name}
-use Rattle.problem_text.specs.Forms.{Form, faulty, number, symbol, application, let_form, annotated, Forms, form, LetBinds}
-use Rattle.text_items.specs.declared.nodes.Node.{Node}
+use Rattle.std.specs.Prelude.{◌≡◌, ℕ, ◌+◌, ◌<◌, pos, List, length, if◌then◌else◌, Bool, true, false, bytes_eq, Option, Some}
+use Rattle.problem_text.specs.Forms.{Form, faulty, number, symbol, application, let_form, annotated, LetBinds}
+use Rattle.text_items.specs.ItemsAt.{ItemsView, end_at, item_at}
 use Rattle.term_reader.specs.declared.layers.Layer.{Layer}
-use Rattle.text_items.specs.NameNodes.{BeginsAt, IsNameNode}
-use Rattle.term_reader.specs.Layers.{IsForm, AreForms, AreBinds, AreTermAttributes}
+use Rattle.term_reader.specs.Layers.{IsRange, form_at, forms_at, AreBinds, symbol_at, IsSymbolAt, names_at, AreTermAttributes}
 use Rattle.std.specs.List.{list_any}
 use denote.Bor.{Bor}
 use Rattle.sexpr.specs.declared.causes.Cause.{Cause}
@@ -15,20 +13,20 @@ use Rattle.sexpr.specs.declared.causes.Cause.TheVariants.{BadCommand, LeftOut}
 use Rattle.sexpr.specs.Items.{Item, place_of}
 use Rattle.text_items.specs.Spelling.{is_list_item}
 
--- The top of the form that begins at node k and ends before node m.
-abbrev pub IsLayer : List ℕ → List Node → ℕ → Layer → Form → ℕ → Type 0
-IsLayer source nodes k (Layer.Faulty r) f m = f ≡ faulty r.cause r.at
-IsLayer source nodes k (Layer.Number v) f m = (place : ℕ) × (n : ℕ) × (f ≡ number place n) × BeginsAt nodes k place × (v ≡ pos n) × (m ≡ k + 1)
-IsLayer source nodes k Layer.Symbol f m = (n : Name) × (f ≡ symbol n) × IsNameNode source nodes k n × (m ≡ k + 1)
-IsLayer source nodes k (Layer.Application head first end) f m =
-    (place : ℕ) × (n : Name) × (g : Form) × (gs : Forms) × (f ≡ application place n (form g gs))
-    × BeginsAt nodes k place × IsNameNode source nodes head n × AreForms source nodes first (form g gs) end × (end ≡ m) × (k < first)
-IsLayer source nodes k (Layer.Let first body) f m =
-    (place : ℕ) × (bs : LetBinds) × (g : Form) × (f ≡ let_form place bs g)
-    × BeginsAt nodes k place × AreBinds source nodes first bs body × (first < body) × IsForm source nodes body g m × (k < first)
-IsLayer source nodes k (Layer.Annotated t first end) f m =
-    (place : ℕ) × (names : List Name) × (g : Form) × (f ≡ annotated place g names)
-    × BeginsAt nodes k place × IsForm source nodes t g first × AreTermAttributes source nodes first names end × (end ≡ m) × (k < t)
+-- The top of the form that the item at node k spells.
+abbrev pub IsLayer : ItemsView → ℕ → Layer → Form → Type 0
+IsLayer items k (Layer.Faulty r) f = f ≡ faulty r.cause r.at
+IsLayer items k (Layer.Number v) f = (n : ℕ) × (f ≡ number (place_of (item_at items k)) n) × (v ≡ pos n) × (end_at items k ≡ k + 1)
+IsLayer items k Layer.Symbol f = (f ≡ symbol (symbol_at items k)) × IsSymbolAt items k × (end_at items k ≡ k + 1)
+IsLayer items k (Layer.Application head first end) f =
+    (f ≡ application (place_of (item_at items k)) (symbol_at items head) (forms_at items first end))
+    × IsSymbolAt items head × IsRange items first end × (first < end) × (end ≡ end_at items k) × (k < first)
+IsLayer items k (Layer.Let first body) f =
+    (bs : LetBinds) × (f ≡ let_form (place_of (item_at items k)) bs (form_at items body))
+    × AreBinds items first bs body × (first < body) × (body < length items.nodes) × (end_at items body ≡ end_at items k) × (k < first)
+IsLayer items k (Layer.Annotated t first end) f =
+    (f ≡ annotated (place_of (item_at items k)) (form_at items t) (names_at items first end))
+    × (t < length items.nodes) × (end_at items t ≡ first) × AreTermAttributes items first end × (end ≡ end_at items k) × (k < t)
 
 -- The top of the form of a symbol of this name, which stands at this place.
 abbrev pub IsSymbolLayer : ℕ → List ℕ → Layer → Form → Type 0

@@ -1,11 +1,9 @@
 //! Numerals and symbols where they stand in a term.
-ghost use Rattle.std.specs.Prelude.{◌≡◌, ℕ, ◌≤◌, ◌<◌, ◌^◌, ◌+◌, pos, ◌≤ℤ◌, length, IfOk, IfErr, OnErr};
-ghost use Rattle.sexpr.specs.Source.{source};
+ghost use Rattle.std.specs.Prelude.{◌≡◌, ◌≤◌, ◌<◌, ◌^◌, ◌+◌, pos, ◌≤ℤ◌, length, IfOk, IfErr, OnErr};
 ghost use Rattle.term_pool.specs.Views.{TermsView, KeepsTerms};
 ghost use Rattle.term_reader.specs.Entering.{IsNumber, is_none_found, IsHeadFound, ReadsAlone};
-ghost use Rattle.text_items.specs.ItemShapes.{Name};
 ghost use Rattle.problem_text.specs.Forms.{symbol};
-ghost use Rattle.text_items.specs.NameNodes.{BeginsAt, IsNameNode};
+ghost use Rattle.term_reader.specs.Layers.{symbol_at, IsSymbolAt};
 ghost use Rattle.problem_text.specs.Names.{Place, meaning_of};
 ghost use Rattle.term_reader.specs.Turns.{ReaderStands};
 ghost use Rattle.problem_text.specs.Scripts.{Script};
@@ -16,7 +14,7 @@ ghost use Rattle.term_names.specs.declared.faults.ReadFault.TheVariants as fault
 use crate::reader::Reader;
 use crate::settling::settle;
 use pair_pool::Ref;
-use sexpr::{Cause, Lexer};
+use sexpr::Cause;
 use sym_table::Symbols;
 use term_expansion::values::Value;
 use term_model::Sort;
@@ -26,9 +24,9 @@ use term_names::known::NameTables;
 use term_names::looking_up::{Found, find, head_of};
 use term_names::using::use_alone;
 use term_pool::Terms;
-use text_items::nodes::Node;
+use text_items::nodes::ItemText;
 use text_items::refusals::refused;
-use text_items::shapes::name_of;
+use text_items::shapes::{name_of, place_at};
 
 /// The value of a numeral, whose leaf is added where it is not there. Refused for want of memory alone.
 pub(crate) fn number_value(symbols: &mut Symbols, n: i128) -> Result<Value, ReadFault>
@@ -51,24 +49,19 @@ pub(crate) fn number_value(symbols: &mut Symbols, n: i128) -> Result<Value, Read
 
 /// The term that the symbol at node `k` is, which stands alone.
 pub(crate) fn symbol_value(
-    text: &Lexer<'_>,
-    nodes: &[Node],
+    items: &ItemText<'_, '_>,
     symbols: &Symbols,
     terms: &mut Terms<'_>,
     reader: &Reader<'_>,
     k: usize,
 ) -> Result<Value, ReadFault>
-    requires { (sc : Script) × (p : Place) × (x : Name) × ReaderStands symbols.now terms.old reader.now sc p × IsNameNode (source text.now) nodes.now k x }
-    ensures reads { (sc : Script) (p : Place) (x : Name) → ReaderStands symbols.now terms.old reader.now sc p → IsNameNode (source text.now) nodes.now k x → ReadsAlone symbols.now terms.old terms.new (term_from (symbol x) p sc) sc result }
+    requires name { IsSymbolAt items.now k }
+    requires reader { (sc : Script) × (p : Place) × ReaderStands symbols.now terms.old reader.now sc p }
+    ensures reads { (sc : Script) (p : Place) → ReaderStands symbols.now terms.old reader.now sc p → ReadsAlone symbols.now terms.old terms.new (term_from (symbol (symbol_at items.now k)) p sc) sc result }
     ensures keeps { KeepsTerms terms.old terms.new }
 {
-    let place = start_at(nodes, k);
-    let found = find(
-        symbols,
-        &reader.known,
-        &reader.scope,
-        name_of(text, nodes, k),
-    );
+    let place = place_at(items, k);
+    let found = find(symbols, &reader.known, &reader.scope, name_of(items, k));
     if is_unknown(&found) {
         return Err(ReadFault::Text(refused(Cause::UnknownName, place)));
     }
@@ -83,21 +76,15 @@ pub(crate) fn symbol_value(
 
 /// What is applied where the symbol at node `k` is the head of an application, and None where its name is unknown.
 pub(crate) fn head_at(
-    text: &Lexer<'_>,
-    nodes: &[Node],
+    items: &ItemText<'_, '_>,
     symbols: &Symbols,
     reader: &Reader<'_>,
     k: usize,
 ) -> Option<Head>
-    requires { (x : Name) × IsNameNode (source text.now) nodes.now k x }
-    ensures { (v : TermsView) (sc : Script) (p : Place) (x : Name) → ReaderStands symbols.now v reader.now sc p → IsNameNode (source text.now) nodes.now k x → IsHeadFound symbols.now v reader.now.known result (meaning_of p sc x.name) }
+    requires { IsSymbolAt items.now k }
+    ensures { (v : TermsView) (sc : Script) (p : Place) → ReaderStands symbols.now v reader.now sc p → IsHeadFound symbols.now v reader.now.known result (meaning_of p sc (symbol_at items.now k).name) }
 {
-    let found = find(
-        symbols,
-        &reader.known,
-        &reader.scope,
-        name_of(text, nodes, k),
-    );
+    let found = find(symbols, &reader.known, &reader.scope, name_of(items, k));
     if is_unknown(&found) {
         return None;
     }
@@ -109,12 +96,4 @@ fn is_unknown(found: &Found) -> bool
     ensures { result ≡ is_none_found found.now }
 {
     matches!(*found, Found::Unknown)
-}
-
-/// The place of the first byte of a node.
-pub(crate) fn start_at(nodes: &[Node], k: usize) -> u64
-    requires { (place : ℕ) × BeginsAt nodes.now k place }
-    ensures { (place : ℕ) → BeginsAt nodes.now k place → result ≡ place }
-{
-    nodes[k].token.start
 }

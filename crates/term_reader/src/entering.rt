@@ -1,8 +1,8 @@
 //! Reading a term from its top.
-ghost use Rattle.std.specs.Prelude.{◌≡◌, ◌≤◌, ◌<◌, ◌^◌, ◌+◌, ◌-◌, length, IfOk, IfErr, OnErr};
-ghost use Rattle.sexpr.specs.Source.{source};
+ghost use Rattle.std.specs.Prelude.{◌≡◌, ◌≤◌, ◌<◌, ◌^◌, ◌+◌, length, IfOk, IfErr, OnErr};
 ghost use Rattle.sym_table.specs.Table.{Table};
 ghost use Rattle.term_pool.specs.Views.{TermsView, KeepsTerms};
+ghost use Rattle.text_items.specs.Stepping.{AreInside};
 ghost use Rattle.term_reader.specs.Entering.{HasTop};
 ghost use Rattle.term_reader.specs.Leaving.{with_open};
 ghost use Rattle.term_reader.specs.Frames.{WholeReading};
@@ -13,17 +13,18 @@ ghost use Rattle.term_names.specs.declared.faults.ReadFault.TheVariants as fault
 ghost use Rattle.term_reader.specs.declared.layers.Layer.TheVariants as top;
 ghost use Rattle.term_reader.specs.declared.reader.Turn.TheVariants as turn;
 
-use crate::atoms::{head_at, number_value, start_at, symbol_value};
+use crate::atoms::{head_at, number_value, symbol_value};
 use crate::frames::{Frame, OpenArguments, OpenBindings};
 use crate::layers::{Layer, layer_at};
 use crate::reader::{Reader, Turn};
 use crate::repeats::first_repeat;
-use sexpr::{Cause, Lexer};
+use sexpr::Cause;
 use sym_table::Symbols;
 use term_names::faults::ReadFault;
 use term_pool::Terms;
-use text_items::nodes::{ItemText, Node};
+use text_items::nodes::ItemText;
 use text_items::refusals::refused;
+use text_items::shapes::place_at;
 
 /// Reads the term at node `k`.
 pub(crate) fn enter(
@@ -33,31 +34,33 @@ pub(crate) fn enter(
     reader: &mut Reader<'_>,
     k: usize,
 ) -> Result<Turn, ReadFault>
-    requires at { (g : WholeReading) × IsAt (source items.now.text.now) items.now.nodes.now g symbols.old terms.old reader.old k }
-    requires room { bound_of symbols.old items.now.nodes.now reader.old k ≤ 2 ^ 30 }
-    ensures goes { (g : WholeReading) → IsAt (source items.now.text.now) items.now.nodes.now g symbols.old terms.old reader.old k → Goes (source items.now.text.now) items.now.nodes.now g symbols.new terms.old terms.new reader.new result }
+    requires at { (g : WholeReading) × IsAt items.now g symbols.old terms.old reader.old k }
+    requires inside { AreInside items.now }
+    requires room { bound_of symbols.old items.now.nodes reader.old k ≤ 2 ^ 30 }
+    ensures goes { (g : WholeReading) → IsAt items.now g symbols.old terms.old reader.old k → Goes items.now g symbols.new terms.old terms.new reader.new result }
     ensures symbols { AddsNoSymbols symbols.old symbols.new }
-    ensures inside { IfOk result (λ t. node_of t ≤ length items.now.nodes.now) }
-    ensures few { IfOk result (λ t. bound_of symbols.new items.now.nodes.now reader.new (node_of t) ≤ bound_of symbols.old items.now.nodes.now reader.old k) }
-    ensures few_at_all { OnErr result (length symbols.new.leaves ≤ bound_of symbols.old items.now.nodes.now reader.old k) }
-    ensures progress { IfOk result (λ t. effort items.now.nodes.now reader.new t < effort items.now.nodes.now reader.old (turn.Read k)) }
+    ensures inside { IfOk result (λ t. node_of t ≤ length items.now.nodes) }
+    ensures few { IfOk result (λ t. bound_of symbols.new items.now.nodes reader.new (node_of t) ≤ bound_of symbols.old items.now.nodes reader.old k) }
+    ensures few_at_all { OnErr result (length symbols.new.leaves ≤ bound_of symbols.old items.now.nodes reader.old k) }
+    ensures progress { IfOk result (λ t. effort items.now.nodes reader.new t < effort items.now.nodes reader.old (turn.Read k)) }
     ensures replaces { reader.new.replaces_lets ≡ reader.old.replaces_lets }
     ensures base { reader.new.known.base ≡ reader.old.known.base }
     ensures keeps { KeepsTerms terms.old terms.new }
 {
-    let ItemText { text, nodes } = *items;
-    match layer_at(text, nodes, k) {
+    // A place in the list of nodes, or behind it, is a number that fits.
+    let _count = items.count();
+    match layer_at(items, k) {
         Layer::Faulty(refusal) => Err(ReadFault::Text(refusal)),
         Layer::Number(n) => Ok(Turn::Use(number_value(symbols, n)?, k + 1)),
         Layer::Symbol => {
-            let value = symbol_value(text, nodes, symbols, terms, reader, k)?;
+            let value = symbol_value(items, symbols, terms, reader, k)?;
             Ok(Turn::Use(value, k + 1))
         }
         Layer::Application { head, first, end } => {
             let parts = ApplicationParts { head, first, end };
             enter_application(items, symbols, reader, k, &parts)
         }
-        Layer::Let { first, body } => enter_let(text, nodes, reader, k, first, body),
+        Layer::Let { first, body } => enter_let(items, reader, k, first, body),
         Layer::Annotated { term, end, .. } => open_form(reader, Frame::Names { end }, term),
     }
 }
@@ -79,21 +82,20 @@ fn enter_application(
     k: usize,
     parts: &ApplicationParts,
 ) -> Result<Turn, ReadFault>
-    requires { (v : TermsView) × (g : WholeReading) × HasTop (source items.now.text.now) items.now.nodes.now g symbols.now v reader.old k (top.Application parts.now.head parts.now.first parts.now.end) }
-    ensures goes { (v : TermsView) (g : WholeReading) → HasTop (source items.now.text.now) items.now.nodes.now g symbols.now v reader.old k (top.Application parts.now.head parts.now.first parts.now.end) → Goes (source items.now.text.now) items.now.nodes.now g symbols.now v v reader.new result }
-    ensures inside { IfOk result (λ t. node_of t ≤ length items.now.nodes.now) }
-    ensures few { IfOk result (λ t. bound_of symbols.now items.now.nodes.now reader.new (node_of t) ≤ bound_of symbols.now items.now.nodes.now reader.old k) }
-    ensures progress { IfOk result (λ t. effort items.now.nodes.now reader.new t < effort items.now.nodes.now reader.old (turn.Read k)) }
+    requires { (v : TermsView) × (g : WholeReading) × HasTop items.now g symbols.now v reader.old k (top.Application parts.now.head parts.now.first parts.now.end) }
+    ensures goes { (v : TermsView) (g : WholeReading) → HasTop items.now g symbols.now v reader.old k (top.Application parts.now.head parts.now.first parts.now.end) → Goes items.now g symbols.now v v reader.new result }
+    ensures inside { IfOk result (λ t. node_of t ≤ length items.now.nodes) }
+    ensures few { IfOk result (λ t. bound_of symbols.now items.now.nodes reader.new (node_of t) ≤ bound_of symbols.now items.now.nodes reader.old k) }
+    ensures progress { IfOk result (λ t. effort items.now.nodes reader.new t < effort items.now.nodes reader.old (turn.Read k)) }
     ensures replaces { reader.new.replaces_lets ≡ reader.old.replaces_lets }
     ensures base { reader.new.known.base ≡ reader.old.known.base }
 {
-    let ItemText { text, nodes } = *items;
     let ApplicationParts { head, first, end } = *parts;
-    let Some(applied) = head_at(text, nodes, symbols, reader, head) else {
-        return Err(ReadFault::Text(refused(Cause::UnknownName, start_at(nodes, head))));
+    let Some(applied) = head_at(items, symbols, reader, head) else {
+        return Err(ReadFault::Text(refused(Cause::UnknownName, place_at(items, head))));
     };
     let form = OpenArguments {
-        place: start_at(nodes, k),
+        place: place_at(items, k),
         head: applied,
         from: reader.values.len(),
         end,
@@ -104,27 +106,28 @@ fn enter_application(
 /// Reads the term of the first binding of the let at node `k`, whose pairs stand from `first` to before `body`, where the
 /// variable of that binding may be bound.
 fn enter_let(
-    text: &Lexer<'_>,
-    nodes: &[Node],
+    items: &ItemText<'_, '_>,
     reader: &mut Reader<'_>,
     k: usize,
     first: usize,
     body: usize,
 ) -> Result<Turn, ReadFault>
-    requires { (s : Table) × (v : TermsView) × (g : WholeReading) × HasTop (source text.now) nodes.now g s v reader.old k (top.Let first body) }
-    ensures goes { (s : Table) (v : TermsView) (g : WholeReading) → HasTop (source text.now) nodes.now g s v reader.old k (top.Let first body) → Goes (source text.now) nodes.now g s v v reader.new result }
-    ensures inside { IfOk result (λ t. node_of t ≤ length nodes.now) }
-    ensures few { (s : Table) → IfOk result (λ t. bound_of s nodes.now reader.new (node_of t) ≤ bound_of s nodes.now reader.old k) }
-    ensures progress { IfOk result (λ t. effort nodes.now reader.new t < effort nodes.now reader.old (turn.Read k)) }
+    requires { (s : Table) × (v : TermsView) × (g : WholeReading) × HasTop items.now g s v reader.old k (top.Let first body) }
+    ensures goes { (s : Table) (v : TermsView) (g : WholeReading) → HasTop items.now g s v reader.old k (top.Let first body) → Goes items.now g s v v reader.new result }
+    ensures inside { IfOk result (λ t. node_of t ≤ length items.now.nodes) }
+    ensures few { (s : Table) → IfOk result (λ t. bound_of s items.now.nodes reader.new (node_of t) ≤ bound_of s items.now.nodes reader.old k) }
+    ensures progress { IfOk result (λ t. effort items.now.nodes reader.new t < effort items.now.nodes reader.old (turn.Read k)) }
     ensures replaces { reader.new.replaces_lets ≡ reader.old.replaces_lets }
     ensures base { reader.new.known.base ≡ reader.old.known.base }
 {
-    let repeat = first_repeat(reader.alloc, text, nodes, first, body)?;
+    // A place in the list of nodes, or behind it, is a number that fits.
+    let _count = items.count();
+    let repeat = first_repeat(reader.alloc, items, first, body)?;
     if repeat == first {
-        return Err(ReadFault::Text(refused(Cause::Repeated, start_at(nodes, first + 1))));
+        return Err(ReadFault::Text(refused(Cause::Repeated, place_at(items, first + 1))));
     }
     let form = OpenBindings {
-        place: start_at(nodes, k),
+        place: place_at(items, k),
         from: reader.values.len(),
         leaves: reader.leaves.len(),
         name: first + 1,

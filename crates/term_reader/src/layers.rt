@@ -1,25 +1,23 @@
 //! What a node in a term's place spells, as far as its top goes.
-ghost use Rattle.std.specs.Prelude.{◌≡◌, ◌<◌, ℕ, List, length, true, false, Some, None};
-ghost use Rattle.sexpr.specs.Items.{Item, item, place_of, symbol_name};
-ghost use Rattle.sexpr.specs.Source.{source};
+ghost use Rattle.std.specs.Prelude.{◌≡◌, ◌+◌, ◌<◌, length, true, false, Some, None};
+ghost use Rattle.sexpr.specs.Items.{place_of, symbol_name};
 ghost use Rattle.sexpr.specs.Words.{is_symbol, is_numeral};
 ghost use Rattle.problem_text.specs.Forms as spec;
-ghost use Rattle.text_items.specs.ItemShapes as shape;
 ghost use Rattle.problem_text.specs.Forms.{form_of, forms_of, binds_of};
 ghost use Rattle.problem_text.specs.Words.{is_among, left_out_words};
 ghost use Rattle.term_reader.specs.ShapeFaults.{IsLayer};
-ghost use Rattle.text_items.specs.Nodes.{IsNode};
-ghost use Rattle.term_reader.specs.Shapes.{IsApplied};
+ghost use Rattle.text_items.specs.Stepping.{AreInside};
+ghost use Rattle.text_items.specs.ItemsAt.{item_at};
+ghost use Rattle.term_reader.specs.Shapes.{IsApplied, arguments_of, others_of, applied_form};
 ghost use Rattle.term_reader.specs.ShapeFaults.{IsSymbolLayer, IsTokenLayer, is_numeral_kind, cause_of_kind, IsHeadFault};
 ghost use Rattle.text_items.specs.Spelling.{is_list_item};
-ghost use Rattle.text_items.specs.Stepping.{IsItemAt};
 
 use crate::attributes::annotation_fault;
 use crate::let_shapes::let_fault;
-use sexpr::{Cause, Lexer, Refusal, TokenKind, WordKind, word_kind};
-use text_items::nodes::Node;
+use sexpr::{Cause, Refusal, TokenKind, WordKind, word_kind};
+use text_items::nodes::ItemText;
 use text_items::numerals::numeral;
-use text_items::shapes::{is_list, name_at, node_at, second};
+use text_items::shapes::{is_list, name_at, place_at, second};
 
 /// The top of a form. Nodes are told by their places in the list of nodes.
 #[derive(Clone, Copy)]
@@ -53,16 +51,17 @@ pub(crate) enum Layer {
 ///
 /// A list costs as much as its items are, and a let also what the items of its bindings are, but nothing below them. No
 /// memory is taken.
-pub(crate) fn layer_at(text: &Lexer<'_>, nodes: &[Node], k: usize) -> Layer
-    requires { IsItemAt (source text.now) nodes.now k }
-    ensures { (i : Item) (m : ℕ) → IsNode (source text.now) nodes.now k i m → IsLayer (source text.now) nodes.now k result (form_of i) m }
+pub(crate) fn layer_at(items: &ItemText<'_, '_>, k: usize) -> Layer
+    requires there { k < length items.now.nodes }
+    requires inside { AreInside items.now }
+    ensures { IsLayer items.now k result (form_of (item_at items.now k)) }
 {
-    if is_list(nodes, k) {
-        return list_layer(text, nodes, k);
+    if is_list(items, k) {
+        return list_layer(items, k);
     }
-    match name_at(text, nodes, k) {
-        Some(name) => symbol_layer(name, node_at(nodes, k).token.start),
-        None => token_layer(text, nodes, k),
+    match name_at(items, k) {
+        Some(name) => symbol_layer(name, place_at(items, k)),
+        None => token_layer(items, k),
     }
 }
 
@@ -78,13 +77,15 @@ fn symbol_layer(name: &[u8], place: u64) -> Layer
 }
 
 /// The top of a token that is neither a symbol nor a bracket.
-fn token_layer(text: &Lexer<'_>, nodes: &[Node], k: usize) -> Layer
-    requires { (i : Item) × (m : ℕ) × IsNode (source text.now) nodes.now k i m × (is_list_item i ≡ false) × (symbol_name i ≡ None) }
-    ensures { (i : Item) (m : ℕ) → IsNode (source text.now) nodes.now k i m → is_list_item i ≡ false → symbol_name i ≡ None → IsTokenLayer (place_of i) result (form_of i) }
+fn token_layer(items: &ItemText<'_, '_>, k: usize) -> Layer
+    requires there { k < length items.now.nodes }
+    requires alone { is_list_item (item_at items.now k) ≡ false }
+    requires unnamed { symbol_name (item_at items.now k) ≡ None }
+    ensures { IsTokenLayer (place_of (item_at items.now k)) result (form_of (item_at items.now k)) }
 {
-    let token = node_at(nodes, k).token;
+    let token = items.node(k).token;
     match token.kind {
-        TokenKind::Word => word_layer(text.text(&token), token.start),
+        TokenKind::Word => word_layer(items.spelling(&token), token.start),
         _ => faulty(Cause::LeftOut, token.start),
     }
 }
@@ -132,27 +133,29 @@ fn number_layer(digits: &[u8], place: u64) -> Layer
 }
 
 /// The top of a list.
-fn list_layer(text: &Lexer<'_>, nodes: &[Node], k: usize) -> Layer
-    requires { (i : Item) × (m : ℕ) × IsNode (source text.now) nodes.now k i m × (is_list_item i ≡ true) }
-    ensures { (i : Item) (m : ℕ) → IsNode (source text.now) nodes.now k i m → is_list_item i ≡ true → IsLayer (source text.now) nodes.now k result (form_of i) m }
+fn list_layer(items: &ItemText<'_, '_>, k: usize) -> Layer
+    requires there { k < length items.now.nodes }
+    requires is { is_list_item (item_at items.now k) ≡ true }
+    requires inside { AreInside items.now }
+    ensures { IsLayer items.now k result (form_of (item_at items.now k)) }
 {
-    let list = node_at(nodes, k);
-    let Some(first) = second(nodes, k + 1, list.next) else {
+    let list = items.node(k);
+    let Some(first) = second(items, k + 1, list.next) else {
         return faulty(Cause::BadCommand, list.token.start);
     };
-    let Some(name) = name_at(text, nodes, k + 1) else {
-        return head_fault(nodes, k + 1);
+    let Some(name) = name_at(items, k + 1) else {
+        return head_fault(items, k + 1);
     };
-    symbol_list_layer(text, nodes, k, first, name)
+    symbol_list_layer(items, k, first, name)
 }
 
 /// The fault of a head that is no symbol.
-fn head_fault(nodes: &[Node], head: usize) -> Layer
-    requires { (text : List ℕ) × IsItemAt text nodes.now head }
-    ensures { (text : List ℕ) (i : Item) (m : ℕ) → IsNode text nodes.now head i m → IsHeadFault result i }
+fn head_fault(items: &ItemText<'_, '_>, head: usize) -> Layer
+    requires { head < length items.now.nodes }
+    ensures { IsHeadFault result (item_at items.now head) }
 {
-    let place = node_at(nodes, head).token.start;
-    if is_list(nodes, head) {
+    let place = place_at(items, head);
+    if is_list(items, head) {
         faulty(Cause::LeftOut, place)
     } else {
         faulty(Cause::BadCommand, place)
@@ -160,32 +163,35 @@ fn head_fault(nodes: &[Node], head: usize) -> Layer
 }
 
 /// The top of a list whose head is the symbol of this name, with arguments from `first` on.
-fn symbol_list_layer(text: &Lexer<'_>, nodes: &[Node], k: usize, first: usize, name: &[u8]) -> Layer
-    requires { (m : ℕ) × (a : IsApplied (source text.now) nodes.now k first m) × (symbol_name a.head ≡ Some name.now) }
-    ensures { (m : ℕ) (a : IsApplied (source text.now) nodes.now k first m) → symbol_name a.head ≡ Some name.now → IsLayer (source text.now) nodes.now k result (spec.symbol_list_form a.place (shape.name_at a.head) (item a.arg a.rest) (form_of a.arg) (forms_of a.rest) (binds_of a.arg)) m }
+fn symbol_list_layer(items: &ItemText<'_, '_>, k: usize, first: usize, name: &[u8]) -> Layer
+    requires applied { IsApplied items.now k first }
+    requires named { symbol_name (item_at items.now (k + 1)) ≡ Some name.now }
+    requires inside { AreInside items.now }
+    ensures { IsLayer items.now k result (applied_form items.now k first) }
 {
     match name {
-        b"let" => let_layer(text, nodes, k, first),
-        b"!" => annotation_layer(text, nodes, k, first),
-        _ if is_left_out(name) => faulty(Cause::LeftOut, node_at(nodes, k + 1).token.start),
+        b"let" => let_layer(items, k, first),
+        b"!" => annotation_layer(items, k, first),
+        _ if is_left_out(name) => faulty(Cause::LeftOut, place_at(items, k + 1)),
         _ => Layer::Application {
             head: k + 1,
             first,
-            end: node_at(nodes, k).next,
+            end: items.node(k).next,
         },
     }
 }
 
 /// The top of a let, whose list of bindings is to stand at `first`.
-fn let_layer(text: &Lexer<'_>, nodes: &[Node], k: usize, first: usize) -> Layer
-    requires { (m : ℕ) × IsApplied (source text.now) nodes.now k first m }
-    ensures { (m : ℕ) (a : IsApplied (source text.now) nodes.now k first m) → IsLayer (source text.now) nodes.now k result (spec.unless_faulty (spec.let_fault a.place (item a.arg a.rest)) (spec.let_form a.place (binds_of a.arg) (spec.first_form (forms_of a.rest)))) m }
+fn let_layer(items: &ItemText<'_, '_>, k: usize, first: usize) -> Layer
+    requires applied { IsApplied items.now k first }
+    requires inside { AreInside items.now }
+    ensures { IsLayer items.now k result (spec.unless_faulty (spec.let_fault (place_of (item_at items.now k)) (arguments_of items.now k first)) (spec.let_form (place_of (item_at items.now k)) (binds_of (item_at items.now first)) (spec.first_form (forms_of (others_of items.now k first))))) }
 {
-    let list = node_at(nodes, k);
-    if let Some(at) = let_fault(text, nodes, list.token.start, first, list.next) {
+    let list = items.node(k);
+    if let Some(at) = let_fault(items, list.token.start, first, list.next) {
         return faulty(Cause::BadCommand, at);
     }
-    let body = node_at(nodes, first).next;
+    let body = items.node(first).next;
     Layer::Let {
         first: first + 1,
         body,
@@ -193,15 +199,16 @@ fn let_layer(text: &Lexer<'_>, nodes: &[Node], k: usize, first: usize) -> Layer
 }
 
 /// The top of an annotated term, which is to stand at `first`.
-fn annotation_layer(text: &Lexer<'_>, nodes: &[Node], k: usize, first: usize) -> Layer
-    requires { (m : ℕ) × IsApplied (source text.now) nodes.now k first m }
-    ensures { (m : ℕ) (a : IsApplied (source text.now) nodes.now k first m) → IsLayer (source text.now) nodes.now k result (spec.unless_faulty (spec.annotation_fault a.place (item a.arg a.rest)) (spec.annotated a.place (form_of a.arg) (spec.names_given (item a.arg a.rest)))) m }
+fn annotation_layer(items: &ItemText<'_, '_>, k: usize, first: usize) -> Layer
+    requires applied { IsApplied items.now k first }
+    requires inside { AreInside items.now }
+    ensures { IsLayer items.now k result (spec.unless_faulty (spec.annotation_fault (place_of (item_at items.now k)) (arguments_of items.now k first)) (spec.annotated (place_of (item_at items.now k)) (form_of (item_at items.now first)) (spec.names_given (arguments_of items.now k first)))) }
 {
-    let list = node_at(nodes, k);
-    if let Some(at) = annotation_fault(text, nodes, list.token.start, first, list.next) {
+    let list = items.node(k);
+    if let Some(at) = annotation_fault(items, list.token.start, first, list.next) {
         return faulty(Cause::BadCommand, at);
     }
-    let attributes = node_at(nodes, first).next;
+    let attributes = items.node(first).next;
     Layer::Annotated {
         term: first,
         first: attributes,

@@ -1,6 +1,5 @@
 //! What is done with a term that was read.
-ghost use Rattle.std.specs.Prelude.{◌≡◌, ◌≤◌, ◌<◌, ◌^◌, ◌-◌, ℕ, List, length, IfOk, OnErr};
-ghost use Rattle.sexpr.specs.Source.{source};
+ghost use Rattle.std.specs.Prelude.{◌≡◌, ◌≤◌, ◌<◌, ◌^◌, length, IfOk, OnErr};
 ghost use Rattle.term_pool.specs.Views.{KeepsTerms};
 ghost use Rattle.term_reader.specs.Frames.{WholeReading};
 ghost use Rattle.term_reader.specs.Leaving.{with_open, Leaves};
@@ -8,7 +7,7 @@ ghost use Rattle.term_reader.specs.Turns.{HasRead, Goes};
 ghost use Rattle.term_reader.specs.Credits.{node_of, bound_of, effort};
 ghost use Rattle.term_names.specs.Standing.{AddsNoSymbols};
 ghost use Rattle.term_reader.specs.declared.frames.Frame.TheVariants as frame;
-ghost use Rattle.text_items.specs.declared.nodes.Node as node;
+ghost use Rattle.text_items.specs.ItemsAt.{ItemsView};
 ghost use Rattle.term_reader.specs.declared.reader.Turn.TheVariants as turn;
 
 use crate::attributes::TermAttributes;
@@ -34,16 +33,16 @@ pub(crate) fn leave(
     value: Value,
     n: usize,
 ) -> Result<Turn, ReadFault>
-    requires read { (g : WholeReading) × HasRead (source items.now.text.now) items.now.nodes.now g symbols.old terms.old reader.old value n }
+    requires read { (g : WholeReading) × HasRead items.now g symbols.old terms.old reader.old value n }
     requires open { 0 < length reader.old.frames }
-    requires inside { n ≤ length items.now.nodes.now }
-    requires room { bound_of symbols.old items.now.nodes.now reader.old n ≤ 2 ^ 30 }
-    ensures goes { (g : WholeReading) → HasRead (source items.now.text.now) items.now.nodes.now g symbols.old terms.old reader.old value n → Goes (source items.now.text.now) items.now.nodes.now g symbols.new terms.old terms.new reader.new result }
+    requires inside { n ≤ length items.now.nodes }
+    requires room { bound_of symbols.old items.now.nodes reader.old n ≤ 2 ^ 30 }
+    ensures goes { (g : WholeReading) → HasRead items.now g symbols.old terms.old reader.old value n → Goes items.now g symbols.new terms.old terms.new reader.new result }
     ensures symbols { AddsNoSymbols symbols.old symbols.new }
-    ensures inside { IfOk result (λ t. node_of t ≤ length items.now.nodes.now) }
-    ensures few { IfOk result (λ t. bound_of symbols.new items.now.nodes.now reader.new (node_of t) ≤ bound_of symbols.old items.now.nodes.now reader.old n) }
-    ensures few_at_all { OnErr result (length symbols.new.leaves ≤ bound_of symbols.old items.now.nodes.now reader.old n) }
-    ensures progress { IfOk result (λ t. effort items.now.nodes.now reader.new t < effort items.now.nodes.now reader.old (turn.Use value n)) }
+    ensures inside { IfOk result (λ t. node_of t ≤ length items.now.nodes) }
+    ensures few { IfOk result (λ t. bound_of symbols.new items.now.nodes reader.new (node_of t) ≤ bound_of symbols.old items.now.nodes reader.old n) }
+    ensures few_at_all { OnErr result (length symbols.new.leaves ≤ bound_of symbols.old items.now.nodes reader.old n) }
+    ensures progress { IfOk result (λ t. effort items.now.nodes reader.new t < effort items.now.nodes reader.old (turn.Use value n)) }
     ensures replaces { reader.new.replaces_lets ≡ reader.old.replaces_lets }
     ensures base { reader.new.known.base ≡ reader.old.known.base }
     ensures keeps { KeepsTerms terms.old terms.new }
@@ -62,7 +61,7 @@ pub(crate) fn leave(
         Frame::Body(form) => leave_body(symbols, terms, reader, value, n, &form),
         Frame::Names { end } => {
             let attributes = TermAttributes {
-                items: *items,
+                items,
                 first: n,
                 end,
             };
@@ -79,8 +78,8 @@ fn leave_arguments(
     value: Value,
     form: &OpenArguments,
 ) -> Result<Turn, ReadFault>
-    requires read { (source : List ℕ) × (nodes : List node.Node) × (g : WholeReading) × HasRead source nodes g symbols.now terms.old (with_open reader.old (frame.Arguments form.now)) value form.now.end }
-    ensures leaves { (source : List ℕ) (nodes : List node.Node) (g : WholeReading) → HasRead source nodes g symbols.now terms.old (with_open reader.old (frame.Arguments form.now)) value form.now.end → Leaves source nodes g symbols.now terms.old (with_open reader.old (frame.Arguments form.now)) value form.now.end symbols.now terms.new reader.new result }
+    requires read { (items : ItemsView) × (g : WholeReading) × HasRead items g symbols.now terms.old (with_open reader.old (frame.Arguments form.now)) value form.now.end }
+    ensures leaves { (items : ItemsView) (g : WholeReading) → HasRead items g symbols.now terms.old (with_open reader.old (frame.Arguments form.now)) value form.now.end → Leaves items g symbols.now terms.old (with_open reader.old (frame.Arguments form.now)) value form.now.end symbols.now terms.new reader.new result }
     ensures replaces { reader.new.replaces_lets ≡ reader.old.replaces_lets }
     ensures base { reader.new.known.base ≡ reader.old.known.base }
     ensures keeps { KeepsTerms terms.old terms.new }
@@ -99,14 +98,14 @@ fn leave_arguments(
 
 /// The term of an annotation was read, and gets its names.
 fn leave_annotated(
-    attributes: &TermAttributes<'_, '_>,
+    attributes: &TermAttributes<'_, '_, '_>,
     symbols: &Symbols,
     terms: &mut Terms<'_>,
     reader: &mut Reader<'_>,
     value: Value,
 ) -> Result<Turn, ReadFault>
-    requires read { (g : WholeReading) × HasRead (source attributes.now.items.text.now) attributes.now.items.nodes.now g symbols.now terms.old (with_open reader.old (frame.Names attributes.now.end)) value attributes.now.first }
-    ensures leaves { (g : WholeReading) → HasRead (source attributes.now.items.text.now) attributes.now.items.nodes.now g symbols.now terms.old (with_open reader.old (frame.Names attributes.now.end)) value attributes.now.first → Leaves (source attributes.now.items.text.now) attributes.now.items.nodes.now g symbols.now terms.old (with_open reader.old (frame.Names attributes.now.end)) value attributes.now.first symbols.now terms.new reader.new result }
+    requires read { (g : WholeReading) × HasRead attributes.now.items.now g symbols.now terms.old (with_open reader.old (frame.Names attributes.now.end)) value attributes.now.first }
+    ensures leaves { (g : WholeReading) → HasRead attributes.now.items.now g symbols.now terms.old (with_open reader.old (frame.Names attributes.now.end)) value attributes.now.first → Leaves attributes.now.items.now g symbols.now terms.old (with_open reader.old (frame.Names attributes.now.end)) value attributes.now.first symbols.now terms.new reader.new result }
     ensures replaces { reader.new.replaces_lets ≡ reader.old.replaces_lets }
     ensures base { reader.new.known.base ≡ reader.old.known.base }
     ensures keeps { KeepsTerms terms.old terms.new }

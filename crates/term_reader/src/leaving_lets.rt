@@ -1,33 +1,31 @@
 //! What is done with a term that was read in a let (SMT-LIB 2.6, on binders).
-ghost use Rattle.std.specs.Prelude.{◌≡◌, ◌≤◌, ◌<◌, ◌^◌, ◌+◌, ◌++◌, [], ◌∷◌, ℕ, List, length, OnOk, IfErr};
-ghost use Rattle.sexpr.specs.Source.{source};
+ghost use Rattle.std.specs.Prelude.{◌≡◌, ◌≤◌, ◌<◌, ◌^◌, ◌+◌, ◌++◌, [], ◌∷◌, ℕ, length, OnOk, IfErr};
 ghost use Rattle.sym_table.specs.Leaf as leaf;
 ghost use Rattle.sym_table.specs.Table.{IsLeaf};
 ghost use Rattle.term_pool.specs.Views.{TermsView, KeepsTerms};
-ghost use Rattle.text_items.specs.ItemShapes.{Name};
 ghost use Rattle.term_reader.specs.Frames.{WholeReading};
-ghost use Rattle.text_items.specs.NameNodes.{IsNameNode};
+ghost use Rattle.term_reader.specs.Layers.{symbol_at, IsSymbolAt};
 ghost use Rattle.term_reader.specs.Leaving.{with_open, Leaves};
 ghost use Rattle.term_reader.specs.Turns.{HasRead};
 ghost use Rattle.term_reader.specs.Credits.{bound_of};
 ghost use Rattle.term_names.specs.Standing.{AddsNoSymbols};
 ghost use Rattle.term_names.specs.declared.faults.ReadFault.TheVariants as ReadFault;
 ghost use Rattle.term_reader.specs.declared.frames.Frame.TheVariants as frame;
-ghost use Rattle.text_items.specs.declared.nodes.Node as node;
+ghost use Rattle.text_items.specs.ItemsAt.{ItemsView};
 
 use crate::frames::{Frame, OpenBindings, OpenBody};
 use crate::reader::{Reader, Turn};
 use crate::settling::settle;
-use sexpr::{Cause, Lexer};
+use sexpr::Cause;
 use sym_table::Symbols;
 use term_expansion::values::Value;
 use term_model::Sort;
 use term_names::faults::ReadFault;
 use term_names::lets::{LetVariables, bind, close, unbind};
 use term_pool::Terms;
-use text_items::nodes::{ItemText, Node, node_at};
+use text_items::nodes::ItemText;
 use text_items::refusals::refused;
-use text_items::shapes::name_of;
+use text_items::shapes::{name_of, place_at};
 
 /// The term of a binding was read: the term of the next one is read, where its variable may be bound, or, where none is
 /// left, the body.
@@ -39,10 +37,10 @@ pub(crate) fn leave_binding(
     n: usize,
     form: &OpenBindings,
 ) -> Result<Turn, ReadFault>
-    requires read { (v : TermsView) × (g : WholeReading) × HasRead (source items.now.text.now) items.now.nodes.now g symbols.old v (with_open reader.old (frame.Bindings form.now)) value n }
-    requires inside { n ≤ length items.now.nodes.now }
-    requires room { bound_of symbols.old items.now.nodes.now (with_open reader.old (frame.Bindings form.now)) n ≤ 2 ^ 30 }
-    ensures leaves { (v : TermsView) (g : WholeReading) → HasRead (source items.now.text.now) items.now.nodes.now g symbols.old v (with_open reader.old (frame.Bindings form.now)) value n → Leaves (source items.now.text.now) items.now.nodes.now g symbols.old v (with_open reader.old (frame.Bindings form.now)) value n symbols.new v reader.new result }
+    requires read { (v : TermsView) × (g : WholeReading) × HasRead items.now g symbols.old v (with_open reader.old (frame.Bindings form.now)) value n }
+    requires inside { n ≤ length items.now.nodes }
+    requires room { bound_of symbols.old items.now.nodes (with_open reader.old (frame.Bindings form.now)) n ≤ 2 ^ 30 }
+    ensures leaves { (v : TermsView) (g : WholeReading) → HasRead items.now g symbols.old v (with_open reader.old (frame.Bindings form.now)) value n → Leaves items.now g symbols.old v (with_open reader.old (frame.Bindings form.now)) value n symbols.new v reader.new result }
     ensures symbols { AddsNoSymbols symbols.old symbols.new }
     ensures one_more { length symbols.new.leaves ≤ length symbols.old.leaves + 1 }
     ensures replaces { reader.new.replaces_lets ≡ reader.old.replaces_lets }
@@ -56,9 +54,10 @@ pub(crate) fn leave_binding(
         repeat,
         body,
     } = *form;
-    let ItemText { text, nodes } = *items;
-    add_variable(text, nodes, symbols, &mut reader.leaves, name, value.sort)?;
+    add_variable(items, symbols, &mut reader.leaves, name, value.sort)?;
     reader.values.push(value)?;
+    // A place in the list of nodes, or behind it, is a number that fits.
+    let _count = items.count();
     if n == body {
         bind(
             symbols,
@@ -76,8 +75,7 @@ pub(crate) fn leave_binding(
         return Ok(Turn::Read(body));
     }
     if n == repeat {
-        let at = node_at(nodes, n + 1).token.start;
-        return Err(ReadFault::Text(refused(Cause::Repeated, at)));
+        return Err(ReadFault::Text(refused(Cause::Repeated, place_at(items, n + 1))));
     }
     reader.frames.push(Frame::Bindings(OpenBindings {
         place,
@@ -92,21 +90,20 @@ pub(crate) fn leave_binding(
 
 /// Puts the leaf of a variable behind the others. Its name stands at node `name`. Refuses want of memory alone.
 fn add_variable(
-    text: &Lexer<'_>,
-    nodes: &[Node],
+    items: &ItemText<'_, '_>,
     symbols: &mut Symbols,
     leaves: &mut Vec<u32>,
     name: usize,
     sort: Sort,
 ) -> Result<(), ReadFault>
-    requires name { (x : Name) × IsNameNode (source text.now) nodes.now name x }
+    requires name { IsSymbolAt items.now name }
     requires room { length symbols.old.leaves < 2 ^ 30 }
-    ensures added { (x : Name) → IsNameNode (source text.now) nodes.now name x → OnOk result ((k : ℕ) × IsLeaf symbols.new k (leaf.variable x.name sort) × (leaves.new.items ≡ leaves.old.items ++ k ∷ [])) }
+    ensures added { OnOk result ((k : ℕ) × IsLeaf symbols.new k (leaf.variable (symbol_at items.now name).name sort) × (leaves.new.items ≡ leaves.old.items ++ k ∷ [])) }
     ensures symbols { AddsNoSymbols symbols.old symbols.new }
     ensures one_more { length symbols.new.leaves ≤ length symbols.old.leaves + 1 }
     ensures memory { IfErr result (λ fault. fault ≡ ReadFault.Memory) }
 {
-    let leaf = symbols.variable(name_of(text, nodes, name), sort)?;
+    let leaf = symbols.variable(name_of(items, name), sort)?;
     leaves.push(leaf)?;
     Ok(())
 }
@@ -120,8 +117,8 @@ pub(crate) fn leave_body(
     n: usize,
     form: &OpenBody,
 ) -> Result<Turn, ReadFault>
-    requires read { (source : List ℕ) × (nodes : List node.Node) × (g : WholeReading) × HasRead source nodes g symbols.now terms.old (with_open reader.old (frame.Body form.now)) value n }
-    ensures leaves { (source : List ℕ) (nodes : List node.Node) (g : WholeReading) → HasRead source nodes g symbols.now terms.old (with_open reader.old (frame.Body form.now)) value n → Leaves source nodes g symbols.now terms.old (with_open reader.old (frame.Body form.now)) value n symbols.now terms.new reader.new result }
+    requires read { (items : ItemsView) × (g : WholeReading) × HasRead items g symbols.now terms.old (with_open reader.old (frame.Body form.now)) value n }
+    ensures leaves { (items : ItemsView) (g : WholeReading) → HasRead items g symbols.now terms.old (with_open reader.old (frame.Body form.now)) value n → Leaves items g symbols.now terms.old (with_open reader.old (frame.Body form.now)) value n symbols.now terms.new reader.new result }
     ensures replaces { reader.new.replaces_lets ≡ reader.old.replaces_lets }
     ensures base { reader.new.known.base ≡ reader.old.known.base }
     ensures keeps { KeepsTerms terms.old terms.new }

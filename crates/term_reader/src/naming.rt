@@ -1,13 +1,10 @@
 //! Names that attributes give to terms (SMT-LIB 2.6, on attributes of terms).
-ghost use Rattle.std.specs.Prelude.{◌≡◌, ◌≤◌, List, [], ◌∷◌};
-ghost use Rattle.sexpr.specs.Source.{source};
+ghost use Rattle.std.specs.Prelude.{◌≡◌, ◌≤◌, [], ◌∷◌};
 ghost use Rattle.pair_pool.specs.Views.{IsUnchanged};
 ghost use Rattle.term_pool.specs.Views.{TermsView, KeepsTerms};
-ghost use Rattle.text_items.specs.ItemShapes.{Name};
 ghost use Rattle.problem_text.specs.Limits.{most_height};
 ghost use Rattle.term_names.specs.Known.{macro_of};
-ghost use Rattle.text_items.specs.NameNodes.{IsNameNode};
-ghost use Rattle.term_reader.specs.Layers.{AreTermAttributes};
+ghost use Rattle.term_reader.specs.Layers.{symbol_at, IsSymbolAt, names_at, AreTermAttributes};
 ghost use Rattle.term_reader.specs.Naming.{GivesNames, IsFreeIn};
 ghost use Rattle.problem_text.specs.TypedTerms.{Typed};
 ghost use Rattle.problem_text.specs.Scripts.{Script};
@@ -26,9 +23,9 @@ use term_names::faults::ReadFault;
 use term_names::free::free_leaves;
 use term_names::known::Known;
 use term_pool::Terms;
-use text_items::nodes::{ItemText, node_at};
+use text_items::nodes::ItemText;
 use text_items::refusals::refused;
-use text_items::shapes::name_of;
+use text_items::shapes::{name_of, place_at};
 
 /// A term that gets names, with the leaves of its free variables.
 #[derive(Clone, Copy)]
@@ -44,24 +41,24 @@ struct TermToName<'n> {
 /// want of memory.
 pub(crate) fn give_names(
     alloc: Global,
-    attributes: &TermAttributes<'_, '_>,
+    attributes: &TermAttributes<'_, '_, '_>,
     symbols: &Symbols,
     terms: &mut Terms<'_>,
     known: &mut Known<'_>,
     value: Value,
 ) -> Result<(), ReadFault>
-    requires attributes { (names : List Name) × AreTermAttributes (source attributes.now.items.text.now) attributes.now.items.nodes.now attributes.now.first names attributes.now.end }
+    requires attributes { AreTermAttributes attributes.now.items.now attributes.now.first attributes.now.end }
     requires term { (t : Typed) × IsValue symbols.now terms.old value t }
     requires low { value.height ≤ most_height }
     requires script { (sc : Script) × IsScript symbols.now terms.old known.old sc }
-    ensures given { (names : List Name) (t : Typed) (sc : Script) → AreTermAttributes (source attributes.now.items.text.now) attributes.now.items.nodes.now attributes.now.first names attributes.now.end → IsValue symbols.now terms.old value t → IsScript symbols.now terms.old known.old sc → GivesNames symbols.now terms.new known.new t (with_names t names sc) result }
+    ensures given { (t : Typed) (sc : Script) → IsValue symbols.now terms.old value t → IsScript symbols.now terms.old known.old sc → GivesNames symbols.now terms.new known.new t (with_names t (names_at attributes.now.items.now attributes.now.first attributes.now.end) sc) result }
     ensures macros { (w : Which) → macro_of known.new w ≡ macro_of known.old w }
     ensures base { known.new.base ≡ known.old.base }
     ensures keeps { KeepsTerms terms.old terms.new }
     ensures unchanged { IsUnchanged terms.old.pass terms.new.pass }
 {
     let TermAttributes { items, first, end } = *attributes;
-    if next_name(items.text, items.nodes, first, end).is_none() {
+    if next_name(items, first, end).is_none() {
         return Ok(());
     }
     let free = free_leaves(alloc, symbols, terms, known, value)?;
@@ -75,24 +72,24 @@ pub(crate) fn give_names(
 /// Gives a term the names of its attributes.
 fn give_each(
     alloc: Global,
-    attributes: &TermAttributes<'_, '_>,
+    attributes: &TermAttributes<'_, '_, '_>,
     symbols: &Symbols,
     known: &mut Known<'_>,
     term: &TermToName<'_>,
 ) -> Result<(), ReadFault>
-    requires attributes { (names : List Name) × AreTermAttributes (source attributes.now.items.text.now) attributes.now.items.nodes.now attributes.now.first names attributes.now.end }
+    requires attributes { AreTermAttributes attributes.now.items.now attributes.now.first attributes.now.end }
     requires script { (v : TermsView) × (t : Typed) × (sc : Script) × IsFreeIn symbols.now v term.now.value.now term.now.free.now t × IsScript symbols.now v known.old sc }
-    ensures given { (v : TermsView) (names : List Name) (t : Typed) (sc : Script) → AreTermAttributes (source attributes.now.items.text.now) attributes.now.items.nodes.now attributes.now.first names attributes.now.end → IsFreeIn symbols.now v term.now.value.now term.now.free.now t → IsScript symbols.now v known.old sc → GivesNames symbols.now v known.new t (with_names t names sc) result }
+    ensures given { (v : TermsView) (t : Typed) (sc : Script) → IsFreeIn symbols.now v term.now.value.now term.now.free.now t → IsScript symbols.now v known.old sc → GivesNames symbols.now v known.new t (with_names t (names_at attributes.now.items.now attributes.now.first attributes.now.end) sc) result }
     ensures macros { (w : Which) → macro_of known.new w ≡ macro_of known.old w }
     ensures base { known.new.base ≡ known.old.base }
 {
     let TermAttributes { items, first, end } = *attributes;
     let mut k = first;
     'names: loop {
-        let Some(at) = next_name(items.text, items.nodes, k, end) else {
+        let Some(at) = next_name(items, k, end) else {
             return Ok(());
         };
-        give_name(alloc, &items, symbols, known, term, at)?;
+        give_name(alloc, items, symbols, known, term, at)?;
         k = at;
     }
 }
@@ -106,16 +103,15 @@ fn give_name(
     term: &TermToName<'_>,
     at: usize,
 ) -> Result<(), ReadFault>
-    requires name { (x : Name) × IsNameNode (source items.now.text.now) items.now.nodes.now at x }
+    requires name { IsSymbolAt items.now at }
     requires script { (v : TermsView) × (sc : Script) × IsScript symbols.now v known.old sc }
-    ensures given { (v : TermsView) (x : Name) (t : Typed) (sc : Script) → IsNameNode (source items.now.text.now) items.now.nodes.now at x → IsFreeIn symbols.now v term.now.value.now term.now.free.now t → IsScript symbols.now v known.old sc → GivesNames symbols.now v known.new t (with_names t (x ∷ []) sc) result }
+    ensures given { (v : TermsView) (t : Typed) (sc : Script) → IsFreeIn symbols.now v term.now.value.now term.now.free.now t → IsScript symbols.now v known.old sc → GivesNames symbols.now v known.new t (with_names t (symbol_at items.now at ∷ []) sc) result }
     ensures macros { (w : Which) → macro_of known.new w ≡ macro_of known.old w }
     ensures base { known.new.base ≡ known.old.base }
 {
-    let ItemText { text, nodes } = *items;
-    let name = name_of(text, nodes, at);
+    let name = name_of(items, at);
     if is_taken(symbols, known, name) {
-        let place = node_at(nodes, at).token.start;
+        let place = place_at(items, at);
         return Err(ReadFault::Text(refused(Cause::Repeated, place)));
     }
     let owned = Vec::from_slice(alloc, term.free)?;

@@ -1,21 +1,18 @@
 //! Variables of a let that may not be bound.
-ghost use Rattle.std.specs.Prelude.{◌≡◌, ◌||◌, ◌<◌, ◌+◌, ℕ, List, [], false, bytes_eq, IfOk, IfErr};
-ghost use Rattle.sexpr.specs.Source.{source};
-ghost use Rattle.text_items.specs.ItemShapes.{Name};
+ghost use Rattle.std.specs.Prelude.{◌≡◌, ◌||◌, ◌<◌, ◌+◌, ℕ, List, [], length, false, bytes_eq, IfOk, IfErr};
 ghost use Rattle.problem_text.specs.Forms.{Form, LetBinds, no_binds, bind};
-ghost use Rattle.text_items.specs.NameNodes.{IsNameNode};
-ghost use Rattle.term_reader.specs.Layers.{AreBinds};
-ghost use Rattle.term_reader.specs.Shapes.{IsFirstRepeat, IsPair};
+ghost use Rattle.text_items.specs.ItemsAt.{end_at};
+ghost use Rattle.term_reader.specs.Layers.{AreBinds, symbol_at, IsSymbolAt};
+ghost use Rattle.term_reader.specs.Shapes.{IsFirstRepeat};
 ghost use Rattle.term_reader.specs.ShapeFaults.{has_name};
 ghost use Rattle.problem_text.specs.Words as spec;
 ghost use Rattle.term_names.specs.declared.faults.ReadFault.TheVariants as ReadFault;
 
 use indexmap::IndexSet;
-use sexpr::Lexer;
 use std::alloc::Global;
 use term_names::faults::ReadFault;
-use text_items::nodes::Node;
-use text_items::shapes::{name_of, node_at};
+use text_items::nodes::ItemText;
+use text_items::shapes::name_of;
 
 /// The place of the first pair whose variable is a built-in word or has the name of an earlier variable, and `body` where
 /// there is none.
@@ -24,38 +21,37 @@ use text_items::shapes::{name_of, node_at};
 /// for want of memory alone.
 pub(crate) fn first_repeat(
     alloc: Global,
-    text: &Lexer<'_>,
-    nodes: &[Node],
+    items: &ItemText<'_, '_>,
     first: usize,
     body: usize,
 ) -> Result<usize, ReadFault>
-    requires { (bs : LetBinds) × AreBinds (source text.now) nodes.now first bs body }
-    ensures place { IfOk result (λ place. (bs : LetBinds) → AreBinds (source text.now) nodes.now first bs body → IsFirstRepeat (source text.now) nodes.now first [] bs place body) }
+    requires { (bs : LetBinds) × AreBinds items.now first bs body }
+    ensures place { IfOk result (λ place. (bs : LetBinds) → AreBinds items.now first bs body → IsFirstRepeat items.now first [] bs place body) }
     ensures fault { IfErr result (λ fault. fault ≡ ReadFault.Memory) }
 {
     if first == body {
         return Ok(body);
     }
-    if next_pair(nodes, first) == body {
-        return Ok(only_pair(text, nodes, first, body));
+    if next_pair(items, first) == body {
+        return Ok(only_pair(items, first, body));
     }
     let mut earlier = IndexSet::new(alloc);
     let mut k = first;
-    'pairs: while k != body {
-        if is_repeated(&mut earlier, pair_name(text, nodes, k))? {
+    'pairs: while k < body {
+        if is_repeated(&mut earlier, pair_name(items, k))? {
             return Ok(k);
         }
-        k = next_pair(nodes, k);
+        k = next_pair(items, k);
     }
     Ok(body)
 }
 
 /// The place of a pair that is the only one, where its variable is a built-in word.
-fn only_pair(text: &Lexer<'_>, nodes: &[Node], k: usize, body: usize) -> usize
-    requires { (bs : LetBinds) × AreBinds (source text.now) nodes.now k bs body × (k < body) }
-    ensures { (x : Name) (f : Form) → AreBinds (source text.now) nodes.now k (bind x f no_binds) body → IsFirstRepeat (source text.now) nodes.now k [] (bind x f no_binds) result body }
+fn only_pair(items: &ItemText<'_, '_>, k: usize, body: usize) -> usize
+    requires { IsSymbolAt items.now (k + 1) }
+    ensures { (f : Form) → end_at items.now (k + 2) ≡ body → IsFirstRepeat items.now k [] (bind (symbol_at items.now (k + 1)) f no_binds) result body }
 {
-    if is_built_in(pair_name(text, nodes, k)) {
+    if is_built_in(pair_name(items, k)) {
         k
     } else {
         body
@@ -63,19 +59,23 @@ fn only_pair(text: &Lexer<'_>, nodes: &[Node], k: usize, body: usize) -> usize
 }
 
 /// The name of a pair's variable.
-pub(crate) fn pair_name<'a>(text: &Lexer<'a>, nodes: &[Node], k: usize) -> &'a [u8]
-    requires { (x : Name) × IsNameNode (source text.now) nodes.now (k + 1) x }
-    ensures { (x : Name) → IsNameNode (source text.now) nodes.now (k + 1) x → result.now ≡ x.name }
+pub(crate) fn pair_name<'t>(items: &ItemText<'_, 't>, k: usize) -> &'t [u8]
+    requires { IsSymbolAt items.now (k + 1) }
+    ensures { result.now ≡ (symbol_at items.now (k + 1)).name }
 {
-    name_of(text, nodes, k + 1)
+    // A place in the list of nodes, or behind it, is a number that fits.
+    let _count = items.count();
+    name_of(items, k + 1)
 }
 
 /// The place of the node after a pair.
-pub(crate) fn next_pair(nodes: &[Node], k: usize) -> usize
-    requires { (text : List ℕ) × (x : Name) × (f : Form) × (m : ℕ) × IsPair text nodes.now k x f m }
-    ensures { (text : List ℕ) (x : Name) (f : Form) (m : ℕ) → IsPair text nodes.now k x f m → result ≡ m }
+pub(crate) fn next_pair(items: &ItemText<'_, '_>, k: usize) -> usize
+    requires { k + 2 < length items.now.nodes }
+    ensures { result ≡ end_at items.now (k + 2) }
 {
-    node_at(nodes, k + 2).next
+    // A place in the list of nodes, or behind it, is a number that fits.
+    let _count = items.count();
+    items.node(k + 2).next
 }
 
 /// Whether the name is a built-in word or stands among the earlier ones, where it is put otherwise.

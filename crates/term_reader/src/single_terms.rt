@@ -1,5 +1,5 @@
 //! Reading single terms behind a problem.
-ghost use Rattle.std.specs.Prelude.{◌≡◌, ◌≤◌, ◌^◌, ◌+◌, ◌-◌, ◌∷◌, ◌++◌, [], ℕ, List, map, reverse, length, OnOk, OnErr};
+ghost use Rattle.std.specs.Prelude.{◌≡◌, ◌≤◌, ◌<◌, ◌^◌, ◌+◌, ◌-◌, ◌∷◌, ◌++◌, [], List, map, reverse, length, OnOk, OnErr};
 ghost use Rattle.sexpr.specs.Form.{HasForm};
 ghost use Rattle.sexpr.specs.Items.{Item};
 ghost use Rattle.sexpr.specs.Source as at;
@@ -10,8 +10,7 @@ ghost use Rattle.term_model.specs.Terms.{Var};
 ghost use Rattle.term_pool.specs.StandsFor.{variable_leaf};
 ghost use Rattle.term_pool.specs.Views.{TermsView, KeepsTerms};
 ghost use Rattle.term_names.specs.InScope.{IsScope};
-ghost use Rattle.text_items.specs.Nodes.{IsNode};
-ghost use Rattle.text_items.specs.Stepping.{IsItemAt};
+ghost use Rattle.text_items.specs.ItemsAt.{end_at, item_at};
 ghost use Rattle.text_items.specs.Lexers.{IsFirstOfItem, GoesOnWith};
 ghost use Rattle.problem_text.specs.Limits.{limited};
 ghost use Rattle.problem_text.specs.Names.{Bound, Place, itself};
@@ -39,7 +38,7 @@ use term_names::scope::Scope;
 use term_names::stacks::Values;
 use term_pool::Terms;
 use text_items::item_laws::items_begin_at_tokens;
-use text_items::nodes::{Node, read_item};
+use text_items::nodes::{ItemText, Node, read_item};
 
 /// A reader of terms behind a problem. It knows the problem's macros and named terms, the variables that were pushed, and
 /// the named terms of what it read.
@@ -146,48 +145,46 @@ impl<'a> TermReader<'a> {
     /// the distinct cells of its body.
     pub fn term_at(
         &mut self,
-        text: &Lexer<'_>,
-        nodes: &[Node],
+        items: &ItemText<'_, '_>,
         k: usize,
         symbols: &mut Symbols,
         terms: &mut Terms<'_>,
     ) -> Result<Ref, ReadFault>
-        requires item { IsItemAt (at.source text.now) nodes.now k }
+        requires item { k < length items.now.nodes }
         requires reader { (sc : Script) × (p : Place) × IsReaderOf symbols.old terms.old self.old sc p }
-        requires room { length symbols.old.leaves + (length nodes.now - k) ≤ 2 ^ 30 }
-        ensures read { (i : Item) (m : ℕ) (sc : Script) (p : Place) → IsNode (at.source text.now) nodes.now k i m → IsReaderOf symbols.old terms.old self.old sc p → ReadsTerm symbols.new terms.old terms.new self.new p (read_term i p sc) result }
+        requires room { length symbols.old.leaves + (length items.now.nodes - k) ≤ 2 ^ 30 }
+        ensures read { (sc : Script) (p : Place) → IsReaderOf symbols.old terms.old self.old sc p → ReadsTerm symbols.new terms.old terms.new self.new p (read_term (item_at items.now k) p sc) result }
         // Each leaf that is added has a node of the item.
-        ensures spent { (i : Item) (m : ℕ) → IsNode (at.source text.now) nodes.now k i m → OnOk result (length symbols.new.leaves ≤ length symbols.old.leaves + (m - k)) }
-        ensures few { length symbols.new.leaves ≤ length symbols.old.leaves + (length nodes.now - k) }
+        ensures spent { OnOk result (length symbols.new.leaves ≤ length symbols.old.leaves + (end_at items.now k - k)) }
+        ensures few { length symbols.new.leaves ≤ length symbols.old.leaves + (length items.now.nodes - k) }
         ensures symbols { AddsNoSymbols symbols.old symbols.new }
         ensures keeps { KeepsTerms terms.old terms.new }
     {
-        let value = self.value_at(text, nodes, k, symbols, terms)?;
+        let value = self.value_at(items, k, symbols, terms)?;
         Ok(value.term)
     }
 
     /// Reads the term at node `k`, as `term_at` does, and answers its sort and its height besides.
     pub fn value_at(
         &mut self,
-        text: &Lexer<'_>,
-        nodes: &[Node],
+        items: &ItemText<'_, '_>,
         k: usize,
         symbols: &mut Symbols,
         terms: &mut Terms<'_>,
     ) -> Result<Value, ReadFault>
-        requires item { IsItemAt (at.source text.now) nodes.now k }
+        requires item { k < length items.now.nodes }
         requires reader { (sc : Script) × (p : Place) × IsReaderOf symbols.old terms.old self.old sc p }
-        requires room { length symbols.old.leaves + (length nodes.now - k) ≤ 2 ^ 30 }
-        ensures read { (i : Item) (m : ℕ) (sc : Script) (p : Place) → IsNode (at.source text.now) nodes.now k i m → IsReaderOf symbols.old terms.old self.old sc p → ReadsValue symbols.new terms.old terms.new self.new p (read_term i p sc) result }
+        requires room { length symbols.old.leaves + (length items.now.nodes - k) ≤ 2 ^ 30 }
+        ensures read { (sc : Script) (p : Place) → IsReaderOf symbols.old terms.old self.old sc p → ReadsValue symbols.new terms.old terms.new self.new p (read_term (item_at items.now k) p sc) result }
         // Each leaf that is added has a node of the item.
-        ensures spent { (i : Item) (m : ℕ) → IsNode (at.source text.now) nodes.now k i m → OnOk result (length symbols.new.leaves ≤ length symbols.old.leaves + (m - k)) }
-        ensures few { length symbols.new.leaves ≤ length symbols.old.leaves + (length nodes.now - k) }
+        ensures spent { OnOk result (length symbols.new.leaves ≤ length symbols.old.leaves + (end_at items.now k - k)) }
+        ensures few { length symbols.new.leaves ≤ length symbols.old.leaves + (length items.now.nodes - k) }
         ensures symbols { AddsNoSymbols symbols.old symbols.new }
         ensures keeps { KeepsTerms terms.old terms.new }
     {
         enter_each(symbols, &mut self.reader.scope, &self.pushed)?;
         self.pushed.clear();
-        read(text, nodes, symbols, terms, &mut self.reader, k)
+        read(items, symbols, terms, &mut self.reader, k)
     }
 }
 
@@ -246,5 +243,6 @@ fn read_first(
     // An item begins at the token.
     items_begin_at_tokens();
     read_item(lexer, first, nodes)?;
-    read(lexer, nodes, symbols, terms, reader, 0)
+    let items = ItemText::new(lexer, nodes);
+    read(&items, symbols, terms, reader, 0)
 }

@@ -8,8 +8,9 @@ use Rattle.sexpr.specs.Tokens.{Read, next_token, AreTokens, IsSpanFrom}
 use Rattle.sexpr.specs.Items.{Item}
 use Rattle.text_items.specs.declared.nodes.Node.{Node}
 use Rattle.text_items.specs.Lexers.{GoesOnWith}
-use Rattle.text_items.specs.Nodes.{IsNode}
+use Rattle.text_items.specs.Nesting.{AreItsNodes}
 use Rattle.text_items.specs.Adding.{IsAdded}
+use Rattle.text_items.proofs.NodeLemmas.{its_nodes}
 use Rattle.text_items.proofs.OpenLists.{GoesOn, item_begins, goes_on, whole_read, goes_further, inner_there, never_closes, added_few}
 
 -- what the tokens to come make of the nodes
@@ -109,11 +110,11 @@ module _ (old : Lexer) (first : Token) (there : (i : Item) × (rest : List Token
               on = goes_on (source old) i rest nodes after inner now t c.others some (record { some = span.some; within = within }) on added;
             }
 
-    pub item_there : inner ≡ 0 → (i : Item) (rest : List Token) → GoesOnWith old first i rest → IsNode (source l) nodes 0 i (length nodes)
+    pub item_there : inner ≡ 0 → (i : Item) (rest : List Token) → GoesOnWith old first i rest → AreItsNodes (source l) nodes i
     item_there none i rest g =
         let k = so_far.continues i rest g in
         let w = whole_read (source old) i rest nodes inner k.tokens none k.on in
-        subst (λ s. IsNode s nodes 0 i (length nodes)) (sym so_far.same_text) w.there
+        subst (λ s. AreItsNodes s nodes i) (sym so_far.same_text) (its_nodes (source old) nodes i w.there)
 
     pub rest_there : inner ≡ 0 → (i : Item) (rest : List Token) → GoesOnWith old first i rest → AreTokens (source l) (position l) rest
     rest_there none i rest g =

@@ -4,10 +4,8 @@ pub mod NodeRanges
 pub mod OpenLists
 pub mod Placing
 pub mod ItemsRead
-pub mod NodeSteps
 pub mod ShapeLemmas
 pub mod NumeralValues
-pub mod NodeItems
-pub mod ItemLoops
-pub mod KeywordLemmas
+pub mod ItemsAtLemmas
+pub mod NodeLemmas
 pub mod OnePassLemmas

@@ -1,15 +1,11 @@
 -- One pass over attributes: what is still to come, by what stood.
-use Rattle.std.proofs.Common.{◌≡◌, ℕ, ◌≢◌, Bool, true, false, not, ◌&&◌, ◌||◌, if◌then◌else◌, List, [], ◌∷◌, bytes_eq, Option, Some, None, is_some, refl, sym, ap, ◌∙◌}
+use Rattle.std.proofs.Common.{◌≡◌, ℕ, Bool, true, false, not, ◌&&◌, ◌||◌, if◌then◌else◌, List, [], ◌∷◌, bytes_eq, Option, Some, None, is_some, refl, sym, ap, ◌∙◌}
 use Rattle.std.specs.Option.{option_or}
 use Rattle.sexpr.specs.Items.{Item, Items, no_items, item}
 use Rattle.text_items.specs.ItemShapes.{excess}
 use Rattle.text_items.specs.Keywords.{Known, from_word, behind, is_it, keyword_of, first_of, second_of, earlier, repeated, lacks_keyword, misplaced, next_fault, after_item, at_end, is_value, word_next, attributes_fault}
 use Rattle.text_items.specs.OnePass.{marked, is_again, lacks_still, repeated_still, fault_still, AreMarked, IsPassed}
 use Rattle.text_items.specs.declared.keywords.Next.{Next}
-use Rattle.text_items.specs.declared.nodes.Node.{Node}
-use Rattle.text_items.specs.Nodes.{IsNode}
-use Rattle.text_items.proofs.ItemLoops.{Left, left_on}
-use Rattle.text_items.proofs.KeywordLemmas.{Says, IsRead}
 use Rattle.text_items.proofs.ShapeLemmas.{passed}
 
 left_false : (a b : Bool) → a || b ≡ false → a ≡ false
@@ -137,7 +133,7 @@ module _ (known : List Known) (place : ℕ) where
       ap (λ x. whole (at_end known word_next items) x (misplaced known word_next items) (repeated known items)) (sym (lacks_start known stood items none))
       ∙ ap (whole (at_end known word_next items) (lacks_still known stood items) (misplaced known word_next items)) (sym (repeated_start known stood items none))
 
-  fault_on : (i : Item) (others : Items) (stood after : List Bool) (next later : Next) (fault : Option ℕ) → fault ≡ next_fault next i → is_some fault ≡ false
+  pub fault_on : (i : Item) (others : Items) (stood after : List Bool) (next later : Next) (fault : Option ℕ) → fault ≡ next_fault next i → is_some fault ≡ false
       → IsPassed known (keyword_of i) stood later after → fault_still known place stood next (item i others) ≡ fault_still known place after later others
   fault_on i others stood after next later fault judged none h =
       ap (λ f. whole (at_end known (after_item known i) others) (lacks_still known stood (item i others)) (option_or f (misplaced known (after_item known i) others)) (repeated_still known stood (item i others))) (sym judged)
@@ -151,11 +147,3 @@ module _ (known : List Known) (place : ℕ) where
       ap (λ b. if b || lacks_still known stood no_items then Some place else earlier None (repeated_still known stood no_items)) value
       ∙ ap (λ b. if b then Some place else repeated_still known stood no_items) lacking
       ∙ repeated_end known stood
-
-  -- an item stands in its place
-  pub fault_passed : (s : List ℕ) (ns : List Node) (k m : ℕ) (answer : Option ℕ) (stood after : List Bool) (next later : Next) (fault : Option ℕ) (node : Node)
-      → Left (fault_still known place stood next) s ns k m answer → k ≢ m → Says s ns k m (next_fault next) fault → is_some fault ≡ false
-      → ((i : Item) (n : ℕ) → IsNode s ns k i n → IsPassed known (keyword_of i) stood later after) → IsRead s ns k m node → Left (fault_still known place after later) s ns node.next m answer
-  fault_passed s ns k m answer stood after next later fault node h differs judged none marks read =
-      left_on s ns k m answer (fault_still known place stood next) (fault_still known place after later) node h differs read
-      (λ i n others at. fault_on i others stood after next later fault (judged i n at) none (marks i n at))

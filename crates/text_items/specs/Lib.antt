@@ -2,9 +2,9 @@ pub mod Spelling
 pub mod ItemShapes
 pub mod Lexers
 pub mod Nodes
+pub mod ItemsAt
+pub mod Nesting
 pub mod Adding
 pub mod Stepping
-pub mod NameNodes
-pub mod Children
 pub mod Keywords
 pub mod OnePass

@@ -1,5 +1,5 @@
--- Public. The items of a text as a flat list of nodes. A list stands before what is in it, so an item is a range of nodes, and
--- each node says where the next item after its own begins.
+-- Private. Which nodes are those of an item, and of items one after another, as a relation: what reading an item owes. A list stands
+-- before what is in it, and each node says where the next item after its own begins.
 use Rattle.std.specs.Prelude.{◌≡◌, ℕ, ◌+◌, ◌<◌, ◌≤◌, List, length, slice_get, Some}
 use Rattle.sexpr.specs.declared.lexing.TokenKind.{TokenKind}
 use Rattle.sexpr.specs.declared.lexing.TokenKind.TheVariants.{Open, Text, Quoted, Word}

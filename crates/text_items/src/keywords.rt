@@ -1,16 +1,13 @@
 //! Lists of attributes: keywords, and what has to stand after each.
-ghost use Rattle.std.specs.Prelude.{◌≡◌, ℕ, List, map, find, bytes_eq, option_copied, Some, None, if◌then◌else◌};
+ghost use Rattle.std.specs.Prelude.{◌≡◌, ◌<◌, ◌≤◌, length, map, find, bytes_eq, option_copied, Some, None, if◌then◌else◌};
 ghost use Rattle.sexpr.specs.Words.{is_keyword};
-ghost use Rattle.sexpr.specs.Items.{Item, Items};
-ghost use Rattle.sexpr.specs.Source.{source};
+ghost use Rattle.text_items.specs.ItemsAt.{item_at, items_at};
 ghost use Rattle.text_items.specs.Keywords as shape;
-ghost use Rattle.text_items.specs.Nodes.{IsNode, AreNodes};
-ghost use Rattle.text_items.specs.Stepping.{IsItemAt, AreItemsFrom};
 
-use crate::nodes::Node;
+use crate::nodes::ItemText;
 use crate::one_pass::is_faultless;
-use crate::shapes::{excess, is_list, node_at, symbol_fault};
-use sexpr::{Lexer, TokenKind};
+use crate::shapes::{excess, is_list, symbol_fault};
+use sexpr::TokenKind;
 
 /// What has to stand after a keyword.
 #[derive(Clone, Copy)]
@@ -51,36 +48,33 @@ pub enum Next {
 /// Else it costs as much as the items are, for each keyword that is known. Both go over what stands in the lists that
 /// have to be lists of symbols.
 pub fn attributes_fault(
-    text: &Lexer<'_>,
-    nodes: &[Node],
+    items: &ItemText<'_, '_>,
     known: &[Keyword<'_>],
     place: u64,
     first: usize,
     end: usize,
 ) -> Option<u64>
-    requires { AreItemsFrom (source text.now) nodes.now first end }
-    ensures { (items : Items) → AreNodes (source text.now) nodes.now first items end → result ≡ shape.attributes_fault (map shape.known_of known.now) place items }
+    requires { end ≤ length items.now.nodes }
+    ensures { result ≡ shape.attributes_fault (map shape.known_of known.now) place (items_at items.now first end) }
 {
-    if is_faultless(text, nodes, known, first, end) {
+    if is_faultless(items, known, first, end) {
         return None;
     }
-    if is_value(at_end(text, nodes, known, first, end))
-        || lacks_keyword(text, nodes, known, first, end)
-    {
+    if is_value(at_end(items, known, first, end)) || lacks_keyword(items, known, first, end) {
         return Some(place);
     }
-    let misplaced = misplaced(text, nodes, known, first, end);
-    earlier(misplaced, repeated(text, nodes, known, first, end))
+    let misplaced = misplaced(items, known, first, end);
+    earlier(misplaced, repeated(items, known, first, end))
 }
 
 /// The spelling of the keyword at a node, and None of what is none.
-pub fn keyword_at<'a>(text: &Lexer<'a>, nodes: &[Node], k: usize) -> Option<&'a [u8]>
-    requires { IsItemAt (source text.now) nodes.now k }
-    ensures { (i : Item) (m : ℕ) → IsNode (source text.now) nodes.now k i m → option_copied result ≡ shape.keyword_of i }
+pub fn keyword_at<'a>(items: &ItemText<'_, 'a>, k: usize) -> Option<&'a [u8]>
+    requires { k < length items.now.nodes }
+    ensures { option_copied result ≡ shape.keyword_of (item_at items.now k) }
 {
-    let token = node_at(nodes, k).token;
+    let token = items.node(k).token;
     match token.kind {
-        TokenKind::Word => word_of(text.text(&token)),
+        TokenKind::Word => word_of(items.spelling(&token)),
         _ => None,
     }
 }
@@ -96,11 +90,11 @@ fn word_of(word: &[u8]) -> Option<&[u8]>
 }
 
 /// What may stand behind the item at a node.
-fn after_item(text: &Lexer<'_>, nodes: &[Node], known: &[Keyword<'_>], k: usize) -> Next
-    requires { IsItemAt (source text.now) nodes.now k }
-    ensures { (i : Item) (m : ℕ) → IsNode (source text.now) nodes.now k i m → result ≡ shape.after_item (map shape.known_of known.now) i }
+fn after_item(items: &ItemText<'_, '_>, known: &[Keyword<'_>], k: usize) -> Next
+    requires { k < length items.now.nodes }
+    ensures { result ≡ shape.after_item (map shape.known_of known.now) (item_at items.now k) }
 {
-    match keyword_at(text, nodes, k) {
+    match keyword_at(items, k) {
         Some(word) => after_word(known, word),
         None => Next::Word,
     }
@@ -145,38 +139,37 @@ fn are_same(one: &[u8], other: &[u8]) -> bool
 
 /// The place of the first item that may not stand behind those before it.
 fn misplaced(
-    text: &Lexer<'_>,
-    nodes: &[Node],
+    items: &ItemText<'_, '_>,
     known: &[Keyword<'_>],
     first: usize,
     end: usize,
 ) -> Option<u64>
-    requires { AreItemsFrom (source text.now) nodes.now first end }
-    ensures { (items : Items) → AreNodes (source text.now) nodes.now first items end → result ≡ shape.misplaced (map shape.known_of known.now) shape.word_next items }
+    requires { end ≤ length items.now.nodes }
+    ensures { result ≡ shape.misplaced (map shape.known_of known.now) shape.word_next (items_at items.now first end) }
 {
     let mut k = first;
     let mut next = Next::Word;
-    'items: while k != end {
-        let fault = next_fault(text, nodes, next, k);
+    'items: while k < end {
+        let fault = next_fault(items, next, k);
         if fault.is_some() {
             return fault;
         }
-        next = after_item(text, nodes, known, k);
-        k = node_at(nodes, k).next;
+        next = after_item(items, known, k);
+        k = items.node(k).next;
     }
     None
 }
 
 /// What may stand behind the last item.
-fn at_end(text: &Lexer<'_>, nodes: &[Node], known: &[Keyword<'_>], first: usize, end: usize) -> Next
-    requires { AreItemsFrom (source text.now) nodes.now first end }
-    ensures { (items : Items) → AreNodes (source text.now) nodes.now first items end → result ≡ shape.at_end (map shape.known_of known.now) shape.word_next items }
+fn at_end(items: &ItemText<'_, '_>, known: &[Keyword<'_>], first: usize, end: usize) -> Next
+    requires { end ≤ length items.now.nodes }
+    ensures { result ≡ shape.at_end (map shape.known_of known.now) shape.word_next (items_at items.now first end) }
 {
     let mut k = first;
     let mut next = Next::Word;
-    'items: while k != end {
-        next = after_item(text, nodes, known, k);
-        k = node_at(nodes, k).next;
+    'items: while k < end {
+        next = after_item(items, known, k);
+        k = items.node(k).next;
     }
     next
 }
@@ -189,121 +182,114 @@ pub(crate) fn is_value(next: Next) -> bool
 }
 
 /// The first fault of an item, where this may stand.
-pub(crate) fn next_fault(text: &Lexer<'_>, nodes: &[Node], next: Next, k: usize) -> Option<u64>
-    requires { IsItemAt (source text.now) nodes.now k }
-    ensures { (i : Item) (m : ℕ) → IsNode (source text.now) nodes.now k i m → result ≡ shape.next_fault next i }
+pub(crate) fn next_fault(items: &ItemText<'_, '_>, next: Next, k: usize) -> Option<u64>
+    requires { k < length items.now.nodes }
+    ensures { result ≡ shape.next_fault next (item_at items.now k) }
 {
     match next {
-        Next::Word => word_fault(text, nodes, k),
+        Next::Word => word_fault(items, k),
         Next::Anything => None,
-        Next::Value(wants) => wanted_fault(text, nodes, wants, k),
+        Next::Value(wants) => wanted_fault(items, wants, k),
     }
 }
 
 /// Where a keyword has to stand: the place of what is none.
-fn word_fault(text: &Lexer<'_>, nodes: &[Node], k: usize) -> Option<u64>
-    requires { IsItemAt (source text.now) nodes.now k }
-    ensures { (i : Item) (m : ℕ) → IsNode (source text.now) nodes.now k i m → result ≡ shape.next_fault shape.word_next i }
+fn word_fault(items: &ItemText<'_, '_>, k: usize) -> Option<u64>
+    requires { k < length items.now.nodes }
+    ensures { result ≡ shape.next_fault shape.word_next (item_at items.now k) }
 {
-    match keyword_at(text, nodes, k) {
+    match keyword_at(items, k) {
         Some(_) => None,
-        None => Some(node_at(nodes, k).token.start),
+        None => Some(items.node(k).token.start),
     }
 }
 
 /// The first fault of an item where a value has to stand.
-fn wanted_fault(text: &Lexer<'_>, nodes: &[Node], wants: Wanted, k: usize) -> Option<u64>
-    requires { IsItemAt (source text.now) nodes.now k }
-    ensures { (i : Item) (m : ℕ) → IsNode (source text.now) nodes.now k i m → result ≡ shape.wanted_fault wants i }
+fn wanted_fault(items: &ItemText<'_, '_>, wants: Wanted, k: usize) -> Option<u64>
+    requires { k < length items.now.nodes }
+    ensures { result ≡ shape.wanted_fault wants (item_at items.now k) }
 {
     match wants {
-        Wanted::Name => symbol_fault(text, nodes, k),
-        Wanted::Names => symbol_list_fault(text, nodes, k),
-        Wanted::AnyList => list_fault(nodes, k),
+        Wanted::Name => symbol_fault(items, k),
+        Wanted::Names => symbol_list_fault(items, k),
+        Wanted::AnyList => list_fault(items, k),
     }
 }
 
 /// Where a list has to stand: the place of what is none.
-pub fn list_fault(nodes: &[Node], k: usize) -> Option<u64>
-    requires { (text : List ℕ) × IsItemAt text nodes.now k }
-    ensures { (text : List ℕ) (i : Item) (m : ℕ) → IsNode text nodes.now k i m → result ≡ shape.list_fault i }
+pub fn list_fault(items: &ItemText<'_, '_>, k: usize) -> Option<u64>
+    requires { k < length items.now.nodes }
+    ensures { result ≡ shape.list_fault (item_at items.now k) }
 {
-    if is_list(nodes, k) {
+    if is_list(items, k) {
         None
     } else {
-        Some(node_at(nodes, k).token.start)
+        Some(items.node(k).token.start)
     }
 }
 
 /// Where a list of symbols has to stand: the place of what is no list, or of the first item that is no symbol.
-pub fn symbol_list_fault(text: &Lexer<'_>, nodes: &[Node], k: usize) -> Option<u64>
-    requires { IsItemAt (source text.now) nodes.now k }
-    ensures { (i : Item) (m : ℕ) → IsNode (source text.now) nodes.now k i m → result ≡ shape.symbol_list_fault i }
+pub fn symbol_list_fault(items: &ItemText<'_, '_>, k: usize) -> Option<u64>
+    requires { k < length items.now.nodes }
+    ensures { result ≡ shape.symbol_list_fault (item_at items.now k) }
 {
-    let list = node_at(nodes, k);
-    if is_list(nodes, k) {
-        symbols_fault(text, nodes, k + 1, list.next)
+    let list = items.node(k);
+    if is_list(items, k) {
+        symbols_fault(items, k + 1, list.next)
     } else {
         Some(list.token.start)
     }
 }
 
 /// The place of the first of these items that is no symbol.
-pub fn symbols_fault(text: &Lexer<'_>, nodes: &[Node], first: usize, end: usize) -> Option<u64>
-    requires { AreItemsFrom (source text.now) nodes.now first end }
-    ensures { (items : Items) → AreNodes (source text.now) nodes.now first items end → result ≡ shape.symbols_fault items }
+pub fn symbols_fault(items: &ItemText<'_, '_>, first: usize, end: usize) -> Option<u64>
+    requires { end ≤ length items.now.nodes }
+    ensures { result ≡ shape.symbols_fault (items_at items.now first end) }
 {
     let mut k = first;
-    'items: while k != end {
-        let fault = symbol_fault(text, nodes, k);
+    'items: while k < end {
+        let fault = symbol_fault(items, k);
         if fault.is_some() {
             return fault;
         }
-        k = node_at(nodes, k).next;
+        k = items.node(k).next;
     }
     None
 }
 
 /// Whether a keyword that is needed does not stand among these items.
-fn lacks_keyword(
-    text: &Lexer<'_>,
-    nodes: &[Node],
-    known: &[Keyword<'_>],
-    first: usize,
-    end: usize,
-) -> bool
-    requires { AreItemsFrom (source text.now) nodes.now first end }
-    ensures { (items : Items) → AreNodes (source text.now) nodes.now first items end → result ≡ shape.lacks_keyword (map shape.known_of known.now) items }
+fn lacks_keyword(items: &ItemText<'_, '_>, known: &[Keyword<'_>], first: usize, end: usize) -> bool
+    requires { end ≤ length items.now.nodes }
+    ensures { result ≡ shape.lacks_keyword (map shape.known_of known.now) (items_at items.now first end) }
 {
     match known {
         [] => false,
         [keyword, others @ ..] => {
-            keyword.needed && first_of(text, nodes, keyword.spelling, first, end).is_none()
-                || lacks_keyword(text, nodes, others, first, end)
+            keyword.needed && first_of(items, keyword.spelling, first, end).is_none()
+                || lacks_keyword(items, others, first, end)
         }
     }
 }
 
 /// The place of the first keyword that stands again though it stands once at most.
 fn repeated(
-    text: &Lexer<'_>,
-    nodes: &[Node],
+    items: &ItemText<'_, '_>,
     known: &[Keyword<'_>],
     first: usize,
     end: usize,
 ) -> Option<u64>
-    requires { AreItemsFrom (source text.now) nodes.now first end }
-    ensures { (items : Items) → AreNodes (source text.now) nodes.now first items end → result ≡ shape.repeated (map shape.known_of known.now) items }
+    requires { end ≤ length items.now.nodes }
+    ensures { result ≡ shape.repeated (map shape.known_of known.now) (items_at items.now first end) }
 {
     match known {
         [] => None,
         [keyword, others @ ..] => {
             let again = if keyword.once {
-                second_of(text, nodes, keyword.spelling, first, end)
+                second_of(items, keyword.spelling, first, end)
             } else {
                 None
             };
-            earlier(again, repeated(text, nodes, others, first, end))
+            earlier(again, repeated(items, others, first, end))
         }
     }
 }
@@ -320,49 +306,49 @@ fn earlier(a: Option<u64>, b: Option<u64>) -> Option<u64>
 }
 
 /// Whether the item at a node is this keyword.
-fn is_spelled(text: &Lexer<'_>, nodes: &[Node], word: &[u8], k: usize) -> bool
-    requires { IsItemAt (source text.now) nodes.now k }
-    ensures { (i : Item) (m : ℕ) → IsNode (source text.now) nodes.now k i m → result ≡ shape.is_spelled word.now i }
+fn is_spelled(items: &ItemText<'_, '_>, word: &[u8], k: usize) -> bool
+    requires { k < length items.now.nodes }
+    ensures { result ≡ shape.is_spelled word.now (item_at items.now k) }
 {
-    match keyword_at(text, nodes, k) {
+    match keyword_at(items, k) {
         Some(other) => word == other,
         None => false,
     }
 }
 
-/// The node of the first of these items that is this keyword, and `end` where there is none.
-pub fn find_word(text: &Lexer<'_>, nodes: &[Node], word: &[u8], first: usize, end: usize) -> usize
-    requires { AreItemsFrom (source text.now) nodes.now first end }
-    ensures { (items : Items) → AreNodes (source text.now) nodes.now first items end → AreNodes (source text.now) nodes.now result (shape.from_word word.now items) end }
+/// The node of the first of these items that is this keyword, and where they end where there is none.
+pub fn find_word(items: &ItemText<'_, '_>, word: &[u8], first: usize, end: usize) -> usize
+    requires { end ≤ length items.now.nodes }
+    ensures { items_at items.now result end ≡ shape.from_word word.now (items_at items.now first end) }
 {
     let mut k = first;
-    'items: while k != end {
-        if is_spelled(text, nodes, word, k) {
+    'items: while k < end {
+        if is_spelled(items, word, k) {
             return k;
         }
-        k = node_at(nodes, k).next;
+        k = items.node(k).next;
     }
     k
 }
 
 /// The place of a keyword that stands among these items the first time.
-fn first_of(text: &Lexer<'_>, nodes: &[Node], word: &[u8], first: usize, end: usize) -> Option<u64>
-    requires { AreItemsFrom (source text.now) nodes.now first end }
-    ensures { (items : Items) → AreNodes (source text.now) nodes.now first items end → result ≡ shape.first_of word.now items }
+fn first_of(items: &ItemText<'_, '_>, word: &[u8], first: usize, end: usize) -> Option<u64>
+    requires { end ≤ length items.now.nodes }
+    ensures { result ≡ shape.first_of word.now (items_at items.now first end) }
 {
-    let found = find_word(text, nodes, word, first, end);
-    excess(nodes, found, end)
+    let found = find_word(items, word, first, end);
+    excess(items, found, end)
 }
 
 /// The place of a keyword that stands among these items the second time.
-fn second_of(text: &Lexer<'_>, nodes: &[Node], word: &[u8], first: usize, end: usize) -> Option<u64>
-    requires { AreItemsFrom (source text.now) nodes.now first end }
-    ensures { (items : Items) → AreNodes (source text.now) nodes.now first items end → result ≡ shape.second_of word.now items }
+fn second_of(items: &ItemText<'_, '_>, word: &[u8], first: usize, end: usize) -> Option<u64>
+    requires { end ≤ length items.now.nodes }
+    ensures { result ≡ shape.second_of word.now (items_at items.now first end) }
 {
-    let found = find_word(text, nodes, word, first, end);
-    if found == end {
-        None
+    let found = find_word(items, word, first, end);
+    if found < end {
+        first_of(items, word, items.node(found).next, end)
     } else {
-        first_of(text, nodes, word, node_at(nodes, found).next, end)
+        None
     }
 }

@@ -1,15 +1,18 @@
 //! The items of a text as a flat list of nodes.
-ghost use Rattle.std.specs.Prelude.{◌≡◌, ◌+◌, ◌-◌, ◌<◌, ◌≤◌, List, length, slice_get, Some, OnOk};
-ghost use Rattle.sexpr.specs.Items.{Item};
+ghost use Rattle.std.specs.Prelude.{◌≡◌, ◌+◌, ◌-◌, ◌<◌, ◌≤◌, List, length, slice_get, Some, option_copied, OnOk};
+ghost use Rattle.sexpr.specs.Items.{Item, name_spelled};
 ghost use Rattle.sexpr.specs.Source as at;
-ghost use Rattle.sexpr.specs.Tokens.{AreTokens};
+ghost use Rattle.sexpr.specs.Tokens.{AreTokens, token_text};
 ghost use Rattle.sexpr.specs.declared.lexing.Token.{Token};
 ghost use Rattle.text_items.specs.Lexers.{GoesOnWith};
-ghost use Rattle.text_items.specs.Nodes.{IsNode};
+ghost use Rattle.text_items.specs.ItemsAt.{ItemsView};
+ghost use Rattle.text_items.specs.Nesting.{AreNested, AreItsNodes};
+ghost use Rattle.text_items.specs.Stepping.{AreInside, IsItemNode};
 ghost use Rattle.text_items.specs.Adding.{placed, IsListClosed};
 
-use sexpr::{Lexer, Token, TokenKind};
+use sexpr::{Lexer, Token, TokenKind, symbol_name};
 use std::alloc::AllocError;
+use std::marker::Model;
 
 /// The first token of an item, which is its opening bracket where it is a list, and the place of the node of the
 /// item after it.
@@ -19,11 +22,84 @@ pub struct Node {
     pub next: usize,
 }
 
-/// A text, and the nodes of items that stand in it.
-#[derive(Clone, Copy)]
+/// A text, and the nodes of an item of it.
+#[derive(Drop)]
 pub struct ItemText<'n, 't> {
-    pub text: &'n Lexer<'t>,
-    pub nodes: &'n [Node],
+    text: &'n Lexer<'t>,
+    nodes: &'n [Node],
+}
+
+impl<'n, 't> Model for ItemText<'n, 't> {
+    ghost Value = { ItemsView };
+
+    ghost view = { λ t. record { source = at.source t.text.now; nodes = t.nodes.now } };
+
+    ghost invariant = { λ t. AreNested (at.source t.text.now) t.nodes.now };
+}
+
+impl<'n, 't> ItemText<'n, 't> {
+    /// The items of these nodes of a text.
+    #[inline(always)]
+    pub fn new(text: &'n Lexer<'t>, nodes: &'n [Node]) -> ItemText<'n, 't>
+        requires { AreNested (at.source text.now) nodes.now }
+        ensures { result ≡ record { source = at.source text.now; nodes = nodes.now } }
+    {
+        ItemText { text, nodes }
+    }
+
+    /// How many nodes there are: the end of the items.
+    #[inline(always)]
+    pub fn count(&self) -> usize
+        ensures { result ≡ length self.now.nodes }
+    {
+        self.nodes.len()
+    }
+
+    /// A law: what begins in an item ends in it, and what is no list is one node. The call does nothing; its contract is the
+    /// law.
+    #[inline(always)]
+    pub fn items_in_items(&self)
+        ensures { AreInside self.now }
+    {
+        let _nodes = self.nodes;
+    }
+
+    /// The first node of the item at `k`.
+    #[inline(always)]
+    pub fn node(&self, k: usize) -> Node
+        requires { k < length self.now.nodes }
+        ensures { IsItemNode self.now k result }
+    {
+        node_at(self.nodes, k)
+    }
+
+    /// How a token of the text is spelled.
+    #[inline(always)]
+    pub fn spelling(&self, token: &Token) -> &'t [u8]
+        requires start { token.now.start ≤ token.now.end }
+        requires within { token.now.end ≤ length self.now.source }
+        ensures { result.now ≡ token_text self.now.source token.now }
+    {
+        self.text.text(token)
+    }
+
+    /// The name of the symbol that a token of the text spells, and None of what is no symbol.
+    #[inline(always)]
+    pub fn symbol(&self, token: &Token) -> Option<&'t [u8]>
+        requires start { token.now.start ≤ token.now.end }
+        requires within { token.now.end ≤ length self.now.source }
+        ensures { option_copied result ≡ name_spelled token.now.kind (token_text self.now.source token.now) }
+    {
+        symbol_name(self.text, token)
+    }
+}
+
+#[inline(always)]
+fn node_at(nodes: &[Node], k: usize) -> Node
+    requires { k < length nodes.now }
+    ensures { slice_get nodes.now k ≡ Some result }
+{
+    nodes[k]
 }
 
 /// Reads the item that begins with `first`, the token that the lexer gave last, in place of what `nodes` held.
@@ -39,7 +115,7 @@ pub fn read_item(
     requires behind { at.position lexer.old ≡ first.end }
     requires some { first.start < first.end }
     requires within { first.end ≤ length (at.source lexer.old) }
-    ensures item { (i : Item) (rest : List Token) → GoesOnWith lexer.old first i rest → OnOk result (IsNode (at.source lexer.new) nodes.new.items 0 i (length nodes.new.items)) }
+    ensures item { (i : Item) (rest : List Token) → GoesOnWith lexer.old first i rest → OnOk result (AreItsNodes (at.source lexer.new) nodes.new.items i) }
     ensures behind { (i : Item) (rest : List Token) → GoesOnWith lexer.old first i rest → OnOk result (AreTokens (at.source lexer.new) (at.position lexer.new) rest) }
     ensures source { at.source lexer.new ≡ at.source lexer.old }
     ensures position { at.position lexer.old ≤ at.position lexer.new }
@@ -112,12 +188,4 @@ fn close(inner: usize, nodes: &mut Vec<Node>) -> usize
     let around = list.next;
     list.next = place;
     around
-}
-
-/// The node at this place.
-pub fn node_at(nodes: &[Node], k: usize) -> Node
-    requires { k < length nodes.now }
-    ensures { slice_get nodes.now k ≡ Some result }
-{
-    nodes[k]
 }

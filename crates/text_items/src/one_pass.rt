@@ -1,16 +1,12 @@
 //! Lists of attributes without a fault, told by one pass over them.
-ghost use Rattle.std.specs.Prelude.{◌≡◌, ◌&&◌, ◌||◌, ℕ, not, List, map, find, true, bytes_eq, is_some, Some, None, IfSome};
-ghost use Rattle.sexpr.specs.Items.{Item, Items, no_items};
-ghost use Rattle.sexpr.specs.Source.{source};
+ghost use Rattle.std.specs.Prelude.{◌≡◌, ◌&&◌, ◌||◌, ◌<◌, ◌≤◌, ℕ, not, length, map, find, true, bytes_eq, is_some, Some, None, IfSome};
+ghost use Rattle.sexpr.specs.Items.{no_items};
+ghost use Rattle.text_items.specs.ItemsAt.{item_at, items_at};
 ghost use Rattle.text_items.specs.Keywords as shape;
-ghost use Rattle.text_items.specs.Nodes.{IsNode, AreNodes};
 ghost use Rattle.text_items.specs.OnePass.{IsKeywordMarked, IsPassed, lacks_still};
-ghost use Rattle.text_items.specs.Stepping.{IsItemAt, AreItemsFrom};
 
 use crate::keywords::{Keyword, Next, is_spelled_so, is_value, keyword_at, next_fault};
-use crate::nodes::Node;
-use crate::shapes::node_at;
-use sexpr::Lexer;
+use crate::nodes::ItemText;
 
 /// Of how many known keywords it is kept whether they stood. Where more are known the pass tells nothing.
 const MOST: usize = 8;
@@ -18,43 +14,41 @@ const MOST: usize = 8;
 /// Whether one pass shows that the attributes that stand from `first` to before `end` have no fault. Where it is false they
 /// mostly have one.
 pub(crate) fn is_faultless(
-    text: &Lexer<'_>,
-    nodes: &[Node],
+    items: &ItemText<'_, '_>,
     known: &[Keyword<'_>],
     first: usize,
     end: usize,
 ) -> bool
-    requires { AreItemsFrom (source text.now) nodes.now first end }
-    ensures { result ≡ true → (items : Items) (place : ℕ) → AreNodes (source text.now) nodes.now first items end → None ≡ shape.attributes_fault (map shape.known_of known.now) place items }
+    requires { end ≤ length items.now.nodes }
+    ensures { result ≡ true → (place : ℕ) → None ≡ shape.attributes_fault (map shape.known_of known.now) place (items_at items.now first end) }
 {
     let mut stood = [false; MOST];
     let mut k = first;
     let mut next = Next::Word;
-    'items: while k != end {
-        if next_fault(text, nodes, next, k).is_some() {
+    'items: while k < end {
+        if next_fault(items, next, k).is_some() {
             return false;
         }
-        let Some(after) = pass(text, nodes, known, k, &mut stood) else {
+        let Some(after) = pass(items, known, k, &mut stood) else {
             return false;
         };
         next = after;
-        k = node_at(nodes, k).next;
+        k = items.node(k).next;
     }
     !is_value(next) && !lacks(known, &stood)
 }
 
 /// Passes the item at a node: what may stand behind it, and None where it is a keyword that may not stand again.
 fn pass(
-    text: &Lexer<'_>,
-    nodes: &[Node],
+    items: &ItemText<'_, '_>,
     known: &[Keyword<'_>],
     k: usize,
     stood: &mut [bool],
 ) -> Option<Next>
-    requires { IsItemAt (source text.now) nodes.now k }
-    ensures { IfSome result (λ next. (i : Item) (m : ℕ) → IsNode (source text.now) nodes.now k i m → IsPassed (map shape.known_of known.now) (shape.keyword_of i) stood.old next stood.new) }
+    requires { k < length items.now.nodes }
+    ensures { IfSome result (λ next. IsPassed (map shape.known_of known.now) (shape.keyword_of (item_at items.now k)) stood.old next stood.new) }
 {
-    match keyword_at(text, nodes, k) {
+    match keyword_at(items, k) {
         None => Some(Next::Word),
         Some(word) => pass_word(known, word, stood),
     }

@@ -1,130 +1,128 @@
 //! The shapes of lists, told by the nodes of what stands in them.
-ghost use Rattle.std.specs.Prelude.{◌≡◌, ℕ, List, false, option_copied, IfSome, IfNone};
-ghost use Rattle.sexpr.specs.Items.{Item, Items, symbol_name};
-ghost use Rattle.sexpr.specs.Source.{source};
+ghost use Rattle.std.specs.Prelude.{◌≡◌, ◌<◌, ◌≤◌, length, None, option_copied};
+ghost use Rattle.sexpr.specs.Items.{place_of, symbol_name};
 ghost use Rattle.text_items.specs.ItemShapes as shape;
-ghost use Rattle.text_items.specs.NameNodes.{IsNameNode};
-ghost use Rattle.text_items.specs.Nodes.{IsNode, AreNodes};
+ghost use Rattle.text_items.specs.ItemsAt.{item_at, items_at};
 ghost use Rattle.text_items.specs.Spelling as spelling;
-ghost use Rattle.text_items.specs.Stepping.{IsItemAt, AreItemsFrom, IsItemNode, has_two, HasSecond};
+ghost use Rattle.text_items.specs.Stepping.{IsSecond};
 
-use crate::nodes::Node;
-use sexpr::{Lexer, TokenKind, symbol_name};
+use crate::nodes::ItemText;
+use sexpr::TokenKind;
 
-/// The first node of an item.
-pub fn node_at(nodes: &[Node], k: usize) -> Node
-    requires { (text : List ℕ) × IsItemAt text nodes.now k }
-    ensures { (text : List ℕ) (i : Item) (m : ℕ) → IsNode text nodes.now k i m → IsItemNode text i m result }
+/// The place of the first byte of the item at a node.
+pub fn place_at(items: &ItemText<'_, '_>, k: usize) -> u64
+    requires { k < length items.now.nodes }
+    ensures { result ≡ place_of (item_at items.now k) }
 {
-    nodes[k]
+    items.node(k).token.start
 }
 
 /// The name of the symbol at a node, and None of what is no symbol.
-pub fn name_at<'a>(text: &Lexer<'a>, nodes: &[Node], k: usize) -> Option<&'a [u8]>
-    requires { IsItemAt (source text.now) nodes.now k }
-    ensures { (i : Item) (m : ℕ) → IsNode (source text.now) nodes.now k i m → option_copied result ≡ symbol_name i }
+pub fn name_at<'t>(items: &ItemText<'_, 't>, k: usize) -> Option<&'t [u8]>
+    requires { k < length items.now.nodes }
+    ensures { option_copied result ≡ symbol_name (item_at items.now k) }
 {
-    symbol_name(text, &node_at(nodes, k).token)
+    items.symbol(&items.node(k).token)
 }
 
-/// The name of the symbol at a node, where there is one.
-pub fn name_of<'a>(text: &Lexer<'a>, nodes: &[Node], k: usize) -> &'a [u8]
-    requires { (x : shape.Name) × IsNameNode (source text.now) nodes.now k x }
-    ensures { (x : shape.Name) → IsNameNode (source text.now) nodes.now k x → result.now ≡ x.name }
+/// The name of the symbol at a node.
+pub fn name_of<'t>(items: &ItemText<'_, 't>, k: usize) -> &'t [u8]
+    requires inside { k < length items.now.nodes }
+    requires symbol { shape.symbol_fault (item_at items.now k) ≡ None }
+    ensures { result.now ≡ (shape.name_at (item_at items.now k)).name }
 {
-    match symbol_name(text, &nodes[k].token) {
+    match name_at(items, k) {
         Some(name) => name,
         None => unreachable!(),
     }
 }
 
 /// Whether the item at a node is a list.
-pub fn is_list(nodes: &[Node], k: usize) -> bool
-    requires { (text : List ℕ) × IsItemAt text nodes.now k }
-    ensures { (text : List ℕ) (i : Item) (m : ℕ) → IsNode text nodes.now k i m → result ≡ spelling.is_list_item i }
+pub fn is_list(items: &ItemText<'_, '_>, k: usize) -> bool
+    requires { k < length items.now.nodes }
+    ensures { result ≡ spelling.is_list_item (item_at items.now k) }
 {
-    match node_at(nodes, k).token.kind {
+    match items.node(k).token.kind {
         TokenKind::Open => true,
         _ => false,
     }
 }
 
 /// Whether the item at a node is a keyword.
-pub fn is_keyword(text: &Lexer<'_>, nodes: &[Node], k: usize) -> bool
-    requires { IsItemAt (source text.now) nodes.now k }
-    ensures { (i : Item) (m : ℕ) → IsNode (source text.now) nodes.now k i m → result ≡ spelling.is_keyword_item i }
+pub fn is_keyword(items: &ItemText<'_, '_>, k: usize) -> bool
+    requires { k < length items.now.nodes }
+    ensures { result ≡ spelling.is_keyword_item (item_at items.now k) }
 {
-    let token = node_at(nodes, k).token;
+    let token = items.node(k).token;
     match token.kind {
-        TokenKind::Word => matches!(text.text(&token), [b':', ..]),
+        TokenKind::Word => matches!(items.spelling(&token), [b':', ..]),
         _ => false,
     }
 }
 
-/// The place of the second of some items, and None where there are fewer than two.
-pub fn second(nodes: &[Node], first: usize, end: usize) -> Option<usize>
-    requires { (text : List ℕ) × AreItemsFrom text nodes.now first end }
-    ensures some { IfSome result (λ k. (text : List ℕ) (items : Items) → AreNodes text nodes.now first items end → HasSecond text nodes.now first items k end) }
-    ensures none { IfNone result ((text : List ℕ) (items : Items) → AreNodes text nodes.now first items end → has_two items ≡ false) }
+/// The node of the second of the items from `first` to before `end`, and None where there are fewer than two.
+pub fn second(items: &ItemText<'_, '_>, first: usize, end: usize) -> Option<usize>
+    requires { end ≤ length items.now.nodes }
+    ensures { IsSecond items.now first end result }
 {
-    if first == end {
+    if first >= end {
         return None;
     }
-    let next = node_at(nodes, first).next;
-    if next == end { None } else { Some(next) }
+    let next = items.node(first).next;
+    if next < end { Some(next) } else { None }
 }
 
-/// The place of the first of these items, which is one too many; None where there is none.
-pub fn excess(nodes: &[Node], k: usize, end: usize) -> Option<u64>
-    requires { (text : List ℕ) × AreItemsFrom text nodes.now k end }
-    ensures { (text : List ℕ) (items : Items) → AreNodes text nodes.now k items end → result ≡ shape.excess items }
+/// The place of the first of the items from `first` to before `end`, which is one too many; None where there is none.
+pub fn excess(items: &ItemText<'_, '_>, first: usize, end: usize) -> Option<u64>
+    requires { end ≤ length items.now.nodes }
+    ensures { result ≡ shape.excess (items_at items.now first end) }
 {
-    if k == end {
-        None
+    if first < end {
+        Some(items.node(first).token.start)
     } else {
-        Some(node_at(nodes, k).token.start)
+        None
     }
 }
 
 /// Where a symbol has to stand: the place of what is none.
-pub fn symbol_fault(text: &Lexer<'_>, nodes: &[Node], k: usize) -> Option<u64>
-    requires { IsItemAt (source text.now) nodes.now k }
-    ensures { (i : Item) (m : ℕ) → IsNode (source text.now) nodes.now k i m → result ≡ shape.symbol_fault i }
+pub fn symbol_fault(items: &ItemText<'_, '_>, k: usize) -> Option<u64>
+    requires { k < length items.now.nodes }
+    ensures { result ≡ shape.symbol_fault (item_at items.now k) }
 {
-    match name_at(text, nodes, k) {
+    match name_at(items, k) {
         Some(_) => None,
-        None => Some(node_at(nodes, k).token.start),
+        None => Some(items.node(k).token.start),
     }
 }
 
 /// The first fault of a pair of a symbol and another item.
-pub fn pair_fault(text: &Lexer<'_>, nodes: &[Node], k: usize) -> Option<u64>
-    requires { IsItemAt (source text.now) nodes.now k }
-    ensures { (i : Item) (m : ℕ) → IsNode (source text.now) nodes.now k i m → result ≡ shape.pair_fault i }
+pub fn pair_fault(items: &ItemText<'_, '_>, k: usize) -> Option<u64>
+    requires { k < length items.now.nodes }
+    ensures { result ≡ shape.pair_fault (item_at items.now k) }
 {
-    let pair = node_at(nodes, k);
-    if !is_list(nodes, k) {
+    let pair = items.node(k);
+    if !is_list(items, k) {
         return Some(pair.token.start);
     }
-    let Some(other) = second(nodes, k + 1, pair.next) else {
+    let Some(other) = second(items, k + 1, pair.next) else {
         return Some(pair.token.start);
     };
-    let behind = node_at(nodes, other).next;
-    symbol_fault(text, nodes, k + 1).or(excess(nodes, behind, pair.next))
+    let behind = items.node(other).next;
+    symbol_fault(items, k + 1).or(excess(items, behind, pair.next))
 }
 
 /// The first fault of a list of pairs, whose items stand from `first` to before `end`.
-pub fn pairs_fault(text: &Lexer<'_>, nodes: &[Node], first: usize, end: usize) -> Option<u64>
-    requires { AreItemsFrom (source text.now) nodes.now first end }
-    ensures { (items : Items) → AreNodes (source text.now) nodes.now first items end → result ≡ shape.pairs_fault items }
+pub fn pairs_fault(items: &ItemText<'_, '_>, first: usize, end: usize) -> Option<u64>
+    requires { end ≤ length items.now.nodes }
+    ensures { result ≡ shape.pairs_fault (items_at items.now first end) }
 {
     let mut k = first;
-    'pairs: while k != end {
-        let fault = pair_fault(text, nodes, k);
+    'pairs: while k < end {
+        let fault = pair_fault(items, k);
         if fault.is_some() {
             return fault;
         }
-        k = node_at(nodes, k).next;
+        k = items.node(k).next;
     }
     None
 }

@@ -1,33 +1,32 @@
 -- Behind `:=` stand a variable, alone or with its sort, and a term.
 use Rattle.std.proofs.Common.{sym, ◌∙◌}
-use Rattle.sexpr.specs.Source.{source}
-use Rattle.alethe_commands.proofs.ArgumentsByNodes.{assigned_there, with_sort, without_sort}
+use Rattle.alethe_commands.proofs.ArgumentsByNodes.{head_inside, alone_at, pair_inside, plain_at, name_inside, sorted_at}
 use Rattle.alethe_commands.proofs.arguments.argument_at.Goals as goal
 
-pub node_at-term-requires : goal.node_at-term-requires
-node_at-term-requires c =
-    let text = source c.args.text.now in
-    let (i, m, is, fits) = c.requires in
-    let h = assigned_there text c.args.nodes.now c.args.k i m is fits (λ j n at. sym (c.is_spelled.ensures j n at) ∙ c.if-not-is_spelled.false) in
-    (text, (h.variable, h.behind, h.variable_here))
+pub is_spelled-requires : goal.is_spelled-requires
+is_spelled-requires c = head_inside c.args.items.now c.args.k c.node-place.result c.node-place.ensures c.requires.fit
 
-pub is_list-requires : goal.is_list-requires
-is_list-requires c =
-    let text = source c.args.text.now in
-    let (i, m, is, fits) = c.requires in
-    let h = assigned_there text c.args.nodes.now c.args.k i m is fits (λ j n at. sym (c.is_spelled.ensures j n at) ∙ c.if-not-is_spelled.false) in
-    (text, (h.variable, h.behind, h.variable_here))
+pub returns-then-not-is_spelled : goal.returns-then-not-is_spelled
+returns-then-not-is_spelled c = alone_at c.args.items.now c.args.k c.node-place.result c.node-place.ensures c.requires.fit (sym c.is_spelled.ensures ∙ c.if-not-is_spelled.true)
+
+pub node-pair-requires : goal.node-pair-requires
+node-pair-requires c = head_inside c.args.items.now c.args.k c.node-place.result c.node-place.ensures c.requires.fit
+
+pub node-term-requires : goal.node-term-requires
+node-term-requires c =
+    pair_inside c.args.items.now c.args.k c.node-place.result c.node-place.ensures c.requires.fit c.node-pair.result c.node-pair.ensures (sym c.is_spelled.ensures ∙ c.if-not-is_spelled.false)
+
+pub node-requires : goal.node-requires
+node-requires c =
+    name_inside c.args.items.now c.args.k c.node-place.result c.node-place.ensures c.requires.fit c.node-pair.result c.node-pair.ensures (sym c.is_spelled.ensures ∙ c.if-not-is_spelled.false)
+    c.node-term.result c.node-term.ensures (sym c.is_list.ensures ∙ c.if-is_list.true)
 
 pub returns-then-is_list : goal.returns-then-is_list
-returns-then-is_list c = λ i m is fits.
-    let text = source c.args.text.now in
-    let h = assigned_there text c.args.nodes.now c.args.k i m is fits (λ j n at. sym (c.is_spelled.ensures j n at) ∙ c.if-not-is_spelled.false) in
-    with_sort text c.args.nodes.now c.args.k _ i h (c.node_at-place.ensures text i m is).start _ (c.node_at-term.ensures text h.variable h.behind h.variable_here).next
-    (sym (c.is_list.ensures text h.variable h.behind h.variable_here) ∙ c.if-is_list.true)
+returns-then-is_list c =
+    sorted_at c.args.items.now c.args.k c.node-place.result c.node-place.ensures c.requires.fit c.node-pair.result c.node-pair.ensures (sym c.is_spelled.ensures ∙ c.if-not-is_spelled.false)
+    c.node-term.result c.node-term.ensures (sym c.is_list.ensures ∙ c.if-is_list.true) c.node.result c.node.ensures
 
 pub returns-else-is_list : goal.returns-else-is_list
-returns-else-is_list c = λ i m is fits.
-    let text = source c.args.text.now in
-    let h = assigned_there text c.args.nodes.now c.args.k i m is fits (λ j n at. sym (c.is_spelled.ensures j n at) ∙ c.if-not-is_spelled.false) in
-    without_sort text c.args.nodes.now c.args.k _ i h (c.node_at-place.ensures text i m is).start _ (c.node_at-term.ensures text h.variable h.behind h.variable_here).next
-    (sym (c.is_list.ensures text h.variable h.behind h.variable_here) ∙ c.if-is_list.false)
+returns-else-is_list c =
+    plain_at c.args.items.now c.args.k c.node-place.result c.node-place.ensures c.requires.fit c.node-pair.result c.node-pair.ensures (sym c.is_spelled.ensures ∙ c.if-not-is_spelled.false)
+    c.node-term.result c.node-term.ensures (sym c.is_list.ensures ∙ c.if-is_list.false)

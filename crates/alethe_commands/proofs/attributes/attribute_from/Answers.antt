@@ -1,30 +1,17 @@
 -- A keyword of an attribute, and its value behind it.
-use Rattle.sexpr.specs.Source.{source}
-use Rattle.alethe_commands.proofs.AttributesByNodes.{last_passed, other_passed, attribute_found, some_there, some_apart, value_there}
+use Rattle.std.proofs.Common.{arith}
+use Rattle.alethe_commands.proofs.AttributesByNodes.{last_passed, other_passed, attribute_found}
 use Rattle.alethe_commands.proofs.attributes.attribute_from.Goals as goal
 
-pub node_at-value-requires : goal.node_at-value-requires
-node_at-value-requires c = (source c.args.text.now, some_there (source c.args.text.now) c.args.nodes.now c.args.k c.args.end c.requires)
+pub returns-then-value-end : goal.returns-then-value-end
+returns-then-value-end c = last_passed c.args.items.now c.args.k c.args.end c.requires.attributes c.requires.some (omega (arith, c.if-value-end.true, c.node-value.ensures.next))
 
-pub word_at-requires : goal.word_at-requires
-word_at-requires c = some_there (source c.args.text.now) c.args.nodes.now c.args.k c.args.end c.requires
+pub returns-in-Some : goal.returns-in-Some
+returns-in-Some c =
+    let read = rw c.node-value.ensures.next at c.node.ensures in
+    rw (c.attribute_at.ensures, c.node-value.ensures.next)
+    (attribute_found c.args.items.now c.args.k c.args.end c.requires.attributes c.requires.some c.in-Some.word c.in-Some.ensures c.node.result.next read.next
+    (omega (arith, c.if-value-end.false, c.node-value.ensures.next)) read.children read.nested)
 
-pub attribute_at-requires : goal.attribute_at-requires
-attribute_at-requires c =
-    (source c.args.text.now, value_there (source c.args.text.now) c.args.nodes.now c.args.k c.args.end c.node_at-value.result c.requires (c.node_at-value.ensures (source c.args.text.now)) c.if-value-end.false)
-
-pub returns-then-value-end-clause-none : goal.returns-then-value-end-clause-none
-returns-then-value-end-clause-none c = λ attributes i next h at.
-    let text = source c.args.text.now in
-    last_passed text c.args.nodes.now c.args.k c.args.end attributes h (some_apart text c.args.nodes.now c.args.k c.args.end c.requires) c.node_at-value.result (c.node_at-value.ensures text) c.if-value-end.true i next at
-
-pub returns-in-Some-clause-some : goal.returns-in-Some-clause-some
-returns-in-Some-clause-some c = λ attributes i next h at.
-    let text = source c.args.text.now in
-    attribute_found text c.args.nodes.now c.args.k c.args.end attributes h (some_apart text c.args.nodes.now c.args.k c.args.end c.requires) c.node_at-value.result (c.node_at-value.ensures text) c.if-value-end.false
-    c.in-Some.word c.in-Some.ensures c.attribute_at.result (c.attribute_at.ensures text) i next at
-
-pub returns-in-None-clause-none : goal.returns-in-None-clause-none
-returns-in-None-clause-none c = λ attributes i next h at.
-    let text = source c.args.text.now in
-    other_passed text c.args.nodes.now c.args.k c.args.end attributes h (some_apart text c.args.nodes.now c.args.k c.args.end c.requires) c.node_at-value.result (c.node_at-value.ensures text) c.in-None.ensures i next at
+pub returns-in-None : goal.returns-in-None
+returns-in-None c = other_passed c.args.items.now c.args.k c.args.end c.requires.attributes c.requires.some c.in-None.ensures

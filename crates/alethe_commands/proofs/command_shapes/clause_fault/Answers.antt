@@ -1,21 +1,20 @@
--- A list has a first item, or none.
-use Rattle.sexpr.specs.Source.{source}
-use Rattle.alethe_commands.proofs.ShapesByNodes.{head_at, no_clause}
+use Rattle.std.proofs.Common.{Some, None, if◌then◌else◌, sym, ◌∙◌, ap}
+use Rattle.alethe_commands.proofs.ShapesByNodes.{no_clause, clause_head, literals}
 use Rattle.alethe_commands.proofs.command_shapes.clause_fault.Goals as goal
 
-pub returns-then-k-clause : goal.returns-then-k-clause
-returns-then-k-clause c = λ i m is.
-    let text = source c.args.text.now in
-    no_clause text c.args.nodes.now c.args.k i m is c.node_at-clause.result (c.node_at-clause.ensures text i m is) c.if-k-clause.true
+pub returns-then-k-clause-clause-fault : goal.returns-then-k-clause-clause-fault
+returns-then-k-clause-clause-fault c = no_clause c.args.items.now c.args.k c.node-clause.result c.node-clause.ensures c.if-k-clause.true
 
-pub is_symbol-requires-clause-item : goal.is_symbol-requires-clause-item
-is_symbol-requires-clause-item c =
-    let text = source c.args.text.now in
-    let (i, m, is) = c.requires in
-    head_at text c.args.nodes.now c.args.k i m is c.node_at-clause.result (c.node_at-clause.ensures text i m is) c.if-k-clause.false
+pub returns-then-is_symbol-clause-fault : goal.returns-then-is_symbol-clause-fault
+returns-then-is_symbol-clause-fault c =
+    ap (λ b. if b then None else Some c.node-head.result.token.start) (sym c.if-is_symbol.true)
+    ∙ clause_head c.args.items.now c.args.k c.node-clause.result c.node-clause.ensures c.node-head.result c.node-head.ensures c.if-k-clause.false c.is_symbol.result c.is_symbol.ensures
 
-pub node_at-requires : goal.node_at-requires
-node_at-requires c =
-    let text = source c.args.text.now in
-    let (i, m, is) = c.requires in
-    (text, head_at text c.args.nodes.now c.args.k i m is c.node_at-clause.result (c.node_at-clause.ensures text i m is) c.if-k-clause.false)
+pub returns-else-is_symbol-clause-fault : goal.returns-else-is_symbol-clause-fault
+returns-else-is_symbol-clause-fault c =
+    ap (λ b. if b then None else Some c.node-head.result.token.start) (sym c.if-is_symbol.false)
+    ∙ clause_head c.args.items.now c.args.k c.node-clause.result c.node-clause.ensures c.node-head.result c.node-head.ensures c.if-k-clause.false c.is_symbol.result c.is_symbol.ensures
+
+pub returns-then-is_symbol-clause-literals : goal.returns-then-is_symbol-clause-literals
+returns-then-is_symbol-clause-literals c = λ none.
+    literals c.args.items.now c.args.k c.node-clause.result c.node-clause.ensures c.node-head.result c.node-head.ensures c.if-k-clause.false (sym c.is_symbol.ensures ∙ c.if-is_symbol.true)

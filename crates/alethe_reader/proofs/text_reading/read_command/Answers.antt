@@ -1,41 +1,48 @@
-use Rattle.std.proofs.Common.{Ok, Err}
 use Rattle.std.proofs.lemmas.Result.{err_from_is_err_and}
 use Rattle.alethe_text.specs.ProofTexts.{performed}
-use Rattle.alethe_reader.proofs.TextCommands.{has_first, none_left, command_fault, command_read, performs_well, performs_not, ends_here, refused_here, some_first, found_in, some_shape}
+use Rattle.alethe_commands.specs.CommandNodes.{command_said}
+use Rattle.alethe_reader.proofs.TextCommands.{first_nested, has_first, none_left, command_fault, command_comes, command_named, performs_well, performs_not, ends_here, refused_here}
 use Rattle.alethe_reader.proofs.text_reading.read_command.Goals as goal
 
 pub returns-then-not-branch-clause-reads : goal.returns-then-not-branch-clause-reads
 returns-then-not-branch-clause-reads c settings p whole left session =
     ends_here settings c.args.in_list p whole (none_left settings c.args.in_list p whole _ _ _ _ (rw c.if-not-branch.true at c.in_ok-next_item.ensures.item) left) session
 
-pub command_of-requires : goal.command_of-requires
-command_of-requires c =
-    some_first c.args.in_list _ _ _ _ _ _ _ _ _ c.deref.ensures.value (rw c.if-not-branch.false at c.in_ok-next_item.ensures.item) c.requires.left
+pub new-items-requires : goal.new-items-requires
+new-items-requires c = first_nested c.deref.ensures.value (rw c.if-not-branch.false at c.in_ok-next_item.ensures.item) c.requires.left
+
+pub command_of-requires-clause-some : goal.command_of-requires-clause-some
+command_of-requires-clause-some c =
+    let (settings, p, whole, left, session) = c.requires.left in
+    (has_first settings c.args.in_list p whole _ _ _ _ _ _ _ c.new-items.ensures c.deref.ensures.value (rw c.if-not-branch.false at c.in_ok-next_item.ensures.item) left).some
+
+pub command_of-requires-clause-whole : goal.command_of-requires-clause-whole
+command_of-requires-clause-whole c =
+    let (settings, p, whole, left, session) = c.requires.left in
+    (has_first settings c.args.in_list p whole _ _ _ _ _ _ _ c.new-items.ensures c.deref.ensures.value (rw c.if-not-branch.false at c.in_ok-next_item.ensures.item) left).ends
 
 pub returns-in_err-command-clause-reads : goal.returns-in_err-command-clause-reads
 returns-in_err-command-clause-reads c settings p whole left session =
     let e = err_from_is_err_and c.from_residual-in_err-command.result c.from_residual-in_err-command.ensures.1 in
-    let h = has_first settings c.args.in_list p whole _ _ _ _ _ (rw c.if-not-branch.false at c.in_ok-next_item.ensures.item) left in
-    rw (e.1, e.2)
-    (refused_here settings c.args.in_list p whole _
-    (command_fault settings c.args.in_list p whole _ _ _ _ h (found_in _ _ _ (Err c.in_err-command.field-0.0) c.deref.ensures.value c.in_err-command.ensures h.first h.here)))
+    let h = has_first settings c.args.in_list p whole _ _ _ _ _ _ _ c.new-items.ensures c.deref.ensures.value (rw c.if-not-branch.false at c.in_ok-next_item.ensures.item) left in
+    rw (e.1, e.2) (refused_here settings c.args.in_list p whole _ (command_fault settings c.args.in_list p whole h _ c.in_err-command.ensures))
 
-pub perform-requires-clause-says : goal.perform-requires-clause-says
-perform-requires-clause-says c =
-    some_shape c.args.in_list _ _ _ _ _ _ _ _ _ _ c.in_ok-command.command c.deref.ensures.value c.deref-2.ensures.value (rw c.if-not-branch.false at c.in_ok-next_item.ensures.item) c.in_ok-command.ensures c.requires.left
+pub perform-requires-clause-named : goal.perform-requires-clause-named
+perform-requires-clause-named c =
+    let (settings, p, whole, left, session) = c.requires.left in
+    let h = has_first settings c.args.in_list p whole _ _ _ _ _ _ _ c.new-items.ensures c.deref.ensures.value (rw c.if-not-branch.false at c.in_ok-next_item.ensures.item) left in
+    command_named settings c.args.in_list p whole h c.in_ok-command.command c.in_ok-command.ensures
 
 pub returns-in_err-perform-clause-reads : goal.returns-in_err-perform-clause-reads
 returns-in_err-perform-clause-reads c settings p whole left session =
     let e = err_from_is_err_and c.from_residual-in_err-perform.result c.from_residual-in_err-perform.ensures.1 in
-    let h = has_first settings c.args.in_list p whole _ _ _ _ _ (rw c.if-not-branch.false at c.in_ok-next_item.ensures.item) left in
-    let shaped = command_read settings c.args.in_list p whole _ _ _ c.in_ok-command.command h (found_in _ _ _ (Ok c.in_ok-command.command) c.deref.ensures.value c.in_ok-command.ensures h.first h.here) in
+    let h = has_first settings c.args.in_list p whole _ _ _ _ _ _ _ c.new-items.ensures c.deref.ensures.value (rw c.if-not-branch.false at c.in_ok-next_item.ensures.item) left in
     rw (e.1, e.2)
-    (performs_not settings c.args.in_list p whole h.others h.behind (performed settings shaped.shape p) shaped.comes
-    (c.in_err-perform.ensures.read shaped.shape settings p (rw c.deref-2.ensures.value shaped.says) session))
+    (performs_not settings c.args.in_list p whole h.others h.behind (performed settings (command_said _ c.in_ok-command.command) p)
+    (command_comes settings c.args.in_list p whole h c.in_ok-command.command c.in_ok-command.ensures) (c.in_err-perform.ensures.read settings p session))
 
 pub returns-clause-reads : goal.returns-clause-reads
 returns-clause-reads c settings p whole left session =
-    let h = has_first settings c.args.in_list p whole _ _ _ _ _ (rw c.if-not-branch.false at c.in_ok-next_item.ensures.item) left in
-    let shaped = command_read settings c.args.in_list p whole _ _ _ c.in_ok-command.command h (found_in _ _ _ (Ok c.in_ok-command.command) c.deref.ensures.value c.in_ok-command.ensures h.first h.here) in
-    performs_well settings c.args.in_list p whole h.others h.behind (performed settings shaped.shape p) h.left h.named.1 shaped.comes
-    (c.in_ok-perform.ensures.read shaped.shape settings p (rw c.deref-2.ensures.value shaped.says) session)
+    let h = has_first settings c.args.in_list p whole _ _ _ _ _ _ _ c.new-items.ensures c.deref.ensures.value (rw c.if-not-branch.false at c.in_ok-next_item.ensures.item) left in
+    performs_well settings c.args.in_list p whole h.others h.behind (performed settings (command_said _ c.in_ok-command.command) p) h.left h.named.1
+    (command_comes settings c.args.in_list p whole h c.in_ok-command.command c.in_ok-command.ensures) (c.in_ok-perform.ensures.read settings p session)

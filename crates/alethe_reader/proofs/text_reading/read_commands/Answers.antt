@@ -1,7 +1,6 @@
 use Rattle.std.proofs.Common.{refl}
 use Rattle.std.proofs.lemmas.Result.{err_from_is_err_and}
 use Rattle.alethe_reader.proofs.TextLoop.{begins, some_left, goes_on, fails, ends}
-use Rattle.term_reader.proofs.Staying.{adds_then}
 use Rattle.alethe_reader.proofs.text_reading.read_commands.Goals as goal
 
 pub commands-init : goal.commands-init
@@ -16,15 +15,9 @@ returns-in_err-read_command-clause-reads c =
     rw (p.1, p.2)
     (fails c.commands.invariant c.read_command.new.lexer c.read_command.ensures.symbols c.read_command.ensures.keeps c.in_err-read_command.field-0.0 c.in_err-read_command.ensures.reads)
 
-pub returns-in_err-read_command-clause-symbols : goal.returns-in_err-read_command-clause-symbols
-returns-in_err-read_command-clause-symbols c = adds_then _ _ _ c.commands.invariant.symbols c.read_command.ensures.symbols
-
 pub returns-then-not-branch-clause-reads : goal.returns-then-not-branch-clause-reads
 returns-then-not-branch-clause-reads c =
     ends c.commands.invariant c.read_command.new.lexer c.read_command.ensures.symbols c.read_command.ensures.keeps (rw c.if-not-branch.true at c.in_ok-read_command.ensures.reads)
-
-pub returns-then-not-branch-clause-symbols : goal.returns-then-not-branch-clause-symbols
-returns-then-not-branch-clause-symbols c = adds_then _ _ _ c.commands.invariant.symbols c.read_command.ensures.symbols
 
 pub commands-preserved : goal.commands-preserved
 commands-preserved c =

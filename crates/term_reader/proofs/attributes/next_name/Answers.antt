@@ -1,31 +1,31 @@
-use Rattle.std.proofs.Common.{arith}
-use Rattle.sexpr.specs.Source.{source}
-use Rattle.term_reader.proofs.AttributeLemmas.{some_on, goes_up, names_end, names_stop, names_on}
+use Rattle.std.proofs.Common.{◌<◌, arith, refl, sym, ◌∙◌, ap}
+use Rattle.text_items.specs.ItemsAt.{end_at}
+use Rattle.term_reader.specs.Layers.{names_at}
+use Rattle.term_reader.proofs.AttributeLemmas.{names_end, names_stop, names_on, others}
 use Rattle.term_reader.proofs.attributes.next_name.Goals as goal
+
+pub items-init : goal.items-init
+items-init c = record { there = c.requires; later = omega arith; same = refl }
+
+pub node-next-requires : goal.node-next-requires
+node-next-requires c = let there = c.items.invariant.there in omega (arith, there.some, there.range.inside)
 
 pub returns-then-next-end-clause-none : goal.returns-then-next-end-clause-none
 returns-then-next-end-clause-none c =
-    λ names a. names_end (source c.args.text.now) c.args.nodes.now c.items.before names c.args.end c.node_at-next.result (c.items.invariant.kept names a) (c.node_at-next.ensures (source c.args.text.now)) c.if-next-end.true
+    c.items.invariant.same ∙ names_end c.args.items.now c.items.before c.args.end c.items.invariant.there (omega (arith, c.node-next.ensures.next, c.if-next-end.true))
 
 pub returns-then-is_named-clause-some : goal.returns-then-is_named-clause-some
 returns-then-is_named-clause-some c =
-    λ names a. names_stop (source c.args.text.now) c.args.nodes.now c.items.before names c.args.end c.node_at-next.result c.is_named.result (c.items.invariant.kept names a) (c.node_at-next.ensures (source c.args.text.now)) c.if-next-end.false c.is_named.ensures c.if-is_named.true
-
-pub returns-then-is_named-clause-later : goal.returns-then-is_named-clause-later
-returns-then-is_named-clause-later c =
-    let h = goes_up (source c.args.text.now) c.args.nodes.now c.items.before c.args.end c.node_at-next.result c.items.invariant.there (c.node_at-next.ensures (source c.args.text.now)) in
-    omega (arith, h.0, c.items.invariant.later)
-
-pub items-smaller : goal.items-smaller
-items-smaller c =
-    let h = goes_up (source c.args.text.now) c.args.nodes.now c.items.before c.args.end c.node_at-next.result c.items.invariant.there (c.node_at-next.ensures (source c.args.text.now)) in
-    omega (arith, h.0, h.1)
+    rw c.node-next.ensures.next
+    (names_stop c.args.items.now c.items.before c.args.end c.items.invariant.there c.args.k c.items.invariant.same (omega (arith, c.node-next.ensures.next, c.if-next-end.false)) (sym c.is_named.ensures ∙ c.if-is_named.true))
 
 pub items-preserved : goal.items-preserved
 items-preserved c =
-    let h = goes_up (source c.args.text.now) c.args.nodes.now c.items.before c.args.end c.node_at-next.result c.items.invariant.there (c.node_at-next.ensures (source c.args.text.now)) in
+    let node = c.node-next.ensures in
+    let less : end_at c.args.items.now c.items.before < c.args.end = omega (arith, node.next, c.if-next-end.false) in
     record {
-      later = omega (arith, h.0, c.items.invariant.later);
-      there = some_on (source c.args.text.now) c.args.nodes.now c.items.before c.args.end c.node_at-next.result c.items.invariant.there (c.node_at-next.ensures (source c.args.text.now)) c.if-next-end.false;
-      kept = λ names a. names_on (source c.args.text.now) c.args.nodes.now c.items.before names c.args.end c.node_at-next.result c.is_named.result (c.items.invariant.kept names a) (c.node_at-next.ensures (source c.args.text.now)) c.if-next-end.false c.is_named.ensures c.if-is_named.false;
+      there = rw node.next (others c.args.items.now c.items.before c.args.end c.items.invariant.there less);
+      later = omega (arith, node.behind, c.items.invariant.later);
+      same = c.items.invariant.same ∙ names_on c.args.items.now c.items.before c.args.end c.items.invariant.there less (sym c.is_named.ensures ∙ c.if-is_named.false)
+          ∙ ap (λ n. names_at c.args.items.now n c.args.end) (sym node.next);
     }

@@ -5,12 +5,18 @@ use Rattle.sym_table.specs.Table.{IsLeaf}
 use Rattle.term_reader.proofs.Staying.{adds_leaf}
 use Rattle.term_reader.proofs.leaving_lets.add_variable.Goals as goal
 
+pub name_of-requires-clause-inside : goal.name_of-requires-clause-inside
+name_of-requires-clause-inside c = c.requires.name.inside
+
+pub name_of-requires-clause-symbol : goal.name_of-requires-clause-symbol
+name_of-requires-clause-symbol c = c.requires.name.symbol
+
 pub returns-in_err-push-clause-symbols : goal.returns-in_err-push-clause-symbols
 returns-in_err-push-clause-symbols c = adds_leaf _ _ c.in_ok-leaf.leaf (leaf.variable c.name_of.result.now c.args.sort) c.in_ok-leaf.ensures.found_or_new c.variable.ensures.keeps (λ f e. cc)
 
 pub returns-clause-added : goal.returns-clause-added
-returns-clause-added c = λ x is.
-    (c.in_ok-leaf.leaf, subst (λ name. IsLeaf c.variable.new.self c.in_ok-leaf.leaf (leaf.variable name c.args.sort)) (c.name_of.ensures x is) c.in_ok-leaf.ensures.leaf, c.in_ok-push.ensures.items)
+returns-clause-added c =
+    (c.in_ok-leaf.leaf, subst (λ name. IsLeaf c.variable.new.self c.in_ok-leaf.leaf (leaf.variable name c.args.sort)) c.name_of.ensures c.in_ok-leaf.ensures.leaf, c.in_ok-push.ensures.items)
 
 pub returns-clause-symbols : goal.returns-clause-symbols
 returns-clause-symbols c = adds_leaf _ _ c.in_ok-leaf.leaf (leaf.variable c.name_of.result.now c.args.sort) c.in_ok-leaf.ensures.found_or_new c.variable.ensures.keeps (λ f e. cc)

@@ -1,19 +1,23 @@
-use Rattle.std.proofs.Common.{◌≡◌, ◌+◌, true, arith, ap, sym, ◌∙◌, Some}
-use Rattle.sexpr.specs.Source.{source}
-use Rattle.sexpr.specs.Items.{list}
-use Rattle.text_items.specs.Spelling.{is_list_item}
-use Rattle.text_items.proofs.NodeSteps.{no_nodes}
-use Rattle.term_reader.proofs.LetShapes.{no_bindings}
-use Rattle.text_items.proofs.ShapeLemmas.{list_at}
+use Rattle.std.proofs.Common.{◌+◌, arith, ap, sym, ◌∙◌, Some}
+use Rattle.sexpr.specs.Items.{list, place_of}
+use Rattle.text_items.specs.ItemsAt.{item_at, items_at}
+use Rattle.text_items.proofs.ItemsAtLemmas.{items_are, no_items_are}
+use Rattle.text_items.proofs.ShapeLemmas.{list_is}
+use Rattle.term_reader.proofs.LetShapes.{no_bindings, some_bindings}
 use Rattle.term_reader.proofs.let_shapes.bindings_fault.Goals as goal
 
 pub returns-then-bindings-k : goal.returns-then-bindings-k
 returns-then-bindings-k c =
-    λ i m is.
-    let text = source c.args.text.now in
-    let nodes = c.args.nodes.now in
-    let yes : is_list_item i ≡ true = cc (c.is_list.ensures text i m is) in
-    let l = list_at text nodes c.args.k i m is yes in
-    let node = c.node_at-bindings.ensures text i m is in
-    let none = no_nodes text nodes (c.args.k + 1) l.items m l.there (omega arith) in
-    ap Some node.start ∙ sym (no_bindings i l.place (l.split ∙ ap (list l.place) none))
+    let i = item_at c.args.items.now c.args.k in
+    let node = c.node-bindings.ensures in
+    let none = no_items_are c.args.items.now (c.args.k + 1) c.node-bindings.result.next (omega arith) in
+    ap Some node.start ∙ sym (no_bindings i (place_of i) (list_is i (cc (c.is_list.ensures)) ∙ ap (list (place_of i)) (node.children ∙ none)))
+
+pub returns : goal.returns
+returns c =
+    let items = c.args.items.now in
+    let i = item_at items c.args.k in
+    let node = c.node-bindings.ensures in
+    let those = items_are items (c.args.k + 1) c.node-bindings.result.next (omega (arith, node.behind, c.if-bindings-k.false)) node.inside in
+    c.pairs_fault.ensures
+    ∙ sym (some_bindings i (place_of i) (items_at items (c.args.k + 1) c.node-bindings.result.next) (list_is i (cc (c.is_list.ensures)) ∙ ap (list (place_of i)) node.children) (λ none. cc (sym those ∙ none)))

@@ -9,18 +9,18 @@ use Rattle.term_reader.proofs.naming.give_names.Goals as goal
 
 pub returns-then-is_none-clause-given : goal.returns-then-is_none-clause-given
 returns-then-is_none-clause-given c =
-    λ names t sc are value is.
+    λ t sc value is.
     let none = where_none c.next_name.result _ c.if-is_none.ensures c.next_name.ensures.none in
-    (sc, ap (λ (ns : List Name). with_names t ns sc) (none names are), is)
+    (sc, ap (λ (ns : List Name). with_names t ns sc) none, is)
 
 pub returns-clause-given : goal.returns-clause-given
 returns-clause-given c =
-    λ names t sc are value is.
+    λ t sc value is.
     let s = c.args.symbols.now in
     let old = c.args.terms.now in
     let new = c.free_leaves.new.terms in
     let keeps = c.free_leaves.ensures.keeps in
-    c.give_each.ensures.given new names t sc are
+    c.give_each.ensures.given new t sc
     (record {
       value = value_stays s s old new (table_keeps_none s) keeps c.args.value t value;
       low = c.requires.low;

@@ -1,11 +1,10 @@
-use Rattle.sexpr.specs.Source.{source}
 use Rattle.term_reader.specs.Credits.{effort}
 use Rattle.term_reader.proofs.ReadingTurns.{IsUnderWay}
 use Rattle.term_reader.proofs.reading.read.Given as goal
 
 abbrev pub invariant-turns : goal.invariant-turns
 invariant-turns l =
-    IsUnderWay (source l.fn.text) l.fn.nodes l.fn.k l.fn.symbols l.fn.terms l.fn.reader l.symbols l.terms l.reader l.turn
+    IsUnderWay l.fn.items l.fn.k l.fn.symbols l.fn.terms l.fn.reader l.symbols l.terms l.reader l.turn
 
 abbrev pub decreases-turns : goal.decreases-turns
-decreases-turns l = effort l.fn.nodes l.reader l.turn
+decreases-turns l = effort l.fn.items.nodes l.reader l.turn

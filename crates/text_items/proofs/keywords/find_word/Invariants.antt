@@ -1,17 +1,11 @@
-use Rattle.std.proofs.Common.{◌-◌}
-use Rattle.sexpr.specs.Items.{Items}
-use Rattle.sexpr.specs.Source.{source}
-use Rattle.text_items.specs.Nodes.{AreNodes}
-use Rattle.text_items.specs.Stepping.{AreItemsFrom}
-use Rattle.text_items.specs.Keywords as shape
-use Rattle.text_items.proofs.ItemLoops.{Left}
+use Rattle.std.proofs.Common.{◌≡◌, ◌-◌}
+use Rattle.text_items.specs.ItemsAt.{items_at}
+use Rattle.text_items.specs.Keywords.{from_word}
 use Rattle.text_items.proofs.keywords.find_word.Given as goal
 
+-- no item before node k is the keyword
 abbrev pub invariant-items : goal.invariant-items
-invariant-items l = record {
-  there : AreItemsFrom (source l.text) l.nodes l.k l.end;
-  comes : (items : Items) → AreNodes (source l.text) l.nodes l.first items l.end → Left (shape.from_word l.word) (source l.text) l.nodes l.k l.end (shape.from_word l.word items);
-}
+invariant-items l = from_word l.word (items_at l.items l.first l.end) ≡ from_word l.word (items_at l.items l.k l.end)
 
 abbrev pub decreases-items : goal.decreases-items
 decreases-items l = l.end - l.k

@@ -1,34 +1,17 @@
-use Rattle.std.proofs.Common.{arith, sym, ◌∙◌, refl}
-use Rattle.sexpr.specs.Source.{source}
-use Rattle.text_items.specs.Keywords as shape
-use Rattle.text_items.proofs.NodeSteps.{first_at, others_from, further}
-use Rattle.text_items.proofs.ItemLoops.{left_start, left_end}
-use Rattle.text_items.proofs.KeywordLemmas.{symbols_stop, symbols_on}
+use Rattle.std.proofs.Common.{sym, ◌∙◌, ap}
+use Rattle.text_items.specs.Keywords.{symbols_fault}
+use Rattle.text_items.proofs.ItemsAtLemmas.{items_are, told_on, told_at_end}
+use Rattle.text_items.proofs.ShapeLemmas.{fault_stops, fault_passes}
 use Rattle.text_items.proofs.keywords.symbols_fault.Goals as goal
-
-pub items-init : goal.items-init
-items-init c = record { there = c.requires; comes = λ items are. left_start (source c.args.text.now) c.args.nodes.now c.args.first c.args.end _ (shape.symbols_fault) items are refl }
-
-pub symbol_fault-fault-requires : goal.symbol_fault-fault-requires
-symbol_fault-fault-requires c = first_at (source c.args.text.now) c.args.nodes.now c.items.k c.args.end c.items.invariant.there c.items-test.true
-
-pub node_at-k-requires : goal.node_at-k-requires
-node_at-k-requires c = (source c.args.text.now, first_at (source c.args.text.now) c.args.nodes.now c.items.k c.args.end c.items.invariant.there c.items-test.true)
-
-pub items-smaller : goal.items-smaller
-items-smaller c =
-    let h = further (source c.args.text.now) c.args.nodes.now c.items.k c.args.end c.node_at-k.result c.items.invariant.there c.items-test.true (c.node_at-k.ensures (source c.args.text.now)) in
-    omega (arith, h.0, h.1)
-
-pub items-preserved : goal.items-preserved
-items-preserved c = record {
-  there = others_from (source c.args.text.now) c.args.nodes.now c.items.k c.args.end c.node_at-k.result c.items.invariant.there c.items-test.true (c.node_at-k.ensures (source c.args.text.now));
-  comes = λ items are. symbols_on (source c.args.text.now) c.args.nodes.now c.items.k c.args.end _ c.symbol_fault-fault.result c.node_at-k.result (c.items.invariant.comes items are) c.items-test.true c.symbol_fault-fault.ensures (sym c.is_some.ensures ∙ c.if-is_some.false) (c.node_at-k.ensures (source c.args.text.now));
-}
 
 pub returns-then-is_some : goal.returns-then-is_some
 returns-then-is_some c =
-    λ items are. symbols_stop (source c.args.text.now) c.args.nodes.now c.items.k c.args.end _ c.symbol_fault-fault.result (c.items.invariant.comes items are) c.items-test.true c.symbol_fault-fault.ensures (sym c.is_some.ensures ∙ c.if-is_some.true)
+    fault_stops _ _ c.symbol_fault-fault.result _ (c.items.invariant ∙ ap symbols_fault (items_are c.args.items.now c.items.k c.args.end c.items-test.true c.requires)) c.symbol_fault-fault.ensures (sym c.is_some.ensures ∙ c.if-is_some.true)
+
+pub items-preserved : goal.items-preserved
+items-preserved c =
+    fault_passes _ _ c.symbol_fault-fault.result _ (told_on c.args.items.now c.items.k c.args.end c.node-k.result c.node-k.ensures c.items-test.true c.requires symbols_fault _ c.items.invariant)
+    c.symbol_fault-fault.ensures (sym c.is_some.ensures ∙ c.if-is_some.false)
 
 pub returns : goal.returns
-returns c = λ items are. left_end (source c.args.text.now) c.args.nodes.now c.items.k c.args.end _ shape.symbols_fault (c.items.invariant.comes items are) c.items-test.false
+returns c = told_at_end c.args.items.now c.items.k c.args.end symbols_fault _ c.items.invariant c.items-test.false

@@ -1,17 +1,11 @@
-use Rattle.std.proofs.Common.{◌-◌}
-use Rattle.sexpr.specs.Items.{Items}
-use Rattle.sexpr.specs.Source.{source}
-use Rattle.text_items.specs.Nodes.{AreNodes}
-use Rattle.text_items.specs.Stepping.{AreItemsFrom}
-use Rattle.text_items.specs.Keywords as shape
-use Rattle.text_items.proofs.ItemLoops.{Left}
+use Rattle.std.proofs.Common.{◌≡◌, ◌-◌}
+use Rattle.text_items.specs.ItemsAt.{items_at}
+use Rattle.text_items.specs.Keywords.{symbols_fault}
 use Rattle.text_items.proofs.keywords.symbols_fault.Given as goal
 
+-- no fault is found before node k
 abbrev pub invariant-items : goal.invariant-items
-invariant-items l = record {
-  there : AreItemsFrom (source l.text) l.nodes l.k l.end;
-  comes : (items : Items) → AreNodes (source l.text) l.nodes l.first items l.end → Left (shape.symbols_fault) (source l.text) l.nodes l.k l.end (shape.symbols_fault items);
-}
+invariant-items l = symbols_fault (items_at l.items l.first l.end) ≡ symbols_fault (items_at l.items l.k l.end)
 
 abbrev pub decreases-items : goal.decreases-items
 decreases-items l = l.end - l.k

@@ -1,18 +1,23 @@
-use Rattle.std.proofs.Common.{ap}
+use Rattle.std.proofs.Common.{◌∙◌, ap}
+use Rattle.sexpr.specs.Items.{Items, item}
+use Rattle.text_items.specs.ItemsAt.{item_at}
 use Rattle.text_items.specs.Stepping.{has_two}
-use Rattle.text_items.proofs.NodeSteps.{first_at, no_nodes, one_alone, two_there}
+use Rattle.text_items.proofs.ItemsAtLemmas.{items_are, first_and_others, no_items_are}
 use Rattle.text_items.proofs.shapes.second.Goals as goal
 
-pub node_at-next-requires : goal.node_at-next-requires
-node_at-next-requires c = (c.requires.0, first_at c.requires.0 c.args.nodes.now c.args.first c.args.end c.requires.1 c.if-first-end.false)
+pub returns-then-first-end : goal.returns-then-first-end
+returns-then-first-end c = ap has_two (no_items_are c.args.items.now c.args.first c.args.end c.if-first-end.true)
 
-pub returns-then-first-end-clause-none : goal.returns-then-first-end-clause-none
-returns-then-first-end-clause-none c = λ text items are. ap has_two (no_nodes text c.args.nodes.now c.args.first items c.args.end are c.if-first-end.true)
+pub returns-then-next-end : goal.returns-then-next-end
+returns-then-next-end c = record {
+  later = c.node-next.ensures.behind;
+  less = c.if-next-end.true;
+  here = c.node-next.ensures.next;
+  split = first_and_others c.args.items.now c.args.first c.args.end c.node-next.result c.node-next.ensures c.if-first-end.false c.requires
+      ∙ ap (item (item_at c.args.items.now c.args.first)) (items_are c.args.items.now c.node-next.result.next c.args.end c.if-next-end.true c.requires);
+}
 
-pub returns-then-next-end-clause-none : goal.returns-then-next-end-clause-none
-returns-then-next-end-clause-none c =
-    λ text items are. one_alone text c.args.nodes.now c.args.first c.args.end items c.node_at-next.result are c.if-first-end.false (c.node_at-next.ensures text) c.if-next-end.true
-
-pub returns-else-next-end-clause-some : goal.returns-else-next-end-clause-some
-returns-else-next-end-clause-some c =
-    λ text items are. two_there text c.args.nodes.now c.args.first c.args.end items c.node_at-next.result are c.if-first-end.false (c.node_at-next.ensures text) c.if-next-end.false
+pub returns-else-next-end : goal.returns-else-next-end
+returns-else-next-end c =
+    ap has_two (first_and_others c.args.items.now c.args.first c.args.end c.node-next.result c.node-next.ensures c.if-first-end.false c.requires)
+    ∙ ap (λ (others : Items). has_two (item (item_at c.args.items.now c.args.first) others)) (no_items_are c.args.items.now c.node-next.result.next c.args.end c.if-next-end.false)

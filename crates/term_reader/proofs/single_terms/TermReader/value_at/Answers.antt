@@ -5,7 +5,7 @@ use Rattle.term_reader.proofs.PushedVariables.{all_entered, value_read}
 use Rattle.term_reader.proofs.single_terms.TermReader.value_at.Goals as goal
 
 pub returns-clause-read : goal.returns-clause-read
-returns-clause-read c i m sc p node h =
+returns-clause-read c sc p h =
     let reader = subst (λ r. IsReaderOf c.args.symbols.now c.args.terms.now r sc p) (sym c.self.view_is) h in
     value_read _ _ _ c.read.new.reader _ p _ c.read.result (ap reverse c.clear.ensures.items)
-    (c.read.ensures.reads i m sc p node (all_entered _ _ _ c.deref.result.now c.enter_each.new.scope sc p (ap reverse c.deref.ensures.value) (c.in_ok-enter_each.ensures c.args.terms.now) reader))
+    (c.read.ensures.reads sc p (all_entered _ _ _ c.deref.result.now c.enter_each.new.scope sc p (ap reverse c.deref.ensures.value) (c.in_ok-enter_each.ensures c.args.terms.now) reader))
