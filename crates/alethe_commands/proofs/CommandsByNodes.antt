@@ -15,13 +15,13 @@ use Rattle.text_items.specs.ItemShapes.{excess, symbol_fault, items_of, name_at}
 use Rattle.text_items.specs.ItemsAt.{ItemsView, end_at, end_by, item_of_node, item_of_token, item_at, items_at}
 use Rattle.text_items.specs.Keywords.{Known, list_fault, earlier, is_value, at_end, word_next, misplaced, repeated, lacks_keyword, attributes_fault}
 use Rattle.text_items.specs.Spelling.{is_list_item}
-use Rattle.text_items.specs.Stepping.{HasTaken, HasSecond, has_two}
+use Rattle.text_items.specs.Stepping.{HasTaken, HasSecond, has_two, head_word}
 use Rattle.text_items.proofs.ItemsAtLemmas.{item_is, items_are, no_items_are, ends_inside, end_by_all}
 use Rattle.problem_text.specs.Commands.{refused}
 use Rattle.alethe_text.specs.Commands.{Command as Shape, step, shaped, step_keywords, clause_fault, behind_first, attributes_of, word_fault, each_argument_fault, arguments_fault, argument_items, step_shape, command_named, headed_command, command_of}
 use Rattle.alethe_commands.specs.declared.commands.CommandWord.{CommandWord}
 use Rattle.alethe_commands.specs.CommandNodes.{IsStepThere}
-use Rattle.alethe_commands.specs.CommandShapes.{without_fault, head_word, word_named, command_so, HasLiterals, HasArguments}
+use Rattle.alethe_commands.specs.CommandShapes.{without_fault, word_named, command_so, HasLiterals, HasArguments}
 use Rattle.alethe_commands.proofs.ShapesByNodes.{choice, or_none}
 
 turned : (a b : List ℕ) → bytes_eq a b ≡ bytes_eq b a

@@ -2,9 +2,8 @@
 use Rattle.std.specs.Prelude.{◌≡◌, ◌<◌, ◌≤◌, ℕ, ⊤, false, Option, Some, None, [], ◌∷◌, length, Result, Ok, Err}
 use Rattle.sexpr.specs.declared.causes.Refusal.{Refusal}
 use Rattle.text_items.specs.declared.keywords.Next.{Next}
-use Rattle.text_items.specs.ItemShapes.{Name, name_at, symbol_fault}
 use Rattle.text_items.specs.ItemsAt.{ItemsView, item_at, items_at}
-use Rattle.text_items.specs.Stepping.{EndBy}
+use Rattle.text_items.specs.Stepping.{EndBy, IsSymbolAt, name_in}
 use Rattle.text_items.specs.Keywords.{misplaced, at_end, is_value, symbols_fault}
 use Rattle.sexpr.specs.Items.{Item}
 use Rattle.alethe_text.specs.Commands.{Attribute, rule, premises, arguments, discharge, Argument, variable_alone, assigned, Command as Shape, assume, step, anchor, step_keywords, names_in, attributes_of, each_argument_fault, argument_of, arguments_in}
@@ -21,18 +20,10 @@ pub record AreItemsAt (items : ItemsView) (k m : ℕ) : Type 0 where
   pub inside : m ≤ length items.nodes
   pub nested : EndBy items k m
 
--- the item at node k is a symbol
-pub record IsSymbolAt (items : ItemsView) (k : ℕ) : Type 0 where
-  pub inside : k < length items.nodes
-  pub symbol : symbol_fault (item_at items k) ≡ None
-
 -- the items from node k on, to before node m, are symbols
 pub record AreSymbolsAt (items : ItemsView) (k m : ℕ) : Type 0 where
   pub inside : m ≤ length items.nodes
   pub symbols : symbols_fault (items_at items k m) ≡ None
-
-abbrev pub name_in : ItemsView → ℕ → Name
-name_in items k = name_at (item_at items k)
 
 -- The items from node k on, to before node m, end there, and are attributes of a step without a fault of shape, or those behind
 -- the first of them.

@@ -20,13 +20,6 @@ abbrev pub without_fault : Option ℕ → Result ⊤ Refusal
 without_fault (Some place) = Err (record { cause = BadCommand; at = place })
 without_fault None = Ok tt
 
--- the word of a command, where the item is one
-abbrev pub head_word : Item → Option (List ℕ)
-head_word (word place spelling) = if is_symbol spelling then Some spelling else None
-head_word (quoted place spelling) = None
-head_word (string place spelling) = None
-head_word (list place items) = None
-
 -- what a command's word asks for
 abbrev pub word_named : List ℕ → CommandWord
 word_named name =

@@ -3,7 +3,7 @@ ghost use Rattle.std.specs.Prelude.{◌≡◌, ◌<◌, ◌≤◌, length, None,
 ghost use Rattle.text_items.specs.ItemsAt.{item_at, items_at};
 ghost use Rattle.text_items.specs.Keywords as keywords;
 ghost use Rattle.alethe_text.specs.Commands as shape;
-ghost use Rattle.alethe_commands.specs.CommandShapes.{head_word, HasLiterals};
+ghost use Rattle.alethe_commands.specs.CommandShapes.{HasLiterals};
 
 use sexpr::TokenKind;
 use text_items::keywords::{keyword_at, list_fault};
@@ -18,18 +18,6 @@ pub(crate) fn earlier(a: Option<u64>, b: Option<u64>) -> Option<u64>
         (None, b) => b,
         (Some(a), None) => Some(a),
         (Some(a), Some(b)) => Some(if a <= b { a } else { b }),
-    }
-}
-
-/// The word of a symbol without bars.
-pub(crate) fn head_word<'t>(items: &ItemText<'_, 't>, k: usize) -> Option<&'t [u8]>
-    requires { k < length items.now.nodes }
-    ensures { option_copied result ≡ head_word (item_at items.now k) }
-{
-    let token = items.node(k).token;
-    match token.kind {
-        TokenKind::Word => items.symbol(&token),
-        _ => None,
     }
 }
 

@@ -6,12 +6,12 @@ ghost use Rattle.alethe_commands.specs.CommandNodes.{IsCommand};
 ghost use Rattle.alethe_commands.specs.CommandShapes as spec;
 
 use crate::attributes::{anchor_attributes_fault, step_attributes_fault};
-use crate::command_shapes::{arguments_fault, clause_fault, earlier, head_word, word_fault};
+use crate::command_shapes::{arguments_fault, clause_fault, earlier, word_fault};
 use sexpr::{Cause, Refusal};
 use text_items::children::{bad_command, take};
 use text_items::nodes::ItemText;
 use text_items::refusals::refused;
-use text_items::shapes::{excess, second, symbol_fault};
+use text_items::shapes::{excess, head_word, second, symbol_fault};
 
 /// A command by the places of its nodes. Terms and sorts are still to be read.
 #[derive(Clone, Copy)]

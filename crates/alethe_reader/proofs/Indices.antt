@@ -10,10 +10,10 @@ use Rattle.rule_model.specs.Visibility.{Sight}
 use Rattle.text_items.specs.declared.nodes.Node.{Node}
 use Rattle.text_items.specs.ItemsAt.{ItemsView, end_at, items_at}
 use Rattle.text_items.specs.Keywords.{symbols_fault}
-use Rattle.text_items.specs.Stepping.{IsItemNode}
+use Rattle.text_items.specs.Stepping.{IsItemNode, IsSymbolAt, name_in}
 use Rattle.text_items.proofs.ItemsAtLemmas.{items_are, no_items_are, first_and_others}
 use Rattle.problem_text.specs.Outcomes.{Outcome, done, and_then}
-use Rattle.alethe_commands.specs.CommandNodes.{IsSymbolAt, AreSymbolsAt, name_in}
+use Rattle.alethe_commands.specs.CommandNodes.{AreSymbolsAt}
 use Rattle.alethe_text.specs.Commands.{names_in}
 use Rattle.alethe_text.specs.Ids.{indices_of}
 use Rattle.alethe_text.specs.States.{ProofState, Reading, ◌>>=◌, give, found}

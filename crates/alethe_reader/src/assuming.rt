@@ -9,7 +9,7 @@ ghost use Rattle.alethe_text.specs.Steps.{assume_read};
 ghost use Rattle.alethe_reader.specs.Answers.{AnswersAs};
 ghost use Rattle.alethe_reader.specs.Sessions.{IsProofSession, StandsAfter};
 ghost use Rattle.text_items.specs.ItemsAt.{item_at};
-ghost use Rattle.alethe_commands.specs.CommandNodes.{IsSymbolAt, name_in};
+ghost use Rattle.text_items.specs.Stepping.{IsSymbolAt, name_in};
 
 use crate::formulas::formula_at;
 use crate::ids::Role;

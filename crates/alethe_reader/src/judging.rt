@@ -6,7 +6,7 @@ ghost use Rattle.alethe_text.specs.States.{ProofState};
 ghost use Rattle.alethe_reader.specs.Ids.{IsIdFound};
 ghost use Rattle.alethe_reader.specs.IdsInUse.{ids_in};
 ghost use Rattle.alethe_reader.specs.Judging.{cause_of, is_named};
-ghost use Rattle.alethe_commands.specs.CommandNodes.{IsSymbolAt, name_in};
+ghost use Rattle.text_items.specs.Stepping.{IsSymbolAt, name_in};
 
 use crate::ids::{Found, Role};
 use sexpr::{Cause, Refusal};

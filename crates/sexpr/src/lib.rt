@@ -23,4 +23,6 @@ pub use printing::{is_plain_symbol, print_symbol, printed_symbols_are_read_back}
 pub use words::{WordKind, symbol_name, word_kind};
 
 #[cfg(test)]
+mod test_texts;
+#[cfg(test)]
 mod tests;

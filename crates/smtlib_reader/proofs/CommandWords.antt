@@ -9,7 +9,8 @@ use Rattle.smtlib_reader.specs.declared.command_words.CommandWord.{CommandWord}
 use Rattle.problem_text.specs.Words.{is_among, left_out_commands}
 use Rattle.text_items.specs.ItemShapes.{items_of}
 use Rattle.problem_text.specs.Commands.{ScriptCommand as Shape, refused, script_command_named, headed_script_command, script_command_of}
-use Rattle.smtlib_reader.specs.CommandShapes.{head_word, script_word_named, script_command_so}
+use Rattle.smtlib_reader.specs.CommandShapes.{script_word_named, script_command_so}
+use Rattle.text_items.specs.Stepping.{head_word}
 
 -- f of a choice, where each side is f of its own
 choice : {A B : Type 0} (f : A → B) (b : Bool) (x y : A) (u v : B) → u ≡ f x → v ≡ f y → (if b then u else v) ≡ f (if b then x else y)

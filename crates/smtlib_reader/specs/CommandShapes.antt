@@ -2,19 +2,16 @@
 use Rattle.std.specs.Prelude.{◌≡◌, ℕ, ◌<◌, ◌≤◌, ◌==◌, ⊤, Bool, List, [], ◌∷◌, length, Option, Some, None, if◌then◌else◌, codes, bytes_eq, Result, Ok, Err}
 use Rattle.sexpr.specs.declared.causes.Cause.TheVariants.{BadCommand, LeftOut, UnknownCommand}
 use Rattle.sexpr.specs.declared.causes.Refusal.{Refusal}
-use Rattle.sexpr.specs.Words.{is_symbol}
-use Rattle.sexpr.specs.Items.{Item, word, quoted, string, list, Items, place_of}
+use Rattle.sexpr.specs.Items.{Items, place_of}
 use Rattle.smtlib_reader.specs.declared.commands.Command.{Command}
 use Rattle.smtlib_reader.specs.declared.commands.FunctionHead.{FunctionHead}
 use Rattle.smtlib_reader.specs.declared.commands.SortHead.{SortHead}
 use Rattle.smtlib_reader.specs.declared.command_words.CommandWord.{CommandWord}
 use Rattle.problem_text.specs.Words.{is_among, left_out_commands}
-use Rattle.text_items.specs.ItemShapes.{Name, name_at, excess, symbol_fault, pairs_fault}
+use Rattle.text_items.specs.ItemShapes.{excess, pairs_fault}
 use Rattle.problem_text.specs.Commands.{ScriptCommand as Shape, set_logic, without_effect, declare_sort, declare_fun, define_fun, assert_term, check_sat, exit, refused, script_shaped, assert_shape, declare_fun_shape, declare_const_shape, define_fun_shape, declare_sort_shape, set_logic_shape, attribute_shape, value_of_numeral}
 use Rattle.text_items.specs.ItemsAt.{ItemsView, item_at, items_at}
-
-abbrev pub name_in : ItemsView → ℕ → Name
-name_in items k = name_at (item_at items k)
+use Rattle.text_items.specs.Stepping.{IsSymbolAt, name_in}
 
 -- the command that nodes say
 abbrev pub command_said : ItemsView → Command → Shape
@@ -26,11 +23,6 @@ command_said items (Command.DefineFun head body) = define_fun (name_in items hea
 command_said items (Command.Assert term) = assert_term (item_at items term)
 command_said items Command.CheckSat = check_sat
 command_said items Command.Exit = exit
-
--- the item at node k is a symbol
-pub record IsSymbolAt (items : ItemsView) (k : ℕ) : Type 0 where
-  pub inside : k < length items.nodes
-  pub symbol : symbol_fault (item_at items k) ≡ None
 
 -- the parts of a declaration of a sort are there, and it says whether the numeral is 0
 pub record IsSortThere (items : ItemsView) (head : SortHead) : Type 0 where
@@ -66,13 +58,6 @@ IsCommandThere items Command.Exit = ⊤
 abbrev pub IsScriptCommand : ItemsView → Result Command Refusal → Result Shape Refusal → Type 0
 IsScriptCommand items (Err r) expected = expected ≡ Err r
 IsScriptCommand items (Ok c) expected = (expected ≡ Ok (command_said items c)) × IsCommandThere items c
-
--- the word of a command, where the item is one
-abbrev pub head_word : Item → Option (List ℕ)
-head_word (word place spelling) = if is_symbol spelling then Some spelling else None
-head_word (quoted place spelling) = None
-head_word (string place spelling) = None
-head_word (list place items) = None
 
 -- what a command's word asks for
 abbrev pub script_word_named : List ℕ → CommandWord

@@ -1,4 +1,5 @@
 -- Private. The parameters of a defined function as nodes spell them.
+use Rattle.text_items.specs.Stepping.{name_in, IsSymbolAt}
 use Rattle.std.specs.Prelude.{◌≡◌, ◌≤◌, ℕ, List, ◌∷◌, map, length, All, bytes_eq, Result, Ok, Err}
 use Rattle.std.specs.Borrow.{Bor}
 use Rattle.std.specs.List.{list_any}
@@ -8,7 +9,6 @@ use Rattle.term_names.specs.declared.faults.ReadFault.{ReadFault}
 use Rattle.smtlib_reader.specs.declared.parameters.Parameter.{Parameter}
 use Rattle.problem_text.specs.Words.{is_among}
 use Rattle.text_items.specs.ItemsAt.{ItemsView}
-use Rattle.smtlib_reader.specs.CommandShapes.{name_in, IsSymbolAt}
 
 -- the variable that a parameter is
 abbrev pub parameter_said : ItemsView → Parameter → Var

@@ -4,7 +4,6 @@ ghost use Rattle.sexpr.specs.Words as spell;
 ghost use Rattle.problem_text.specs.Commands as shape;
 ghost use Rattle.text_items.specs.ItemShapes.{items_of};
 ghost use Rattle.text_items.specs.ItemsAt.{end_at, item_at, items_at};
-ghost use Rattle.smtlib_reader.specs.CommandShapes.{head_word};
 
 use sexpr::{TokenKind, WordKind, word_kind};
 use text_items::nodes::ItemText;
@@ -14,18 +13,6 @@ fn fault_unless(fits: bool, place: u64) -> Option<u64>
     ensures { result ≡ (if fits then None else Some place) }
 {
     if fits { None } else { Some(place) }
-}
-
-/// The word of a symbol without bars.
-pub(crate) fn head_word<'t>(items: &ItemText<'_, 't>, k: usize) -> Option<&'t [u8]>
-    requires { k < length items.now.nodes }
-    ensures { option_copied result ≡ head_word (item_at items.now k) }
-{
-    let token = items.node(k).token;
-    match token.kind {
-        TokenKind::Word => items.symbol(&token),
-        _ => None,
-    }
 }
 
 /// Where a list has to stand.

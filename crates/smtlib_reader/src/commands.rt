@@ -4,15 +4,13 @@ ghost use Rattle.problem_text.specs.Commands as spec;
 ghost use Rattle.text_items.specs.ItemsAt.{end_at, item_at, items_at};
 ghost use Rattle.smtlib_reader.specs.CommandShapes.{IsScriptCommand, script_command_so, script_unless};
 
-use crate::command_shapes::{
-    head_word, is_zero, keyword_fault, list_fault, numeral_fault, parameters_fault,
-};
+use crate::command_shapes::{is_zero, keyword_fault, list_fault, numeral_fault, parameters_fault};
 use crate::command_words::{CommandWord, word_named};
 use sexpr::{Cause, Refusal};
 use text_items::children::{bad_command, take};
 use text_items::nodes::ItemText;
 use text_items::refusals::refused;
-use text_items::shapes::{excess, symbol_fault};
+use text_items::shapes::{excess, head_word, symbol_fault};
 
 /// A sort that is declared, by the nodes of its name and of its arity, and whether this is zero.
 #[derive(Clone, Copy)]

@@ -6,7 +6,8 @@ use Rattle.text_items.specs.ItemShapes.{symbol_fault}
 use Rattle.text_items.specs.ItemsAt.{ItemsView, end_at, item_at, items_at}
 use Rattle.problem_text.specs.Forms.{names_after}
 use Rattle.problem_text.specs.NamedItems.{is_named_item}
-use Rattle.term_reader.specs.Layers.{symbol_at, NamesAreSymbols, names_at, AreTermAttributes}
+use Rattle.text_items.specs.Stepping.{name_in}
+use Rattle.term_reader.specs.Layers.{NamesAreSymbols, names_at, AreTermAttributes}
 use Rattle.term_reader.specs.Shapes.{IsFirstName}
 use Rattle.text_items.proofs.ItemsAtLemmas.{items_are, no_items_are}
 use Rattle.term_reader.proofs.FormSteps.{range_on}
@@ -28,8 +29,8 @@ module _ (items : ItemsView) (k m : ℕ) (a : AreTermAttributes items k m) where
   pub others : next < m → AreTermAttributes items next m
   others less = record { some = less; range = range_on items k m a.range a.some; named = (symbols less).1 }
 
-  names_by : next < m → (b : Bool) → is_named_item (item_at items k) ≡ b → names_at items k m ≡ cond b (symbol_at items next ∷ names_at items next m) (names_at items next m)
-  names_by less b is = ap (names_after (item_at items k)) (split less) ∙ ap (λ t. cond t (symbol_at items next ∷ names_at items next m) (names_at items next m)) is
+  names_by : next < m → (b : Bool) → is_named_item (item_at items k) ≡ b → names_at items k m ≡ cond b (name_in items next ∷ names_at items next m) (names_at items next m)
+  names_by less b is = ap (names_after (item_at items k)) (split less) ∙ ap (λ t. cond t (name_in items next ∷ names_at items next m) (names_at items next m)) is
 
   pub names_on : next < m → is_named_item (item_at items k) ≡ false → names_at items k m ≡ names_at items next m
   names_on less is = names_by less false is
@@ -39,7 +40,7 @@ module _ (items : ItemsView) (k m : ℕ) (a : AreTermAttributes items k m) where
       let inside = a.range.inside in
       record {
         split = same ∙ names_by less true is;
-        here = record { inside = omega arith; symbol = is_symbol (item_at items next) ((symbols less).0 is); same = refl };
+        here = record { inside = omega arith; symbol = is_symbol (item_at items next) ((symbols less).0 is) };
         there = others less;
       }
     where

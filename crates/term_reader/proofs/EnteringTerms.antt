@@ -16,7 +16,8 @@ use Rattle.term_reader.specs.Frames.{WholeReading, AreFrames}
 use Rattle.rule_model.specs.Heights.{height}
 use Rattle.problem_text.specs.Limits.{most_height}
 use Rattle.term_names.specs.Known.{KnownView, known_entry}
-use Rattle.term_reader.specs.Layers.{form_at, forms_at, AreBinds, symbol_at, IsSymbolAt, names_at, AreTermAttributes}
+use Rattle.text_items.specs.Stepping.{name_in, IsSymbolAt}
+use Rattle.term_reader.specs.Layers.{form_at, forms_at, AreBinds, names_at, AreTermAttributes}
 use Rattle.term_reader.specs.ShapeFaults.{IsLayer}
 use Rattle.term_names.specs.Making.{PlacesCellsOf}
 use Rattle.problem_text.specs.Names.{Place, meaning_of}
@@ -176,7 +177,7 @@ module _ (items : ItemsView) (g : WholeReading) (s : Table) (v : TermsView) (r :
 
   -- what a call says that reads a symbol alone
   abbrev IsSymbolRead : TermsView → Result Value ReadFault → Type 0
-  IsSymbolRead w result = (sc : Script) (p : Place) → ReaderStands s v r sc p → ReadsAlone s v w (term_from (symbol (symbol_at items k)) p sc) sc result
+  IsSymbolRead w result = (sc : Script) (p : Place) → ReaderStands s v r sc p → ReadsAlone s v w (term_from (symbol (name_in items k)) p sc) sc result
 
   symbol_read : (w : TermsView) (result : Result Value ReadFault) (h : Top Layer.Symbol) → IsSymbolRead w result → ReadsAlone s v w (comes_of h.at) h.at.script result
   symbol_read w result h reads =
@@ -202,7 +203,7 @@ module _ (items : ItemsView) (g : WholeReading) (s : Table) (v : TermsView) (r :
 
   -- an argument is read, or the first one
   pub application_goes : (head first end place : ℕ) (applied : Head) → Top (Layer.Application head first end) → IsStart k place
-      → ((w : TermsView) (sc : Script) (p : Place) → ReaderStands s w r sc p → IsHeadFound s w r.known (Some applied) (meaning_of p sc (symbol_at items head).name))
+      → ((w : TermsView) (sc : Script) (p : Place) → ReaderStands s w r sc p → IsHeadFound s w r.known (Some applied) (meaning_of p sc (name_in items head).name))
       → Goes items g s v v (with_open r (Frame.Arguments (record { place = place; head = applied; from = length r.values; end = end }))) (Ok (Turn.Read first))
   application_goes head first end place applied h starts found =
       let a = h.at in
@@ -229,24 +230,24 @@ module _ (items : ItemsView) (g : WholeReading) (s : Table) (v : TermsView) (r :
             all_values r.frames r.leaves.items a.place (end_at items k) end a.waiting (sym same_end) a.frames,
           );
           comes =
-              sym (first_argument a.waiting place (symbol_at items head) m (form_at items first) (forms_at items (end_at items first) end) a.place a.script known)
-              ∙ ap (λ (n : ℕ). resumed a.waiting (term_from (application n (symbol_at items head) (form (form_at items first) (forms_at items (end_at items first) end))) a.place a.script)) starts
-              ∙ ap (λ (fs : Forms). resumed a.waiting (term_from (application (place_of (item_at items k)) (symbol_at items head) fs) a.place a.script)) (sym (forms_more items first end range less))
+              sym (first_argument a.waiting place (name_in items head) m (form_at items first) (forms_at items (end_at items first) end) a.place a.script known)
+              ∙ ap (λ (n : ℕ). resumed a.waiting (term_from (application n (name_in items head) (form (form_at items first) (forms_at items (end_at items first) end))) a.place a.script)) starts
+              ∙ ap (λ (fs : Forms). resumed a.waiting (term_from (application (place_of (item_at items k)) (name_in items head) fs) a.place a.script)) (sym (forms_more items first end range less))
               ∙ ap (λ (q : Form). resumed a.waiting (term_from q a.place a.script)) (sym e) ∙ a.comes;
         };
         placed = places_none s v.pass v.pass (IsReadTerm g.whole) refl;
       }
 
   pub application_unknown : (head first end place : ℕ) (refusal : Refusal) → Top (Layer.Application head first end) → IsStart head place → refusal ≡ record { cause = UnknownName; at = place }
-      → ((w : TermsView) (sc : Script) (p : Place) → ReaderStands s w r sc p → IsHeadFound s w r.known None (meaning_of p sc (symbol_at items head).name))
+      → ((w : TermsView) (sc : Script) (p : Place) → ReaderStands s w r sc p → IsHeadFound s w r.known None (meaning_of p sc (name_in items head).name))
       → Goes items g s v v r (Err (ReadFault.Text refusal))
   application_unknown head first end place refusal h starts is found =
       let a = h.at in
       let (e, named, range, less, same_end, later) = h.top in
       let none = found v a.script a.place a.stands in
-      let same : refusal ≡ record { cause = UnknownName; at = (symbol_at items head).place } = is ∙ ap (λ (n : ℕ). record { cause = UnknownName; at = n }) starts in
+      let same : refusal ≡ record { cause = UnknownName; at = (name_in items head).place } = is ∙ ap (λ (n : ℕ). record { cause = UnknownName; at = n }) starts in
       refusal_goes r refusal a
-      (ap (λ (q : Form). (term_from q a.place a.script).result) e ∙ ap (λ (o : Outcome Script Typed). o.result) (unknown_head (place_of (item_at items k)) (symbol_at items head) (forms_at items first end) a.place a.script none) ∙ ap Err (sym same))
+      (ap (λ (q : Form). (term_from q a.place a.script).result) e ∙ ap (λ (o : Outcome Script Typed). o.result) (unknown_head (place_of (item_at items k)) (name_in items head) (forms_at items first end) a.place a.script none) ∙ ap Err (sym same))
 
   -- the term of a let's first binding is read, or its variable may not be bound
   pub let_goes : (first body repeat place from leaf : ℕ) → Top (Layer.Let first body) → IsStart k place → from ≡ length r.values → leaf ≡ length r.leaves.items → repeat ≢ first
@@ -256,13 +257,13 @@ module _ (items : ItemsView) (g : WholeReading) (s : Table) (v : TermsView) (r :
       let a = h.at in
       let (bs, e, are, some, body_here, body_ends, later) = h.top in
       let b = binds_more items first bs body are (λ same. absurd (omega arith)) in
-      let (free, further) = repeat_on items first [] (symbol_at items (first + 1)) (form_at items (first + 2)) b.others repeat body (subst (λ (q : LetBinds). IsFirstRepeat items first [] q repeat body) b.split (repeats bs are)) (λ same. differs (sym same)) in
+      let (free, further) = repeat_on items first [] (name_in items (first + 1)) (form_at items (first + 2)) b.others repeat body (subst (λ (q : LetBinds). IsFirstRepeat items first [] q repeat body) b.split (repeats bs are)) (λ same. differs (sym same)) in
       record {
         step = record {
-          script = with_let_name (symbol_at items (first + 1)).name a.script;
+          script = with_let_name (name_in items (first + 1)).name a.script;
           place = a.place;
-          waiting = bindings place [] (symbol_at items (first + 1)) [] b.others (form_at items body) a.place ∷ a.waiting;
-          stands = stands_opened s v r _ (with_let_name (symbol_at items (first + 1)).name a.script) a.place (stands_alike s v a.script _ _ r a.place a.stands);
+          waiting = bindings place [] (name_in items (first + 1)) [] b.others (form_at items body) a.place ∷ a.waiting;
+          stands = stands_opened s v r _ (with_let_name (name_in items (first + 1)).name a.script) a.place (stands_alike s v a.script _ _ r a.place a.stands);
           inside = b.inside;
           frames = (
             [],
@@ -288,8 +289,8 @@ module _ (items : ItemsView) (g : WholeReading) (s : Table) (v : TermsView) (r :
                 (subst (λ (n : ℕ). AreFrames items g s v r.known r.frames r.values r.leaves.items r.scope a.place n a.waiting) (sym body_ends) a.frames)),
           );
           comes =
-              sym (first_binding a.waiting place (symbol_at items (first + 1)) (form_at items (first + 2)) b.others (form_at items body) a.place a.script free)
-              ∙ ap (λ (n : ℕ). resumed a.waiting (term_from (let_form n (bind (symbol_at items (first + 1)) (form_at items (first + 2)) b.others) (form_at items body)) a.place a.script)) starts
+              sym (first_binding a.waiting place (name_in items (first + 1)) (form_at items (first + 2)) b.others (form_at items body) a.place a.script free)
+              ∙ ap (λ (n : ℕ). resumed a.waiting (term_from (let_form n (bind (name_in items (first + 1)) (form_at items (first + 2)) b.others) (form_at items body)) a.place a.script)) starts
               ∙ ap (λ (q : LetBinds). resumed a.waiting (term_from (let_form (place_of (item_at items k)) q (form_at items body)) a.place a.script)) (sym b.split)
               ∙ ap (λ (q : Form). resumed a.waiting (term_from q a.place a.script)) (sym e) ∙ a.comes;
         };
@@ -302,14 +303,14 @@ module _ (items : ItemsView) (g : WholeReading) (s : Table) (v : TermsView) (r :
       let a = h.at in
       let (bs, e, are, some, body_here, body_ends, later) = h.top in
       let b = binds_more items first bs body are (λ same. absurd (omega arith)) in
-      let bound : AreBinds items first (bind (symbol_at items (first + 1)) (form_at items (first + 2)) b.others) body = (b.named, refl, b.inside, refl, b.there) in
-      let taken = repeat_here items first [] (symbol_at items (first + 1)) (form_at items (first + 2)) b.others body bound (subst (λ (n : ℕ). IsFirstRepeat items first [] (bind (symbol_at items (first + 1)) (form_at items (first + 2)) b.others) n body) here (repeats (bind (symbol_at items (first + 1)) (form_at items (first + 2)) b.others) bound)) in
-      let same : refusal ≡ record { cause = Repeated; at = (symbol_at items (first + 1)).place } =
+      let bound : AreBinds items first (bind (name_in items (first + 1)) (form_at items (first + 2)) b.others) body = (b.named, refl, b.inside, refl, b.there) in
+      let taken = repeat_here items first [] (name_in items (first + 1)) (form_at items (first + 2)) b.others body bound (subst (λ (n : ℕ). IsFirstRepeat items first [] (bind (name_in items (first + 1)) (form_at items (first + 2)) b.others) n body) here (repeats (bind (name_in items (first + 1)) (form_at items (first + 2)) b.others) bound)) in
+      let same : refusal ≡ record { cause = Repeated; at = (name_in items (first + 1)).place } =
       is ∙ ap (λ (n : ℕ). record { cause = Repeated; at = n }) starts in
       refusal_goes r refusal a
       (ap (λ (q : Form). (term_from q a.place a.script).result) e
       ∙ ap (λ (q : LetBinds). (term_from (let_form (place_of (item_at items k)) q (form_at items body)) a.place a.script).result) b.split
-      ∙ ap (λ (o : Outcome Script Typed). o.result) (first_binding_refused [] (place_of (item_at items k)) (symbol_at items (first + 1)) (form_at items (first + 2)) b.others (form_at items body) a.place a.script taken) ∙ ap Err (sym same))
+      ∙ ap (λ (o : Outcome Script Typed). o.result) (first_binding_refused [] (place_of (item_at items k)) (name_in items (first + 1)) (form_at items (first + 2)) b.others (form_at items body) a.place a.script taken) ∙ ap Err (sym same))
 
   -- the term of an annotation is read
   pub annotation_goes : (t first end : ℕ) → Top (Layer.Annotated t first end) → Goes items g s v v (with_open r (Frame.Names end)) (Ok (Turn.Read t))

@@ -3,7 +3,8 @@ use Rattle.std.proofs.Common.{◌≡◌, ℕ, ◌+◌, ◌<◌, ◌≤◌, ◌�
 use Rattle.text_items.specs.ItemShapes.{Name}
 use Rattle.text_items.specs.ItemsAt.{ItemsView, end_at}
 use Rattle.problem_text.specs.Forms.{Form, no_forms, form, LetBinds, no_binds, bind, form_of, forms_of}
-use Rattle.term_reader.specs.Layers.{IsRange, form_at, forms_at, AreBinds, symbol_at, IsSymbolAt}
+use Rattle.text_items.specs.Stepping.{name_in, IsSymbolAt}
+use Rattle.term_reader.specs.Layers.{IsRange, form_at, forms_at, AreBinds}
 use Rattle.text_items.proofs.ItemsAtLemmas.{ends_behind, items_are, no_items_are}
 
 -- no more forms
@@ -33,7 +34,7 @@ binds_done items k (bind x f bs) m (named, called, inside, is, rest) e = absurd 
 -- one binding, and the others
 pub record AreMoreBinds (items : ItemsView) (k : ℕ) (bs : LetBinds) (m : ℕ) : Type 0 where
   pub others : LetBinds
-  pub split : bs ≡ bind (symbol_at items (k + 1)) (form_at items (k + 2)) others
+  pub split : bs ≡ bind (name_in items (k + 1)) (form_at items (k + 2)) others
   pub named : IsSymbolAt items (k + 1)
   pub inside : k + 2 < length items.nodes
   pub there : AreBinds items (end_at items (k + 2)) others m
@@ -41,4 +42,4 @@ pub record AreMoreBinds (items : ItemsView) (k : ℕ) (bs : LetBinds) (m : ℕ) 
 pub binds_more : (items : ItemsView) (k : ℕ) (bs : LetBinds) (m : ℕ) → AreBinds items k bs m → k ≢ m → AreMoreBinds items k bs m
 binds_more items k no_binds m are differs = absurd (differs are)
 binds_more items k (bind x f bs) m (named, called, inside, is, rest) differs =
-    record { others = bs; split = ap (λ (y : Name). bind y f bs) called ∙ ap (λ (g : Form). bind (symbol_at items (k + 1)) g bs) is; named = named; inside = inside; there = rest }
+    record { others = bs; split = ap (λ (y : Name). bind y f bs) called ∙ ap (λ (g : Form). bind (name_in items (k + 1)) g bs) is; named = named; inside = inside; there = rest }

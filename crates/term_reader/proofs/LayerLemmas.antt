@@ -22,11 +22,11 @@ use Rattle.problem_text.specs.Words.{is_among, left_out_words}
 use Rattle.term_reader.specs.declared.layers.Layer.{Layer}
 use Rattle.text_items.specs.declared.nodes.Node.{Node}
 use Rattle.text_items.specs.ItemsAt.{ItemsView, end_by, item_of_token, item_of_node, end_at, item_at, items_at}
-use Rattle.term_reader.specs.Layers.{IsRange, form_at, forms_at, AreBinds, symbol_at, IsSymbolAt, NamesAreSymbols, names_at, AreTermAttributes}
+use Rattle.term_reader.specs.Layers.{IsRange, form_at, forms_at, AreBinds, NamesAreSymbols, names_at, AreTermAttributes}
 use Rattle.term_reader.specs.ShapeFaults.{IsLayer}
 use Rattle.term_reader.specs.Shapes.{IsApplied, others_of, arguments_of, applied_form}
 use Rattle.term_reader.specs.ShapeFaults.{IsSymbolLayer, IsTokenLayer}
-use Rattle.text_items.specs.Stepping.{AreInside, BeginsItem, has_two}
+use Rattle.text_items.specs.Stepping.{AreInside, BeginsItem, has_two, name_in, IsSymbolAt}
 use Rattle.text_items.proofs.ItemsAtLemmas.{ends_behind, ends_inside, item_is, items_are, no_items_are}
 use Rattle.text_items.proofs.ShapeLemmas.{list_is}
 use Rattle.term_reader.proofs.FormSteps.{range_on}
@@ -53,7 +53,6 @@ pub symbol_there : (items : ItemsView) (k : ℕ) (name : List ℕ) → k < lengt
 symbol_there items k name inside e = record {
   inside = inside;
   symbol = ap (λ (o : Option (List ℕ)). if is_some o then None else Some (place_of (item_at items k))) e;
-  same = refl;
 }
 
 -- the top of a symbol, and that of another token
@@ -209,7 +208,7 @@ module _ (items : ItemsView) (nested : AreInside items) where
   -- a pair of a symbol and another item
   record IsPair (k : ℕ) (x t : Item) : Type 0 where
     named : IsSymbolAt items (k + 1)
-    called : name_at x ≡ symbol_at items (k + 1)
+    called : name_at x ≡ name_in items (k + 1)
     below : k + 2 < length items.nodes
     spelled : form_of t ≡ form_at items (k + 2)
     ends : end_at items k ≡ end_at items (k + 2)
@@ -227,7 +226,7 @@ module _ (items : ItemsView) (nested : AreInside items) where
       let last = none_left items (end_at items (k + 2)) (end_at items k) end b.others in
       let within = nested.ends k (k + 2) (omega arith) below in
       record {
-        named = record { inside = omega arith; symbol = named; same = refl };
+        named = record { inside = omega arith; symbol = named };
         called = ap name_at (sym a.first);
         below = omega arith;
         spelled = ap form_of (sym b.first);

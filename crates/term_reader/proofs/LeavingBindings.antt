@@ -10,7 +10,8 @@ use Rattle.term_pool.specs.Views.{TermsView}
 use Rattle.problem_text.specs.Forms.{LetBinds, no_binds, bind}
 use Rattle.term_reader.specs.Frames.{WholeReading, AreFrames}
 use Rattle.term_names.specs.InScope.{IsScope, AreLow, AreValuesBound}
-use Rattle.term_reader.specs.Layers.{form_at, AreBinds, symbol_at, IsSymbolAt}
+use Rattle.text_items.specs.Stepping.{name_in, IsSymbolAt}
+use Rattle.term_reader.specs.Layers.{form_at, AreBinds}
 use Rattle.term_reader.specs.Leaving.{with_open, Leaves}
 use Rattle.problem_text.specs.Names.{Bound, Place, inside}
 use Rattle.term_reader.specs.Turns.{HasRead, IsAt}
@@ -42,7 +43,7 @@ module _ (items : ItemsView) (g : WholeReading) (s : Table) (v : TermsView) (r :
   -- the binding has its leaf and its value on the stacks
   pub record IsAdded (t : Table) (leaves : List ℕ) (values : List Value) : Type 0 where
     pub adds : AddsNoSymbols s t
-    pub leaf : (k : ℕ) × IsLeaf t k (leaf.variable (symbol_at items opened.name).name c.sort) × (leaves ≡ r.leaves.items ++ k ∷ [])
+    pub leaf : (k : ℕ) × IsLeaf t k (leaf.variable (name_in items opened.name).name c.sort) × (leaves ≡ r.leaves.items ++ k ∷ [])
     pub values_are : values ≡ r.values ++ c ∷ []
 
   pub variable_there : IsSymbolAt items opened.name
@@ -50,7 +51,7 @@ module _ (items : ItemsView) (g : WholeReading) (s : Table) (v : TermsView) (r :
 
   -- the bindings that were read, with this one
   abbrev all_read : List Bound
-  all_read = h.frames.0 ++ bound_to (symbol_at items opened.name) h.term ∷ []
+  all_read = h.frames.0 ++ bound_to (name_in items opened.name) h.term ∷ []
 
   module _ (t : Table) (leaves : List ℕ) (values : List Value) (added : IsAdded t leaves values) where
     low_now : AreLow values
@@ -61,9 +62,9 @@ module _ (items : ItemsView) (g : WholeReading) (s : Table) (v : TermsView) (r :
         let (read, earlier, left, rest, is, here, outer) = h.frames in
         let (k, leaf_is, leaves_are) = added.leaf in
         rw (leaves_are, added.values_are)
-        (bound_pushed t v opened.leaves opened.from r.leaves.items r.values read k c (bound_to (symbol_at items opened.name) h.term) here.leaves_within here.within
+        (bound_pushed t v opened.leaves opened.from r.leaves.items r.values read k c (bound_to (name_in items opened.name) h.term) here.leaves_within here.within
         (bound_stays s t v v added.adds.keeps (keeps_none v) (drop opened.leaves r.leaves.items) (drop opened.from r.values) read here.read_bound)
-        (subst (λ (sort : Sort). IsLeaf t k (leaf.variable (symbol_at items opened.name).name sort)) h.is.sort leaf_is) (value_stays s t v v added.adds.keeps (keeps_none v) c h.term h.is))
+        (subst (λ (sort : Sort). IsLeaf t k (leaf.variable (name_in items opened.name).name sort)) h.is.sort leaf_is) (value_stays s t v v added.adds.keeps (keeps_none v) c h.term h.is))
 
     within_now : opened.from ≤ length values
     within_now =
@@ -127,8 +128,8 @@ module _ (items : ItemsView) (g : WholeReading) (s : Table) (v : TermsView) (r :
             },
             frames_now,
           );
-          comes = sym (last_binding_read rest opened.place read (symbol_at items opened.name) earlier (form_at items opened.body) h.place h.term h.script)
-              ∙ ap (λ (bs : LetBinds). resumed (bindings opened.place read (symbol_at items opened.name) earlier bs (form_at items opened.body) h.place ∷ rest) (done h.term h.script)) (sym none)
+          comes = sym (last_binding_read rest opened.place read (name_in items opened.name) earlier (form_at items opened.body) h.place h.term h.script)
+              ∙ ap (λ (bs : LetBinds). resumed (bindings opened.place read (name_in items opened.name) earlier bs (form_at items opened.body) h.place ∷ rest) (done h.term h.script)) (sym none)
               ∙ ap (λ (ws : List Waiting). resumed ws (done h.term h.script)) (sym is) ∙ h.comes;
         }
 
@@ -138,14 +139,14 @@ module _ (items : ItemsView) (g : WholeReading) (s : Table) (v : TermsView) (r :
     binding_goes_on more free q leaves_are =
         let (read, earlier, left, rest, is, here, outer) = h.frames in
         let a = binds_more items n left opened.body here.left_here more in
-        let faulty : IsFirstRepeat items n ((symbol_at items opened.name).name ∷ earlier) (bind (symbol_at items (n + 1)) (form_at items (n + 2)) a.others) opened.repeat opened.body = subst (λ (bs : LetBinds). IsFirstRepeat items n ((symbol_at items opened.name).name ∷ earlier) bs opened.repeat opened.body) a.split here.first_faulty in
-        let next = repeat_on items n ((symbol_at items opened.name).name ∷ earlier) (symbol_at items (n + 1)) (form_at items (n + 2)) a.others opened.repeat opened.body faulty free in
+        let faulty : IsFirstRepeat items n ((name_in items opened.name).name ∷ earlier) (bind (name_in items (n + 1)) (form_at items (n + 2)) a.others) opened.repeat opened.body = subst (λ (bs : LetBinds). IsFirstRepeat items n ((name_in items opened.name).name ∷ earlier) bs opened.repeat opened.body) a.split here.first_faulty in
+        let next = repeat_on items n ((name_in items opened.name).name ∷ earlier) (name_in items (n + 1)) (form_at items (n + 2)) a.others opened.repeat opened.body faulty free in
         record {
-          script = with_let_name (symbol_at items (n + 1)).name h.script;
+          script = with_let_name (name_in items (n + 1)).name h.script;
           place = h.place;
-          waiting = bindings opened.place all_read (symbol_at items (n + 1)) ((symbol_at items opened.name).name ∷ earlier) a.others (form_at items opened.body) h.place ∷ rest;
+          waiting = bindings opened.place all_read (name_in items (n + 1)) ((name_in items opened.name).name ∷ earlier) a.others (form_at items opened.body) h.place ∷ rest;
           stands = record {
-            script = same_script t v r.known h.script.terms (h.script.let_names ++ (symbol_at items (n + 1)).name ∷ []) h.script (script_stays s t v v added.adds (keeps_none v) r.known h.script h.stands.script);
+            script = same_script t v r.known h.script.terms (h.script.let_names ++ (name_in items (n + 1)).name ∷ []) h.script (script_stays s t v v added.adds (keeps_none v) r.known h.script h.stands.script);
             scope = scope_stays s t v v added.adds.keeps (keeps_none v) r.scope h.place.scope h.stands.scope;
             settings = h.stands.settings;
             low = low_now;
@@ -153,7 +154,7 @@ module _ (items : ItemsView) (g : WholeReading) (s : Table) (v : TermsView) (r :
           inside = a.inside;
           frames = rw leaves_are (
             all_read,
-            (symbol_at items opened.name).name ∷ earlier,
+            (name_in items opened.name).name ∷ earlier,
             a.others,
             rest,
             refl,
@@ -168,8 +169,8 @@ module _ (items : ItemsView) (g : WholeReading) (s : Table) (v : TermsView) (r :
             },
             frames_now,
           );
-          comes = sym (next_binding_read rest opened.place read (symbol_at items opened.name) earlier (symbol_at items (n + 1)) (form_at items (n + 2)) a.others (form_at items opened.body) h.place h.term h.script next.0)
-              ∙ ap (λ (bs : LetBinds). resumed (bindings opened.place read (symbol_at items opened.name) earlier bs (form_at items opened.body) h.place ∷ rest) (done h.term h.script)) (sym a.split)
+          comes = sym (next_binding_read rest opened.place read (name_in items opened.name) earlier (name_in items (n + 1)) (form_at items (n + 2)) a.others (form_at items opened.body) h.place h.term h.script next.0)
+              ∙ ap (λ (bs : LetBinds). resumed (bindings opened.place read (name_in items opened.name) earlier bs (form_at items opened.body) h.place ∷ rest) (done h.term h.script)) (sym a.split)
               ∙ ap (λ (ws : List Waiting). resumed ws (done h.term h.script)) (sym is) ∙ h.comes;
         }
 
@@ -185,14 +186,14 @@ module _ (items : ItemsView) (g : WholeReading) (s : Table) (v : TermsView) (r :
   binding_refused more faulty =
       let (read, earlier, left, rest, is, here, outer) = h.frames in
       let a = binds_more items n left opened.body here.left_here more in
-      let first_one : IsFirstRepeat items n ((symbol_at items opened.name).name ∷ earlier) (bind (symbol_at items (n + 1)) (form_at items (n + 2)) a.others) n opened.body =
-      subst (λ (k : ℕ). IsFirstRepeat items n ((symbol_at items opened.name).name ∷ earlier) (bind (symbol_at items (n + 1)) (form_at items (n + 2)) a.others) k opened.body) (sym faulty)
-      (subst (λ (bs : LetBinds). IsFirstRepeat items n ((symbol_at items opened.name).name ∷ earlier) bs opened.repeat opened.body) a.split here.first_faulty) in
-      let taken = repeat_here items n ((symbol_at items opened.name).name ∷ earlier) (symbol_at items (n + 1)) (form_at items (n + 2)) a.others opened.body (subst (λ (bs : LetBinds). AreBinds items n bs opened.body) a.split here.left_here) first_one in
-      let whole : g.whole ≡ refuse Repeated (symbol_at items (n + 1)).place h.script =
+      let first_one : IsFirstRepeat items n ((name_in items opened.name).name ∷ earlier) (bind (name_in items (n + 1)) (form_at items (n + 2)) a.others) n opened.body =
+      subst (λ (k : ℕ). IsFirstRepeat items n ((name_in items opened.name).name ∷ earlier) (bind (name_in items (n + 1)) (form_at items (n + 2)) a.others) k opened.body) (sym faulty)
+      (subst (λ (bs : LetBinds). IsFirstRepeat items n ((name_in items opened.name).name ∷ earlier) bs opened.repeat opened.body) a.split here.first_faulty) in
+      let taken = repeat_here items n ((name_in items opened.name).name ∷ earlier) (name_in items (n + 1)) (form_at items (n + 2)) a.others opened.body (subst (λ (bs : LetBinds). AreBinds items n bs opened.body) a.split here.left_here) first_one in
+      let whole : g.whole ≡ refuse Repeated (name_in items (n + 1)).place h.script =
       sym h.comes ∙ ap (λ (ws : List Waiting). resumed ws (done h.term h.script)) is
-      ∙ ap (λ (bs : LetBinds). resumed (bindings opened.place read (symbol_at items opened.name) earlier bs (form_at items opened.body) h.place ∷ rest) (done h.term h.script)) a.split
-      ∙ next_binding_refused rest opened.place read (symbol_at items opened.name) earlier (symbol_at items (n + 1)) (form_at items (n + 2)) a.others (form_at items opened.body) h.place h.term h.script taken in
+      ∙ ap (λ (bs : LetBinds). resumed (bindings opened.place read (name_in items opened.name) earlier bs (form_at items opened.body) h.place ∷ rest) (done h.term h.script)) a.split
+      ∙ next_binding_refused rest opened.place read (name_in items opened.name) earlier (name_in items (n + 1)) (form_at items (n + 2)) a.others (form_at items opened.body) h.place h.term h.script taken in
       ap (λ (o : Outcome Script Typed). o.result) whole
 
   -- What is done, by the stacks as the code has them.

@@ -4,7 +4,8 @@ use Rattle.sym_table.specs.Table.{Table}
 use Rattle.term_pool.specs.Views.{TermsView}
 use Rattle.text_items.specs.ItemShapes.{Name}
 use Rattle.term_names.specs.Known.{KnownView}
-use Rattle.term_reader.specs.Layers.{symbol_at, names_at}
+use Rattle.text_items.specs.Stepping.{name_in}
+use Rattle.term_reader.specs.Layers.{names_at}
 use Rattle.term_reader.specs.Naming.{GivesNames, IsFreeIn}
 use Rattle.problem_text.specs.TypedTerms.{Typed}
 use Rattle.problem_text.specs.Outcomes.{Outcome, done}
@@ -37,7 +38,7 @@ module _ (s : Table) (v : TermsView) (items : ItemsView) (k m : ℕ) (known : Kn
   -- the next name
   module _ (at : ℕ) (new : KnownView) (first : IsFirstName items k at m) where
     abbrev next : Name
-    next = symbol_at items at
+    next = name_in items at
 
     abbrev rest : List Name
     rest = names_at items at m

@@ -10,7 +10,8 @@ use Rattle.text_items.specs.ItemShapes.{Name}
 use Rattle.problem_text.specs.Forms.{Form, LetBinds, no_binds, bind}
 use Rattle.problem_text.specs.Words.{is_among, is_built_in}
 use Rattle.text_items.specs.ItemsAt.{ItemsView, end_at}
-use Rattle.term_reader.specs.Layers.{form_at, AreBinds, symbol_at, IsSymbolAt}
+use Rattle.text_items.specs.Stepping.{name_in, IsSymbolAt}
+use Rattle.term_reader.specs.Layers.{form_at, AreBinds}
 use Rattle.term_reader.specs.Shapes.{IsFirstRepeat}
 use Rattle.term_reader.specs.ShapeFaults.{has_name}
 use Rattle.term_reader.proofs.FormSteps.{AreMoreBinds, binds_more, binds_done, binds_ordered}
@@ -64,25 +65,25 @@ module _ (items : ItemsView) (first k m : ℕ) (slices : List (Bor (List ℕ))) 
   left_end same = l.back m (subst (λ (v : LetBinds). IsFirstRepeat items k l.earlier v m m) (sym (binds_done items k l.rest m l.there same)) refl)
 
   -- the variable of the next pair has this name, as the code says it
-  module _ (differs : k ≢ m) (name : List ℕ) (is : name ≡ (symbol_at items (k + 1)).name) (repeated : Bool) (e : repeated ≡ (is_built_in name || has_name slices name)) where
+  module _ (differs : k ≢ m) (name : List ℕ) (is : name ≡ (name_in items (k + 1)).name) (repeated : Bool) (e : repeated ≡ (is_built_in name || has_name slices name)) where
     a : AreMoreBinds items k l.rest m
     a = binds_more items k l.rest m l.there differs
 
-    refused_here : repeated ≡ is_refused l.earlier (symbol_at items (k + 1)).name
+    refused_here : repeated ≡ is_refused l.earlier (name_in items (k + 1)).name
     refused_here = e ∙ ap (λ b. is_built_in name || b) (l.names name) ∙ ap (is_refused l.earlier) is
 
     pub left_stop : repeated ≡ true → IsFirstRepeat items first [] whole k m
-    left_stop holds = l.back k (subst (λ (v : LetBinds). IsFirstRepeat items k l.earlier v k m) (sym a.split) (repeat_stop items k l.earlier (symbol_at items (k + 1)) (form_at items (k + 2)) a.others m (sym refused_here ∙ holds)))
+    left_stop holds = l.back k (subst (λ (v : LetBinds). IsFirstRepeat items k l.earlier v k m) (sym a.split) (repeat_stop items k l.earlier (name_in items (k + 1)) (form_at items (k + 2)) a.others m (sym refused_here ∙ holds)))
 
     pub left_on : (put : List (Bor (List ℕ))) → repeated ≡ false → ((q : List ℕ) → has_name put q ≡ (bytes_eq q name || has_name slices q)) → IsLeft items first (end_at items (k + 2)) m put whole
     left_on put fails puts = record {
-      earlier = (symbol_at items (k + 1)).name ∷ l.earlier;
+      earlier = (name_in items (k + 1)).name ∷ l.earlier;
       rest = a.others;
       there = a.there;
       names = λ q. puts q ∙ ap (λ b. bytes_eq q name || b) (l.names q) ∙ ap (λ v. bytes_eq q v || is_among l.earlier q) is;
       back =
           λ place later. l.back place (subst (λ (v : LetBinds). IsFirstRepeat items k l.earlier v place m) (sym a.split)
-          (repeat_pass items k l.earlier (symbol_at items (k + 1)) (form_at items (k + 2)) a.others place m (sym refused_here ∙ fails) later));
+          (repeat_pass items k l.earlier (name_in items (k + 1)) (form_at items (k + 2)) a.others place m (sym refused_here ∙ fails) later));
     }
 
 -- what is said of the pair at k where bindings are left
@@ -109,11 +110,11 @@ pub none_repeated : (items : ItemsView) (k m : ℕ) (bs : LetBinds) → AreBinds
 none_repeated items k m bs are e = subst (λ (v : LetBinds). IsFirstRepeat items k [] v m m) (sym (binds_done items k bs m are e)) refl
 
 pub one_repeated : (items : ItemsView) (k m : ℕ) (bs : LetBinds) (place : ℕ) → AreBinds items k bs m → k ≢ m → end_at items (k + 2) ≡ m
-    → ((f : Form) → end_at items (k + 2) ≡ m → IsFirstRepeat items k [] (bind (symbol_at items (k + 1)) f no_binds) place m) → IsFirstRepeat items k [] bs place m
+    → ((f : Form) → end_at items (k + 2) ≡ m → IsFirstRepeat items k [] (bind (name_in items (k + 1)) f no_binds) place m) → IsFirstRepeat items k [] bs place m
 one_repeated items k m bs place are differs last told =
     let a = binds_more items k bs m are differs in
     let none = binds_done items (end_at items (k + 2)) a.others m a.there last in
-    subst (λ (v : LetBinds). IsFirstRepeat items k [] v place m) (sym (a.split ∙ ap (bind (symbol_at items (k + 1)) (form_at items (k + 2))) none)) (told (form_at items (k + 2)) last)
+    subst (λ (v : LetBinds). IsFirstRepeat items k [] v place m) (sym (a.split ∙ ap (bind (name_in items (k + 1)) (form_at items (k + 2))) none)) (told (form_at items (k + 2)) last)
 
 pub only_stop : (items : ItemsView) (k m : ℕ) (x : Name) (f : Form) (built_in : Bool) → built_in ≡ is_built_in x.name → built_in ≡ true → IsFirstRepeat items k [] (bind x f no_binds) k m
 only_stop items k m x f built_in e holds = repeat_stop items k [] x f no_binds m (ap (λ b. b || false) (sym e ∙ holds))

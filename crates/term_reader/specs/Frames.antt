@@ -5,7 +5,8 @@ use Rattle.term_pool.specs.Views.{TermsView}
 use Rattle.problem_text.specs.Forms.{LetBinds}
 use Rattle.term_names.specs.InScope.{IsScope, AreValuesBound}
 use Rattle.term_names.specs.Known.{KnownView}
-use Rattle.term_reader.specs.Layers.{IsRange, form_at, forms_at, AreBinds, symbol_at, IsSymbolAt, names_at, AreTermAttributes}
+use Rattle.text_items.specs.Stepping.{name_in, IsSymbolAt}
+use Rattle.term_reader.specs.Layers.{IsRange, form_at, forms_at, AreBinds, names_at, AreTermAttributes}
 use Rattle.problem_text.specs.Names.{Bound, Place, Meaning, inside}
 use Rattle.term_reader.specs.Resuming.{Waiting, arguments, bindings, body_of, naming}
 use Rattle.term_names.specs.Scope.{Scoped}
@@ -35,7 +36,7 @@ pub record HasBindings (items : ItemsView) (s : Table) (v : TermsView) (from fir
   pub read_bound : AreValuesBound s v (drop first leaves) (drop from values) read
   pub variable : IsSymbolAt items name
   pub left_here : AreBinds items n left body
-  pub first_faulty : IsFirstRepeat items n ((symbol_at items name).name ∷ earlier) left repeat body
+  pub first_faulty : IsFirstRepeat items n ((name_in items name).name ∷ earlier) left repeat body
   pub body_here : body < length items.nodes
 
 -- The variables that a let binds, of which there is one or more, stand inside the others.
@@ -67,7 +68,7 @@ AreFrames items g s v k (Frame.Arguments opened ∷ fs) values leaves scope p n 
     × AreFrames items g s v k fs (take opened.from values) leaves scope p opened.end rest
 AreFrames items g s v k (Frame.Bindings opened ∷ fs) values leaves scope p n ws =
     (read : List Bound) × (earlier : List (List ℕ)) × (left : LetBinds) × (rest : List Waiting)
-    × (ws ≡ bindings opened.place read (symbol_at items opened.name) earlier left (form_at items opened.body) p ∷ rest)
+    × (ws ≡ bindings opened.place read (name_in items opened.name) earlier left (form_at items opened.body) p ∷ rest)
     × HasBindings items s v opened.from opened.leaves opened.name opened.repeat opened.body n values leaves read earlier left
     × AreFrames items g s v k fs (take opened.from values) (take opened.leaves leaves) scope p (end_at items opened.body) rest
 AreFrames items g s v k (Frame.Body opened ∷ fs) values leaves scope p n ws =

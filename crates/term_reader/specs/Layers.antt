@@ -3,7 +3,7 @@ use Rattle.std.specs.Prelude.{◌≡◌, ℕ, ◌+◌, ◌<◌, ◌≤◌, List,
 use Rattle.sexpr.specs.Items.{Item, Items, no_items, item, symbol_name}
 use Rattle.text_items.specs.ItemShapes.{Name, name_at}
 use Rattle.text_items.specs.ItemsAt.{ItemsView, end_at, item_at, items_at}
-use Rattle.text_items.specs.Stepping.{EndBy, IsNameAt}
+use Rattle.text_items.specs.Stepping.{EndBy, IsSymbolAt, name_in}
 use Rattle.problem_text.specs.Forms.{Form, Forms, LetBinds, no_binds, bind, form_of, forms_of, names_after}
 use Rattle.problem_text.specs.NamedItems.{is_named_item}
 
@@ -20,18 +20,11 @@ form_at items k = form_of (item_at items k)
 abbrev pub forms_at : ItemsView → ℕ → ℕ → Forms
 forms_at items k m = forms_of (items_at items k m)
 
--- the symbol at a node, where it stands
-abbrev pub symbol_at : ItemsView → ℕ → Name
-symbol_at items k = name_at (item_at items k)
-
-abbrev pub IsSymbolAt : ItemsView → ℕ → Type 0
-IsSymbolAt items k = IsNameAt items k (symbol_at items k)
-
 -- The nodes from k on, up to m, are those of pairs that spell the bindings: the bracket, the variable, and the term.
 abbrev pub AreBinds : ItemsView → ℕ → LetBinds → ℕ → Type 0
 AreBinds items k no_binds m = k ≡ m
 AreBinds items k (bind x f bs) m =
-    IsSymbolAt items (k + 1) × (x ≡ symbol_at items (k + 1)) × (k + 2 < length items.nodes) × (f ≡ form_at items (k + 2)) × AreBinds items (end_at items (k + 2)) bs m
+    IsSymbolAt items (k + 1) × (x ≡ name_in items (k + 1)) × (k + 2 < length items.nodes) × (f ≡ form_at items (k + 2)) × AreBinds items (end_at items (k + 2)) bs m
 
 -- after `:named` stands a symbol, all along a list of attributes
 abbrev pub NamesAreSymbols : Item → Items → Type 0

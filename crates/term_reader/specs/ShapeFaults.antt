@@ -3,7 +3,8 @@ use Rattle.std.specs.Prelude.{◌≡◌, ℕ, ◌+◌, ◌<◌, pos, List, lengt
 use Rattle.problem_text.specs.Forms.{Form, faulty, number, symbol, application, let_form, annotated, LetBinds}
 use Rattle.text_items.specs.ItemsAt.{ItemsView, end_at, item_at}
 use Rattle.term_reader.specs.declared.layers.Layer.{Layer}
-use Rattle.term_reader.specs.Layers.{IsRange, form_at, forms_at, AreBinds, symbol_at, IsSymbolAt, names_at, AreTermAttributes}
+use Rattle.text_items.specs.Stepping.{name_in, IsSymbolAt}
+use Rattle.term_reader.specs.Layers.{IsRange, form_at, forms_at, AreBinds, names_at, AreTermAttributes}
 use Rattle.std.specs.List.{list_any}
 use denote.Bor.{Bor}
 use Rattle.sexpr.specs.declared.causes.Cause.{Cause}
@@ -17,9 +18,9 @@ use Rattle.text_items.specs.Spelling.{is_list_item}
 abbrev pub IsLayer : ItemsView → ℕ → Layer → Form → Type 0
 IsLayer items k (Layer.Faulty r) f = f ≡ faulty r.cause r.at
 IsLayer items k (Layer.Number v) f = (n : ℕ) × (f ≡ number (place_of (item_at items k)) n) × (v ≡ pos n) × (end_at items k ≡ k + 1)
-IsLayer items k Layer.Symbol f = (f ≡ symbol (symbol_at items k)) × IsSymbolAt items k × (end_at items k ≡ k + 1)
+IsLayer items k Layer.Symbol f = (f ≡ symbol (name_in items k)) × IsSymbolAt items k × (end_at items k ≡ k + 1)
 IsLayer items k (Layer.Application head first end) f =
-    (f ≡ application (place_of (item_at items k)) (symbol_at items head) (forms_at items first end))
+    (f ≡ application (place_of (item_at items k)) (name_in items head) (forms_at items first end))
     × IsSymbolAt items head × IsRange items first end × (first < end) × (end ≡ end_at items k) × (k < first)
 IsLayer items k (Layer.Let first body) f =
     (bs : LetBinds) × (f ≡ let_form (place_of (item_at items k)) bs (form_at items body))

@@ -4,15 +4,15 @@ use Rattle.sexpr.specs.Items.{Items, item, place_of}
 use Rattle.text_items.specs.ItemShapes.{name_at}
 use Rattle.text_items.specs.ItemsAt.{ItemsView, end_at, item_at, items_at}
 use Rattle.text_items.specs.Spelling.{is_list_item}
-use Rattle.text_items.specs.Stepping.{HasSecond}
+use Rattle.text_items.specs.Stepping.{HasSecond, name_in, IsSymbolAt}
 use Rattle.problem_text.specs.Forms.{Form, LetBinds, no_binds, bind, form_of, forms_of, binds_of, symbol_list_form}
 use Rattle.problem_text.specs.Words.{is_among, is_built_in}
-use Rattle.term_reader.specs.Layers.{symbol_at, IsSymbolAt, names_at, AreTermAttributes}
+use Rattle.term_reader.specs.Layers.{names_at, AreTermAttributes}
 
 -- The first of the names that attributes give stands at node `place`, and what stands from there to before node m gives the
 -- others.
 pub record IsFirstName (items : ItemsView) (k place m : ℕ) : Type 0 where
-  pub split : names_at items k m ≡ symbol_at items place ∷ names_at items place m
+  pub split : names_at items k m ≡ name_in items place ∷ names_at items place m
   pub here : IsSymbolAt items place
   pub there : AreTermAttributes items place m
 

@@ -3,7 +3,7 @@ ghost use Rattle.std.specs.Prelude.{◌≡◌, ◌≤◌, ◌<◌, ◌^◌, ◌+
 ghost use Rattle.term_pool.specs.Views.{TermsView, KeepsTerms};
 ghost use Rattle.term_reader.specs.Entering.{IsNumber, is_none_found, IsHeadFound, ReadsAlone};
 ghost use Rattle.problem_text.specs.Forms.{symbol};
-ghost use Rattle.term_reader.specs.Layers.{symbol_at, IsSymbolAt};
+ghost use Rattle.text_items.specs.Stepping.{name_in, IsSymbolAt};
 ghost use Rattle.problem_text.specs.Names.{Place, meaning_of};
 ghost use Rattle.term_reader.specs.Turns.{ReaderStands};
 ghost use Rattle.problem_text.specs.Scripts.{Script};
@@ -57,7 +57,7 @@ pub(crate) fn symbol_value(
 ) -> Result<Value, ReadFault>
     requires name { IsSymbolAt items.now k }
     requires reader { (sc : Script) × (p : Place) × ReaderStands symbols.now terms.old reader.now sc p }
-    ensures reads { (sc : Script) (p : Place) → ReaderStands symbols.now terms.old reader.now sc p → ReadsAlone symbols.now terms.old terms.new (term_from (symbol (symbol_at items.now k)) p sc) sc result }
+    ensures reads { (sc : Script) (p : Place) → ReaderStands symbols.now terms.old reader.now sc p → ReadsAlone symbols.now terms.old terms.new (term_from (symbol (name_in items.now k)) p sc) sc result }
     ensures keeps { KeepsTerms terms.old terms.new }
 {
     let place = place_at(items, k);
@@ -82,7 +82,7 @@ pub(crate) fn head_at(
     k: usize,
 ) -> Option<Head>
     requires { IsSymbolAt items.now k }
-    ensures { (v : TermsView) (sc : Script) (p : Place) → ReaderStands symbols.now v reader.now sc p → IsHeadFound symbols.now v reader.now.known result (meaning_of p sc (symbol_at items.now k).name) }
+    ensures { (v : TermsView) (sc : Script) (p : Place) → ReaderStands symbols.now v reader.now sc p → IsHeadFound symbols.now v reader.now.known result (meaning_of p sc (name_in items.now k).name) }
 {
     let found = find(symbols, &reader.known, &reader.scope, name_of(items, k));
     if is_unknown(&found) {

@@ -4,7 +4,7 @@ ghost use Rattle.sym_table.specs.Leaf as leaf;
 ghost use Rattle.sym_table.specs.Table.{IsLeaf};
 ghost use Rattle.term_pool.specs.Views.{TermsView, KeepsTerms};
 ghost use Rattle.term_reader.specs.Frames.{WholeReading};
-ghost use Rattle.term_reader.specs.Layers.{symbol_at, IsSymbolAt};
+ghost use Rattle.text_items.specs.Stepping.{name_in, IsSymbolAt};
 ghost use Rattle.term_reader.specs.Leaving.{with_open, Leaves};
 ghost use Rattle.term_reader.specs.Turns.{HasRead};
 ghost use Rattle.term_reader.specs.Credits.{bound_of};
@@ -98,7 +98,7 @@ fn add_variable(
 ) -> Result<(), ReadFault>
     requires name { IsSymbolAt items.now name }
     requires room { length symbols.old.leaves < 2 ^ 30 }
-    ensures added { OnOk result ((k : ℕ) × IsLeaf symbols.new k (leaf.variable (symbol_at items.now name).name sort) × (leaves.new.items ≡ leaves.old.items ++ k ∷ [])) }
+    ensures added { OnOk result ((k : ℕ) × IsLeaf symbols.new k (leaf.variable (name_in items.now name).name sort) × (leaves.new.items ≡ leaves.old.items ++ k ∷ [])) }
     ensures symbols { AddsNoSymbols symbols.old symbols.new }
     ensures one_more { length symbols.new.leaves ≤ length symbols.old.leaves + 1 }
     ensures memory { IfErr result (λ fault. fault ≡ ReadFault.Memory) }

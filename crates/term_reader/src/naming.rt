@@ -4,7 +4,8 @@ ghost use Rattle.pair_pool.specs.Views.{IsUnchanged};
 ghost use Rattle.term_pool.specs.Views.{TermsView, KeepsTerms};
 ghost use Rattle.problem_text.specs.Limits.{most_height};
 ghost use Rattle.term_names.specs.Known.{macro_of};
-ghost use Rattle.term_reader.specs.Layers.{symbol_at, IsSymbolAt, names_at, AreTermAttributes};
+ghost use Rattle.text_items.specs.Stepping.{name_in, IsSymbolAt};
+ghost use Rattle.term_reader.specs.Layers.{names_at, AreTermAttributes};
 ghost use Rattle.term_reader.specs.Naming.{GivesNames, IsFreeIn};
 ghost use Rattle.problem_text.specs.TypedTerms.{Typed};
 ghost use Rattle.problem_text.specs.Scripts.{Script};
@@ -105,7 +106,7 @@ fn give_name(
 ) -> Result<(), ReadFault>
     requires name { IsSymbolAt items.now at }
     requires script { (v : TermsView) × (sc : Script) × IsScript symbols.now v known.old sc }
-    ensures given { (v : TermsView) (t : Typed) (sc : Script) → IsFreeIn symbols.now v term.now.value.now term.now.free.now t → IsScript symbols.now v known.old sc → GivesNames symbols.now v known.new t (with_names t (symbol_at items.now at ∷ []) sc) result }
+    ensures given { (v : TermsView) (t : Typed) (sc : Script) → IsFreeIn symbols.now v term.now.value.now term.now.free.now t → IsScript symbols.now v known.old sc → GivesNames symbols.now v known.new t (with_names t (name_in items.now at ∷ []) sc) result }
     ensures macros { (w : Which) → macro_of known.new w ≡ macro_of known.old w }
     ensures base { known.new.base ≡ known.old.base }
 {

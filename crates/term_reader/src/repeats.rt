@@ -2,7 +2,8 @@
 ghost use Rattle.std.specs.Prelude.{◌≡◌, ◌||◌, ◌<◌, ◌+◌, ℕ, List, [], length, false, bytes_eq, IfOk, IfErr};
 ghost use Rattle.problem_text.specs.Forms.{Form, LetBinds, no_binds, bind};
 ghost use Rattle.text_items.specs.ItemsAt.{end_at};
-ghost use Rattle.term_reader.specs.Layers.{AreBinds, symbol_at, IsSymbolAt};
+ghost use Rattle.text_items.specs.Stepping.{name_in, IsSymbolAt};
+ghost use Rattle.term_reader.specs.Layers.{AreBinds};
 ghost use Rattle.term_reader.specs.Shapes.{IsFirstRepeat};
 ghost use Rattle.term_reader.specs.ShapeFaults.{has_name};
 ghost use Rattle.problem_text.specs.Words as spec;
@@ -49,7 +50,7 @@ pub(crate) fn first_repeat(
 /// The place of a pair that is the only one, where its variable is a built-in word.
 fn only_pair(items: &ItemText<'_, '_>, k: usize, body: usize) -> usize
     requires { IsSymbolAt items.now (k + 1) }
-    ensures { (f : Form) → end_at items.now (k + 2) ≡ body → IsFirstRepeat items.now k [] (bind (symbol_at items.now (k + 1)) f no_binds) result body }
+    ensures { (f : Form) → end_at items.now (k + 2) ≡ body → IsFirstRepeat items.now k [] (bind (name_in items.now (k + 1)) f no_binds) result body }
 {
     if is_built_in(pair_name(items, k)) {
         k
@@ -61,7 +62,7 @@ fn only_pair(items: &ItemText<'_, '_>, k: usize, body: usize) -> usize
 /// The name of a pair's variable.
 pub(crate) fn pair_name<'t>(items: &ItemText<'_, 't>, k: usize) -> &'t [u8]
     requires { IsSymbolAt items.now (k + 1) }
-    ensures { result.now ≡ (symbol_at items.now (k + 1)).name }
+    ensures { result.now ≡ (name_in items.now (k + 1)).name }
 {
     // A place in the list of nodes, or behind it, is a number that fits.
     let _count = items.count();

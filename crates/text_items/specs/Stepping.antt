@@ -1,10 +1,11 @@
 -- Public. Items where nodes stand, one after another.
-use Rattle.std.specs.Prelude.{◌≡◌, ℕ, ◌+◌, ◌<◌, ◌≤◌, List, length, Bool, true, false, Option, Some, None, Result, Ok, Err}
+use Rattle.std.specs.Prelude.{◌≡◌, ℕ, ◌+◌, ◌<◌, ◌≤◌, if◌then◌else◌, List, length, Bool, true, false, Option, Some, None, Result, Ok, Err}
 use Rattle.sexpr.specs.declared.causes.Cause.TheVariants.{BadCommand}
 use Rattle.sexpr.specs.declared.causes.Refusal.{Refusal}
 use Rattle.sexpr.specs.declared.lexing.TokenKind.{TokenKind}
 use Rattle.sexpr.specs.declared.lexing.TokenKind.TheVariants.{Open, Text, Quoted, Word}
 use Rattle.sexpr.specs.Tokens.{token_text}
+use Rattle.sexpr.specs.Words.{is_symbol}
 use Rattle.sexpr.specs.Items.{Item, word, quoted, string, list, Items, no_items, item, place_of}
 use Rattle.text_items.specs.declared.nodes.Node.{Node}
 use Rattle.text_items.specs.ItemShapes.{Name, name_at, symbol_fault, items_of}
@@ -70,8 +71,18 @@ abbrev pub IsTaken : ItemsView → ℕ → ℕ → ℕ → ℕ → Result ℕ Re
 IsTaken items place k next end (Ok taken) = (taken ≡ k) × HasTaken items k next end
 IsTaken items place k next end (Err r) = (items_at items k end ≡ no_items) × (r ≡ record { cause = BadCommand; at = place })
 
--- the item at node k is a symbol, of this name where it stands
-pub record IsNameAt (items : ItemsView) (k : ℕ) (n : Name) : Type 0 where
+-- the item at node k is a symbol
+pub record IsSymbolAt (items : ItemsView) (k : ℕ) : Type 0 where
   pub inside : k < length items.nodes
   pub symbol : symbol_fault (item_at items k) ≡ None
-  pub same : name_at (item_at items k) ≡ n
+
+-- its name, where it stands
+abbrev pub name_in : ItemsView → ℕ → Name
+name_in items k = name_at (item_at items k)
+
+-- the word of a symbol without bars
+abbrev pub head_word : Item → Option (List ℕ)
+head_word (word place spelling) = if is_symbol spelling then Some spelling else None
+head_word (quoted place spelling) = None
+head_word (string place spelling) = None
+head_word (list place items) = None

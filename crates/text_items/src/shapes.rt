@@ -1,10 +1,10 @@
 //! The shapes of lists, told by the nodes of what stands in them.
-ghost use Rattle.std.specs.Prelude.{◌≡◌, ◌<◌, ◌≤◌, length, None, option_copied};
+ghost use Rattle.std.specs.Prelude.{◌≡◌, ◌<◌, ◌≤◌, length, option_copied};
 ghost use Rattle.sexpr.specs.Items.{place_of, symbol_name};
 ghost use Rattle.text_items.specs.ItemShapes as shape;
 ghost use Rattle.text_items.specs.ItemsAt.{item_at, items_at};
 ghost use Rattle.text_items.specs.Spelling as spelling;
-ghost use Rattle.text_items.specs.Stepping.{IsSecond};
+ghost use Rattle.text_items.specs.Stepping.{IsSecond, IsSymbolAt, name_in, head_word};
 
 use crate::nodes::ItemText;
 use sexpr::TokenKind;
@@ -25,11 +25,22 @@ pub fn name_at<'t>(items: &ItemText<'_, 't>, k: usize) -> Option<&'t [u8]>
     items.symbol(&items.node(k).token)
 }
 
+/// The word of the symbol at a node, where it is one without bars.
+pub fn head_word<'t>(items: &ItemText<'_, 't>, k: usize) -> Option<&'t [u8]>
+    requires { k < length items.now.nodes }
+    ensures { option_copied result ≡ head_word (item_at items.now k) }
+{
+    let token = items.node(k).token;
+    match token.kind {
+        TokenKind::Word => items.symbol(&token),
+        _ => None,
+    }
+}
+
 /// The name of the symbol at a node.
 pub fn name_of<'t>(items: &ItemText<'_, 't>, k: usize) -> &'t [u8]
-    requires inside { k < length items.now.nodes }
-    requires symbol { shape.symbol_fault (item_at items.now k) ≡ None }
-    ensures { result.now ≡ (shape.name_at (item_at items.now k)).name }
+    requires { IsSymbolAt items.now k }
+    ensures { result.now ≡ (name_in items.now k).name }
 {
     match name_at(items, k) {
         Some(name) => name,

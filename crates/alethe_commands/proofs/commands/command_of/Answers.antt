@@ -1,9 +1,9 @@
 -- The head of the item is its word, and the other items are judged by it.
+use Rattle.text_items.specs.Stepping.{head_word}
 use Rattle.std.proofs.Common.{◌∙◌, Err, sym, ap, subst, rules}
 use Rattle.sexpr.specs.Items.{place_of}
 use Rattle.text_items.specs.ItemsAt.{item_at, items_at}
 use Rattle.alethe_commands.specs.CommandNodes.{IsCommand}
-use Rattle.alethe_commands.specs.CommandShapes.{head_word}
 use Rattle.alethe_commands.proofs.CommandsByNodes.{lacks_word, with_word, without_word}
 use Rattle.alethe_commands.proofs.commands.command_of.Goals as goal
 

@@ -4,7 +4,8 @@ use Rattle.sexpr.specs.Items.{Item}
 use Rattle.text_items.specs.ItemsAt.{item_at}
 use Rattle.alethe_text.specs.Anchors.{argument_read}
 use Rattle.alethe_text.specs.Commands.{Argument, assigned, argument_of}
-use Rattle.alethe_commands.specs.CommandNodes.{name_in, sort_said}
+use Rattle.text_items.specs.Stepping.{name_in}
+use Rattle.alethe_commands.specs.CommandNodes.{sort_said}
 use Rattle.alethe_reader.proofs.Answering.{refuses, same_outcome}
 use Rattle.alethe_reader.proofs.ArgumentNodes.{term_is}
 use Rattle.alethe_reader.proofs.ArgumentReading.{alone_refused}

@@ -1,9 +1,9 @@
+use Rattle.text_items.specs.Stepping.{name_in}
 use Rattle.std.proofs.Common.{ℕ, ap, sym, refl, ◌∙◌}
 use Rattle.std.proofs.lemmas.Result.{err_from_is_err_and}
 use Rattle.sexpr.specs.declared.causes.Cause.TheVariants.{Repeated}
 use Rattle.problem_text.specs.Scripts.{is_taken}
 use Rattle.text_items.specs.ItemsAt.{item_at, items_at}
-use Rattle.smtlib_reader.specs.CommandShapes.{name_in}
 use Rattle.smtlib_reader.proofs.FunctionDeclarations.{may_be_declared, has_no_number, function_repeated, arguments_refused, target_refused, function_added}
 use Rattle.smtlib_reader.proofs.declaring.declare_fun.Goals as goal
 

@@ -1,6 +1,6 @@
+use Rattle.text_items.specs.Stepping.{name_in}
 use Rattle.std.proofs.Common.{ap, sym, ◌∙◌}
 use Rattle.problem_text.specs.Words.{is_among, logics}
-use Rattle.smtlib_reader.specs.CommandShapes.{name_in}
 use Rattle.smtlib_reader.proofs.DeclaredLogics.{logic_done}
 use Rattle.smtlib_reader.proofs.declaring.set_logic.Goals as goal
 

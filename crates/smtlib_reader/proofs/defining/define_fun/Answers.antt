@@ -1,9 +1,9 @@
+use Rattle.text_items.specs.Stepping.{name_in}
 use Rattle.std.proofs.Common.{◌∙◌, true, ap, sym, ℕ}
 use Rattle.std.proofs.lemmas.Result.{err_from_is_err_and}
 use Rattle.sexpr.specs.declared.causes.Cause.TheVariants.{Repeated}
 use Rattle.problem_text.specs.Scripts.{is_taken, with_name}
 use Rattle.text_items.specs.ItemsAt.{item_at, items_at}
-use Rattle.smtlib_reader.specs.CommandShapes.{name_in}
 use Rattle.smtlib_reader.specs.Parameters.{parameters_said}
 use Rattle.smtlib_reader.proofs.DefinedFunctions.{name_taken, signature_fails, is_defining, is_performed}
 use Rattle.term_reader.proofs.GivenNames.{no_entry}

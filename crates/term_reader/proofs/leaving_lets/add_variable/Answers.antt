@@ -5,12 +5,6 @@ use Rattle.sym_table.specs.Table.{IsLeaf}
 use Rattle.term_reader.proofs.Staying.{adds_leaf}
 use Rattle.term_reader.proofs.leaving_lets.add_variable.Goals as goal
 
-pub name_of-requires-clause-inside : goal.name_of-requires-clause-inside
-name_of-requires-clause-inside c = c.requires.name.inside
-
-pub name_of-requires-clause-symbol : goal.name_of-requires-clause-symbol
-name_of-requires-clause-symbol c = c.requires.name.symbol
-
 pub returns-in_err-push-clause-symbols : goal.returns-in_err-push-clause-symbols
 returns-in_err-push-clause-symbols c = adds_leaf _ _ c.in_ok-leaf.leaf (leaf.variable c.name_of.result.now c.args.sort) c.in_ok-leaf.ensures.found_or_new c.variable.ensures.keeps (λ f e. cc)
 

@@ -3,15 +3,9 @@ use Rattle.sexpr.specs.declared.causes.Cause.TheVariants.{Repeated}
 use Rattle.term_expansion.specs.Free.{AreFreeLeaves}
 use Rattle.rule_model.specs.Replacement.{free_variables}
 use Rattle.problem_text.specs.Scripts.{is_taken}
-use Rattle.term_reader.specs.Layers.{symbol_at}
+use Rattle.text_items.specs.Stepping.{name_in}
 use Rattle.term_reader.proofs.GivenNames.{no_entry, name_refused, name_given}
 use Rattle.term_reader.proofs.naming.give_name.Goals as goal
-
-pub name_of-name-requires-clause-inside : goal.name_of-name-requires-clause-inside
-name_of-name-requires-clause-inside c = c.requires.name.inside
-
-pub name_of-name-requires-clause-symbol : goal.name_of-name-requires-clause-symbol
-name_of-name-requires-clause-symbol c = c.requires.name.symbol
 
 pub place_at-place-requires : goal.place_at-place-requires
 place_at-place-requires c = c.requires.name.inside
@@ -20,7 +14,7 @@ pub returns-then-is_taken-clause-given : goal.returns-then-is_taken-clause-given
 returns-then-is_taken-clause-given c =
     λ v t sc free is.
     let place = c.place_at-place.ensures in
-    name_refused t (symbol_at c.args.items.now c.args.at) sc c.refused.result (sym (c.is_taken.ensures v sc is ∙ ap (is_taken sc) c.name_of-name.ensures) ∙ c.if-is_taken.true)
+    name_refused t (name_in c.args.items.now c.args.at) sc c.refused.result (sym (c.is_taken.ensures v sc is ∙ ap (is_taken sc) c.name_of-name.ensures) ∙ c.if-is_taken.true)
     (c.refused.ensures ∙ ap (λ (p : ℕ). record { cause = Repeated; at = p }) place)
 
 pub give_name-requires : goal.give_name-requires
@@ -32,7 +26,7 @@ pub returns-clause-given : goal.returns-clause-given
 returns-clause-given c =
     λ v t sc free is.
     let same = c.name_of-name.ensures in
-    name_given c.args.symbols.now v c.args.known.now c.give_name.new.self sc c.name_of-name.result.now (symbol_at c.args.items.now c.args.at) t (record { value = c.args.term.now.value.now; free = c.in_ok-owned.owned }) same
+    name_given c.args.symbols.now v c.args.known.now c.give_name.new.self sc c.name_of-name.result.now (name_in c.args.items.now c.args.at) t (record { value = c.args.term.now.value.now; free = c.in_ok-owned.owned }) same
     (record {
       entry = c.in_ok-give_name.ensures.entry;
       named = c.in_ok-give_name.ensures.named;
