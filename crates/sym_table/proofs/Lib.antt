@@ -8,3 +8,4 @@ pub mod Adds
 pub mod Functions
 pub mod Declares
 pub mod KindLemmas
+mod KeyLists

@@ -92,11 +92,6 @@ insert_key-places eq decides keys key = go (list_any (eq key) keys) refl
         inl (at.1 ∙ ap Some (sym ((decides key at.0).0 at.2)), ap (λ b. if b then keys else keys ++ key ∷ []) e)
     go false e = inr (λ k g. true-false (sym (any_passes_from_place (eq key) keys k key g ((decides key key).1 refl)) ∙ e), end_place (eq key) keys e, ap (λ b. if b then keys else keys ++ key ∷ []) e)
 
--- a key that is nowhere goes last
-pub insert_key-new : {K : Type 0} (eq : K → K → Bool) → ((x y : K) → Decides (eq x y) (x ≡ y)) → (keys : List K) (key : K) → Lacks keys key → insert_key eq keys key ≡ keys ++ key ∷ []
-insert_key-new eq decides keys key lacks =
-    elim (insert_key-places eq decides keys key) [ inl h ↦ absurd (lacks _ h.0) | inr h ↦ h.2 ]
-
 -- the items before a push are those of the list
 pub slice_get-kept : {X : Type 0} (xs ys : List X) (k : ℕ) → k < length xs → slice_get (xs ++ ys) k ≡ slice_get xs k
 slice_get-kept [] ys k h = absurd (omega arith)

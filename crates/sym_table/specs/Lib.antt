@@ -4,3 +4,4 @@ pub mod Names
 pub mod Leaf
 pub mod Table
 pub mod Cells
+pub mod KeyPlaces

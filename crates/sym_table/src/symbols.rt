@@ -7,9 +7,8 @@ mod functions;
 mod leaves;
 mod sorts;
 
-use crate::cells::{Function, Symbol};
+use crate::cells::{Function, Keys};
 use crate::faults::Memory;
-use indexmap::IndexSet;
 use name_set::NameSet;
 use std::alloc::Global;
 use std::marker::Model;
@@ -25,7 +24,7 @@ pub struct Symbols {
     function_names: NameSet,
     functions: Vec<Function>,
     variable_names: NameSet,
-    leaves: IndexSet<Symbol>,
+    leaves: Keys,
 }
 
 impl Model for Symbols {
@@ -37,13 +36,13 @@ impl Model for Symbols {
     ghost Value = { Table };
 
     ghost view = { λ s. record {
-      leaves = leaves_of s.function_names s.functions.items s.variable_names s.leaves.keys;
+      leaves = leaves_of s.function_names s.functions.items s.variable_names s.leaves;
       sorts = s.sort_names;
     } };
 
     ghost invariant = { λ s.
-        AreKeysLinked s.function_names s.functions.items s.variable_names s.leaves.keys
-        × (length s.leaves.keys + 19 ≤ 2 ^ 30)
+        AreKeysLinked s.function_names s.functions.items s.variable_names s.leaves
+        × (length s.leaves + 19 ≤ 2 ^ 30)
         × (length s.sort_names ≤ 2 ^ 30)
         × AreApart s.sort_names };
 }
@@ -60,7 +59,7 @@ impl Symbols {
             function_names: NameSet::new(alloc),
             functions: Vec::new(alloc),
             variable_names: NameSet::new(alloc),
-            leaves: IndexSet::new(alloc),
+            leaves: Keys::new(alloc),
         })
     }
 

@@ -5,7 +5,7 @@ ghost use Rattle.sym_table.specs.Leaf.{function, leaf_arguments, target_of};
 ghost use Rattle.sym_table.specs.Table.{IsFunctionName, IsFunctionNamed, IsFunctionLeaf, LeafMeets, Keeps, with_leaf};
 
 use super::{FIRST_LEAVES, Symbols};
-use crate::cells::{Function, Symbol, add_function};
+use crate::cells::{Function, Symbol};
 use crate::faults::{Memory, NameFault};
 use crate::names;
 use crate::words::is_built_in;
@@ -36,10 +36,9 @@ impl Symbols {
             arguments,
             target,
         };
-        add_function(
+        self.leaves.add_function(
             &mut self.function_names,
             &mut self.functions,
-            &mut self.leaves,
             name,
             function,
         )?;

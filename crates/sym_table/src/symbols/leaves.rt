@@ -4,7 +4,7 @@ ghost use Rattle.sym_table.specs.Leaf.{operator, numeral, variable, kind_of, nam
 ghost use Rattle.sym_table.specs.Table.{IsLeaf, LeafMeets, IsFunctionLeaf, IsFun, FindsOrAdds, Keeps, functions_before};
 
 use super::{FIRST_LEAVES, Symbols};
-use crate::cells::{Symbol, find_or_add};
+use crate::cells::Symbol;
 use crate::faults::Memory;
 use crate::kind::Kind;
 use crate::names;
@@ -29,7 +29,7 @@ impl Symbols {
         ensures refused { OnErr result (self.new ≡ self.old) }
         ensures keeps { Keeps self.old self.new }
     {
-        let place = find_or_add(&mut self.leaves, Symbol::Numeral(n))?;
+        let place = self.leaves.find_or_add(Symbol::Numeral(n))?;
         Ok(FIRST_LEAVES + place as u32)
     }
 
@@ -43,7 +43,7 @@ impl Symbols {
         ensures keeps { Keeps self.old self.new }
     {
         let number = names::find_or_add(&mut self.variable_names, name)?;
-        let place = find_or_add(&mut self.leaves, Symbol::Variable(number, sort))?;
+        let place = self.leaves.find_or_add(Symbol::Variable(number, sort))?;
         Ok(FIRST_LEAVES + place as u32)
     }
 

@@ -4,17 +4,13 @@ use Rattle.sym_table.specs.Names.{Lacks}
 use Rattle.sym_table.specs.Leaf.{function}
 use Rattle.sym_table.specs.Table.{with_leaf}
 use Rattle.sym_table.proofs.Lists.{true-false}
-use Rattle.sym_table.proofs.Links.{lacks_function}
 use Rattle.sym_table.proofs.Laws.{table_of}
 use Rattle.sym_table.proofs.Adds.{length-seen, Keeps-same, Keeps-with_leaf}
 use Rattle.sym_table.proofs.Declares.{adds, with_leaf-declared, AreLinked-declared, few-declared, Lacks-undeclared}
 use Rattle.sym_table.proofs.symbols.Symbols.declare.Goals as goal
 
-pub add_function-requires-clause-lacks_key : goal.add_function-requires-clause-lacks_key
-add_function-requires-clause-lacks_key c = lacks_function _ _ _ _ c.self.invariant.0
-
-pub add_function-requires-clause-lacks_name : goal.add_function-requires-clause-lacks_name
-add_function-requires-clause-lacks_name c =
+pub add_function-requires : goal.add_function-requires
+add_function-requires c =
     Lacks-undeclared _ _ _ _ _ _ _ c.self.view_is c.self.invariant.0 (λ d. true-false (sym (c.is_taken.ensures.1 (inr d)) ∙ c.if-is_taken.false))
 
 lacks_name : (c : goal.In_ok-add_function) → Lacks c.self.inside.function_names c.args.name.now
@@ -40,8 +36,8 @@ pub returns-in_err-add_function-clause-keeps : goal.returns-in_err-add_function-
 returns-in_err-add_function-clause-keeps c =
     let e = c.in_err-add_function.ensures in
     let inside = c.self.inside in
-    Keeps-same _ _ (ap (λ ns. table_of ns c.add_function.new.functions.items inside.variable_names c.add_function.new.keys.keys inside.sort_names) e.same_names
-    ∙ ap (λ fs. table_of inside.function_names fs inside.variable_names c.add_function.new.keys.keys inside.sort_names) e.same_functions
+    Keeps-same _ _ (ap (λ ns. table_of ns c.add_function.new.functions.items inside.variable_names c.add_function.new.self inside.sort_names) e.same_names
+    ∙ ap (λ fs. table_of inside.function_names fs inside.variable_names c.add_function.new.self inside.sort_names) e.same_functions
     ∙ ap (λ ks. table_of inside.function_names inside.functions.items inside.variable_names ks inside.sort_names) e.same_keys
     ∙ c.self.view_is)
 

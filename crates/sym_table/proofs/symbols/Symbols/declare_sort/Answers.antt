@@ -35,5 +35,5 @@ invariant_of-self-2 c = (
 pub returns-clause-keeps : goal.returns-clause-keeps
 returns-clause-keeps c =
     let inside = c.self.inside in
-    let table = table_of inside.function_names inside.functions.items inside.variable_names inside.leaves.keys in
+    let table = table_of inside.function_names inside.functions.items inside.variable_names inside.leaves in
     subst (λ (t : Table). Keeps t (table c.add.new.names)) c.self.view_is (Keeps-with_sort _ _ c.args.name.now (ap table c.in_ok-add.ensures.ok))

@@ -7,8 +7,8 @@ use Rattle.sym_table.proofs.Links.{AreLinked-PlacesItem}
 use Rattle.sym_table.proofs.Adds.{FindsOrAdds-seen, few-PlacesItem, Keeps-FindsOrAdds, IsLeaf-FindsOrAdds}
 use Rattle.sym_table.proofs.symbols.Symbols.numeral.Goals as goal
 
-placed : (c : goal.In_ok-place) → PlacesItem c.self.inside.leaves.keys c.find_or_add.new.keys.keys c.in_ok-place.place (Symbol.Numeral c.args.n)
-placed c = subst (λ n. PlacesItem c.self.inside.leaves.keys c.find_or_add.new.keys.keys c.in_ok-place.place (Symbol.Numeral n)) (to_z-of_z c.ranges.n) c.in_ok-place.ensures.ok
+placed : (c : goal.In_ok-place) → PlacesItem c.self.inside.leaves c.find_or_add.new.self c.in_ok-place.place (Symbol.Numeral c.args.n)
+placed c = subst (λ n. PlacesItem c.self.inside.leaves c.find_or_add.new.self c.in_ok-place.place (Symbol.Numeral n)) (to_z-of_z c.ranges.n) c.in_ok-place.ensures.ok
 
 pub invariant_of-self-2 : goal.invariant_of-self-2
 invariant_of-self-2 c = (

@@ -9,4 +9,4 @@ pub returns-clause-leaf : goal.returns-clause-leaf
 returns-clause-leaf c =
     let inside = c.self.inside in
     subst (λ (t : Table). IsLeaf t c.operator_leaf.result (operator c.args.op)) c.self.view_is
-    (first_leaf inside.function_names inside.functions.items inside.variable_names inside.leaves.keys c.operator_leaf.result (operator c.args.op) c.operator_leaf.ensures)
+    (first_leaf inside.function_names inside.functions.items inside.variable_names inside.leaves c.operator_leaf.result (operator c.args.op) c.operator_leaf.ensures)

@@ -15,7 +15,7 @@ invariant_of-self-2 c = (
 
 pub returns-in_err-number-clause-keeps : goal.returns-in_err-number-clause-keeps
 returns-in_err-number-clause-keeps c =
-    Keeps-same _ _ (ap (λ vs. table_of c.self.inside.function_names c.self.inside.functions.items vs c.self.inside.leaves.keys c.self.inside.sort_names) c.in_err-number.ensures.err ∙ c.self.view_is)
+    Keeps-same _ _ (ap (λ vs. table_of c.self.inside.function_names c.self.inside.functions.items vs c.self.inside.leaves c.self.inside.sort_names) c.in_err-number.ensures.err ∙ c.self.view_is)
 
 pub returns-in_err-place-clause-refused : goal.returns-in_err-place-clause-refused
 returns-in_err-place-clause-refused c =
