@@ -11,10 +11,6 @@ use Rattle.alethe_commands.specs.declared.commands.Command.{Command}
 use Rattle.alethe_commands.specs.declared.attributes.StepAttribute.{StepAttribute}
 use Rattle.alethe_commands.specs.declared.arguments.AnchorArgument.{AnchorArgument}
 
--- an item stands at node k
-abbrev pub IsItem : ItemsView → ℕ → Type 0
-IsItem items k = k < length items.nodes
-
 -- the items from node k on, to before node m, end there
 pub record AreItemsAt (items : ItemsView) (k m : ℕ) : Type 0 where
   pub inside : m ≤ length items.nodes
@@ -85,12 +81,12 @@ argument_said items (AnchorArgument.Assigned place variable sort term) = assigne
 
 abbrev pub IsSortThere : ItemsView → Option ℕ → Type 0
 IsSortThere items None = ⊤
-IsSortThere items (Some k) = IsItem items k
+IsSortThere items (Some k) = k < length items.nodes
 
 pub record IsAssignedThere (items : ItemsView) (variable : ℕ) (sort : Option ℕ) (term : ℕ) : Type 0 where
   pub name_there : IsSymbolAt items variable
   pub sort_there : IsSortThere items sort
-  pub term_there : IsItem items term
+  pub term_there : term < length items.nodes
 
 -- the nodes of an argument are there
 abbrev pub IsArgumentThere : ItemsView → AnchorArgument → Type 0
@@ -124,7 +120,7 @@ command_said items (Command.Anchor place id first) = anchor place (name_in items
 
 pub record IsAssumeThere (items : ItemsView) (id term : ℕ) : Type 0 where
   pub name_there : IsSymbolAt items id
-  pub term_there : IsItem items term
+  pub term_there : term < length items.nodes
 
 pub record IsStepThere (items : ItemsView) (id first others : ℕ) : Type 0 where
   pub name_there : IsSymbolAt items id

@@ -2,8 +2,7 @@
 use Rattle.std.specs.Prelude.{◌≡◌, ℕ, ◌+◌, ◌≤◌, ⊤, length, Option, Some, None, if◌then◌else◌, List, codes, bytes_eq, Result, Ok, Err}
 use Rattle.sexpr.specs.declared.causes.Cause.TheVariants.{BadCommand, LeftOut, UnknownCommand}
 use Rattle.sexpr.specs.declared.causes.Refusal.{Refusal}
-use Rattle.sexpr.specs.Words.{is_symbol}
-use Rattle.sexpr.specs.Items.{Item, word, quoted, string, list, Items}
+use Rattle.sexpr.specs.Items.{Items}
 use Rattle.text_items.specs.ItemShapes.{items_of}
 use Rattle.text_items.specs.ItemsAt.{ItemsView, end_at, item_at, items_at}
 use Rattle.text_items.specs.Keywords.{is_it}

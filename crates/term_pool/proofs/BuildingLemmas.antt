@@ -183,11 +183,6 @@ pub list_known : (p q : PassView) (rs : List ℕ) (list : ℕ) → All (IsKnown 
 list_known p q rs list h built =
     let trees = known_trees p rs h in record { tree = list_tree trees.0; stands = (built trees.0 trees.1).stands }
 
-pub app_alone : (p : PassView) (rs : List ℕ) (head at : ℕ) → length rs ≡ 0 → Knows p at (leaf head) → (ts : List Tree) → KnowsAll p rs ts → Builds p p at (app_tree head ts)
-app_alone p [] head at e k [] h = record { keeps = keeps-refl p; stands = k; placed = placed-none p p (leaf head) refl }
-app_alone p [] head at e k (t ∷ ts) h = absurd h
-app_alone p (r ∷ rs) head at e k ts h = absurd (omega arith)
-
 pub app_made : (p q r : PassView) (rs : List ℕ) (head at list n : ℕ) → (length rs ≡ 0 → ⊥) → Knows q at (leaf head) → ((ts : List Tree) → KnowsAll p rs ts → Builds p q list (list_tree ts)) → Interns q r at list n → (ts : List Tree) → KnowsAll p rs ts → Builds p r n (app_tree head ts)
 app_made p q r [] head at list n some k built i ts h = absurd (some refl)
 app_made p q r (x ∷ rs) head at list n some k built i [] h = absurd h
@@ -320,10 +315,6 @@ still_known = later_known
 pub rest_built : (p q r : PassView) (a b n : ℕ) (s t : Tree) → Builds p q a s → Knows p b t → Interns q r a b n → Builds p r n (cell s t)
 rest_built p q r a b n s t h k i =
     interned p q r a b n s t h.keeps (placed-larger p q s (cell s t) (first-larger s t) h.placed) h.stands (h.keeps.grows b t k) i
-
-pub rest_refused : (p q r : PassView) (a b : ℕ) (s t : Tree) → Builds p q a s → Knows p b t → Refuses q r a b → LacksRoom p r (cell s t)
-rest_refused p q r a b s t h k i =
-    refused p q r a b s t h.keeps (placed-larger p q s (cell s t) (first-larger s t) h.placed) h.stands (h.keeps.grows b t k) i
 
 -- a head put on what has been built
 pub headed_built : (p q r : PassView) (a b n : ℕ) (s t : Tree) → Knows q a s → Builds p q b t → Interns q r a b n → Builds p r n (cell s t)

@@ -175,15 +175,6 @@ let_rest_cell v r rest h second =
     let trees = let_trees h.symbols h.refers.tree h.bindings h.body h.refers.stands in
     record { first = trees.list; second = trees.body; stands = second _ _ (rw trees.whole at h.refers.known) }
 
-pub body_refers : (s : Table) (v w : TermsView) (r rest body : ℕ) → w.pass ≡ v.pass → ((s t : Tree) → Knows v.pass r (cell s t) → Knows v.pass rest t) → ((s t : Tree) → Knows v.pass rest (cell s t) → Knows v.pass body t) → (bs : Bindings) (u : Term) → RefersTo s v r (let_in bs u) → RefersTo s w body u
-body_refers s v w r rest body same second inner bs u h =
-    let trees = let_trees s h.tree bs u h.stands in
-    record {
-      tree = trees.body;
-      known = rw same (inner _ _ (second _ _ (rw trees.whole at h.known)));
-      stands = trees.stands;
-    }
-
 -- the tree of a binding in the list
 pub record BindingTree (s : Table) (list : Tree) (x : Var) (u : Term) (i : ℕ) : Type 0 where
   pub name : ℕ

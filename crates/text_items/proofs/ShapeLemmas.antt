@@ -1,10 +1,9 @@
 -- Cited by crates above. The shapes of lists: the first fault among those of their items.
 use Rattle.std.proofs.Common.{◌≡◌, ℕ, Option, Some, None, is_some, refl, sym, ap, ◌∙◌, true, false}
 use Rattle.std.specs.Option.{option_or}
-use Rattle.sexpr.specs.Items.{Item, word, quoted, string, list, no_items, item, place_of}
-use Rattle.text_items.specs.ItemShapes.{items_of, pair_fault}
+use Rattle.sexpr.specs.Items.{Item, word, quoted, string, list, place_of}
+use Rattle.text_items.specs.ItemShapes.{items_of}
 use Rattle.text_items.specs.Spelling.{is_list_item}
-use Rattle.text_items.specs.Stepping.{has_two}
 
 pub passed : (o : Option ℕ) → is_some o ≡ false → (others : Option ℕ) → option_or o others ≡ others
 passed None h others = refl
@@ -28,17 +27,3 @@ list_is (word place spelling) e = cc
 list_is (quoted place spelling) e = cc
 list_is (string place spelling) e = cc
 list_is (list place items) e = refl
-
-pub no_pair_list : (i : Item) → is_list_item i ≡ false → pair_fault i ≡ Some (place_of i)
-no_pair_list (word place spelling) e = refl
-no_pair_list (quoted place spelling) e = refl
-no_pair_list (string place spelling) e = refl
-no_pair_list (list place items) e = cc
-
-pub short_pair : (i : Item) → is_list_item i ≡ true → has_two (items_of i) ≡ false → pair_fault i ≡ Some (place_of i)
-short_pair (word place spelling) e short = cc
-short_pair (quoted place spelling) e short = cc
-short_pair (string place spelling) e short = cc
-short_pair (list place no_items) e short = refl
-short_pair (list place (item x no_items)) e short = refl
-short_pair (list place (item x (item t rest))) e short = cc

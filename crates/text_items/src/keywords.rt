@@ -242,7 +242,7 @@ pub fn symbol_list_fault(items: &ItemText<'_, '_>, k: usize) -> Option<u64>
 }
 
 /// The place of the first of these items that is no symbol.
-pub fn symbols_fault(items: &ItemText<'_, '_>, first: usize, end: usize) -> Option<u64>
+fn symbols_fault(items: &ItemText<'_, '_>, first: usize, end: usize) -> Option<u64>
     requires { end ≤ length items.now.nodes }
     ensures { result ≡ shape.symbols_fault (items_at items.now first end) }
 {
@@ -317,7 +317,7 @@ fn is_spelled(items: &ItemText<'_, '_>, word: &[u8], k: usize) -> bool
 }
 
 /// The node of the first of these items that is this keyword, and where they end where there is none.
-pub fn find_word(items: &ItemText<'_, '_>, word: &[u8], first: usize, end: usize) -> usize
+fn find_word(items: &ItemText<'_, '_>, word: &[u8], first: usize, end: usize) -> usize
     requires { end ≤ length items.now.nodes }
     ensures { items_at items.now result end ≡ shape.from_word word.now (items_at items.now first end) }
 {
