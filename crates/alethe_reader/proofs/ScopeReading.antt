@@ -26,7 +26,7 @@ module _ (s : Table) (v : TermsView) (r : ReaderView) (sc : Script) (p : Place) 
     scope = h.scope;
     pushed = h.pushed;
     idle = record {
-      script = same_script s v r.reader.known ts names sc h.idle.script;
+      script = same_script s v r.reader.names.known ts names sc h.idle.script;
       scope = h.idle.scope;
       settings = h.idle.settings;
       no_values = h.idle.no_values;

@@ -1,17 +1,22 @@
--- A name is that of the same in another script that says the same of it, with tables that hold what they held.
-use Rattle.std.proofs.Common.{◌≡◌, ℕ, List, [], ◌∷◌, Option, Some, None, inl, inr, sym, ◌∙◌}
+-- A name is that of the same in another script that says the same of it, with tables and entries that hold what they held.
+use Rattle.std.proofs.Common.{◌≡◌, ℕ, List, [], ◌∷◌, slice_get, Option, Some, None, sym, ◌∙◌, ap, subst}
 use Rattle.sym_table.specs.Table.{Table, IsFunctionName, Keeps}
 use Rattle.term_model.specs.Terms.{Term}
 use Rattle.term_pool.specs.StandsFor.{function_leaf}
 use Rattle.term_pool.specs.Views.{TermsView, ReferToAll, KeepsTerms}
-use Rattle.term_names.specs.Known.{KnownView, known_entry}
+use Rattle.term_names.specs.Entries.{EntriesView}
+use Rattle.term_names.specs.Known.{KnownView, known_entry, PutsKnown, named_of}
 use Rattle.problem_text.specs.Names.{Place}
 use Rattle.term_reader.specs.Reading.{IsReaderIdle}
 use Rattle.problem_text.specs.Scripts.{Script}
-use Rattle.term_names.specs.Standing.{named_in_script, macro_in, function_in, HasNoEntry, IsNoFunction, IsNameMeant, IsScript}
+use Rattle.term_names.specs.Standing.{named_in_script, macro_in, function_in, HasNoEntry, IsNoFunction, IsMacroName, IsNamedName, IsNameMeant, IsScript}
 use Rattle.problem_text.specs.Words.{is_among}
-use Rattle.term_names.specs.declared.known.KnownEntry.{KnownEntry}
+use Rattle.term_names.specs.declared.entries.Named as held_named
+use Rattle.term_names.specs.declared.names.KnownEntry.{KnownEntry}
+use Rattle.term_names.specs.declared.names.Which.{Which}
+use Rattle.term_names.specs.declared.names.Which.TheVariants.{Base, Own}
 use Rattle.term_reader.specs.declared.reader.Reader.{Reader}
+use Rattle.term_reader.proofs.GivenNames.{macros_kept}
 use Rattle.term_reader.proofs.Staying.{table_keeps_none, keeps_none, refers_stays, scope_stays, macro_stays, named_stays}
 
 -- both scripts say the same of the name
@@ -29,18 +34,17 @@ module _ (s z : Table) (v w : TermsView) (keeps : Keeps s z) (terms : KeepsTerms
   no_function_moves h = record { table = λ f. h.table (back f); script = agree.functions ∙ h.script }
 
   pub meant_moves : (k : KnownView) (o : Option KnownEntry) → IsNameMeant s v k a name o → IsNameMeant z w k b name o
-  meant_moves k None (none, inl h) = (
-    no_entry_moves none,
-    inl (record {
-      leaf = h.leaf;
-      meant = h.meant;
-      here = keeps.leaves h.leaf (function_leaf h.meant) h.here;
-      same_name = h.same_name;
-      found = agree.functions ∙ h.found;
-      taken = agree.taken ∙ h.taken;
-    }),
-  )
-  meant_moves k None (none, inr h) = (no_entry_moves none, inr (record { no_function = no_function_moves h.no_function; free = agree.taken ∙ h.free }))
+  meant_moves k None (none, h) = (no_entry_moves none, record { no_function = no_function_moves h.no_function; free = agree.taken ∙ h.free })
+  meant_moves k (Some (KnownEntry.Function leaf)) h = record {
+    no_entry = no_entry_moves h.no_entry;
+    function = record {
+      meant = h.function.meant;
+      here = keeps.leaves leaf (function_leaf h.function.meant) h.function.here;
+      same_name = h.function.same_name;
+      found = agree.functions ∙ h.function.found;
+      taken = agree.taken ∙ h.function.taken;
+    };
+  }
   meant_moves k (Some KnownEntry.Reserved) h = record {
     no_entry = no_entry_moves h.no_entry;
     no_function = no_function_moves h.no_function;
@@ -67,11 +71,33 @@ module _ (s z : Table) (v w : TermsView) (keeps : Keeps s z) (terms : KeepsTerms
     taken = agree.taken ∙ h.taken;
   }
 
+-- the macros and the named terms are the same, and so are the entries of the problem before
+pub record KeepsKnown (old new : KnownView) : Type 0 where
+  pub macros : new.own.macros ≡ old.own.macros
+  pub named : new.own.named ≡ old.own.named
+  pub base : new.base ≡ old.base
+
+-- what entries say once a name has one more, which is neither a macro's nor a named term's
+pub record PutsEntry (old new : KnownView) (name : List ℕ) (put : KnownEntry) : Type 0 where
+  pub entry : PutsKnown old name put new
+  pub keeps : KeepsKnown old new
+
+pub named_same : (old new : KnownView) → new.own.named ≡ old.own.named → new.base ≡ old.base → (w : Which) → named_of new w ≡ named_of old w
+named_same old new named base (Base n) = ap (λ (e : EntriesView). slice_get e.named n) base
+named_same old new named base (Own n) = ap (λ (ns : List held_named.Named). slice_get ns n) named
+
+pub meant_kept : (s : Table) (v : TermsView) (old new : KnownView) (sc : Script) (name : List ℕ) → KeepsKnown old new → (o : Option KnownEntry) → IsNameMeant s v old sc name o → IsNameMeant s v new sc name o
+meant_kept s v old new sc name keeps None h = h
+meant_kept s v old new sc name keeps (Some (KnownEntry.Function leaf)) h = h
+meant_kept s v old new sc name keeps (Some KnownEntry.Reserved) h = h
+meant_kept s v old new sc name keeps (Some (KnownEntry.Macro w)) h = subst (IsMacroName s v sc name) (sym (macros_kept old new keeps.macros keeps.base w)) h
+meant_kept s v old new sc name keeps (Some (KnownEntry.Named w)) h = subst (IsNamedName s v sc name) (sym (named_same old new keeps.named keeps.base w)) h
+
 -- the reader holds nothing of a term still
-pub idle_moves : (s z : Table) (v : TermsView) (r : Reader) (a b : Script) (p : Place) → Keeps s z → IsReaderIdle s v r a p → IsScript z v r.known b → IsReaderIdle z v r b p
+pub idle_moves : (s z : Table) (v : TermsView) (r : Reader) (a b : Script) (p : Place) → Keeps s z → IsReaderIdle s v r a p → IsScript z v r.names.known b → IsReaderIdle z v r b p
 idle_moves s z v r a b p keeps h script = record {
   script = script;
-  scope = scope_stays s z v v keeps (keeps_none v) r.scope p.scope h.scope;
+  scope = scope_stays s z v v keeps (keeps_none v) r.names.scope p.scope h.scope;
   settings = h.settings;
   no_values = h.no_values;
   no_leaves = h.no_leaves;
@@ -87,7 +113,7 @@ script_agrees s v k a b sorts agree h = record {
 }
 
 pub idle_agrees : (s : Table) (v : TermsView) (r : Reader) (a b : Script) (p : Place) → b.sorts ≡ a.sorts → ((name : List ℕ) → AgreesOn a b name) → IsReaderIdle s v r a p → IsReaderIdle s v r b p
-idle_agrees s v r a b p sorts agree h = idle_moves s s v r a b p (table_keeps_none s) h (script_agrees s v r.known a b sorts agree h.script)
+idle_agrees s v r a b p sorts agree h = idle_moves s s v r a b p (table_keeps_none s) h (script_agrees s v r.names.known a b sorts agree h.script)
 
 -- references still stand for their terms
 pub all_refer_still : (s z : Table) (v : TermsView) → Keeps s z → (rs : List ℕ) (ts : List Term) → ReferToAll s v rs ts → ReferToAll z v rs ts

@@ -26,7 +26,7 @@ use Rattle.term_expansion.specs.declared.values.Value.{Value}
 use Rattle.smtlib_reader.proofs.AgreeingScripts.{script_agrees}
 use Rattle.smtlib_reader.proofs.DefinedCommands.{checked}
 use Rattle.problem_text.proofs.Growing as growing
-use Rattle.smtlib_reader.proofs.KeptByReading.{DeclaresSame, same_declared}
+use Rattle.smtlib_reader.proofs.KeptByReading.{IsStill, still_after_term}
 use Rattle.term_reader.proofs.Staying.{places_more, lacks_more, refers_stays}
 
 -- references still stand for their terms
@@ -95,8 +95,8 @@ module _ (replaces : Bool) (i : Item) (sc : Script) where
           go true f = refl
           go false f = absurd cc
 
-      declared : DeclaresSame sc h.outcome.1
-      declared = subst (λ (q : Outcome Script Typed). DeclaresSame sc q.state) h.outcome.2 (same_declared (form_of i) (top replaces) sc)
+      still : IsStill sc h.outcome.1
+      still = subst (λ (q : Outcome Script Typed). IsStill sc q.state) h.outcome.2 (still_after_term (form_of i) (top replaces) sc)
 
       pub is_asserted : (a : Table) (d : Session) (more : Vec ℕ Global) → IsSession a v d sc → AddsNoSymbols a s → KeepsTerms v w → checked true (place_of i) ≡ checked (sort_eq c.sort Sort.Bool) (place_of i)
           → more.items ≡ d.assertions.items ++ c.term ∷ [] → Performs s v w (record d { reader = r; assertions = more }) (script_performed replaces (assert_term i) sc) (Ok tt)
@@ -104,21 +104,20 @@ module _ (replaces : Bool) (i : Item) (sc : Script) where
           let t = h.outcome.0 in
           let last = h.outcome.1 in
           let idle = h.outcome.5 in
-          let same = declared in
+          let same = still in
           rw asserted (record {
             outcome = (
               with_assertion t.tree last,
               comes_to true (same_sort e),
               record {
                 idle = record {
-                  script = script_agrees s w r.known last (with_assertion t.tree last) refl (λ name. record { functions = refl; macros = refl; named = refl; taken = refl }) idle.script;
+                  script = script_agrees s w r.names.known last (with_assertion t.tree last) refl (λ name. record { functions = refl; macros = refl; named = refl; taken = refl }) idle.script;
                   scope = idle.scope;
                   settings = refl;
                   no_values = idle.no_values;
                   no_leaves = idle.no_leaves;
                   no_frames = idle.no_frames;
                 };
-                functions = rw same.functions session.functions;
                 assertions = rw (pushed, same.assertions) (all_refer a s v w adds keeps d.assertions.items sc.assertions c.term t.tree session.assertions h.outcome.3.refers);
                 has_logic = session.has_logic ∙ sym same.has_logic;
                 is_checked = session.is_checked ∙ sym same.is_checked;

@@ -44,7 +44,6 @@ checked_performed s v d replaces items asked sc e is =
     performs_done s v (record d { is_checked = true }) (script_performed replaces (command_said items asked) sc) (record sc { is_checked = true }) (ap (λ c. script_performed replaces (command_said items c) sc) e)
     (record {
       idle = idle_agrees s v d.reader sc (record sc { is_checked = true }) (top d.reader.replaces_lets) refl (λ name. record { functions = refl; macros = refl; named = refl; taken = refl }) is.idle;
-      functions = is.functions;
       assertions = is.assertions;
       has_logic = is.has_logic;
       is_checked = refl;

@@ -2,8 +2,6 @@
 use Rattle.std.proofs.Common.{◌≡◌, ◌⊎◌, inl, inr, ℕ, Bool, true, false, cond, ◌||◌, List, [], ◌∷◌, ◌++◌, length, Option, Some, None, IsTrue, refl, sym, ap, subst, ◌∙◌}
 use Rattle.std.specs.Option.{option_or}
 use Rattle.std.specs.Prelude.{bytes_eq, slice_get, IsSomeAnd}
-use Rattle.std.proofs.lemmas.Bool.{or_parts}
-use Rattle.std.proofs.lemmas.List.{map-append}
 use Rattle.std.proofs.lemmas.List.Folds.{find-append, list_any-append}
 use Rattle.std.proofs.lemmas.Slice.Eq.{bytes_eq-Decides}
 use Rattle.std.proofs.Math.Bool.{or-false}
@@ -13,18 +11,22 @@ use Rattle.sym_table.specs.Words.{IsBuiltIn}
 use Rattle.term_model.specs.Terms.{Fun}
 use Rattle.term_pool.specs.StandsFor.{function_leaf}
 use Rattle.term_pool.specs.Views.{TermsView}
+use Rattle.term_names.specs.InScope.{IsScope}
 use Rattle.term_names.specs.Known.{KnownView, known_entry}
+use Rattle.term_names.specs.Scope.{Scoped, NamesView}
+use Rattle.term_reader.specs.Reading.{IsReaderIdle}
 use Rattle.problem_text.specs.Scripts.{Script, is_taken, with_name, with_function}
 use Rattle.smtlib_reader.specs.Sessions.{IsSession, top}
-use Rattle.term_names.specs.Standing.{function_in, HasNoEntry, IsFunctionAt, IsFreeName, IsNameMeant, IsScript}
+use Rattle.term_names.specs.Standing.{function_in, HasNoEntry, IsFreeName, IsNameMeant, IsScript}
 use Rattle.problem_text.specs.Words.{is_among, is_built_in}
+use Rattle.term_names.specs.declared.names.KnownEntry.{KnownEntry}
 use Rattle.smtlib_reader.specs.declared.session.Session.{Session}
-use Rattle.smtlib_reader.proofs.AgreeingScripts.{meant_moves, idle_moves, all_refer_still}
+use Rattle.smtlib_reader.proofs.AgreeingScripts.{PutsEntry, meant_kept, meant_moves, all_refer_still}
 use Rattle.smtlib_reader.proofs.DeclaredSorts.{is_no_word}
 use Rattle.term_reader.proofs.GivenNames.{apart, no_entry, no_word_taken}
 use Rattle.term_names.proofs.HeldVariables.{slice_get-last}
 use Rattle.term_names.proofs.Positions.{slice_get-push_cases}
-use Rattle.term_reader.proofs.Staying.{keeps_none}
+use Rattle.term_reader.proofs.Staying.{keeps_none, scope_stays}
 
 -- a name that is free is not refused
 pub function_is_free : (s : Table) (name : List ℕ) → is_built_in name ≡ false → (IsFunctionName s name → ⊥) → IsBuiltIn name ⊎ IsFunctionName s name → ⊥
@@ -33,14 +35,7 @@ function_is_free s name word none (inr h) = none h
 
 -- what the table says of a name that is free
 pub free_name : (s : Table) (v : TermsView) (k : KnownView) (sc : Script) (name : List ℕ) → IsScript s v k sc → is_taken sc name ≡ false → HasNoEntry sc name × IsFreeName s sc name
-free_name s v k sc name is untaken = go (subst (IsNameMeant s v k sc name) (no_entry s v k sc name is untaken) (is.names name))
-  where
-    free : is_among sc.taken name ≡ false
-    free = (or_parts (is_built_in name) (is_among sc.taken name) untaken).1
-
-    go : HasNoEntry sc name × (IsFunctionAt s sc name ⊎ IsFreeName s sc name) → HasNoEntry sc name × IsFreeName s sc name
-    go (none, inl f) = absurd (let taken = f.taken in let untaken = free in cc)
-    go (none, inr f) = (none, f)
+free_name s v k sc name is untaken = subst (IsNameMeant s v k sc name) (no_entry s v k sc name is untaken) (is.names name)
 
 -- the script with one more function
 abbrev pub with_declared : Fun → Script → Script
@@ -95,42 +90,61 @@ module _ (s : Table) (v : TermsView) (f : Fun) (sc : Script) where
       last true = refl
       last false = refl
 
-  module _ (keeps : Keeps s (with_leaf s (function_leaf f))) where
-    function_script : (k : KnownView) → is_taken sc f.name ≡ false → IsScript s v k sc → IsScript (with_leaf s (function_leaf f)) v k (with_declared f sc)
-    function_script k untaken is = record { sorts = is.sorts; built_in = no_word_taken sc f.name untaken is.built_in; names = λ other. go other (bytes_eq other f.name) refl }
+  -- the table with the function, and the entry of its name
+  abbrev grown : Table
+  grown = with_leaf s (function_leaf f)
+
+  abbrev entry : KnownEntry
+  entry = KnownEntry.Function (length s.leaves)
+
+  module _ (keeps : Keeps s grown) (old new : KnownView) (puts : PutsEntry old new f.name entry) where
+    function_script : is_taken sc f.name ≡ false → IsScript s v old sc → IsScript grown v new (with_declared f sc)
+    function_script untaken is = record {
+      sorts = is.sorts;
+      built_in = no_word_taken sc f.name untaken is.built_in;
+      names = λ other. subst (IsNameMeant grown v new (with_declared f sc) other) (sym (puts.entry other)) (go other (bytes_eq other f.name) refl);
+    }
       where
-        here : HasNoEntry sc f.name × IsFreeName s sc f.name → IsNameMeant (with_leaf s (function_leaf f)) v k (with_declared f sc) f.name None
-        here (none, free) = (
-          record { no_named = none.no_named; no_macro = none.no_macro },
-          inl (record {
-            leaf = length s.leaves;
+        here : HasNoEntry sc f.name × IsFreeName s sc f.name → IsNameMeant grown v new (with_declared f sc) f.name (Some entry)
+        here (none, free) = record {
+          no_entry = record { no_named = none.no_named; no_macro = none.no_macro };
+          function = record {
             meant = f;
             here = slice_get-last s.leaves (function_leaf f) (length s.leaves) refl;
             same_name = refl;
             found = function_now free.no_function.script;
             taken = taken_now;
-          }),
-        )
-
-        go : (other : List ℕ) (b : Bool) → bytes_eq other f.name ≡ b → IsNameMeant (with_leaf s (function_leaf f)) v k (with_declared f sc) other (known_entry k other)
-        go other false differs =
-            meant_moves s (with_leaf s (function_leaf f)) v v keeps (keeps_none v) sc (with_declared f sc) other
-            (record { functions = function_before other differs; macros = refl; named = refl; taken = taken_before other differs })
-            (named_before other differs) k (known_entry k other) (is.names other)
-        go other true e =
-            subst (λ (n : List ℕ). IsNameMeant (with_leaf s (function_leaf f)) v k (with_declared f sc) n (known_entry k n)) (sym ((bytes_eq-Decides other f.name).0 e))
-            (subst (IsNameMeant (with_leaf s (function_leaf f)) v k (with_declared f sc) f.name) (sym (no_entry s v k sc f.name is untaken)) (here (free_name s v k sc f.name is untaken)))
-
-    -- the session, whose list of functions has the name last
-    pub function_session : (d e : Session) → e.reader ≡ d.reader → e.functions ≡ d.functions ++ f.name ∷ [] → e.assertions ≡ d.assertions → e.has_logic ≡ d.has_logic → e.is_checked ≡ d.is_checked
-        → is_taken sc f.name ≡ false → IsSession s v d sc → IsSession (with_leaf s (function_leaf f)) v e (with_declared f sc)
-    function_session d e reader functions assertions logic checked untaken is =
-        let idle = idle_moves s (with_leaf s (function_leaf f)) v d.reader sc (with_declared f sc) (top d.reader.replaces_lets) keeps is.idle (function_script d.reader.known untaken is.idle.script) in
-        let refer = all_refer_still s (with_leaf s (function_leaf f)) v keeps d.assertions.items sc.assertions is.assertions in
-        record {
-          idle = rw reader idle;
-          functions = functions ∙ ap (λ names. names ++ f.name ∷ []) is.functions ∙ sym (map-append (λ g. g.name) sc.functions (f ∷ []));
-          assertions = rw assertions refer;
-          has_logic = logic ∙ is.has_logic;
-          is_checked = checked ∙ is.is_checked;
+          };
         }
+
+        go : (other : List ℕ) (b : Bool) → bytes_eq other f.name ≡ b → IsNameMeant grown v new (with_declared f sc) other (cond b (Some entry) (known_entry old other))
+        go other false differs =
+            meant_moves s grown v v keeps (keeps_none v) sc (with_declared f sc) other
+            (record { functions = function_before other differs; macros = refl; named = refl; taken = taken_before other differs })
+            (named_before other differs) new (known_entry old other) (meant_kept s v old new sc other puts.keeps (known_entry old other) (is.names other))
+        go other true e =
+            subst (λ (n : List ℕ). IsNameMeant grown v new (with_declared f sc) n (Some entry)) (sym ((bytes_eq-Decides other f.name).0 e))
+            (here (free_name s v old sc f.name is untaken))
+
+  -- the session, whose names have the function
+  pub function_session : (d e : Session) (names : NamesView) → Keeps s grown → PutsEntry d.reader.names.known names.known f.name entry
+      → names.scope ≡ d.reader.names.scope → e.reader ≡ record d.reader { names = names } → e.assertions ≡ d.assertions → e.has_logic ≡ d.has_logic → e.is_checked ≡ d.is_checked
+      → is_taken sc f.name ≡ false → IsSession s v d sc → IsSession grown v e (with_declared f sc)
+  function_session d e names keeps puts scope reader assertions logic checked untaken is =
+      let idle : IsReaderIdle grown v (record d.reader { names = names }) (with_declared f sc) (top d.reader.replaces_lets) = record {
+        script = function_script keeps d.reader.names.known names.known puts untaken is.idle.script;
+        scope =
+            subst (λ (es : List Scoped). IsScope grown v es []) (sym scope)
+            (scope_stays s grown v v keeps (keeps_none v) d.reader.names.scope [] is.idle.scope);
+        settings = refl;
+        no_values = is.idle.no_values;
+        no_leaves = is.idle.no_leaves;
+        no_frames = is.idle.no_frames;
+      } in
+      let refer = all_refer_still s grown v keeps d.assertions.items sc.assertions is.assertions in
+      record {
+        idle = rw reader idle;
+        assertions = rw assertions refer;
+        has_logic = logic ∙ is.has_logic;
+        is_checked = checked ∙ is.is_checked;
+      }

@@ -43,7 +43,6 @@ module _ (s : Table) (v : TermsView) (d : Session) (replaces : Bool) (x : Name) 
       performs_done s v (record d { has_logic = true }) (script_performed replaces (set_logic x) sc) with_logic (logic_parts false true set allowed)
       (record {
         idle = idle_agrees s v d.reader sc with_logic (top d.reader.replaces_lets) refl (λ name. record { functions = refl; macros = refl; named = refl; taken = refl }) is.idle;
-        functions = is.functions;
         assertions = is.assertions;
         has_logic = refl;
         is_checked = is.is_checked;

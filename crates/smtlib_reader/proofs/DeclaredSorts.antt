@@ -84,8 +84,7 @@ module _ (s : Table) (v : TermsView) (name : List ℕ) (sc : Script) (keeps : Ke
 
   sort_session : (d : Session) → IsSession s v d sc → IsSession (with_sort_name s name) v d (spec.with_sort name sc)
   sort_session d h = record {
-    idle = idle_moves s (with_sort_name s name) v d.reader sc (spec.with_sort name sc) (top d.reader.replaces_lets) keeps h.idle (sort_script d.reader.known h.idle.script);
-    functions = h.functions;
+    idle = idle_moves s (with_sort_name s name) v d.reader sc (spec.with_sort name sc) (top d.reader.replaces_lets) keeps h.idle (sort_script d.reader.names.known h.idle.script);
     assertions = all_refer_still s (with_sort_name s name) v keeps d.assertions.items sc.assertions h.assertions;
     has_logic = h.has_logic;
     is_checked = h.is_checked;

@@ -9,14 +9,14 @@ use Rattle.problem_text.specs.Forms.{form_of}
 use Rattle.term_names.specs.Known.{KnownView, known_entry}
 use Rattle.term_reader.specs.Reading.{IsReaderIdle, ComesToTerm}
 use Rattle.rule_model.specs.Replacement.{HasNoLet}
-use Rattle.term_names.specs.Scope.{Scoped}
+use Rattle.term_names.specs.Scope.{NamesView}
 use Rattle.problem_text.specs.TypedTerms.{Typed}
 use Rattle.problem_text.specs.Outcomes.{Outcome, done}
 use Rattle.problem_text.specs.Scripts.{Macro, Script}
 use Rattle.term_names.specs.Standing.{IsScript, IsNameMeant, macro_in}
 use Rattle.problem_text.specs.Terms.{read_term}
 use Rattle.term_names.specs.declared.faults.ReadFault.{ReadFault}
-use Rattle.term_names.specs.declared.known.KnownEntry.{KnownEntry}
+use Rattle.term_names.specs.declared.names.KnownEntry.{KnownEntry}
 use Rattle.term_reader.specs.declared.reader.Reader.{Reader}
 use Rattle.term_expansion.specs.declared.values.Value.{Value}
 use Rattle.problem_text.proofs.LetFreeTerms.{IsFreeIn, parameters-free, term-free}
@@ -33,6 +33,7 @@ macros_plain s v k sc is name = go (known_entry k name) (is.names name)
 
     go : (e : Option KnownEntry) → IsNameMeant s v k sc name e → IfSome (macro_in sc name) (λ m. HasNoLet m.body)
     go None m = none m.0.no_macro
+    go (Some (KnownEntry.Function leaf)) d = none d.no_entry.no_macro
     go (Some KnownEntry.Reserved) r = none r.no_entry.no_macro
     go (Some (KnownEntry.Macro w)) m = subst (λ (o : Option Macro). IfSome o (λ m. HasNoLet m.body)) (sym m.found) (m.is.body.plain m.is.plain)
     go (Some (KnownEntry.Named w)) n = none n.no_macro
@@ -58,19 +59,19 @@ none_in_scope [] = refl
 none_in_scope (x ∷ xs) = none_in_scope xs
 
 -- the body was read
-pub body_there : (s z : Table) (v w : TermsView) (r q : Reader) (xs : List Var) (i : Item) (sc : Script) (c : Value) (scope : List Scoped)
-    → IsReadyForBody s v r xs sc → ComesToTerm z v w q (within xs) (read_term i (within xs) sc) (Ok c) → scope ≡ []
-    → ReadsBody z v w (record q { replaces_lets = r.replaces_lets; scope = scope }) (body_read xs i sc) (Ok (record c { plain = true }))
-body_there s z v w r q xs i sc c scope ready h none =
+pub body_there : (s z : Table) (v w : TermsView) (r q : Reader) (xs : List Var) (i : Item) (sc : Script) (c : Value) (names : NamesView)
+    → IsReadyForBody s v r xs sc → ComesToTerm z v w q (within xs) (read_term i (within xs) sc) (Ok c) → names.known ≡ q.names.known → names.scope ≡ []
+    → ReadsBody z v w (record q { replaces_lets = r.replaces_lets; names = names }) (body_read xs i sc) (Ok (record c { plain = true }))
+body_there s z v w r q xs i sc c names ready h known none =
     let (t, last, e, is, low, idle) = h.outcome in record {
       outcome = (
         t,
         last,
         e,
-        record { refers = is.refers; sort = is.sort; high = is.high; plain = λ _. body_plain s v r.known sc last xs i t ready.script e },
+        record { refers = is.refers; sort = is.sort; high = is.high; plain = λ _. body_plain s v r.names.known sc last xs i t ready.script e },
         refl,
         record {
-          script = idle.script;
+          script = rw known idle.script;
           scope = rw none tt;
           settings = refl;
           no_values = idle.no_values;

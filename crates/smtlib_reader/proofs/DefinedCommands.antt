@@ -1,5 +1,5 @@
 -- What a body that was read makes of the command that defines a function.
-use Rattle.std.proofs.Common.{◌≡◌, ℕ, Bool, true, false, List, Result, Ok, Err, Some, None, if◌then◌else◌, refl, sym, ◌∙◌, ap, subst}
+use Rattle.std.proofs.Common.{◌≡◌, ℕ, Bool, true, false, List, [], Result, Ok, Err, Some, None, if◌then◌else◌, refl, sym, ◌∙◌, ap, subst}
 use Rattle.std.specs.Prelude.{⊤, Contains}
 use Rattle.sexpr.specs.declared.causes.Cause.TheVariants.{SortMismatch}
 use Rattle.sexpr.specs.declared.causes.Refusal.{Refusal}
@@ -13,7 +13,8 @@ use Rattle.problem_text.specs.Commands.{refused}
 use Rattle.smtlib_reader.specs.Defining.{within, body_read, macro_defined, AreListed, ReadsBody, Defines}
 use Rattle.term_names.specs.Entries.{lookup}
 use Rattle.problem_text.specs.Forms.{form_of}
-use Rattle.term_names.specs.Known.{KnownView}
+use Rattle.term_names.specs.InScope.{IsScope}
+use Rattle.term_names.specs.Scope.{Scoped, NamesView}
 use Rattle.term_reader.specs.Reading.{IsReadTerm}
 use Rattle.problem_text.specs.TypedTerms.{Typed}
 use Rattle.problem_text.specs.Outcomes.{Outcome, done, refuse, going_on}
@@ -93,12 +94,12 @@ module _ (name : List ℕ) (xs : List Var) (target : Sort) (i : Item) (sc : Scri
               no_function = reserved.no_function.script;
             }))
 
-        pub reserved_yet : lookup r.known.base.names name ≡ None → lookup r.known.own.names name ≡ Some Entry.Reserved
-        reserved_yet none = own_reserved r.known name none (reserved_name s w r.known h.outcome.1 name h.outcome.5.script in_script).0
+        pub reserved_yet : lookup r.names.known.base.names name ≡ None → lookup r.names.known.own.names name ≡ Some Entry.Reserved
+        reserved_yet none = own_reserved r.names.known name none (reserved_name s w r.names.known h.outcome.1 name h.outcome.5.script in_script).0
 
-        pub is_defined : (z : Table) (k : KnownView) (l : Listed) → AreListed z l xs → AddsNoSymbols z s → checked true (place_of i) ≡ checked (sort_eq c.sort target) (place_of i)
-            → PutsMacro r.known k name (record { parameters = l.leaves; sorts = l.sorts; target = target; body = c }) → Defines s v w (record r { known = k }) (macro_defined name xs target i sc) (Ok tt)
-        is_defined z k l listed adds e puts =
+        pub is_defined : (z : Table) (names : NamesView) (l : Listed) → AreListed z l xs → AddsNoSymbols z s → checked true (place_of i) ≡ checked (sort_eq c.sort target) (place_of i)
+            → PutsMacro r.names.known names.known name (record { parameters = l.leaves; sorts = l.sorts; target = target; body = c }) → names.scope ≡ r.names.scope → Defines s v w (record r { names = names }) (macro_defined name xs target i sc) (Ok tt)
+        is_defined z names l listed adds e puts scope =
             let f = same_sort e in
             let idle = h.outcome.5 in
             let is = h.outcome.3 in
@@ -110,14 +111,14 @@ module _ (name : List ℕ) (xs : List Var) (target : Sort) (i : Item) (sc : Scri
                 with_macro d h.outcome.1,
                 comes_to true f,
                 record {
-                  script = defined_script s w r.known k h.outcome.1 d held puts idle.script (record {
+                  script = defined_script s w r.names.known names.known h.outcome.1 d held puts idle.script (record {
                     parameters = leaves_stay z s adds.keeps l.leaves.items xs listed.leaves;
                     sorts = listed.sorts;
                     target = refl;
                     body = record { refers = is.refers; sort = (sort_eq_decides c.sort target).0 f; high = is.high; plain = is.plain };
                     plain = h.outcome.4;
-                  }) (reserved_name s w r.known h.outcome.1 name idle.script in_script).1;
-                  scope = idle.scope;
+                  }) (reserved_name s w r.names.known h.outcome.1 name idle.script in_script).1;
+                  scope = subst (λ (es : List Scoped). IsScope s w es []) (sym scope) idle.scope;
                   settings = refl;
                   no_values = idle.no_values;
                   no_leaves = idle.no_leaves;

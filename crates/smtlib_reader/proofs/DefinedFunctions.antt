@@ -14,7 +14,8 @@ use Rattle.smtlib_reader.specs.Defining.{Signature, signature_from, IsSignatureR
 use Rattle.term_names.specs.Entries.{EntriesView, lookup}
 use Rattle.text_items.specs.ItemShapes.{Name}
 use Rattle.problem_text.specs.Forms.{form_of}
-use Rattle.term_names.specs.Known.{KnownView}
+use Rattle.term_names.specs.InScope.{IsScope}
+use Rattle.term_names.specs.Scope.{Scoped, NamesView}
 use Rattle.problem_text.specs.Problems.{script_performed}
 use Rattle.problem_text.specs.TypedTerms.{Typed}
 use Rattle.problem_text.specs.Outcomes.{Outcome, done, refuse, given, going_on, and_then}
@@ -31,16 +32,9 @@ use Rattle.smtlib_reader.specs.declared.session.Session.{Session}
 use Rattle.smtlib_reader.proofs.AssertedTerms.{all_stay}
 use Rattle.smtlib_reader.proofs.DefinedMacros.{TakesName, name_reserved, reserved_script, no_base_entry}
 use Rattle.term_reader.proofs.GivenNames.{either_false, no_entry}
-use Rattle.smtlib_reader.proofs.KeptByReading.{same_declared}
+use Rattle.smtlib_reader.proofs.KeptByReading.{IsStill, still_then, still_after_term}
 use Rattle.problem_text.proofs.Outcomes.{Ends, ends-and_then}
 use Rattle.term_reader.proofs.Staying.{places_none}
-
--- The functions and the assertions are the same, and the same commands stand before.
-pub record IsStill (old new : Script) : Type 0 where
-  pub functions : new.functions ≡ old.functions
-  pub assertions : new.assertions ≡ old.assertions
-  pub has_logic : new.has_logic ≡ old.has_logic
-  pub is_checked : new.is_checked ≡ old.is_checked
 
 abbrev Whatever : {A : Type 0} → A → Type 0
 Whatever a = ⊤
@@ -57,10 +51,10 @@ still_there name xs target body s =
     next t last b = if b then done tt (with_macro (record { name = name; parameters = xs; target = target; body = t.tree }) last) else refuse SortMismatch (place_of body) last
 
     read : IsStill s (body_read xs body s).state
-    read = let h = same_declared (form_of body) (within xs) s in record { functions = h.functions; assertions = h.assertions; has_logic = h.has_logic; is_checked = h.is_checked }
+    read = still_after_term (form_of body) (within xs) s
 
     go : (t : Typed) (last : Script) → IsStill s last → (b : Bool) → Ends (IsStill s) Whatever (next t last b)
-    go t last p true = (record { functions = p.functions; assertions = p.assertions; has_logic = p.has_logic; is_checked = p.is_checked }, tt)
+    go t last p true = (still_then s last (with_macro (record { name = name; parameters = xs; target = target; body = t.tree }) last) refl refl refl p, tt)
     go t last p false = (p, tt)
 
 module _ (replaces : Bool) (n : Name) (parameters : Items) (target body : Item) (sc : Script) where
@@ -108,22 +102,22 @@ module _ (replaces : Bool) (n : Name) (parameters : Items) (target body : Item) 
       signature_fails items end ps e ReadFault.Memory h = record { outcome = tt; placed = places_none s v.pass v.pass _ refl }
 
       -- the name is taken for the macro
-      pub is_defining : (k : KnownView) (name : List ℕ) → name ≡ n.name → TakesName d.reader.known k name → IsDefining s v (record d.reader { known = k }) name (with_name n.name sc)
-      is_defining k name same takes =
+      pub is_defining : (names : NamesView) (name : List ℕ) → name ≡ n.name → TakesName d.reader.names.known names.known name → names.scope ≡ d.reader.names.scope → IsDefining s v (record d.reader { names = names }) name (with_name n.name sc)
+      is_defining names name same takes scope =
           let untaken : is_among sc.taken n.name ≡ false = either_false (is_built_in n.name) (is_among sc.taken n.name) free in
-          let none = no_entry s v d.reader.known sc n.name session.idle.script free in
-          let here : TakesName d.reader.known k n.name = subst (λ (x : List ℕ). TakesName d.reader.known k x) same takes in
+          let none = no_entry s v d.reader.names.known sc n.name session.idle.script free in
+          let here : TakesName d.reader.names.known names.known n.name = subst (λ (x : List ℕ). TakesName d.reader.names.known names.known x) same takes in
           rw same (record {
             idle = record {
-              script = reserved_script s v d.reader.known k sc n.name here session.idle.script free none;
-              scope = session.idle.scope;
+              script = reserved_script s v d.reader.names.known names.known sc n.name here session.idle.script free none;
+              scope = subst (λ (es : List Scoped). IsScope s v es []) (sym scope) session.idle.scope;
               settings = refl;
               no_values = session.idle.no_values;
               no_leaves = session.idle.no_leaves;
               no_frames = session.idle.no_frames;
             };
-            reserved = name_reserved s v d.reader.known k sc n.name here session.idle.script untaken none;
-            no_base = ap (λ (e : EntriesView). lookup e.names n.name) here.base ∙ no_base_entry d.reader.known n.name none;
+            reserved = name_reserved s v d.reader.names.known names.known sc n.name here session.idle.script untaken none;
+            no_base = ap (λ (e : EntriesView). lookup e.names n.name) here.keeps.base ∙ no_base_entry d.reader.names.known n.name none;
           })
 
       -- the macro was read
@@ -142,14 +136,13 @@ module _ (replaces : Bool) (n : Name) (parameters : Items) (target body : Item) 
               let last = h.outcome.0 in
               let still : IsStill sc last =
               subst (λ (o : Outcome Script ⊤). IsStill sc o.state) h.outcome.1
-              (let p = still_there n.name xs sort body (with_name n.name sc) in record { functions = p.functions; assertions = p.assertions; has_logic = p.has_logic; is_checked = p.is_checked }) in
+              (let p = still_there n.name xs sort body (with_name n.name sc) in record { assertions = p.assertions; has_logic = p.has_logic; is_checked = p.is_checked }) in
               record {
                 outcome = (
                   last,
                   h.outcome.1,
                   record {
                     idle = h.outcome.2;
-                    functions = rw still.functions session.functions;
                     assertions = rw still.assertions (all_stay s z v w adds keeps d.assertions.items sc.assertions session.assertions);
                     has_logic = session.has_logic ∙ sym still.has_logic;
                     is_checked = session.is_checked ∙ sym still.is_checked;

@@ -1,5 +1,5 @@
 -- The tables stand for the script once a name is taken for a macro, and once the macro is defined.
-use Rattle.std.proofs.Common.{◌≡◌, ℕ, Bool, true, false, cond, ◌||◌, List, [], ◌∷◌, ◌++◌, length, slice_get, Option, Some, None, ◌⊎◌, inl, inr, refl, sym, ◌∙◌, ap, subst, bytes_eq}
+use Rattle.std.proofs.Common.{◌≡◌, ℕ, Bool, true, false, cond, ◌||◌, List, [], ◌∷◌, ◌++◌, length, slice_get, Option, Some, None, refl, sym, ◌∙◌, ap, subst, bytes_eq}
 use Rattle.std.specs.Option.{option_or}
 use Rattle.std.specs.Prelude.{option_map}
 use Rattle.std.proofs.lemmas.List.Folds.{find-append, list_any-append}
@@ -7,23 +7,20 @@ use Rattle.std.proofs.lemmas.Slice.Eq.{bytes_eq-Decides}
 use Rattle.sym_table.specs.Table.{Table}
 use Rattle.term_pool.specs.Views.{TermsView}
 use Rattle.term_names.specs.Entries.{EntriesView, lookup}
-use Rattle.term_names.specs.Known.{KnownView, known_entry, own_entry, base_entry, PutsKnown, macro_of, named_of}
+use Rattle.term_names.specs.Known.{KnownView, known_entry, own_entry, base_entry, PutsKnown, macro_of}
 use Rattle.problem_text.specs.Scripts.{Macro, Script, is_taken, with_name, with_macro}
-use Rattle.term_names.specs.Standing.{IsScript, IsNameMeant, IsMacroOf, HasNoEntry, IsFunctionAt, IsFreeName, IsReservedName, macro_in}
+use Rattle.term_names.specs.Standing.{IsScript, IsNameMeant, IsMacroOf, HasNoEntry, IsFreeName, IsReservedName, macro_in}
 use Rattle.problem_text.specs.Words.{is_among, is_built_in}
 use Rattle.term_names.specs.declared.entries.Entry.{Entry}
 use Rattle.term_names.specs.declared.entries.Macro as macro
-use Rattle.term_names.specs.declared.entries.Named as held_named
-use Rattle.term_names.specs.declared.known.KnownEntry.{KnownEntry}
-use Rattle.term_names.specs.declared.known.Which.{Which}
-use Rattle.term_names.specs.declared.known.Which.TheVariants.{Base, Own}
-use Rattle.term_reader.proofs.GivenNames.{slice_get-before, macros_kept, apart, or_none, or_false, either_false, no_word_taken}
+use Rattle.term_names.specs.declared.names.KnownEntry.{KnownEntry}
+use Rattle.term_names.specs.declared.names.Which.{Which}
+use Rattle.term_names.specs.declared.names.Which.TheVariants.{Base, Own}
+use Rattle.term_reader.proofs.GivenNames.{slice_get-before, apart, or_none, or_false, either_false, no_word_taken}
 use Rattle.term_names.proofs.HeldVariables.{slice_get-last}
+use Rattle.smtlib_reader.proofs.AgreeingScripts.{PutsEntry, named_same, meant_kept, meant_moves}
 use Rattle.smtlib_reader.proofs.KeptByReading.{IsReservedIn}
-
-named_same : (old new : KnownView) → new.own.named ≡ old.own.named → new.base ≡ old.base → (w : Which) → named_of new w ≡ named_of old w
-named_same old new named base (Base n) = ap (λ (e : EntriesView). slice_get e.named n) base
-named_same old new named base (Own n) = ap (λ (ns : List held_named.Named). slice_get ns n) named
+use Rattle.term_reader.proofs.Staying.{table_keeps_none, keeps_none}
 
 among_before : (names : List (List ℕ)) (name other : List ℕ) → bytes_eq other name ≡ false → is_among (names ++ name ∷ []) other ≡ is_among names other
 among_before names name other differs =
@@ -40,58 +37,22 @@ among_now names name =
     last false = refl
 
 -- what entries say once a name is taken for a macro
-pub record TakesName (old new : KnownView) (name : List ℕ) : Type 0 where
-  pub entry : PutsKnown old name KnownEntry.Reserved new
-  pub macros : new.own.macros ≡ old.own.macros
-  pub named : new.own.named ≡ old.own.named
-  pub base : new.base ≡ old.base
+abbrev pub TakesName : KnownView → KnownView → List ℕ → Type 0
+TakesName old new name = PutsEntry old new name KnownEntry.Reserved
 
 module _ (s : Table) (v : TermsView) (old new : KnownView) (sc : Script) (name : List ℕ) (takes : TakesName old new name) where
-  taken_before : (other : List ℕ) → bytes_eq other name ≡ false → is_among (with_name name sc).taken other ≡ is_among sc.taken other
-  taken_before other differs = among_before sc.taken name other differs
-
   -- another name
   before_taking : (other : List ℕ) → bytes_eq other name ≡ false → (e : Option KnownEntry) → IsNameMeant s v old sc other e → IsNameMeant s v new (with_name name sc) other e
-  before_taking other differs None (none, inl f) = (
-    record { no_named = none.no_named; no_macro = none.no_macro },
-    inl (record { leaf = f.leaf; meant = f.meant; here = f.here; same_name = f.same_name; found = f.found; taken = taken_before other differs ∙ f.taken }),
-  )
-  before_taking other differs None (none, inr f) = (
-    record { no_named = none.no_named; no_macro = none.no_macro },
-    inr (record { no_function = record { table = f.no_function.table; script = f.no_function.script }; free = taken_before other differs ∙ f.free }),
-  )
-  before_taking other differs (Some KnownEntry.Reserved) r = record {
-    no_entry = record { no_named = r.no_entry.no_named; no_macro = r.no_entry.no_macro };
-    no_function = record { table = r.no_function.table; script = r.no_function.script };
-    taken = taken_before other differs ∙ r.taken;
-  }
-  before_taking other differs (Some (KnownEntry.Macro w)) m = record {
-    held = m.held;
-    meant = m.meant;
-    there = macros_kept old new takes.macros takes.base w ∙ m.there;
-    found = m.found;
-    is = m.is;
-    no_named = m.no_named;
-    no_function = record { table = m.no_function.table; script = m.no_function.script };
-    taken = taken_before other differs ∙ m.taken;
-  }
-  before_taking other differs (Some (KnownEntry.Named w)) n = record {
-    held = n.held;
-    meant = n.meant;
-    there = named_same old new takes.named takes.base w ∙ n.there;
-    found = n.found;
-    is = n.is;
-    no_macro = n.no_macro;
-    no_function = record { table = n.no_function.table; script = n.no_function.script };
-    taken = taken_before other differs ∙ n.taken;
-  }
+  before_taking other differs e h =
+      meant_moves s s v v (table_keeps_none s) (keeps_none v) sc (with_name name sc) other
+      (record { functions = refl; macros = refl; named = refl; taken = among_before sc.taken name other differs })
+      (λ f. f) new e (meant_kept s v old new sc other takes.keeps e h)
 
   pub name_reserved : IsScript s v old sc → is_among sc.taken name ≡ false → known_entry old name ≡ None → IsReservedName s (with_name name sc) name
   name_reserved is free none = go (subst (IsNameMeant s v old sc name) none (is.names name))
     where
-      go : HasNoEntry sc name × (IsFunctionAt s sc name ⊎ IsFreeName s sc name) → IsReservedName s (with_name name sc) name
-      go (nothing, inl f) = let is_taken = f.taken in cc
-      go (nothing, inr f) = record {
+      go : HasNoEntry sc name × IsFreeName s sc name → IsReservedName s (with_name name sc) name
+      go (nothing, f) = record {
         no_entry = record { no_named = nothing.no_named; no_macro = nothing.no_macro };
         no_function = record { table = f.no_function.table; script = f.no_function.script };
         taken = among_now sc.taken name;
@@ -138,14 +99,20 @@ module _ (s : Table) (v : TermsView) (old new : KnownView) (sc : Script) (d : Ma
 
   -- another name
   before_defining : (other : List ℕ) → bytes_eq other d.name ≡ false → (e : Option KnownEntry) → IsNameMeant s v old sc other e → IsNameMeant s v new (with_macro d sc) other e
-  before_defining other differs None (none, inl f) = (
+  before_defining other differs None (none, f) = (
     record { no_named = none.no_named; no_macro = macro_before other differs ∙ none.no_macro },
-    inl (record { leaf = f.leaf; meant = f.meant; here = f.here; same_name = f.same_name; found = f.found; taken = f.taken }),
+    record { no_function = record { table = f.no_function.table; script = f.no_function.script }; free = f.free },
   )
-  before_defining other differs None (none, inr f) = (
-    record { no_named = none.no_named; no_macro = macro_before other differs ∙ none.no_macro },
-    inr (record { no_function = record { table = f.no_function.table; script = f.no_function.script }; free = f.free }),
-  )
+  before_defining other differs (Some (KnownEntry.Function leaf)) h = record {
+    no_entry = record { no_named = h.no_entry.no_named; no_macro = macro_before other differs ∙ h.no_entry.no_macro };
+    function = record {
+      meant = h.function.meant;
+      here = h.function.here;
+      same_name = h.function.same_name;
+      found = h.function.found;
+      taken = h.function.taken;
+    };
+  }
   before_defining other differs (Some KnownEntry.Reserved) r = record {
     no_entry = record { no_named = r.no_entry.no_named; no_macro = macro_before other differs ∙ r.no_entry.no_macro };
     no_function = record { table = r.no_function.table; script = r.no_function.script };
@@ -203,8 +170,8 @@ pub reserved_name : (s : Table) (v : TermsView) (k : KnownView) (sc : Script) (n
 reserved_name s v k sc name is r = go (known_entry k name) (is.names name)
   where
     go : (e : Option KnownEntry) → IsNameMeant s v k sc name e → (e ≡ Some KnownEntry.Reserved) × IsReservedName s sc name
-    go None (none, inl f) = absurd (let a = f.found in let b = r.no_function in cc)
-    go None (none, inr f) = absurd (let a = f.free in let b = r.taken in cc)
+    go None (none, f) = absurd (let a = f.free in let b = r.taken in cc)
+    go (Some (KnownEntry.Function leaf)) d = absurd (let a = d.function.found in let b = r.no_function in cc)
     go (Some KnownEntry.Reserved) m = (refl, m)
     go (Some (KnownEntry.Macro w)) m = absurd (let a = m.found in let b = r.no_macro in cc)
     go (Some (KnownEntry.Named w)) n = absurd (let a = n.found in let b = r.no_named in cc)
@@ -215,6 +182,7 @@ own_reserved k name none e = go (lookup k.own.names name) (ap (λ o. option_or (
   where
     go : (o : Option Entry) → option_or (option_map own_entry o) None ≡ Some KnownEntry.Reserved → o ≡ Some Entry.Reserved
     go None f = cc
+    go (Some (Entry.Function leaf)) f = absurd cc
     go (Some Entry.Reserved) f = refl
     go (Some (Entry.Macro n)) f = absurd cc
     go (Some (Entry.Named n)) f = absurd cc

@@ -15,7 +15,7 @@ use Rattle.term_names.specs.InScope.{IsScope, AreValuesBound}
 use Rattle.problem_text.specs.Names.{Bound, Place, itself, inside}
 use Rattle.smtlib_reader.specs.Parameters.{parameter_said, parameters_said}
 use Rattle.term_reader.specs.Reading.{IsReaderIdle}
-use Rattle.term_names.specs.Scope.{Scoped}
+use Rattle.term_names.specs.Scope.{NamesView}
 use Rattle.problem_text.specs.Scripts.{Script}
 use Rattle.smtlib_reader.specs.Sessions.{top}
 use Rattle.term_names.specs.Standing.{AreLeavesOf, AddsNoSymbols}
@@ -92,15 +92,15 @@ inside_themselves [] = refl
 inside_themselves (x ∷ xs) = ap (λ bs. itself x ∷ bs) (inside_themselves xs)
 
 -- the parameters are in scope, and listed
-pub is_entered : (s z : Table) (v : TermsView) (r : Reader) (l : Listed) (scope : List Scoped) (values none : List Value) (xs : List Var) (sc : Script)
+pub is_entered : (s z : Table) (v : TermsView) (r : Reader) (l : Listed) (names : NamesView) (values none : List Value) (xs : List Var) (sc : Script)
     → AddsNoSymbols s z → IsReaderIdle s v r sc (top r.replaces_lets) → AreValuesBound z v l.leaves.items values (map itself xs) → l.sorts.items ≡ map (λ (c : Value). c.sort) values
-    → ((p : Place) → IsScope z v r.scope p.scope → p.settings.replaces_lets ≡ false → IsScope z v scope (inside (map itself xs) p).scope) → none ≡ []
-    → AreListed z l xs × IsReadyForBody z v (record r { scope = scope; values = none }) xs sc
-is_entered s z v r l scope values none xs sc adds idle bound sorts put no_values = (
+    → ((p : Place) → IsScope z v r.names.scope p.scope → p.settings.replaces_lets ≡ false → IsScope z v names.scope (inside (map itself xs) p).scope) → names.known ≡ r.names.known → none ≡ []
+    → AreListed z l xs × IsReadyForBody z v (record r { names = names; values = none }) xs sc
+is_entered s z v r l names values none xs sc adds idle bound sorts put known no_values = (
   record { leaves = leaves_bound z v l.leaves.items values xs bound; sorts = sorts ∙ sorts_bound z v l.leaves.items values xs bound },
   record {
-    script = script_stays s z v v adds (keeps_none v) r.known sc idle.script;
-    scope = subst (λ (bs : List Bound). IsScope z v scope bs) (inside_themselves xs) (put (top false) (scope_stays s z v v adds.keeps (keeps_none v) r.scope [] idle.scope) refl);
+    script = rw known (script_stays s z v v adds (keeps_none v) r.names.known sc idle.script);
+    scope = subst (λ (bs : List Bound). IsScope z v names.scope bs) (inside_themselves xs) (put (top false) (scope_stays s z v v adds.keeps (keeps_none v) r.names.scope [] idle.scope) refl);
     no_values = no_values;
     no_leaves = idle.no_leaves;
     no_frames = idle.no_frames;

@@ -1,6 +1,6 @@
 -- What the declaration of a function comes to, step by step.
-use Rattle.std.proofs.Common.{◌≡◌, ℕ, Bool, true, false, List, [], ◌∷◌, ◌++◌, position, None, IfErr, OnOk, sym, ap, subst, ◌∙◌, if◌then◌else◌, Result, Ok, Err}
-use Rattle.std.specs.Prelude.{⊤, bytes_eq}
+use Rattle.std.proofs.Common.{◌≡◌, ℕ, Bool, true, false, List, length, IfErr, OnOk, sym, ap, subst, ◌∙◌, if◌then◌else◌, Result, Ok, Err}
+use Rattle.std.specs.Prelude.{⊤}
 use Rattle.std.proofs.lemmas.Bool.{or_parts}
 use Rattle.sexpr.specs.declared.causes.Cause.TheVariants.{Repeated}
 use Rattle.sexpr.specs.declared.causes.Refusal.{Refusal}
@@ -11,6 +11,8 @@ use Rattle.term_model.specs.declared.symbols.Sort.{Sort}
 use Rattle.term_pool.specs.Views.{TermsView}
 use Rattle.problem_text.specs.Commands.{declare_fun}
 use Rattle.term_names.specs.Faults.{IsFaultOf}
+use Rattle.term_names.specs.Known.{PutsKnown}
+use Rattle.term_names.specs.Scope.{NamesView}
 use Rattle.text_items.specs.ItemShapes.{Name}
 use Rattle.problem_text.specs.Problems.{script_performed}
 use Rattle.problem_text.specs.Outcomes.{Outcome, done, refuse, given, and_then}
@@ -19,9 +21,10 @@ use Rattle.smtlib_reader.specs.Sessions.{IsSession, Performs}
 use Rattle.problem_text.specs.Sorts.{sort_from, sorts_from}
 use Rattle.problem_text.specs.Words.{is_among, is_built_in}
 use Rattle.term_names.specs.declared.faults.ReadFault.{ReadFault}
+use Rattle.term_names.specs.declared.names.KnownEntry.{KnownEntry}
 use Rattle.smtlib_reader.specs.declared.session.Session.{Session}
 use Rattle.smtlib_reader.proofs.CommandSteps.{performs_done, performs_refused, performs_memory}
-use Rattle.term_reader.proofs.FunctionNames.{no_position}
+use Rattle.smtlib_reader.proofs.AgreeingScripts.{KeepsKnown}
 use Rattle.smtlib_reader.proofs.DeclaredFunctions.{free_name, function_session}
 
 -- a name that is not taken is that of no function
@@ -29,11 +32,8 @@ module _ (s : Table) (v : TermsView) (d : Session) (sc : Script) (name : List �
   pub may_be_declared : (is_built_in name ≡ false) × (IsFunctionName s name → ⊥)
   may_be_declared = (
     (or_parts (is_built_in name) (is_among sc.taken name) untaken).0,
-    (free_name s v d.reader.known sc name is.idle.script untaken).1.no_function.table,
+    (free_name s v d.reader.names.known sc name is.idle.script untaken).1.no_function.table,
   )
-
-  pub has_no_number : position (bytes_eq name) d.functions ≡ None
-  has_no_number = rw is.functions (no_position sc.functions name (free_name s v d.reader.known sc name is.idle.script untaken).1.no_function.script)
 
 module _ (s : Table) (v : TermsView) (d e : Session) (replaces : Bool) (x : Name) (arguments : Items) (target : Item) (sc : Script) (is : IsSession s v d sc) where
   abbrev asked : Outcome Script ⊤
@@ -75,14 +75,15 @@ module _ (s : Table) (v : TermsView) (d e : Session) (replaces : Bool) (x : Name
   pub target_refused : (ss : List Sort) (r : Refusal) → is_taken sc x.name ≡ false → sorts_from s.sorts arguments ≡ Ok ss → sort_from s.sorts target ≡ Err r → Performs s v v e asked (Err (ReadFault.Text r))
   target_refused ss r untaken f g = performs_refused s v e asked r (ap (λ o. o.result) (target_step ss (Err r) untaken f g))
 
-  pub function_added : (z : Table) (result : Result Unit ReadFault) (ss : List Sort) (t : Sort) → is_taken sc x.name ≡ false → sorts_from s.sorts arguments ≡ Ok ss → sort_from s.sorts target ≡ Ok t
-      → OnOk result (z ≡ with_leaf s (function x.name ss t)) → OnOk result (e.functions ≡ d.functions ++ x.name ∷ []) → IfErr result (λ fault. fault ≡ ReadFault.Memory) → Keeps s z
-      → e.reader ≡ d.reader → e.assertions ≡ d.assertions → e.has_logic ≡ d.has_logic → e.is_checked ≡ d.is_checked → Performs z v v e asked result
-  function_added z (Ok u) ss t untaken f g added functions fault keeps reader assertions logic checked =
+  pub function_added : (z : Table) (names : NamesView) (result : Result Unit ReadFault) (ss : List Sort) (t : Sort) → is_taken sc x.name ≡ false → sorts_from s.sorts arguments ≡ Ok ss → sort_from s.sorts target ≡ Ok t
+      → OnOk result (z ≡ with_leaf s (function x.name ss t)) → IfErr result (λ fault. fault ≡ ReadFault.Memory) → Keeps s z
+      → OnOk result (PutsKnown d.reader.names.known x.name (KnownEntry.Function (length s.leaves)) names.known) → KeepsKnown d.reader.names.known names.known → names.scope ≡ d.reader.names.scope
+      → e.reader ≡ record d.reader { names = names } → e.assertions ≡ d.assertions → e.has_logic ≡ d.has_logic → e.is_checked ≡ d.is_checked → Performs z v v e asked result
+  function_added z names (Ok u) ss t untaken f g added fault keeps entry known scope reader assertions logic checked =
       let kept : Keeps s (with_leaf s (function x.name ss t)) = subst (λ (w : Table). Keeps s w) added keeps in
       subst (λ (w : Table). Performs w v v e asked (Ok tt)) (sym added)
       (performs_done (with_leaf s (function x.name ss t)) v e asked (with_function (record { name = x.name; arguments = ss; target = t }) (with_name x.name sc))
       (target_step ss (Ok t) untaken f g)
-      (function_session s v (record { name = x.name; arguments = ss; target = t }) sc kept d e reader functions assertions logic checked untaken is))
-  function_added z (Err h) ss t untaken f g added functions fault keeps reader assertions logic checked =
+      (function_session s v (record { name = x.name; arguments = ss; target = t }) sc d e names kept (record { entry = entry; keeps = known }) scope reader assertions logic checked untaken is))
+  function_added z names (Err h) ss t untaken f g added fault keeps entry known scope reader assertions logic checked =
       subst (λ (w : ReadFault). Performs z v v e asked (Err w)) (sym fault) (performs_memory z v e asked)

@@ -91,31 +91,20 @@ module _ (P : Script → Type 0) (after_term : (t : Term) (s : Script) → P s �
         (and_kept (term_from f p (with_let_name n.name s)) _ (in_term f p (with_let_name n.name s) (after_let_name n.name s h))
         (λ t end k. and_kept (bounds_from bs (n.name ∷ earlier) p end) _ (in_bounds bs (n.name ∷ earlier) p end k) (λ bound last l. (l, tt))))
 
--- The same sorts, functions, macros and assertions are declared, and the same commands stand before.
-pub record DeclaresSame (old new : Script) : Type 0 where
-  pub sorts : new.sorts ≡ old.sorts
-  pub functions : new.functions ≡ old.functions
-  pub macros : new.macros ≡ old.macros
+-- The assertions are the same, and the same commands stand before.
+pub record IsStill (old new : Script) : Type 0 where
   pub assertions : new.assertions ≡ old.assertions
   pub has_logic : new.has_logic ≡ old.has_logic
   pub is_checked : new.is_checked ≡ old.is_checked
 
-same_for : (old s after : Script) → after.sorts ≡ s.sorts → after.functions ≡ s.functions → after.macros ≡ s.macros → after.assertions ≡ s.assertions → after.has_logic ≡ s.has_logic → after.is_checked ≡ s.is_checked
-    → DeclaresSame old s → DeclaresSame old after
-same_for old s after a b c d e f h = record {
-  sorts = a ∙ h.sorts;
-  functions = b ∙ h.functions;
-  macros = c ∙ h.macros;
-  assertions = d ∙ h.assertions;
-  has_logic = e ∙ h.has_logic;
-  is_checked = f ∙ h.is_checked;
-}
+pub still_then : (old s after : Script) → after.assertions ≡ s.assertions → after.has_logic ≡ s.has_logic → after.is_checked ≡ s.is_checked → IsStill old s → IsStill old after
+still_then old s after a b c h = record { assertions = a ∙ h.assertions; has_logic = b ∙ h.has_logic; is_checked = c ∙ h.is_checked }
 
--- nothing is declared in a term
-pub same_declared : (f : Form) (p : Place) (s : Script) → DeclaresSame s (term_from f p s).state
-same_declared f p s =
-    (in_term (λ after. DeclaresSame s after) (λ t sc h. same_for s sc (with_term t sc) refl refl refl refl refl refl h) (λ name sc h. same_for s sc (with_let_name name sc) refl refl refl refl refl refl h)
-    (λ n sc e h. same_for s sc (with_named n sc) refl refl refl refl refl refl h) f p s (record { sorts = refl; functions = refl; macros = refl; assertions = refl; has_logic = refl; is_checked = refl })).0
+-- a term asserts nothing
+pub still_after_term : (f : Form) (p : Place) (s : Script) → IsStill s (term_from f p s).state
+still_after_term f p s =
+    (in_term (λ after. IsStill s after) (λ t sc h. still_then s sc (with_term t sc) refl refl refl h) (λ name sc h. still_then s sc (with_let_name name sc) refl refl refl h)
+    (λ n sc e h. still_then s sc (with_named n sc) refl refl refl h) f p s (record { assertions = refl; has_logic = refl; is_checked = refl })).0
 
 -- the name is taken, but it is that of no function, macro or named term
 pub record IsReservedIn (sc : Script) (name : List ℕ) : Type 0 where

@@ -19,6 +19,7 @@ base_of e = record { base = e; own = no_entries }
 meant_still : (s : Table) (v : TermsView) (e : EntriesView) (sc : Script) (name : List ℕ) (o : Option Entry)
     → IsNameMeant s v (own_of e) sc name (option_or (option_map own_entry o) None) → IsNameMeant s v (base_of e) sc name (option_map base_entry o)
 meant_still s v e sc name None is = is
+meant_still s v e sc name (Some (Entry.Function leaf)) is = is
 meant_still s v e sc name (Some Entry.Reserved) is = is
 meant_still s v e sc name (Some (Entry.Macro n)) is = is
 meant_still s v e sc name (Some (Entry.Named n)) is = is

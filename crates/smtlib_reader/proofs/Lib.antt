@@ -8,9 +8,9 @@ pub mod DefinedParameters
 pub mod DefinedBodies
 pub mod DefinedSignatures
 pub mod KeptByReading
+pub mod AgreeingScripts
 pub mod DefinedMacros
 pub mod DefinedCommands
-pub mod AgreeingScripts
 pub mod AssertedTerms
 pub mod DefinedFunctions
 pub mod ScriptItems

@@ -26,7 +26,7 @@ pub record IsUnderWay (l : Lexer) (s : Table) (v : TermsView) (d : Session) (m :
   pub inside : position m ≤ length (source l)
   pub few : most_after (length z.leaves) (source m) (position m) ≤ most_after (length s.leaves) (source l) (position l)
   pub few_sorts : most_after (length z.sorts) (source m) (position m) ≤ most_after (length s.sorts) (source l) (position l)
-  pub base : e.reader.known.base ≡ d.reader.known.base
+  pub base : e.reader.names.known.base ≡ d.reader.names.known.base
 
 pub begins : (l : Lexer) (s : Table) (v : TermsView) (d : Session) → position l ≤ length (source l) → IsUnderWay l s v d l s v d
 begins l s v d inside = record {
@@ -54,7 +54,7 @@ pub record Steps (m : Lexer) (z : Table) (w : TermsView) (e : Session) (o : Lexe
   pub symbols : Keeps z y
   pub keeps : KeepsTerms w x
   pub same_text : source o ≡ source m
-  pub base : f.reader.known.base ≡ e.reader.known.base
+  pub base : f.reader.names.known.base ≡ e.reader.names.known.base
 
 module _ (l : Lexer) (s : Table) (v : TermsView) (d : Session) (m : Lexer) (z : Table) (w : TermsView) (e : Session) (o : Lexer) (y : Table) (x : TermsView) (f : Session) where
   placed_so_far : IsUnderWay l s v d m z w e → Steps m z w e o y x f → (sc : Script) (whole : Outcome Script ⊤) → AreLeft (source l) d.reader.replaces_lets (position l) sc whole → IsSession s v d sc

@@ -76,8 +76,8 @@ pub record AreListed (s : Table) (l : Listed) (xs : List Var) : Type 0 where
 
 -- The reader is ready for a body with these parameters.
 pub record IsReadyForBody (s : Table) (v : TermsView) (r : Reader) (xs : List Var) (sc : Script) : Type 0 where
-  pub script : IsScript s v r.known sc
-  pub scope : IsScope s v r.scope (map itself xs)
+  pub script : IsScript s v r.names.known sc
+  pub scope : IsScope s v r.names.scope (map itself xs)
   pub no_values : r.values ≡ []
   pub no_leaves : r.leaves.items ≡ []
   pub no_frames : r.frames ≡ []
@@ -96,7 +96,7 @@ pub record ReadsBody (s : Table) (old new : TermsView) (r : Reader) (whole : Out
 pub record IsDefining (s : Table) (v : TermsView) (r : Reader) (name : List ℕ) (sc : Script) : Type 0 where
   pub idle : IsReaderIdle s v r sc (top r.replaces_lets)
   pub reserved : IsReservedName s sc name
-  pub no_base : lookup r.known.base.names name ≡ None
+  pub no_base : lookup r.names.known.base.names name ≡ None
 
 -- The macro is defined, or the command has its fault.
 abbrev pub IsDefined : Table → TermsView → Reader → Outcome Script ⊤ → Result Unit ReadFault → Type 0

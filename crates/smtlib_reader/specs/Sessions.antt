@@ -1,5 +1,5 @@
 -- Private. A problem that is being read, command by command.
-use Rattle.std.specs.Prelude.{◌≡◌, Bool, [], map, Contains, Result, Ok, Err, ⊤}
+use Rattle.std.specs.Prelude.{◌≡◌, Bool, [], Contains, Result, Ok, Err, ⊤}
 use Rattle.sym_table.specs.Table.{Table}
 use Rattle.term_model.specs.Terms.{Term}
 use Rattle.term_pool.specs.Views.{TermsView, ReferToAll}
@@ -19,7 +19,6 @@ top replaces_lets = record { scope = []; settings = limited replaces_lets }
 -- what was read of a problem stands for the script
 pub record IsSession (s : Table) (v : TermsView) (d : Session) (sc : Script) : Type 0 where
   pub idle : IsReaderIdle s v d.reader sc (top d.reader.replaces_lets)
-  pub functions : d.functions ≡ map (λ f. f.name) sc.functions
   pub assertions : ReferToAll s v d.assertions.items sc.assertions
   pub has_logic : d.has_logic ≡ sc.has_logic
   pub is_checked : d.is_checked ≡ sc.is_checked

@@ -1,7 +1,8 @@
 //! Declarations of sorts and functions, and the logic (SMT-LIB 2.6, "Commands").
-ghost use Rattle.std.specs.Prelude.{◌≡◌, ◌≤◌, ◌<◌, ◌^◌, ◌+◌, ◌||◌, ◌++◌, [], ◌∷◌, length, position, bytes_eq, false, None, OnOk, IfErr};
+ghost use Rattle.std.specs.Prelude.{◌≡◌, ◌≤◌, ◌<◌, ◌^◌, ◌+◌, ◌||◌, length, false, None, OnOk, IfErr};
 ghost use Rattle.sym_table.specs.Leaf.{function};
 ghost use Rattle.sym_table.specs.Table.{Keeps, IsFunctionName, with_leaf, with_sort_name};
+ghost use Rattle.term_names.specs.Known.{known_entry, PutsKnown};
 ghost use Rattle.term_pool.specs.Views.{KeepsTerms};
 ghost use Rattle.smtlib_reader.specs.CommandShapes.{command_said, IsCommandThere};
 ghost use Rattle.problem_text.specs.Problems.{script_performed};
@@ -10,15 +11,16 @@ ghost use Rattle.smtlib_reader.specs.Sessions.{IsSession, Performs};
 ghost use Rattle.problem_text.specs.Words.{is_among, is_built_in};
 ghost use Rattle.smtlib_reader.specs.declared.commands.Command.TheVariants as command;
 ghost use Rattle.term_names.specs.declared.faults.ReadFault.TheVariants as ReadFault;
+ghost use Rattle.term_names.specs.declared.names.KnownEntry.TheVariants as KnownEntry;
 
 use crate::commands::{FunctionHead, SortHead};
 use crate::session::Session;
 use crate::sorts_at::{sort_at, sorts_at};
-use name_set::NameSet;
 use sexpr::Cause;
 use sym_table::{NameFault, Symbols};
 use term_model::Sort;
 use term_names::faults::ReadFault;
+use term_names::names::Names;
 use term_names::words::is_logic;
 use term_pool::Terms;
 use term_reader::repeats;
@@ -45,7 +47,7 @@ pub(crate) fn set_logic(
     ensures few { length symbols.new.leaves ≤ length symbols.old.leaves + length items.now.nodes }
     ensures few_sorts { length symbols.new.sorts ≤ length symbols.old.sorts + length items.now.nodes }
     ensures replaces { session.new.reader.replaces_lets ≡ session.old.reader.replaces_lets }
-    ensures base { session.new.reader.known.base ≡ session.old.reader.known.base }
+    ensures base { session.new.reader.names.known.base ≡ session.old.reader.names.known.base }
     ensures keeps { KeepsTerms terms.old terms.new }
 {
     let spelled = name_of(items, name);
@@ -78,7 +80,7 @@ pub(crate) fn declare_sort(
     ensures few { length symbols.new.leaves ≤ length symbols.old.leaves + length items.now.nodes }
     ensures few_sorts { length symbols.new.sorts ≤ length symbols.old.sorts + length items.now.nodes }
     ensures replaces { session.new.reader.replaces_lets ≡ session.old.reader.replaces_lets }
-    ensures base { session.new.reader.known.base ≡ session.old.reader.known.base }
+    ensures base { session.new.reader.names.known.base ≡ session.old.reader.names.known.base }
     ensures keeps { KeepsTerms terms.old terms.new }
 {
     let SortHead {
@@ -141,11 +143,11 @@ pub(crate) fn declare_fun(
     ensures few { length symbols.new.leaves ≤ length symbols.old.leaves + length items.now.nodes }
     ensures few_sorts { length symbols.new.sorts ≤ length symbols.old.sorts + length items.now.nodes }
     ensures replaces { session.new.reader.replaces_lets ≡ session.old.reader.replaces_lets }
-    ensures base { session.new.reader.known.base ≡ session.old.reader.known.base }
+    ensures base { session.new.reader.names.known.base ≡ session.old.reader.names.known.base }
     ensures keeps { KeepsTerms terms.old terms.new }
 {
     let spelled = name_of(items, head.name);
-    if is_taken(symbols, &session.reader.known, spelled) {
+    if is_taken(&session.reader.names, spelled) {
         let place = items.node(head.name).token.start;
         return Err(ReadFault::Text(refused(Cause::Repeated, place)));
     }
@@ -153,33 +155,37 @@ pub(crate) fn declare_fun(
     let sort = sort_at(items, head.target, symbols)?;
     add_function(
         symbols,
-        &mut session.functions,
+        &mut session.reader.names,
         spelled,
         &session.sorts,
         sort,
     )
 }
 
-/// Adds a function of a name that is free. Refused for want of memory alone.
+/// Adds a function of a name that is free, and gives the name its entry. Refused for want of memory alone.
 fn add_function(
     symbols: &mut Symbols,
-    functions: &mut NameSet,
+    names: &mut Names<'_>,
     name: &[u8],
     arguments: &[Sort],
     target: Sort,
 ) -> Result<(), ReadFault>
     requires free { (is_built_in name.now ≡ false) × (IsFunctionName symbols.old name.now → ⊥) }
-    requires new { position (bytes_eq name.now) functions.old ≡ None }
+    requires new { known_entry names.old.known name.now ≡ None }
     requires room { length symbols.old.leaves < 2 ^ 30 }
     ensures added { OnOk result (symbols.new ≡ with_leaf symbols.old (function name.now arguments.now target)) }
-    ensures functions { OnOk result (functions.new ≡ functions.old ++ name.now ∷ []) }
+    ensures entry { OnOk result (PutsKnown names.old.known name.now (KnownEntry.Function (length symbols.old.leaves)) names.new.known) }
+    ensures macros { names.new.known.own.macros ≡ names.old.known.own.macros }
+    ensures named { names.new.known.own.named ≡ names.old.known.own.named }
+    ensures base { names.new.known.base ≡ names.old.known.base }
+    ensures scope { names.new.scope ≡ names.old.scope }
     ensures fault { IfErr result (λ fault. fault ≡ ReadFault.Memory) }
     ensures few { length symbols.new.leaves ≤ length symbols.old.leaves + 1 }
     ensures sorts { symbols.new.sorts ≡ symbols.old.sorts }
     ensures keeps { Keeps symbols.old symbols.new }
 {
     match symbols.declare(name, arguments, target) {
-        Ok(_) => functions.add(name)?,
+        Ok(leaf) => names.declare(name, leaf)?,
         Err(NameFault::Memory) => return Err(ReadFault::Memory),
         Err(NameFault::Repeated) => unreachable!(),
     }

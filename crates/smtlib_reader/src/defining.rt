@@ -58,15 +58,15 @@ pub(crate) fn define_fun(
     ensures few { length symbols.new.leaves ≤ length symbols.old.leaves + length items.now.nodes }
     ensures few_sorts { length symbols.new.sorts ≤ length symbols.old.sorts + length items.now.nodes }
     ensures replaces { session.new.reader.replaces_lets ≡ session.old.reader.replaces_lets }
-    ensures base { session.new.reader.known.base ≡ session.old.reader.known.base }
+    ensures base { session.new.reader.names.known.base ≡ session.old.reader.names.known.base }
     ensures keeps { KeepsTerms terms.old terms.new }
 {
     let spelled = name_of(items, head.name);
-    if is_taken(symbols, &session.reader.known, spelled) {
+    if is_taken(&session.reader.names, spelled) {
         let place = items.node(head.name).token.start;
         return Err(ReadFault::Text(refused(Cause::Repeated, place)));
     }
-    session.reader.known.reserve(spelled)?;
+    session.reader.names.reserve(spelled)?;
     let alloc = session.reader.alloc;
     let sort = signature_at(alloc, items, symbols, &mut session.parameters, head)?;
     let new = NewMacro {
@@ -121,14 +121,14 @@ fn define_macro(
     ensures symbols { AddsNoSymbols symbols.old symbols.new }
     ensures few { length symbols.new.leaves ≤ length symbols.old.leaves + length items.now.nodes }
     ensures replaces { reader.new.replaces_lets ≡ reader.old.replaces_lets }
-    ensures base { reader.new.known.base ≡ reader.old.known.base }
+    ensures base { reader.new.names.known.base ≡ reader.old.names.known.base }
     ensures keeps { KeepsTerms terms.old terms.new }
 {
     let listed = enter_parameters(items, symbols, reader, new.parameters)?;
     let value = read_body(items, symbols, terms, reader, body)?;
     expect_sort(items, body, value.sort, new.target)?;
     reader
-        .known
+        .names
         .define(new.name, listed.leaves, listed.sorts, new.target, value)?;
     Ok(())
 }
@@ -154,14 +154,14 @@ fn enter_parameters(
     ensures memory { IfErr result (λ fault. fault ≡ ReadFault.Memory) }
     ensures symbols { AddsNoSymbols symbols.old symbols.new }
     ensures few { length symbols.new.leaves ≤ length symbols.old.leaves + length parameters.now }
-    ensures known { reader.new.known ≡ reader.old.known }
+    ensures known { reader.new.names.known ≡ reader.old.names.known }
     ensures replaces { reader.new.replaces_lets ≡ reader.old.replaces_lets }
 {
     let leaves = list_parameters(items, symbols, &mut reader.values, reader.alloc, parameters)?;
     let sorts = Vec::from_slice(reader.alloc, reader.values.sorts_from(0))?;
     bind(
         symbols,
-        &mut reader.scope,
+        &mut reader.names,
         &leaves,
         &reader.values,
         0,
@@ -240,7 +240,7 @@ fn read_body(
     ensures symbols { AddsNoSymbols symbols.old symbols.new }
     ensures few { length symbols.new.leaves ≤ length symbols.old.leaves + (length items.now.nodes - body) }
     ensures replaces { reader.new.replaces_lets ≡ reader.old.replaces_lets }
-    ensures base { reader.new.known.base ≡ reader.old.known.base }
+    ensures base { reader.new.names.known.base ≡ reader.old.names.known.base }
     ensures keeps { KeepsTerms terms.old terms.new }
 {
     let replaces_lets = reader.replaces_lets;
@@ -248,8 +248,8 @@ fn read_body(
     let outcome = read(items, symbols, terms, reader, body);
     reader.replaces_lets = replaces_lets;
     let value = outcome?;
-    let count = reader.scope.len();
-    unbind(&mut reader.scope, count);
+    let count = reader.names.depth();
+    unbind(&mut reader.names, count);
     Ok(Value {
         plain: true,
         ..value

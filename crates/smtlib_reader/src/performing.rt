@@ -34,7 +34,7 @@ pub(crate) fn perform(
     ensures few { length symbols.new.leaves ≤ length symbols.old.leaves + length items.now.nodes }
     ensures few_sorts { length symbols.new.sorts ≤ length symbols.old.sorts + length items.now.nodes }
     ensures replaces { session.new.reader.replaces_lets ≡ session.old.reader.replaces_lets }
-    ensures base { session.new.reader.known.base ≡ session.old.reader.known.base }
+    ensures base { session.new.reader.names.known.base ≡ session.old.reader.names.known.base }
     ensures keeps { KeepsTerms terms.old terms.new }
 {
     match command {

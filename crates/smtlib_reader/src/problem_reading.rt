@@ -14,15 +14,13 @@ ghost use Rattle.term_names.specs.declared.faults.ReadFault.TheVariants as fault
 
 use crate::script_reading::read_commands;
 use crate::session::Session;
-use name_set::NameSet;
 use problem_text::laws::texts_have_one_reading;
 use sexpr::{Lexer, form};
 use std::alloc::Global;
 use std::mem::replace;
 use sym_table::Symbols;
 use term_names::faults::ReadFault;
-use term_names::known::Known;
-use term_names::scope::Scope;
+use term_names::names::Names;
 use term_names::stacks::Values;
 use term_pool::Terms;
 use term_reader::flags::Flags;
@@ -34,19 +32,17 @@ use term_reader::reader::Reader;
 fn new_session(alloc: Global, replaces_lets: bool) -> Session<'static>
     ensures session { (s : Table) (v : TermsView) → IsNewTable s → IsSession s v result empty_script }
     ensures replaces { result.reader.replaces_lets ≡ replaces_lets }
-    ensures base { result.reader.known.base ≡ no_entries }
+    ensures base { result.reader.names.known.base ≡ no_entries }
 {
     Session {
         reader: Reader {
             alloc,
             replaces_lets,
-            known: Known::new(alloc, None),
-            scope: Scope::new(alloc),
+            names: Names::new(alloc, None),
             values: Values::new(alloc),
             leaves: Vec::new(alloc),
             frames: Frames::new(alloc),
         },
-        functions: NameSet::new(alloc),
         assertions: Vec::new(alloc),
         has_logic: false,
         is_checked: false,
@@ -57,12 +53,11 @@ fn new_session(alloc: Global, replaces_lets: bool) -> Session<'static>
 
 /// The problem that was read, which is taken out of the session.
 fn problem_of(alloc: Global, session: &mut Session<'_>) -> Problem
-    ensures { (s : Table) (v : TermsView) (sc : Script) → IsSession s v session.old sc → session.old.reader.known.base ≡ no_entries → IsProblemOf s v result sc }
+    ensures { (s : Table) (v : TermsView) (sc : Script) → IsSession s v session.old sc → session.old.reader.names.known.base ≡ no_entries → IsProblemOf s v result sc }
 {
-    let known = replace(&mut session.reader.known, Known::new(alloc, None));
-    let functions = replace(&mut session.functions, NameSet::new(alloc));
+    let names = replace(&mut session.reader.names, Names::new(alloc, None));
     let assertions = replace(&mut session.assertions, Vec::new(alloc));
-    Problem::new(known.into_own(), functions, assertions)
+    Problem::new(names.into_own(), assertions)
 }
 
 /// Reads the text of a problem: what it stands for, or its first fault.

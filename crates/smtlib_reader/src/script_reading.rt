@@ -68,7 +68,7 @@ fn read_command(
     ensures few_at_all { length symbols.new.leaves ≤ most_after (length symbols.old.leaves) (at.source lexer.old) (at.position lexer.old) }
     ensures symbols { Keeps symbols.old symbols.new }
     ensures replaces { session.new.reader.replaces_lets ≡ session.old.reader.replaces_lets }
-    ensures base { session.new.reader.known.base ≡ session.old.reader.known.base }
+    ensures base { session.new.reader.names.known.base ≡ session.old.reader.names.known.base }
     ensures keeps { KeepsTerms terms.old terms.new }
 {
     if !next_item(lexer, nodes)? {
@@ -98,7 +98,7 @@ pub(crate) fn read_commands(
     ensures reads { (sc : Script) (whole : Outcome Script ⊤) → AreLeft (at.source lexer.old) session.old.reader.replaces_lets (at.position lexer.old) sc whole → IsSession symbols.old terms.old session.old sc → ReadsAll symbols.new terms.old terms.new session.new whole result }
     ensures few { length symbols.new.leaves ≤ most_after (length symbols.old.leaves) (at.source lexer.old) (at.position lexer.old) }
     ensures symbols { Keeps symbols.old symbols.new }
-    ensures base { session.new.reader.known.base ≡ session.old.reader.known.base }
+    ensures base { session.new.reader.names.known.base ≡ session.old.reader.names.known.base }
     ensures keeps { KeepsTerms terms.old terms.new }
 {
     'commands: loop {

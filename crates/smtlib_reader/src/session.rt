@@ -1,7 +1,6 @@
 //! A problem that is being read.
 
 use crate::parameters::Parameter;
-use name_set::NameSet;
 use pair_pool::Ref;
 use term_model::Sort;
 use term_reader::reader::Reader;
@@ -10,8 +9,6 @@ use term_reader::reader::Reader;
 #[derive(Drop)]
 pub(crate) struct Session<'a> {
     pub(crate) reader: Reader<'a>,
-    /// The names of the declared functions, in their order.
-    pub(crate) functions: NameSet,
     pub(crate) assertions: Vec<Ref>,
     pub(crate) has_logic: bool,
     /// Whether a check stands before.

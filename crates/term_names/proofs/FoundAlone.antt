@@ -10,7 +10,7 @@ use Rattle.term_names.specs.Making.{IsMade}
 use Rattle.problem_text.specs.Names.{Place, Meaning, meaning_applied}
 use Rattle.term_names.specs.declared.entries.Macro as macro
 use Rattle.term_names.specs.declared.entries.Named as named
-use Rattle.term_names.specs.declared.known.Which.{Which}
+use Rattle.term_names.specs.declared.names.Which.{Which}
 use Rattle.term_names.specs.declared.looking_up.Found.{Found}
 use Rattle.term_expansion.specs.declared.values.Value.{Value}
 use Rattle.term_names.proofs.NamedUses.{applied_value}

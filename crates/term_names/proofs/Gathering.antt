@@ -18,8 +18,8 @@ use Rattle.rule_model.specs.Replacement.{free_variables}
 use Rattle.problem_text.specs.Scripts.{Script}
 use Rattle.term_names.specs.Standing.{IsNameMeant}
 use Rattle.term_names.specs.declared.entries.Named as held
-use Rattle.term_names.specs.declared.known.KnownEntry.{KnownEntry}
-use Rattle.term_names.specs.declared.known.Which.{Which}
+use Rattle.term_names.specs.declared.names.KnownEntry.{KnownEntry}
+use Rattle.term_names.specs.declared.names.Which.{Which}
 use Rattle.term_expansion.proofs.Images.{drop-at}
 use Rattle.rule_model.proofs.Freedom.{free_variables-are}
 use Rattle.term_expansion.proofs.SetLemmas.{none_in}

@@ -2,13 +2,13 @@
 use Rattle.std.proofs.Common.{◌≡◌, inl, inr, ◌≢◌, ℕ, ◌+◌, ◌-◌, ◌<◌, ◌≤◌, eqb, zero, suc, Bool, true, false, cond, List, [], ◌∷◌, ◌++◌, length, reverse, find, position, slice_get, get_or, set, Option, Some, None, option_map, refl, sym, ◌∙◌, ap, arith, add-one}
 use Rattle.std.specs.Str.{bytes_eq}
 use Rattle.std.proofs.lemmas.Bool.Decides.{eqb_tells}
-use Rattle.std.proofs.lemmas.List.{length-reverse, reverse-append, reverse-reverse, get_or_default, length-set, length_push, get_or_at, get_or_append_left, get_or-set_same, get_or-set_other}
+use Rattle.std.proofs.lemmas.List.{length-reverse, reverse-append, reverse-reverse, length-set, length_push, get_or_at, get_or_append_left, get_or-set_same, get_or-set_other}
 use Rattle.std.proofs.lemmas.List.Quantifiers.{position-Some}
 use Rattle.std.proofs.lemmas.Option.{slice_get-get_or, slice_get_read, get_or_from_slice_get}
 use Rattle.std.proofs.lemmas.Slice.Eq.{bytes_eq-Decides}
-use Rattle.term_names.specs.declared.scope.Held.{Held}
+use Rattle.term_names.specs.declared.names.Held.{Held}
 use Rattle.name_set.specs.Names.{StandOnce}
-use Rattle.term_names.specs.Scope.{Scoped}
+use Rattle.term_names.specs.Scope.{Scoped, bound_of}
 use Rattle.term_names.specs.Held.{scoped_held, scoped, innermost_held, AreHeld, IsHeldLinked}
 use Rattle.term_names.specs.NameNumbers.{IsNumbered}
 
@@ -200,25 +200,17 @@ module _ (names : List (List ℕ)) (firsts : List ℕ) (held : List Held) (h : H
     ];
   }
 
-module _ (names : List (List ℕ)) (firsts : List ℕ) (items : List Held) (k : ℕ) (name : List ℕ) (place : ℕ) (apart : StandOnce names) (number : position (bytes_eq name) names ≡ Some k) (l : IsHeldLinked names firsts (reverse items)) where
-  pub number-within : k < length firsts
-  number-within =
-      let at = (position-Some (bytes_eq name) names k [] number).0 in
-      let one_each = l.one_each in
-      omega arith
+-- the place that is kept for a name
+module _ (names : List (List ℕ)) (firsts : List ℕ) (items : List Held) (k place : ℕ) (l : IsHeldLinked names firsts (reverse items)) (within : k < length names) (read : slice_get firsts k ≡ Some place) where
+  pub place-innermost : place ≡ innermost_held k (reverse items)
+  place-innermost = sym (get_or_from_slice_get firsts k place 0 read) ∙ l.tops k within
 
-  -- the place that is read
-  pub place-innermost : place ≡ get_or firsts k place → place ≡ innermost_held k (reverse items)
-  place-innermost read =
-      read ∙ get_or_default firsts k place 0 number-within ∙ l.tops k (position-Some (bytes_eq name) names k [] number).0
-
-  pub place-within : place ≡ get_or firsts k place → place ≤ length items
-  place-within read =
-      omega (arith, innermost-within k (reverse items), length-reverse items, place-innermost read)
+  pub place-within : place ≤ length items
+  place-within = omega (arith, innermost-within k (reverse items), length-reverse items, place-innermost)
 
   -- the variable that is found
-  pub find-place : place ≡ get_or firsts k place → option_map (λ e. e.bound) (find (is_named name) (scoped names (reverse items))) ≡ option_map (λ h. h.bound) (place_in items place)
-  find-place read =
+  pub find-place : (name : List ℕ) → StandOnce names → position (bytes_eq name) names ≡ Some k → bound_of (scoped names (reverse items)) name ≡ option_map (λ h. h.bound) (place_in items place)
+  find-place name apart number =
       ap (option_map (λ (e : Scoped). e.bound)) (find-scoped names k name (reverse items) apart number l.outer ∙ ap (option_map (scoped_held names)) found)
       ∙ go (place_in items place)
     where
@@ -226,11 +218,15 @@ module _ (names : List (List ℕ)) (firsts : List ℕ) (items : List Held) (k : 
       found =
           find-innermost k (reverse items)
           ∙ ap (λ hs. place_in hs (innermost_held k (reverse items))) (reverse-reverse items)
-          ∙ ap (place_in items) (sym (place-innermost read))
+          ∙ ap (place_in items) (sym place-innermost)
 
       go : (o : Option Held) → option_map (λ (e : Scoped). e.bound) (option_map (scoped_held names) o) ≡ option_map (λ (h : Held). h.bound) o
       go None = refl
       go (Some h) = refl
+
+-- a name without a number is that of no variable
+pub bound-nowhere : (names : List (List ℕ)) (firsts : List ℕ) (items : List Held) (name : List ℕ) → IsHeldLinked names firsts (reverse items) → StandOnce names → position (bytes_eq name) names ≡ None → bound_of (scoped names (reverse items)) name ≡ None
+bound-nowhere names firsts items name l apart none = ap (option_map (λ (e : Scoped). e.bound)) (find-no_number names name (reverse items) apart none l.outer)
 
 -- the place before one that is counted from 1
 pub place_in-before : (items : List Held) (place : ℕ) (h : Held) → place ≢ 0 → place ≤ length items → h ≡ get_or items (place - 1) h → place_in items place ≡ Some h

@@ -1,5 +1,6 @@
 -- The variables of a let come in scope.
-use Rattle.std.proofs.Common.{◌≡◌, ℕ, zero, suc, ◌+◌, ◌-◌, ◌<◌, ◌≤◌, List, [], ◌∷◌, ◌++◌, length, length-drop, map, drop, get_or, slice_get, Bool, true, false, if◌then◌else◌, Some, refl, ap, subst, arith}
+use Rattle.std.proofs.Common.{◌≡◌, ℕ, zero, suc, ◌+◌, ◌-◌, ◌<◌, ◌≤◌, List, [], ◌∷◌, ◌++◌, length, length-drop, map, drop, get_or, slice_get, Bool, true, false, if◌then◌else◌, Some, Result, Ok, Err, refl, ap, subst, arith}
+use Rattle.std.specs.Prelude.{OnOk}
 use Rattle.std.proofs.lemmas.List.{get_or_default}
 use Rattle.pair_pool.specs.Trees.{leaf}
 use Rattle.pair_pool.specs.Views.{Knows}
@@ -11,7 +12,8 @@ use Rattle.term_pool.specs.Views.{TermsView}
 use Rattle.rule_model.specs.Heights.{height}
 use Rattle.term_names.specs.InScope.{IsScope, AreValuesBound}
 use Rattle.problem_text.specs.Names.{Bound, itself}
-use Rattle.term_names.specs.Scope.{Scoped}
+use Rattle.term_names.specs.Scope.{Scoped, NamesView}
+use Rattle.sym_table.specs.declared.faults.Memory.{Memory}
 use Rattle.term_expansion.specs.Values.{IsValue}
 use Rattle.term_expansion.specs.declared.values.Value.{Value}
 use Rattle.term_expansion.proofs.Images.{drop-at}
@@ -88,3 +90,8 @@ bind-next s v replaces ks cs from at c entry old new above within is more before
     subst (λ n. drop (from + (at - 1)) cs ≡ c ∷ drop n cs) next (drop-item cs (from + (at - 1)) c is) in
     next-scope s v replaces k (drop at ks) c (drop (from + at) cs) entry old new more before bs ps
     (subst (λ zs. AreValuesBound s v (k ∷ drop at ks) zs bs) values (subst (λ js. AreValuesBound s v js (drop (from + (at - 1)) cs) bs) leaves h)) g
+
+-- where a variable was put in scope, the scope has one more
+pub one_inner : (result : Result (Unit {0}) Memory) (old new : NamesView) (e : Scoped) → OnOk result (new ≡ record old { scope = e ∷ old.scope }) → OnOk result ((x : Scoped) × (new.scope ≡ x ∷ old.scope))
+one_inner (Ok u) old new e h = (e, ap (λ (n : NamesView). n.scope) h)
+one_inner (Err f) old new e h = tt

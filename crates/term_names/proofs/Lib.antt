@@ -1,11 +1,11 @@
 pub mod ValueParts
 pub mod NameEntries
+pub mod PutEntries
 pub mod Positions
 pub mod HeldVariables
 pub mod Operators
 pub mod Gathering
 pub mod NoVariables
-pub mod SymbolNames
 pub mod ScopeNames
 pub mod Meant
 pub mod OperatorNames

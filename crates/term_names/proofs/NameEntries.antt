@@ -1,136 +1,136 @@
 -- The entries of names, by the numbers of the names and as contracts see them.
-use Rattle.std.proofs.Common.{◌≡◌, ℕ, suc, ◌≤◌, ◌<◌, Bool, true, false, cond, List, [], ◌∷◌, ◌++◌, ◌+◌, length, get_or, set, zip, eqb, position, slice_get, Option, Some, None, IfSome, IsSome, refl, sym, ◌∙◌, ap, subst, arith}
+use Rattle.std.proofs.Common.{◌≡◌, ◌≢◌, ℕ, suc, ◌≤◌, ◌<◌, Bool, true, false, cond, List, [], ◌∷◌, ◌++◌, ◌+◌, length, get_or, set, eqb, position, slice_get, Option, Some, None, IfSome, refl, sym, ◌∙◌, ap, subst, arith}
 use Rattle.std.specs.Str.{bytes_eq}
-use Rattle.std.proofs.lemmas.List.{length_push}
+use Rattle.std.proofs.lemmas.List.{length_push, length-set, get_or-set_same, get_or-set_other}
 use Rattle.std.proofs.lemmas.List.Quantifiers.{position-Some}
 use Rattle.std.proofs.lemmas.Option.{slice_get-get_or, same_Some}
 use Rattle.std.proofs.lemmas.Slice.Eq.{bytes_eq-Decides}
-use Rattle.indexmap.proofs.ReorderLemmas.{zip_push}
+use Rattle.name_set.specs.Names.{StandOnce}
 use Rattle.term_names.specs.declared.entries.Entry.{Entry}
-use Rattle.term_names.specs.declared.entries.Entry.TheVariants.{Reserved, Macro, Named}
+use Rattle.term_names.specs.declared.entries.Entry.TheVariants.{Function, Reserved, Macro, Named}
 use Rattle.term_names.specs.Entries.{EntriesView, lookup, Puts, IsThere}
 use Rattle.term_names.specs.EntryTables.{AreThere, AreTableNumbers, number_given}
+use Rattle.term_names.specs.NameTable.{entries_in}
+use Rattle.term_names.proofs.HeldVariables.{at_place}
 use Rattle.term_names.proofs.Positions.{next_place, position_cons}
 
--- the entry of a name with a number stands at that place
-lookup_at : (names : List (List ℕ)) (es : List Entry) (name : List ℕ) (k : ℕ) (e : Entry) → position (bytes_eq name) names ≡ Some k → slice_get es k ≡ Some e → lookup (zip names es) name ≡ Some e
-lookup_at [] es name k e p g = cc
-lookup_at (n ∷ names) [] name k e p g = cc
-lookup_at (n ∷ names) (x ∷ es) name k e p g =
-    go (bytes_eq name n) (position (bytes_eq name) names) (λ j. lookup_at names es name j e) refl refl (sym (position_cons (bytes_eq name) n names) ∙ p)
-  where
-    go : (b : Bool) (o : Option ℕ) → ((j : ℕ) → position (bytes_eq name) names ≡ Some j → slice_get es j ≡ Some e → lookup (zip names es) name ≡ Some e)
-        → bytes_eq name n ≡ b → position (bytes_eq name) names ≡ o → next_place b o ≡ Some k → lookup (zip (n ∷ names) (x ∷ es)) name ≡ Some e
-    go true o rest d f h =
-        let here : k ≡ 0 = cc in
-        rw d (subst (λ i. slice_get (x ∷ es) i ≡ Some e) here g)
-    go false None rest d f h = cc
-    go false (Some j) rest d f h =
-        let later : k ≡ suc j = cc in
-        rw d (rest j f (subst (λ i. slice_get (x ∷ es) i ≡ Some e) later g))
-
--- the entry that is read at the number of a name is the name's
-pub lookup_found : (names : List (List ℕ)) (es : List Entry) (name : List ℕ) (k : ℕ) (e : Entry) → length es ≡ length names → position (bytes_eq name) names ≡ Some k → e ≡ get_or es k e → lookup (zip names es) name ≡ Some e
-lookup_found names es name k e l p g =
-    let place = position-Some (bytes_eq name) names k [] p in
-    lookup_at names es name k e p (slice_get-get_or es k e (omega (arith, l, place.0)) ∙ ap Some (sym g))
+-- a new name that means nothing yet has no entry
+pub same_entries : (names : List (List ℕ)) (es : List (Option Entry)) (name : List ℕ) → length es ≡ length names → entries_in (names ++ name ∷ []) (es ++ None ∷ []) ≡ entries_in names es
+same_entries [] [] name l = refl
+same_entries [] (o ∷ es) name l = absurd (omega arith)
+same_entries (n ∷ names) [] name l = absurd (omega arith)
+same_entries (n ∷ names) (None ∷ es) name l = same_entries names es name (omega (arith, l))
+same_entries (n ∷ names) (Some e ∷ es) name l = ap (λ xs. (n, e) ∷ xs) (same_entries names es name (omega (arith, l)))
 
 -- a name without a number has no entry
-pub lookup_nowhere : (names : List (List ℕ)) (es : List Entry) (name : List ℕ) → position (bytes_eq name) names ≡ None → lookup (zip names es) name ≡ None
+pub lookup_nowhere : (names : List (List ℕ)) (es : List (Option Entry)) (name : List ℕ) → position (bytes_eq name) names ≡ None → lookup (entries_in names es) name ≡ None
 lookup_nowhere [] es name p = refl
 lookup_nowhere (n ∷ names) [] name p = refl
 lookup_nowhere (n ∷ names) (x ∷ es) name p =
-    go (bytes_eq name n) (position (bytes_eq name) names) (λ f. lookup_nowhere names es name f) refl refl (sym (position_cons (bytes_eq name) n names) ∙ p)
+    go (bytes_eq name n) (position (bytes_eq name) names) x (λ f. lookup_nowhere names es name f) refl refl (sym (position_cons (bytes_eq name) n names) ∙ p)
   where
-    go : (b : Bool) (o : Option ℕ) → (position (bytes_eq name) names ≡ None → lookup (zip names es) name ≡ None)
-        → bytes_eq name n ≡ b → position (bytes_eq name) names ≡ o → next_place b o ≡ None → lookup (zip (n ∷ names) (x ∷ es)) name ≡ None
-    go true o rest d f h = cc
-    go false None rest d f h = rw d (rest f)
-    go false (Some j) rest d f h = cc
+    go : (b : Bool) (o : Option ℕ) (x : Option Entry) → (position (bytes_eq name) names ≡ None → lookup (entries_in names es) name ≡ None)
+        → bytes_eq name n ≡ b → position (bytes_eq name) names ≡ o → next_place b o ≡ None → lookup (entries_in (n ∷ names) (x ∷ es)) name ≡ None
+    go true o x rest d f h = cc
+    go false None None rest d f h = rest f
+    go false None (Some e) rest d f h = rw d (rest f)
+    go false (Some j) x rest d f h = cc
 
--- a name with an entry has a number
-pub numbered : (names : List (List ℕ)) (es : List Entry) (name : List ℕ) (e : Entry) → lookup (zip names es) name ≡ Some e → IsSome (position (bytes_eq name) names)
-numbered names es name e l = go (position (bytes_eq name) names) refl
+-- where each name stands once, the first stands nowhere else, and each later one once
+first_alone : (n : List ℕ) (names : List (List ℕ)) (name : List ℕ) → StandOnce (n ∷ names) → bytes_eq name n ≡ true → position (bytes_eq name) names ≡ None
+first_alone n names name once e = go (position (bytes_eq name) names) refl
   where
-    go : (o : Option ℕ) → position (bytes_eq name) names ≡ o → IsSome o
-    go None p = let nowhere = lookup_nowhere names es name p in cc
-    go (Some k) p = refl
+    first : position (bytes_eq name) (n ∷ names) ≡ Some 0
+    first = position_cons (bytes_eq name) n names ∙ ap (λ b. next_place b (position (bytes_eq name) names)) e
 
--- a name without an entry has none
-pub unnumbered : (names : List (List ℕ)) (es : List Entry) (name : List ℕ) → length es ≡ length names → lookup (zip names es) name ≡ None → position (bytes_eq name) names ≡ None
-unnumbered [] es name l h = refl
-unnumbered (n ∷ names) [] name l h = absurd (omega arith)
-unnumbered (n ∷ names) (x ∷ es) name l h = go (bytes_eq name n) (λ f. unnumbered names es name (omega (arith, l)) f) refl h
+    go : (o : Option ℕ) → position (bytes_eq name) names ≡ o → o ≡ None
+    go None f = refl
+    go (Some j) f =
+        let later : position (bytes_eq name) (n ∷ names) ≡ Some (suc j) = once (suc j) name (at_place names j name f) in
+        let here = first in
+        cc
+
+later_once : (n : List ℕ) (names : List (List ℕ)) → StandOnce (n ∷ names) → StandOnce names
+later_once n names once k name e =
+    go (bytes_eq name n) (position (bytes_eq name) names) (sym (position_cons (bytes_eq name) n names) ∙ once (suc k) name e)
   where
-    go : (b : Bool) → (lookup (zip names es) name ≡ None → position (bytes_eq name) names ≡ None)
-        → bytes_eq name n ≡ b → cond b (Some x) (lookup (zip names es) name) ≡ None → position (bytes_eq name) (n ∷ names) ≡ None
-    go true rest d f = cc
-    go false rest d f = position_cons (bytes_eq name) n names ∙ ap (λ b. next_place b (position (bytes_eq name) names)) d ∙ ap (next_place false) (rest f)
+    go : (b : Bool) (o : Option ℕ) → next_place b o ≡ Some (suc k) → o ≡ Some k
+    go true o h = cc
+    go false None h = cc
+    go false (Some j) h = cc
 
--- the first name is the one that is looked for, or it is not
-module _ (es more : List (List ℕ × Entry)) (key first other : List ℕ) (v w : Entry) where
-  replaced_first : first ≡ key → cond (bytes_eq other first) (Some v) (lookup es other) ≡ cond (bytes_eq other key) (Some v) (cond (bytes_eq other first) (Some w) (lookup es other))
-  replaced_first e = rw e (go (bytes_eq other key))
+-- the entry of a name with a number stands at that place
+pub lookup_at : (names : List (List ℕ)) (es : List (Option Entry)) (name : List ℕ) (k : ℕ) (o : Option Entry) → StandOnce names → position (bytes_eq name) names ≡ Some k → slice_get es k ≡ Some o → lookup (entries_in names es) name ≡ o
+lookup_at [] es name k o once p g = cc
+lookup_at (n ∷ names) [] name k o once p g = cc
+lookup_at (n ∷ names) (x ∷ es) name k o once p g =
+    go (bytes_eq name n) (position (bytes_eq name) names) x (λ j. lookup_at names es name j o (later_once n names once)) refl refl (sym (position_cons (bytes_eq name) n names) ∙ p) g
+  where
+    go : (b : Bool) (q : Option ℕ) (x : Option Entry) → ((j : ℕ) → position (bytes_eq name) names ≡ Some j → slice_get es j ≡ Some o → lookup (entries_in names es) name ≡ o)
+        → bytes_eq name n ≡ b → position (bytes_eq name) names ≡ q → next_place b q ≡ Some k → slice_get (x ∷ es) k ≡ Some o → lookup (entries_in (n ∷ names) (x ∷ es)) name ≡ o
+    go true q None rest d f h g =
+        let here : k ≡ 0 = cc in
+        lookup_nowhere names es name (first_alone n names name once d) ∙ same_Some _ _ (subst (λ i. slice_get (None ∷ es) i ≡ Some o) here g)
+    go true q (Some e) rest d f h g =
+        let here : k ≡ 0 = cc in
+        rw d (same_Some _ _ (subst (λ i. slice_get (Some e ∷ es) i ≡ Some o) here g))
+    go false None x rest d f h g = cc
+    go false (Some j) None rest d f h g =
+        let later : k ≡ suc j = cc in
+        rest j f (subst (λ i. slice_get (None ∷ es) i ≡ Some o) later g)
+    go false (Some j) (Some e) rest d f h g =
+        let later : k ≡ suc j = cc in
+        rw d (rest j f (subst (λ i. slice_get (Some e ∷ es) i ≡ Some o) later g))
+
+-- the entry that is read at the number of a name is the name's
+pub lookup_found : (names : List (List ℕ)) (es : List (Option Entry)) (name : List ℕ) (k : ℕ) (o : Option Entry) → StandOnce names → length es ≡ length names → position (bytes_eq name) names ≡ Some k → o ≡ get_or es k o → lookup (entries_in names es) name ≡ o
+lookup_found names es name k o once l p g =
+    let place = position-Some (bytes_eq name) names k [] p in
+    lookup_at names es name k o once p (slice_get-get_or es k o (omega (arith, l, place.0)) ∙ ap Some (sym g))
+
+-- what is put at the number of a name
+module _ (names : List (List ℕ)) (es : List (Option Entry)) (name : List ℕ) (k : ℕ) (e : Entry) (once : StandOnce names) (l : length es ≡ length names) (here : position (bytes_eq name) names ≡ Some k) where
+  below : k < length es
+  below =
+      let place = position-Some (bytes_eq name) names k [] here in
+      omega (arith, l, place.0)
+
+  set_here : slice_get (set es k (Some e)) k ≡ Some (Some e)
+  set_here =
+      slice_get-get_or (set es k (Some e)) k None (let same = length-set es k (Some e) in let b = below in omega (arith, same))
+      ∙ ap Some (get_or-set_same es k (Some e) None below)
+
+  set_elsewhere : (j : ℕ) → j ≢ k → j < length es → slice_get (set es k (Some e)) j ≡ Some (get_or es j None)
+  set_elsewhere j apart within =
+      slice_get-get_or (set es k (Some e)) j None (let same = length-set es k (Some e) in omega (arith, same))
+      ∙ ap Some (get_or-set_other es k j (Some e) None apart)
+
+  pub Puts-entered : Puts (entries_in names es) name e (entries_in names (set es k (Some e)))
+  Puts-entered other = by_name (bytes_eq other name) refl
     where
-      go : (b : Bool) → cond b (Some v) (lookup es other) ≡ cond b (Some v) (cond b (Some w) (lookup es other))
-      go true = refl
-      go false = refl
+      elsewhere : bytes_eq other name ≡ false → (o : Option ℕ) → position (bytes_eq other) names ≡ o → lookup (entries_in names (set es k (Some e))) other ≡ lookup (entries_in names es) other
+      elsewhere d None f = lookup_nowhere names (set es k (Some e)) other f ∙ sym (lookup_nowhere names es other f)
+      elsewhere d (Some j) f =
+          let place = position-Some (bytes_eq other) names j [] f in
+          let within : j < length es = omega (arith, l, place.0) in
+          lookup_at names (set es k (Some e)) other j (get_or es j None) once f (set_elsewhere j apart within)
+          ∙ sym (lookup_at names es other j (get_or es j None) once f (slice_get-get_or es j None within))
+        where
+          apart : j ≢ k
+          apart g =
+              let same : other ≡ name = same_Some _ _ (sym (at_place names j other f) ∙ ap (slice_get names) g ∙ at_place names k name here) in
+              let equal = (bytes_eq-Decides other name).1 same in
+              absurd cc
 
-  kept_first : bytes_eq key first ≡ false → lookup more other ≡ cond (bytes_eq other key) (Some v) (lookup es other) → cond (bytes_eq other first) (Some w) (lookup more other) ≡ cond (bytes_eq other key) (Some v) (cond (bytes_eq other first) (Some w) (lookup es other))
-  kept_first apart rest = go (bytes_eq other first) (bytes_eq other key) refl refl rest
-    where
-      go : (a b : Bool) → bytes_eq other first ≡ a → bytes_eq other key ≡ b → lookup more other ≡ cond b (Some v) (lookup es other) → cond a (Some w) (lookup more other) ≡ cond b (Some v) (cond a (Some w) (lookup es other))
-      go true true p q h =
-          let one = (bytes_eq-Decides other first).0 p in
-          let two = (bytes_eq-Decides other key).0 q in
-          let both : key ≡ first = sym two ∙ one in
-          let here = (bytes_eq-Decides key first).1 both in
-          cc
-      go true false p q h = refl
-      go false true p q h = h
-      go false false p q h = h
-
--- what a new name puts, last
-Puts-push : (es : List (List ℕ × Entry)) (name : List ℕ) (v : Entry) → lookup es name ≡ None → Puts es name v (es ++ (name, v) ∷ [])
-Puts-push [] name v new other = refl
-Puts-push (e ∷ es) name v new other = go (bytes_eq name e.0) (λ h. Puts-push es name v h other) refl new
-  where
-    go : (b : Bool) → (lookup es name ≡ None → lookup (es ++ (name, v) ∷ []) other ≡ cond (bytes_eq other name) (Some v) (lookup es other))
-        → bytes_eq name e.0 ≡ b → cond b (Some e.1) (lookup es name) ≡ None → lookup (e ∷ es ++ (name, v) ∷ []) other ≡ cond (bytes_eq other name) (Some v) (lookup (e ∷ es) other)
-    go true rest d h = cc
-    go false rest d h = kept_first es (es ++ (name, v) ∷ []) name e.0 other v e.1 d (rest h)
-
--- the same where the name gets the next number
-pub Puts-new : (names more : List (List ℕ)) (es entries : List Entry) (name : List ℕ) (v : Entry) → length es ≡ length names → lookup (zip names es) name ≡ None
-    → more ≡ names ++ name ∷ [] → entries ≡ es ++ v ∷ [] → Puts (zip names es) name v (zip more entries)
-Puts-new names more es entries name v l new a b =
-    rw (a, b) (subst (Puts (zip names es) name v) (sym (zip_push names es name v l)) (Puts-push (zip names es) name v new))
-
-pub length_put : (names more : List (List ℕ)) (es entries : List Entry) (name : List ℕ) (v : Entry) → length es ≡ length names → more ≡ names ++ name ∷ [] → entries ≡ es ++ v ∷ [] → length entries ≡ length more
-length_put names more es entries name v l a b = rw (a, b) (length_push es v ∙ ap (λ n. n + 1) l ∙ sym (length_push names name))
-
--- what is put at the place of a name
-pub Puts-set : (names : List (List ℕ)) (es : List Entry) (name : List ℕ) (k : ℕ) (v : Entry) → position (bytes_eq name) names ≡ Some k → k < length es → Puts (zip names es) name v (zip names (set es k v))
-Puts-set [] es name k v p l other = cc
-Puts-set (n ∷ names) [] name k v p l other = absurd (omega arith)
-Puts-set (n ∷ names) (e ∷ es) name k v p l other =
-    go (bytes_eq name n) (position (bytes_eq name) names) (λ j f m. Puts-set names es name j v f m other) refl refl (sym (position_cons (bytes_eq name) n names) ∙ p)
-  where
-    go : (b : Bool) (o : Option ℕ) → ((j : ℕ) → position (bytes_eq name) names ≡ Some j → j < length es → lookup (zip names (set es j v)) other ≡ cond (bytes_eq other name) (Some v) (lookup (zip names es) other))
-        → bytes_eq name n ≡ b → position (bytes_eq name) names ≡ o → next_place b o ≡ Some k
-        → lookup (zip (n ∷ names) (set (e ∷ es) k v)) other ≡ cond (bytes_eq other name) (Some v) (lookup (zip (n ∷ names) (e ∷ es)) other)
-    go true o rest d f h =
-        let here : 0 ≡ k = cc in
-        subst (λ i. lookup (zip (n ∷ names) (set (e ∷ es) i v)) other ≡ cond (bytes_eq other name) (Some v) (lookup (zip (n ∷ names) (e ∷ es)) other)) here
-        (replaced_first (zip names es) [] name n other v e (sym ((bytes_eq-Decides name n).0 d)))
-    go false None rest d f h = cc
-    go false (Some j) rest d f h =
-        let later : suc j ≡ k = cc in
-        subst (λ i. lookup (zip (n ∷ names) (set (e ∷ es) i v)) other ≡ cond (bytes_eq other name) (Some v) (lookup (zip (n ∷ names) (e ∷ es)) other)) later
-        (kept_first (zip names es) (zip names (set es j v)) name n other v e d (rest j f (omega (arith, later, l))))
+      by_name : (b : Bool) → bytes_eq other name ≡ b → lookup (entries_in names (set es k (Some e))) other ≡ cond b (Some e) (lookup (entries_in names es) other)
+      by_name true d =
+          let same : other ≡ name = (bytes_eq-Decides other name).0 d in
+          ap (lookup (entries_in names (set es k (Some e)))) same ∙ lookup_at names (set es k (Some e)) name k (Some e) once here set_here
+      by_name false d = elsewhere d (position (bytes_eq other) names) refl
 
 -- entries stay where more macros and named terms come
 pub IsThere-more : (v w : EntriesView) (e : Entry) → length v.macros ≤ length w.macros → length v.named ≤ length w.named → IsThere v e → IsThere w e
+IsThere-more v w (Function leaf) m n h = tt
 IsThere-more v w Reserved m n h = tt
 IsThere-more v w (Macro k) m n h = omega arith
 IsThere-more v w (Named k) m n h = omega arith

@@ -1,22 +1,17 @@
 -- Nothing that a script declares or names has the name of an operator.
-use Rattle.std.proofs.Common.{◌≡◌, ℕ, Bool, true, false, cond, ◌||◌, inl, inr, List, [], ◌∷◌, map, find, drop, Option, Some, None, option_map, ap, refl, sym, ◌∙◌}
+use Rattle.std.proofs.Common.{◌≡◌, ℕ, Bool, true, false, cond, ◌||◌, List, [], ◌∷◌, map, find, drop, Option, Some, None, ap, refl, sym, ◌∙◌}
 use Rattle.std.specs.Prelude.{bytes_eq}
-use Rattle.std.specs.Option.{option_or}
 use Rattle.std.proofs.lemmas.List.Folds.{list_any-append}
 use Rattle.std.proofs.lemmas.Slice.Eq.{bytes_eq-Decides}
-use Rattle.sym_table.specs.Leaf as leaf
-use Rattle.sym_table.specs.Table.{Table, IsLeaf}
+use Rattle.sym_table.specs.Table.{Table}
 use Rattle.sym_table.specs.Words.{operator_symbol, built_in_words}
 use Rattle.term_model.specs.declared.symbols.Op.{Op}
 use Rattle.term_pool.specs.Views.{TermsView}
 use Rattle.term_names.specs.Known.{KnownView, known_entry}
-use Rattle.term_names.specs.Lookups.{IsEntryMeant, IsSymbolMeant, meaning_of_symbol}
 use Rattle.term_names.specs.Standing.{HasNoEntry, IsNoFunction, IsNameMeant, IsScript}
-use Rattle.problem_text.specs.Names.{Place, function, operator}
 use Rattle.problem_text.specs.Scripts.{Script}
 use Rattle.problem_text.specs.Words.{is_among, is_built_in, operators, operator_named}
-use Rattle.term_names.specs.declared.known.KnownEntry.{KnownEntry}
-use Rattle.term_names.proofs.Meant.{without_entry}
+use Rattle.term_names.specs.declared.names.KnownEntry.{KnownEntry}
 
 or_true : (a b : Bool) → b ≡ true → (a || b) ≡ true
 or_true true b h = refl
@@ -42,22 +37,12 @@ operator_is_built_in name op e =
 -- a name that is not taken has no entry, and no function has it
 untaken : (s : Table) (v : TermsView) (k : KnownView) (sc : Script) (name : List ℕ) (o : Option KnownEntry) → IsNameMeant s v k sc name o → is_among sc.taken name ≡ false
     → HasNoEntry sc name × IsNoFunction s sc name
-untaken s v k sc name None (none, inl f) free = absurd (let taken = f.taken in cc)
-untaken s v k sc name None (none, inr f) free = (none, f.no_function)
+untaken s v k sc name None (none, f) free = (none, f.no_function)
+untaken s v k sc name (Some (KnownEntry.Function n)) f free = absurd (let taken = f.function.taken in cc)
 untaken s v k sc name (Some KnownEntry.Reserved) r free = absurd (let taken = r.taken in cc)
 untaken s v k sc name (Some (KnownEntry.Macro w)) m free = absurd (let taken = m.taken in cc)
 untaken s v k sc name (Some (KnownEntry.Named w)) n free = absurd (let taken = n.taken in cc)
 
-module _ (s : Table) (v : TermsView) (k : KnownView) (sc : Script) (name : List ℕ) (op : Op) (is : IsScript s v k sc) (named : operator_named name ≡ Some op) where
-  nothing_else : HasNoEntry sc name × IsNoFunction s sc name
-  nothing_else = untaken s v k sc name (known_entry k name) (is.names name) (is.built_in name (operator_is_built_in name op named))
-
-  pub operator_has_no_entry : (p : Place) → IsEntryMeant s v k sc p name None
-  operator_has_no_entry p = (without_entry p sc name nothing_else.0, inr nothing_else.1)
-
-  pub operator_meant : (n : ℕ) → IsLeaf s n (leaf.operator op) → IsSymbolMeant s (Some n) (meaning_of_symbol sc name)
-  operator_meant n here = (
-    operator op,
-    ap (λ o. option_or (option_map function o) (option_map operator (operator_named name))) nothing_else.1.script ∙ ap (option_map operator) named,
-    inr (op, here, refl),
-  )
+pub operator_is_alone : (s : Table) (v : TermsView) (k : KnownView) (sc : Script) (name : List ℕ) (op : Op) → IsScript s v k sc → operator_named name ≡ Some op → HasNoEntry sc name × IsNoFunction s sc name
+operator_is_alone s v k sc name op is named =
+    untaken s v k sc name (known_entry k name) (is.names name) (is.built_in name (operator_is_built_in name op named))

@@ -1,11 +1,11 @@
--- Public. The names of macros and of named terms, with what they stand for.
+-- Public. What names are those of: functions, macros and named terms.
 use Rattle.std.specs.Prelude.{◌≡◌, ℕ, ◌<◌, List, [], ◌∷◌, length, if◌then◌else◌, bytes_eq, Option, Some, None}
 use Rattle.term_names.specs.declared.entries.Entry.{Entry}
-use Rattle.term_names.specs.declared.entries.Entry.TheVariants.{Reserved, Macro, Named}
+use Rattle.term_names.specs.declared.entries.Entry.TheVariants.{Function, Reserved, Macro, Named}
 use Rattle.term_names.specs.declared.entries.Macro as macro
 use Rattle.term_names.specs.declared.entries.Named as named
 
--- each name with its entry, and the macros and the named terms by their numbers
+-- each name that has an entry with that entry, and the macros and the named terms by their numbers
 pub record EntriesView : Type 0 where
   pub names : List (List ℕ × Entry)
   pub macros : List macro.Macro
@@ -25,6 +25,7 @@ Puts old name entry new = (other : List ℕ) → lookup new other ≡ (if bytes_
 
 -- the number of the entry is that of a macro or of a named term
 abbrev pub IsThere : EntriesView → Entry → Type 0
+IsThere v (Function leaf) = Unit {0}
 IsThere v Reserved = Unit {0}
 IsThere v (Macro n) = n < length v.macros
 IsThere v (Named n) = n < length v.named

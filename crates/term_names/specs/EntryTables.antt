@@ -1,14 +1,14 @@
--- Private. The names and their entries as the code holds them.
-use Rattle.std.specs.Prelude.{◌≡◌, ℕ, ◌<◌, List, zip, length, nat_eq, Option, Some, IfSome}
+-- Private. What a table of names holds of functions, macros and named terms.
+use Rattle.std.specs.Prelude.{◌≡◌, ℕ, ◌<◌, List, length, nat_eq, Option, Some, IfSome}
 use Rattle.std.specs.Map as map
-use Rattle.term_names.specs.declared.entries.Entry.{Entry}
+use Rattle.term_names.specs.NameTable.{NameTableView, entries_of}
 use Rattle.term_names.specs.declared.entries.Macro as macro
 use Rattle.term_names.specs.declared.entries.Named as named
 use Rattle.term_names.specs.Entries.{EntriesView, lookup, IsThere}
 
--- what contracts see of names, of the entries at their places, and of macros and named terms
-abbrev pub entries_view : List (List ℕ) → List Entry → List macro.Macro → List named.Named → EntriesView
-entries_view names entries macros named = record { names = zip names entries; macros = macros; named = named }
+-- what contracts see of the names in a table, of macros and of named terms
+abbrev pub entries_view : NameTableView → List macro.Macro → List named.Named → EntriesView
+entries_view table macros named = record { names = entries_of table; macros = macros; named = named }
 
 -- what the entry of each name is that of, is there
 abbrev pub AreThere : EntriesView → Type 0
@@ -22,8 +22,7 @@ number_given given r = map.lookup (nat_eq r) given
 abbrev pub AreTableNumbers : List (ℕ × ℕ) → ℕ → Type 0
 AreTableNumbers given count = (r n : ℕ) → number_given given r ≡ Some n → n < count
 
--- each name has an entry, what that is that of is there, and what was given to terms are numbers of names
-pub record IsInStep (names : List (List ℕ)) (entries : List Entry) (macros : List macro.Macro) (named : List named.Named) (given : List (ℕ × ℕ)) : Type 0 where
-  pub one_each : length entries ≡ length names
-  pub there : AreThere (entries_view names entries macros named)
-  pub numbers : AreTableNumbers given (length names)
+-- what each entry is that of is there, and what was given to terms are numbers of names
+pub record IsInStep (table : NameTableView) (macros : List macro.Macro) (named : List named.Named) (given : List (ℕ × ℕ)) : Type 0 where
+  pub there : AreThere (entries_view table macros named)
+  pub numbers : AreTableNumbers given (length table.names)

@@ -1,7 +1,7 @@
 -- Private. How the parts of a scope are linked. Variables are listed with the innermost first; one stands at the place that is
 -- the number of those outside it.
-use Rattle.std.specs.Prelude.{◌≡◌, ℕ, ◌+◌, ◌*◌, ◌%◌, ◌<◌, ◌==◌, if◌then◌else◌, Bool, true, false, List, [], ◌∷◌, length, map, slice_index_or, slice_index}
-use Rattle.term_names.specs.declared.scope.Held.{Held}
+use Rattle.std.specs.Prelude.{◌≡◌, ℕ, ◌+◌, ◌<◌, ◌==◌, if◌then◌else◌, List, [], ◌∷◌, length, map, slice_index_or, slice_index}
+use Rattle.term_names.specs.declared.names.Held.{Held}
 use Rattle.term_names.specs.Scope.{Scoped}
 
 abbrev pub scoped_held : List (List ℕ) → Held → Scoped
@@ -24,12 +24,3 @@ pub record IsHeldLinked (names : List (List ℕ)) (firsts : List ℕ) (held : Li
   pub one_each : length names ≡ length firsts
   pub outer : AreHeld (length names) held
   pub tops : (k : ℕ) → k < length names → slice_index firsts k ≡ innermost_held k held
-
--- the mark of a name, by its first byte and its length
-abbrev pub mark_of : List ℕ → ℕ
-mark_of [] = 0
-mark_of (first ∷ rest) = (first + length (first ∷ rest) % 8 * 32) % 256
-
--- the mark of each name is set
-abbrev pub AreMarked : List (List ℕ) → List Bool → Type 0
-AreMarked names marks = (k : ℕ) → k < length names → slice_index_or marks (mark_of (slice_index_or names k [])) false ≡ true

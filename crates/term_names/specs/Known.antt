@@ -5,9 +5,9 @@ use Rattle.std.specs.Option.{option_or, option_map_or}
 use Rattle.term_names.specs.declared.entries.Entry.{Entry}
 use Rattle.term_names.specs.declared.entries.Macro as macro
 use Rattle.term_names.specs.declared.entries.Named as named
-use Rattle.term_names.specs.declared.known.Which.{Which}
-use Rattle.term_names.specs.declared.known.Which.TheVariants.{Base, Own}
-use Rattle.term_names.specs.declared.known.KnownEntry.{KnownEntry}
+use Rattle.term_names.specs.declared.names.Which.{Which}
+use Rattle.term_names.specs.declared.names.Which.TheVariants.{Base, Own}
+use Rattle.term_names.specs.declared.names.KnownEntry.{KnownEntry}
 use Rattle.term_names.specs.Entries.{EntriesView, no_entries, lookup}
 
 pub record KnownView : Type 0 where
@@ -19,11 +19,13 @@ abbrev pub base_of : Option (Bor EntriesView) → EntriesView
 base_of base = option_map_or (λ b. b.now) base no_entries
 
 abbrev pub own_entry : Entry → KnownEntry
+own_entry (Entry.Function leaf) = KnownEntry.Function leaf
 own_entry Entry.Reserved = KnownEntry.Reserved
 own_entry (Entry.Macro n) = KnownEntry.Macro (Own n)
 own_entry (Entry.Named n) = KnownEntry.Named (Own n)
 
 abbrev pub base_entry : Entry → KnownEntry
+base_entry (Entry.Function leaf) = KnownEntry.Function leaf
 base_entry Entry.Reserved = KnownEntry.Reserved
 base_entry (Entry.Macro n) = KnownEntry.Macro (Base n)
 base_entry (Entry.Named n) = KnownEntry.Named (Base n)
@@ -47,6 +49,7 @@ named_of k (Own n) = slice_get k.own.named n
 
 -- the macro or the named term is there
 abbrev pub IsKnownThere : KnownView → KnownEntry → Type 0
+IsKnownThere k (KnownEntry.Function leaf) = Unit {0}
 IsKnownThere k KnownEntry.Reserved = Unit {0}
 IsKnownThere k (KnownEntry.Macro which) = IsSome (macro_of k which)
 IsKnownThere k (KnownEntry.Named which) = IsSome (named_of k which)

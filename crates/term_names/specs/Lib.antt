@@ -1,6 +1,7 @@
 pub mod FreeParts
 pub mod Stacks
 pub mod StackParts
+pub mod NameTable
 pub mod Entries
 pub mod EntryTables
 pub mod Known

@@ -1,5 +1,5 @@
 -- Public. When the tables of the code stand for a script. Names are tied by what they are looked up to be, not by lists.
-use Rattle.std.specs.Prelude.{◌≡◌, ◌≤◌, ℕ, List, [], ◌∷◌, map, find, bytes_eq, true, false, Option, Some, None, ◌⊎◌}
+use Rattle.std.specs.Prelude.{◌≡◌, ◌≤◌, ℕ, List, [], ◌∷◌, map, find, bytes_eq, true, false, Option, Some, None}
 use Rattle.sym_table.specs.Table.{Table, IsLeaf, IsFunctionName, Keeps}
 use Rattle.term_model.specs.Terms.{Var, Fun}
 use Rattle.term_pool.specs.StandsFor.{variable_leaf, function_leaf}
@@ -13,7 +13,7 @@ use Rattle.term_expansion.specs.Values.{IsValue}
 use Rattle.problem_text.specs.Words.{is_among, is_built_in}
 use Rattle.term_names.specs.declared.entries.Macro as macro
 use Rattle.term_names.specs.declared.entries.Named as named
-use Rattle.term_names.specs.declared.known.KnownEntry.{KnownEntry}
+use Rattle.term_names.specs.declared.names.KnownEntry.{KnownEntry}
 
 -- the named term, the macro and the declared function of a name
 abbrev pub named_in_script : Script → List ℕ → Option Named
@@ -45,8 +45,7 @@ pub record IsNamedOf (s : Table) (v : TermsView) (n : named.Named) (d : Named) :
   pub free : AreFreeLeaves s n.free.items (free_variables d.meant.tree)
 
 -- the function of a name, by its leaf
-pub record IsFunctionAt (s : Table) (sc : Script) (name : List ℕ) : Type 0 where
-  pub leaf : ℕ
+pub record IsFunctionAt (s : Table) (sc : Script) (name : List ℕ) (leaf : ℕ) : Type 0 where
   pub meant : Fun
   pub here : IsLeaf s leaf (function_leaf meant)
   pub same_name : meant.name ≡ name
@@ -66,6 +65,10 @@ pub record HasNoEntry (sc : Script) (name : List ℕ) : Type 0 where
 pub record IsFreeName (s : Table) (sc : Script) (name : List ℕ) : Type 0 where
   pub no_function : IsNoFunction s sc name
   pub free : is_among sc.taken name ≡ false
+
+pub record IsDeclaredName (s : Table) (sc : Script) (name : List ℕ) (leaf : ℕ) : Type 0 where
+  pub no_entry : HasNoEntry sc name
+  pub function : IsFunctionAt s sc name leaf
 
 pub record IsReservedName (s : Table) (sc : Script) (name : List ℕ) : Type 0 where
   pub no_entry : HasNoEntry sc name
@@ -94,7 +97,8 @@ pub record IsNamedName (s : Table) (v : TermsView) (sc : Script) (name : List �
 
 -- what a name is that of, by the entries and by the script
 abbrev pub IsNameMeant : Table → TermsView → KnownView → Script → List ℕ → Option KnownEntry → Type 0
-IsNameMeant s v k sc name None = HasNoEntry sc name × (IsFunctionAt s sc name ⊎ IsFreeName s sc name)
+IsNameMeant s v k sc name None = HasNoEntry sc name × IsFreeName s sc name
+IsNameMeant s v k sc name (Some (KnownEntry.Function leaf)) = IsDeclaredName s sc name leaf
 IsNameMeant s v k sc name (Some KnownEntry.Reserved) = IsReservedName s sc name
 IsNameMeant s v k sc name (Some (KnownEntry.Macro w)) = IsMacroName s v sc name (macro_of k w)
 IsNameMeant s v k sc name (Some (KnownEntry.Named w)) = IsNamedName s v sc name (named_of k w)

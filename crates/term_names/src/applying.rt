@@ -15,7 +15,7 @@ ghost use Rattle.term_expansion.specs.Values.{AreValues};
 use crate::entries::Macro;
 use crate::faults::ReadFault;
 use crate::heads::Head;
-use crate::known::NameTables;
+use crate::names::NameTables;
 use crate::stacks::Values;
 use sort_check::check_app;
 use std::alloc::Global;
@@ -38,19 +38,19 @@ pub fn apply(
 ) -> Result<Option<Value>, ReadFault>
     requires some { from < length values.now }
     requires low { AreLow values.now }
-    requires head { (m : Meaning) × (ts : List Typed) × HeadMeans tables.now.symbols.now terms.old tables.now.known.now head m × AreValues tables.now.symbols.now terms.old (drop from values.now) ts }
-    ensures makes { (m : Meaning) (ts : List Typed) → HeadMeans tables.now.symbols.now terms.old tables.now.known.now head m → AreValues tables.now.symbols.now terms.old (drop from values.now) ts → Makes tables.now.symbols.now terms.old terms.new (meaning_applied m ts) result }
+    requires head { (m : Meaning) × (ts : List Typed) × HeadMeans tables.now.symbols.now terms.old tables.now.names.now.known head m × AreValues tables.now.symbols.now terms.old (drop from values.now) ts }
+    ensures makes { (m : Meaning) (ts : List Typed) → HeadMeans tables.now.symbols.now terms.old tables.now.names.now.known head m → AreValues tables.now.symbols.now terms.old (drop from values.now) ts → Makes tables.now.symbols.now terms.old terms.new (meaning_applied m ts) result }
     ensures keeps { KeepsTerms terms.old terms.new }
 {
     let NameTables {
         alloc,
         symbols,
-        known,
+        names,
     } = *tables;
     match head {
         Head::Symbol(leaf) => apply_symbol(symbols, terms, leaf, values, from),
         Head::Macro(which) => {
-            apply_macro(alloc, symbols, terms, known.macro_at(which), values, from)
+            apply_macro(alloc, symbols, terms, names.macro_at(which), values, from)
         }
         Head::Fixed => Ok(None),
     }

@@ -1,15 +1,12 @@
-//! The names of macros and of named terms, and what they stand for (SMT-LIB 2.6, "Commands", and on attributes of
-//! terms).
-ghost use Rattle.std.specs.Prelude.{◌≡◌, [], ◌∷◌, ◌++◌, ◌<◌, length, slice_get, position, bytes_eq, Some, None, OnOk, OnErr, IfSome};
-ghost use Rattle.term_names.specs.Entries.{lookup, no_entries, Puts, IsThere};
-ghost use Rattle.term_names.specs.declared.entries.Entry.TheVariants as Entry;
+//! What names are those of: functions, macros and named terms (SMT-LIB 2.6, "Commands", and on attributes of terms).
+ghost use Rattle.std.specs.Prelude.{◌≡◌, ◌<◌, length, slice_get, Some, IfSome};
+ghost use Rattle.term_names.specs.Entries.{lookup, IsThere};
+ghost use Rattle.term_names.specs.EntryTables.{AreTableNumbers};
 
-use name_set::NameSet;
+use crate::name_table::NameTable;
 use pair_pool::Ref;
-use std::alloc::Global;
 use std::collections::HashMap;
 use std::marker::Model;
-use sym_table::Memory;
 use term_expansion::values::Value;
 use term_model::Sort;
 
@@ -32,6 +29,8 @@ pub struct Named {
 /// What a name is that of.
 #[derive(Clone, Copy)]
 pub enum Entry {
+    /// A declared function, by its leaf.
+    Function(u32),
     /// A macro whose body is being read.
     Reserved,
     /// A macro, by its number in the order of definition, from 0.
@@ -40,139 +39,55 @@ pub enum Entry {
     Named(usize),
 }
 
-/// The names with what they stand for. A look-up takes the time of one hash, whatever there is.
+/// A table of names, with the macros and the named terms by their numbers.
 #[derive(Drop)]
-pub struct Entries {
-    names: NameSet,
-    /// What each name is that of, by the name's number.
-    entries: Vec<Entry>,
-    macros: Vec<Macro>,
-    named: Vec<Named>,
+pub(crate) struct Meanings {
+    pub(crate) table: NameTable,
+    pub(crate) macros: Vec<Macro>,
+    pub(crate) named: Vec<Named>,
     /// The number of a name of each term that has one, by the term's reference. It only helps to find a named term again:
     /// who asks looks up what the name stands for.
-    given: HashMap<u32, usize>,
+    pub(crate) given: HashMap<u32, usize>,
+}
+
+/// A name that was given to the term, if any was.
+pub(crate) fn name_given(all: &Meanings, term: Ref) -> Option<&[u8]>
+    requires { AreTableNumbers all.now.given.entries (length all.now.table.names) }
+{
+    let number = all.given.get(&term.number())?;
+    Some(all.table.name(*number))
+}
+
+/// The names of a problem that was read, with what they stand for.
+#[derive(Drop)]
+pub struct Entries {
+    pub(crate) all: Meanings,
 }
 
 impl Model for Entries {
     ghost use Rattle.term_names.specs.Entries.{EntriesView};
-    ghost use Rattle.term_names.specs.EntryTables.{IsInStep, entries_view};
+    ghost use Rattle.term_names.specs.EntryTables.{entries_view, IsInStep};
 
     ghost Value = { EntriesView };
 
-    ghost view = { λ e. entries_view e.names e.entries.items e.macros.items e.named.items };
+    ghost view = { λ e. entries_view e.all.table e.all.macros.items e.all.named.items };
 
-    ghost invariant = { λ e. IsInStep e.names e.entries.items e.macros.items e.named.items e.given.entries };
-}
-
-/// Gives a name that has no number the next one, and its entry that place.
-fn put_new(
-    names: &mut NameSet,
-    entries: &mut Vec<Entry>,
-    name: &[u8],
-    entry: Entry,
-) -> Result<(), Memory>
-    requires { position (bytes_eq name.now) names.old ≡ None }
-    ensures names { OnOk result (names.new ≡ names.old ++ name.now ∷ []) }
-    ensures entries { OnOk result (entries.new.items ≡ entries.old.items ++ entry ∷ []) }
-    ensures names_refused { OnErr result (names.new ≡ names.old) }
-    ensures entries_refused { OnErr result (entries.new.items ≡ entries.old.items) }
-{
-    entries.reserve(1)?;
-    names.add(name)?;
-    entries.push(entry).unwrap();
-    Ok(())
+    ghost invariant = { λ e. IsInStep e.all.table e.all.macros.items e.all.named.items e.all.given.entries };
 }
 
 impl Entries {
-    pub fn new(alloc: Global) -> Entries
-        ensures { result ≡ no_entries }
-    {
-        Entries {
-            names: NameSet::new(alloc),
-            entries: Vec::new(alloc),
-            macros: Vec::new(alloc),
-            named: Vec::new(alloc),
-            given: HashMap::new(alloc),
-        }
-    }
-
-    /// What the name is that of.
-    // A part of its callers, which ask it for each symbol of a text.
+    /// What the name is that of. A look-up takes the time of one hash, whatever there is.
     #[inline(always)]
     pub fn find(&self, name: &[u8]) -> Option<Entry>
         ensures entry { result ≡ lookup self.now.names name.now }
         ensures there { IfSome result (IsThere self.now) }
     {
-        if self.entries.is_empty() {
-            return None;
-        }
-        let number = self.names.find(name)?;
-        Some(self.entries[number])
-    }
-
-    /// Takes a name that has no entry for a macro whose body is to be read. After a refusal nothing has changed.
-    pub fn reserve(&mut self, name: &[u8]) -> Result<(), Memory>
-        requires { lookup self.old.names name.now ≡ None }
-        ensures names { OnOk result (Puts self.old.names name.now Entry.Reserved self.new.names) }
-        ensures macros { self.new.macros ≡ self.old.macros }
-        ensures named { self.new.named ≡ self.old.named }
-        ensures refused { OnErr result (self.new ≡ self.old) }
-    {
-        put_new(&mut self.names, &mut self.entries, name, Entry::Reserved)?;
-        Ok(())
-    }
-
-    /// Defines the macro of a reserved name. After a refusal nothing has changed.
-    pub fn define(
-        &mut self,
-        name: &[u8],
-        parameters: Vec<u32>,
-        sorts: Vec<Sort>,
-        target: Sort,
-        body: Value,
-    ) -> Result<(), Memory>
-        requires { lookup self.old.names name.now ≡ Some Entry.Reserved }
-        ensures names { OnOk result (Puts self.old.names name.now (Entry.Macro (length self.old.macros)) self.new.names) }
-        ensures macros { OnOk result (self.new.macros ≡ self.old.macros ++ record { parameters = parameters; sorts = sorts; target = target; body = body } ∷ []) }
-        ensures named { self.new.named ≡ self.old.named }
-        ensures refused { OnErr result (self.new ≡ self.old) }
-    {
-        self.macros.reserve(1)?;
-        let place = self.names.find(name).unwrap();
-        self.entries[place] = Entry::Macro(self.macros.len());
-        let defined = Macro {
-            parameters,
-            sorts,
-            target,
-            body,
-        };
-        self.macros.push(defined).unwrap();
-        Ok(())
-    }
-
-    /// Gives a term a name that has no entry. After a refusal nothing has changed.
-    pub fn give_name(&mut self, name: &[u8], value: Value, free: Vec<u32>) -> Result<(), Memory>
-        requires { lookup self.old.names name.now ≡ None }
-        ensures names { OnOk result (Puts self.old.names name.now (Entry.Named (length self.old.named)) self.new.names) }
-        ensures named { OnOk result (self.new.named ≡ self.old.named ++ record { value = value; free = free } ∷ []) }
-        ensures macros { self.new.macros ≡ self.old.macros }
-        ensures refused { OnErr result (self.new ≡ self.old) }
-    {
-        self.named.reserve(1)?;
-        self.given.reserve(1)?;
-        let number = self.names.len();
-        let entry = Entry::Named(self.named.len());
-        put_new(&mut self.names, &mut self.entries, name, entry)?;
-        let remembered: Result<_, _> = self.given.insert(value.term.number(), number);
-        remembered.unwrap();
-        self.named.push(Named { value, free }).unwrap();
-        Ok(())
+        self.all.table.entry_named(name)
     }
 
     /// A name that was given to the term, if any was.
     pub fn name_given(&self, term: Ref) -> Option<&[u8]> {
-        let number = self.given.get(&term.number())?;
-        Some(self.names.name(*number))
+        name_given(&self.all, term)
     }
 
     /// The macro of this number.
@@ -180,7 +95,7 @@ impl Entries {
         requires { number < length self.now.macros }
         ensures { slice_get self.now.macros number ≡ Some result.now }
     {
-        &self.macros[number]
+        &self.all.macros[number]
     }
 
     /// The named term of this number.
@@ -188,6 +103,6 @@ impl Entries {
         requires { number < length self.now.named }
         ensures { slice_get self.now.named number ≡ Some result.now }
     {
-        &self.named[number]
+        &self.all.named[number]
     }
 }

@@ -22,7 +22,7 @@ ghost use Rattle.problem_text.specs.Scripts.{Script};
 ghost use Rattle.term_names.specs.Standing.{IsScript};
 ghost use Rattle.term_expansion.specs.Values.{IsValue};
 
-use crate::known::{Known, KnownEntry, NameTables};
+use crate::names::{KnownEntry, NameTables, Names};
 use indexmap::IndexSet;
 use pair_pool::{Memory, Ref};
 use std::alloc::Global;
@@ -84,19 +84,19 @@ fn let_parts(alloc: Global, terms: &mut Terms<'_>, r: Ref) -> Result<LetParts, M
 fn leaves_of_named<'b>(
     symbols: &Symbols,
     terms: &Terms<'_>,
-    known: &'b Known<'_>,
+    names: &'b Names<'_>,
     r: Ref,
 ) -> Option<&'b [u32]>
-    requires { (sc : Script) × IsScript symbols.now terms.now known.now sc }
+    requires { (sc : Script) × IsScript symbols.now terms.now names.now.known sc }
     ensures { IfSome result (λ leaves. (t : Term) → RefersTo symbols.now terms.now r t → AddsLeaves symbols.now [] leaves.now (λ x. IsFree x t)) }
 {
     let _leaves = symbols.count();
     terms.equal_exactly_where_terms_are();
-    let name = known.name_given(r)?;
-    let KnownEntry::Named(which) = known.find(name)? else {
+    let name = names.name_given(r)?;
+    let KnownEntry::Named(which) = names.entry(name)? else {
         return None;
     };
-    let named = known.named_at(which);
+    let named = names.named_at(which);
     if named.value.term == r {
         Some(&named.free)
     } else {
@@ -118,7 +118,7 @@ fn gather(
     requires low { IsAtMost tables.now.symbols.now terms.old most r }
     requires bodies { AreBodies tables.now.symbols.now terms.old bodies.old }
     requires covers { CoversFree tables.now.symbols.now terms.old region.old.seen.keys region.old.found.keys }
-    requires script { (sc : Script) × IsScript tables.now.symbols.now terms.old tables.now.known.now sc }
+    requires script { (sc : Script) × IsScript tables.now.symbols.now terms.old tables.now.names.now.known sc }
     ensures adds { OnOk result ((t : Term) → RefersTo tables.now.symbols.now terms.old r t → AddsLeaves tables.now.symbols.now region.old.found.keys region.new.found.keys (λ x. IsFree x t)) }
     ensures covers { OnOk result (CoversFree tables.now.symbols.now terms.old region.new.seen.keys region.new.found.keys) }
     ensures bodies { OnOk result (AreBodies tables.now.symbols.now terms.old bodies.new) }
@@ -127,12 +127,12 @@ fn gather(
     let NameTables {
         alloc,
         symbols,
-        known,
+        names,
     } = *tables;
     if has(&region.seen, r.number()) {
         return Ok(());
     }
-    if let Some(leaves) = leaves_of_named(symbols, terms, known, r) {
+    if let Some(leaves) = leaves_of_named(symbols, terms, names, r) {
         add_all(leaves, &mut region.found)?;
         return add(&mut region.seen, r.number());
     }
@@ -163,7 +163,7 @@ fn gather_all(
     requires low { All (IsAtMost tables.now.symbols.now terms.old most) list.now }
     requires bodies { AreBodies tables.now.symbols.now terms.old bodies.old }
     requires covers { CoversFree tables.now.symbols.now terms.old region.old.seen.keys region.old.found.keys }
-    requires script { (sc : Script) × IsScript tables.now.symbols.now terms.old tables.now.known.now sc }
+    requires script { (sc : Script) × IsScript tables.now.symbols.now terms.old tables.now.names.now.known sc }
     ensures adds { OnOk result ((ts : List Term) → ReferToAll tables.now.symbols.now terms.old list.now ts → AddsLeaves tables.now.symbols.now region.old.found.keys region.new.found.keys (λ x. IsFreeInAny x ts)) }
     ensures covers { OnOk result (CoversFree tables.now.symbols.now terms.old region.new.seen.keys region.new.found.keys) }
     ensures bodies { OnOk result (AreBodies tables.now.symbols.now terms.old bodies.new) }
@@ -192,7 +192,7 @@ fn gather_let(
     requires is_let { (t : Term) → RefersTo tables.now.symbols.now terms.old r t → IsLet t }
     requires bodies { AreBodies tables.now.symbols.now terms.old bodies.old }
     requires covers { CoversFree tables.now.symbols.now terms.old region.old.seen.keys region.old.found.keys }
-    requires script { (sc : Script) × IsScript tables.now.symbols.now terms.old tables.now.known.now sc }
+    requires script { (sc : Script) × IsScript tables.now.symbols.now terms.old tables.now.names.now.known sc }
     ensures adds { OnOk result ((t : Term) → RefersTo tables.now.symbols.now terms.old r t → AddsLeaves tables.now.symbols.now region.old.found.keys region.new.found.keys (λ x. IsFree x t)) }
     ensures covers { OnOk result (CoversFree tables.now.symbols.now terms.old region.new.seen.keys region.new.found.keys) }
     ensures bodies { OnOk result (AreBodies tables.now.symbols.now terms.old bodies.new) }
@@ -227,7 +227,7 @@ fn leaves_of(
     requires table { IsTable tables.now.symbols.now }
     requires low { IsAtMost tables.now.symbols.now terms.old most r }
     requires bodies { AreBodies tables.now.symbols.now terms.old bodies.old }
-    requires script { (sc : Script) × IsScript tables.now.symbols.now terms.old tables.now.known.now sc }
+    requires script { (sc : Script) × IsScript tables.now.symbols.now terms.old tables.now.names.now.known sc }
     ensures leaves { IfOk result (λ leaves. (t : Term) → RefersTo tables.now.symbols.now terms.old r t → AddsLeaves tables.now.symbols.now [] leaves.items (λ x. IsFree x t)) }
     ensures bodies { OnOk result (AreBodies tables.now.symbols.now terms.old bodies.new) }
     ensures same { terms.new ≡ terms.old }
@@ -251,12 +251,12 @@ pub fn free_leaves(
     alloc: Global,
     symbols: &Symbols,
     terms: &mut Terms<'_>,
-    known: &Known<'_>,
+    names: &Names<'_>,
     what: Value,
 ) -> Result<Vec<u32>, Memory>
     requires what { IsSomeValue symbols.now terms.old what }
     requires low { what.height ≤ 2000 }
-    requires script { (sc : Script) × IsScript symbols.now terms.old known.now sc }
+    requires script { (sc : Script) × IsScript symbols.now terms.old names.now.known sc }
     ensures free { IfOk result (λ leaves. (t : Typed) → IsValue symbols.now terms.old what t → AreFreeLeaves symbols.now leaves.items (free_variables t.tree)) }
     ensures keeps { KeepsTerms terms.old terms.new }
     ensures unchanged { IsUnchanged terms.old.pass terms.new.pass }
@@ -269,7 +269,7 @@ pub fn free_leaves(
     let tables = NameTables {
         alloc,
         symbols,
-        known,
+        names,
     };
     leaves_of(&tables, terms, &mut bodies, what.term, MOST_HEIGHT)
 }

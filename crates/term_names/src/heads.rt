@@ -1,6 +1,6 @@
 //! What is applied to arguments.
 
-use crate::known::Which;
+use crate::names::Which;
 
 /// What is applied to arguments.
 #[derive(Clone, Copy)]

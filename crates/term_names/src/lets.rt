@@ -13,7 +13,7 @@ ghost use Rattle.problem_text.specs.TypedTerms.{Typed};
 ghost use Rattle.term_expansion.specs.Values.{IsValue};
 
 use crate::faults::ReadFault;
-use crate::scope::Scope;
+use crate::names::Names;
 use crate::stacks::Values;
 use pair_pool::Ref;
 use sym_table::{Memory, Symbols};
@@ -25,7 +25,7 @@ use term_pool::{Terms, trees_are_built_of_parts};
 /// the value at its place, from place `from` on, and otherwise for itself. Refuses want of memory alone.
 pub fn bind(
     symbols: &Symbols,
-    scope: &mut Scope,
+    names: &mut Names<'_>,
     leaves: &[u32],
     values: &Values,
     from: usize,
@@ -33,8 +33,9 @@ pub fn bind(
 ) -> Result<(), Memory>
     requires within { from ≤ length values.now }
     requires bound { (v : TermsView) × (bs : List Bound) × AreValuesBound symbols.now v leaves.now (drop from values.now) bs }
-    ensures bound { (v : TermsView) (bs : List Bound) (p : Place) → AreValuesBound symbols.now v leaves.now (drop from values.now) bs → IsScope symbols.now v scope.old p.scope → p.settings.replaces_lets ≡ replaces_lets → OnOk result (IsScope symbols.now v scope.new (inside bs p).scope) }
-    ensures inner { OnOk result ((inner : List Scoped) × (scope.new ≡ inner ++ scope.old) × (length inner ≡ length leaves.now)) }
+    ensures bound { (v : TermsView) (bs : List Bound) (p : Place) → AreValuesBound symbols.now v leaves.now (drop from values.now) bs → IsScope symbols.now v names.old.scope p.scope → p.settings.replaces_lets ≡ replaces_lets → OnOk result (IsScope symbols.now v names.new.scope (inside bs p).scope) }
+    ensures inner { OnOk result ((inner : List Scoped) × (names.new.scope ≡ inner ++ names.old.scope) × (length inner ≡ length leaves.now)) }
+    ensures known { names.new.known ≡ names.old.known }
 {
     let _values = values.len();
     let mut at = leaves.len();
@@ -42,7 +43,7 @@ pub fn bind(
         at -= 1;
         bind_one(
             symbols,
-            scope,
+            names,
             leaves[at],
             values.get(from + at),
             replaces_lets,
@@ -55,14 +56,15 @@ pub fn bind(
 /// Refuses want of memory alone.
 fn bind_one(
     symbols: &Symbols,
-    scope: &mut Scope,
+    names: &mut Names<'_>,
     leaf: u32,
     value: Value,
     replaces_lets: bool,
 ) -> Result<(), Memory>
     requires variable { (x : Var) × IsLeaf symbols.now leaf (variable_leaf x) }
-    ensures bound { (v : TermsView) (b : Bound) (bs : List Bound) → IsLeaf symbols.now leaf (variable_leaf b.variable) → IsValue symbols.now v value (record { tree = b.stands_for; sort = b.variable.sort }) → IsScope symbols.now v scope.old bs → OnOk result (IsScope symbols.now v scope.new ((if replaces_lets then b else itself b.variable) ∷ bs)) }
-    ensures inner { OnOk result ((e : Scoped) × (scope.new ≡ e ∷ scope.old)) }
+    ensures bound { (v : TermsView) (b : Bound) (bs : List Bound) → IsLeaf symbols.now leaf (variable_leaf b.variable) → IsValue symbols.now v value (record { tree = b.stands_for; sort = b.variable.sort }) → IsScope symbols.now v names.old.scope bs → OnOk result (IsScope symbols.now v names.new.scope ((if replaces_lets then b else itself b.variable) ∷ bs)) }
+    ensures inner { OnOk result ((e : Scoped) × (names.new.scope ≡ e ∷ names.old.scope)) }
+    ensures known { names.new.known ≡ names.old.known }
 {
     let _leaves = symbols.count();
     let value = if replaces_lets {
@@ -74,7 +76,7 @@ fn bind_one(
         variable: leaf,
         value,
     };
-    scope.push(symbols.name(leaf), bound)
+    names.push(symbols.name(leaf), bound)
 }
 
 /// A variable of this sort as a term, by its leaf.
@@ -91,13 +93,14 @@ pub fn as_itself(leaf: u32, sort: Sort) -> Value
 }
 
 /// Takes the innermost variables out of scope, this many.
-pub fn unbind(scope: &mut Scope, count: usize)
-    requires { count ≤ length scope.old }
-    ensures { scope.new ≡ drop count scope.old }
+pub fn unbind(names: &mut Names<'_>, count: usize)
+    requires { count ≤ length names.old.scope }
+    ensures scope { names.new.scope ≡ drop count names.old.scope }
+    ensures known { names.new.known ≡ names.old.known }
 {
     let mut left = count;
     'variables: while left > 0 {
-        scope.pop();
+        names.pop();
         left -= 1;
     }
 }

@@ -17,9 +17,8 @@ ghost use Rattle.term_expansion.specs.Values.{PutsIn};
 
 use crate::entries::{Macro, Named};
 use crate::faults::ReadFault;
-use crate::known::NameTables;
 use crate::looking_up::Found;
-use crate::scope::Scope;
+use crate::names::{NameTables, Names};
 use pair_pool::Ref;
 use sort_check::check_app;
 use std::alloc::Global;
@@ -36,26 +35,25 @@ use term_pool::Terms;
 pub fn use_alone(
     tables: &NameTables<'_, '_>,
     terms: &mut Terms<'_>,
-    scope: &Scope,
     replaces_lets: bool,
     found: Found,
 ) -> Result<Option<Value>, ReadFault>
-    requires found { (p : Place) × (m : Meaning) × IsScope tables.now.symbols.now terms.old scope.now p.scope × (p.settings.replaces_lets ≡ replaces_lets) × IsFoundMeaning tables.now.symbols.now terms.old tables.now.known.now p found (Some m) }
-    ensures makes { (p : Place) (m : Meaning) → IsScope tables.now.symbols.now terms.old scope.now p.scope → p.settings.replaces_lets ≡ replaces_lets → IsFoundMeaning tables.now.symbols.now terms.old tables.now.known.now p found (Some m) → Makes tables.now.symbols.now terms.old terms.new (meaning_applied m []) result }
+    requires found { (p : Place) × (m : Meaning) × IsScope tables.now.symbols.now terms.old tables.now.names.now.scope p.scope × (p.settings.replaces_lets ≡ replaces_lets) × IsFoundMeaning tables.now.symbols.now terms.old tables.now.names.now.known p found (Some m) }
+    ensures makes { (p : Place) (m : Meaning) → IsScope tables.now.symbols.now terms.old tables.now.names.now.scope p.scope → p.settings.replaces_lets ≡ replaces_lets → IsFoundMeaning tables.now.symbols.now terms.old tables.now.names.now.known p found (Some m) → Makes tables.now.symbols.now terms.old terms.new (meaning_applied m []) result }
     ensures keeps { KeepsTerms terms.old terms.new }
 {
     let NameTables {
         alloc,
         symbols,
-        known,
+        names,
     } = *tables;
     match found {
         Found::Term(value) => Ok(Some(value)),
         Found::Named(which) => {
-            let named = known.named_at(which);
-            use_named(alloc, symbols, terms, scope, replaces_lets, named)
+            let named = names.named_at(which);
+            use_named(alloc, symbols, terms, names, replaces_lets, named)
         }
-        Found::Macro(which) => Ok(macro_alone(known.macro_at(which))),
+        Found::Macro(which) => Ok(macro_alone(names.macro_at(which))),
         Found::Symbol(leaf) => Ok(symbol_alone(symbols, leaf)),
         Found::Unknown => Ok(None),
     }
@@ -93,18 +91,18 @@ fn use_named(
     alloc: Global,
     symbols: &Symbols,
     terms: &mut Terms<'_>,
-    scope: &Scope,
+    names: &Names<'_>,
     replaces_lets: bool,
     named: &Named,
 ) -> Result<Option<Value>, ReadFault>
-    requires named { (p : Place) × (m : Meaning) × IsScope symbols.now terms.old scope.now p.scope × (p.settings.replaces_lets ≡ replaces_lets) × IsNamedMeant symbols.now terms.old p (Some named.now) m }
-    ensures makes { (p : Place) (m : Meaning) → IsScope symbols.now terms.old scope.now p.scope → p.settings.replaces_lets ≡ replaces_lets → IsNamedMeant symbols.now terms.old p (Some named.now) m → Makes symbols.now terms.old terms.new (meaning_applied m []) result }
+    requires named { (p : Place) × (m : Meaning) × IsScope symbols.now terms.old names.now.scope p.scope × (p.settings.replaces_lets ≡ replaces_lets) × IsNamedMeant symbols.now terms.old p (Some named.now) m }
+    ensures makes { (p : Place) (m : Meaning) → IsScope symbols.now terms.old names.now.scope p.scope → p.settings.replaces_lets ≡ replaces_lets → IsNamedMeant symbols.now terms.old p (Some named.now) m → Makes symbols.now terms.old terms.new (meaning_applied m []) result }
     ensures keeps { KeepsTerms terms.old terms.new }
 {
     if !replaces_lets {
         return Ok(Some(named.value));
     }
-    let bounds = bounds_of(alloc, symbols, scope, &named.free)?;
+    let bounds = bounds_of(alloc, symbols, names, &named.free)?;
     let value = put_in(alloc, symbols, terms, &bounds, named.value)?;
     Ok(Some(value))
 }
@@ -113,23 +111,23 @@ fn use_named(
 fn bounds_of(
     alloc: Global,
     symbols: &Symbols,
-    scope: &Scope,
+    names: &Names<'_>,
     leaves: &[u32],
 ) -> Result<Vec<Bound>, Memory>
-    requires { AreBoundLeaves symbols.now scope.now leaves.now }
-    ensures { IfOk result (λ bounds. (v : TermsView) (p : Place) (xs : List Var) → IsScope symbols.now v scope.now p.scope → AreFreeLeaves symbols.now leaves.now xs → list_all (is_bound p.scope) xs ≡ true → PutsInBound symbols.now v bounds.items p.scope xs) }
+    requires { AreBoundLeaves symbols.now names.now.scope leaves.now }
+    ensures { IfOk result (λ bounds. (v : TermsView) (p : Place) (xs : List Var) → IsScope symbols.now v names.now.scope p.scope → AreFreeLeaves symbols.now leaves.now xs → list_all (is_bound p.scope) xs ≡ true → PutsInBound symbols.now v bounds.items p.scope xs) }
 {
     let mut bounds = Vec::new(alloc);
     'leaves: for leaf in leaves {
-        bounds.push(bound_here(symbols, scope, *leaf))?;
+        bounds.push(bound_here(symbols, names, *leaf))?;
     }
     Ok(bounds)
 }
 
 /// What the variable of this leaf stands for here.
-fn bound_here(symbols: &Symbols, scope: &Scope, leaf: u32) -> Bound
-    requires { IsBoundLeaf symbols.now scope.now leaf }
-    ensures { (v : TermsView) (p : Place) (x : Var) → IsScope symbols.now v scope.now p.scope → IsLeaf symbols.now leaf (variable_leaf x) → is_bound p.scope x ≡ true → PutsIn symbols.now v result x (replaced_by (replacement p.scope) x) }
+fn bound_here(symbols: &Symbols, names: &Names<'_>, leaf: u32) -> Bound
+    requires { IsBoundLeaf symbols.now names.now.scope leaf }
+    ensures { (v : TermsView) (p : Place) (x : Var) → IsScope symbols.now v names.now.scope p.scope → IsLeaf symbols.now leaf (variable_leaf x) → is_bound p.scope x ≡ true → PutsIn symbols.now v result x (replaced_by (replacement p.scope) x) }
 {
-    scope.find(symbols.name(leaf)).unwrap()
+    names.variable(symbols.name(leaf)).unwrap()
 }

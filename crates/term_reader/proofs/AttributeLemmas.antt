@@ -1,5 +1,5 @@
 -- Attributes by the nodes of their items.
-use Rattle.std.proofs.Common.{◌≡◌, ℕ, ◌<◌, ◌≤◌, arith, [], ◌∷◌, cond, refl, ap, ◌∙◌, subst, Bool, true, false}
+use Rattle.std.proofs.Common.{◌≡◌, ℕ, ◌<◌, ◌≤◌, arith, [], ◌∷◌, cond, ap, ◌∙◌, subst, Bool, true, false}
 use Rattle.std.specs.Prelude.{is_some, Some, None, if◌then◌else◌}
 use Rattle.sexpr.specs.Items.{Item, item, place_of, symbol_name}
 use Rattle.text_items.specs.ItemShapes.{symbol_fault}

@@ -1,5 +1,5 @@
 -- How the reading of a term goes on from its top.
-use Rattle.std.proofs.Common.{◌≡◌, ◌≢◌, inl, inr, ℕ, ℤ, ◌+◌, ◌≤◌, ◌<◌, arith, refl, sym, ap, ◌∙◌, subst, List, [], ◌∷◌, length, take, drop, Option, Some, None, Result, Ok, Err, IfOk, IfErr}
+use Rattle.std.proofs.Common.{◌≡◌, ◌≢◌, ℕ, ℤ, ◌+◌, ◌≤◌, ◌<◌, arith, refl, sym, ap, ◌∙◌, subst, List, [], ◌∷◌, length, take, drop, Option, Some, None, Result, Ok, Err, IfOk, IfErr}
 use Rattle.std.proofs.Math.Seq.{take-length, drop-length}
 use Rattle.pair_pool.specs.Views.{PassView}
 use Rattle.sexpr.specs.declared.causes.Cause.TheVariants.{UnknownName, Repeated}
@@ -28,14 +28,14 @@ use Rattle.problem_text.specs.TypedTerms.{Typed}
 use Rattle.problem_text.specs.Outcomes.{Outcome, done}
 use Rattle.problem_text.specs.Scripts.{Script, with_term, with_let_name}
 use Rattle.term_reader.specs.Shapes.{IsFirstRepeat}
-use Rattle.term_names.specs.Standing.{HasNoEntry, IsNoFunction, IsNameMeant, AddsNoSymbols}
+use Rattle.term_names.specs.Standing.{HasNoEntry, IsFunctionAt, IsNoFunction, IsNameMeant, AddsNoSymbols}
 use Rattle.problem_text.specs.Terms.{settled, term_from}
 use Rattle.term_names.specs.InScope.{AreValuesBound}
 use Rattle.term_expansion.specs.Values.{IsValue, AreValues}
 use Rattle.term_names.specs.declared.faults.ReadFault.{ReadFault}
 use Rattle.term_reader.specs.declared.frames.Frame.{Frame}
 use Rattle.term_names.specs.declared.heads.Head.{Head}
-use Rattle.term_names.specs.declared.known.KnownEntry.{KnownEntry}
+use Rattle.term_names.specs.declared.names.KnownEntry.{KnownEntry}
 use Rattle.term_reader.specs.declared.layers.Layer.{Layer}
 use Rattle.text_items.specs.ItemsAt.{ItemsView, end_at, item_at}
 use Rattle.term_reader.specs.declared.reader.Reader.{Reader}
@@ -59,10 +59,12 @@ module _ (s : Table) (v : TermsView) (sc : Script) (terms : List Term) (names : 
   no_function_alike : (name : List ℕ) → IsNoFunction s sc name → IsNoFunction s (alike sc terms names) name
   no_function_alike name h = record { table = h.table; script = h.script }
 
+  function_alike : (name : List ℕ) (n : ℕ) → IsFunctionAt s sc name n → IsFunctionAt s (alike sc terms names) name n
+  function_alike name n h = record { meant = h.meant; here = h.here; same_name = h.same_name; found = h.found; taken = h.taken }
+
   meant_alike : (k : KnownView) (name : List ℕ) (o : Option KnownEntry) → IsNameMeant s v k sc name o → IsNameMeant s v k (alike sc terms names) name o
-  meant_alike k name None (none, inl h) =
-      (no_entry_alike name none, inl (record { leaf = h.leaf; meant = h.meant; here = h.here; same_name = h.same_name; found = h.found; taken = h.taken }))
-  meant_alike k name None (none, inr h) = (no_entry_alike name none, inr (record { no_function = no_function_alike name h.no_function; free = h.free }))
+  meant_alike k name None (none, h) = (no_entry_alike name none, record { no_function = no_function_alike name h.no_function; free = h.free })
+  meant_alike k name (Some (KnownEntry.Function n)) h = record { no_entry = no_entry_alike name h.no_entry; function = function_alike name n h.function }
   meant_alike k name (Some KnownEntry.Reserved) h =
       record { no_entry = no_entry_alike name h.no_entry; no_function = no_function_alike name h.no_function; taken = h.taken }
   meant_alike k name (Some (KnownEntry.Macro w)) h = record {
@@ -88,7 +90,7 @@ module _ (s : Table) (v : TermsView) (sc : Script) (terms : List Term) (names : 
 
   pub stands_alike : (r : Reader) (p : Place) → ReaderStands s v r sc p → ReaderStands s v r (alike sc terms names) p
   stands_alike r p h = record {
-    script = record { sorts = h.script.sorts; built_in = h.script.built_in; names = λ name. meant_alike r.known name (known_entry r.known name) (h.script.names name) };
+    script = record { sorts = h.script.sorts; built_in = h.script.built_in; names = λ name. meant_alike r.names.known name (known_entry r.names.known name) (h.script.names name) };
     scope = h.scope;
     settings = h.settings;
     low = h.low;
@@ -157,8 +159,8 @@ module _ (items : ItemsView) (g : WholeReading) (s : Table) (v : TermsView) (r :
       is = is;
       low = low;
       frames =
-          subst (λ (n : ℕ). AreFrames items g z w r.known r.frames r.values r.leaves.items r.scope a.place n a.waiting) alone
-          (frames_stay s z v w adds.keeps keeps items g r.known r.known (λ which. refl) r.frames r.values r.leaves.items r.scope a.place (end_at items k) a.waiting a.frames);
+          subst (λ (n : ℕ). AreFrames items g z w r.names.known r.frames r.values r.leaves.items r.names.scope a.place n a.waiting) alone
+          (frames_stay s z v w adds.keeps keeps items g r.names.known r.names.known (λ which. refl) r.frames r.values r.leaves.items r.names.scope a.place (end_at items k) a.waiting a.frames);
       comes = ap (resumed a.waiting) (sym e) ∙ a.comes;
     };
     placed = places_more z v.pass w.pass (IsReadTerm (comes_of a)) (IsReadTerm g.whole) (read_by_end z w.pass a.waiting (comes_of a) g.whole a.comes) placed;
@@ -195,15 +197,15 @@ module _ (items : ItemsView) (g : WholeReading) (s : Table) (v : TermsView) (r :
   symbol_fails_goes w f h reads = let read = symbol_read w (Err f) h reads in fault_goes w r f h.at read.answer read.placed
 
   -- the frames with one more
-  all_values : (fs : List Frame) (ls : List ℕ) (p : Place) (m n : ℕ) (ws : List Waiting) → m ≡ n → AreFrames items g s v r.known fs r.values ls r.scope p m ws
-      → AreFrames items g s v r.known fs (take (length r.values) r.values) ls r.scope p n ws
+  all_values : (fs : List Frame) (ls : List ℕ) (p : Place) (m n : ℕ) (ws : List Waiting) → m ≡ n → AreFrames items g s v r.names.known fs r.values ls r.names.scope p m ws
+      → AreFrames items g s v r.names.known fs (take (length r.values) r.values) ls r.names.scope p n ws
   all_values fs ls p m n ws e h =
-      subst (λ (values : List Value). AreFrames items g s v r.known fs values ls r.scope p n ws) (sym (take-length r.values))
-      (subst (λ (j : ℕ). AreFrames items g s v r.known fs r.values ls r.scope p j ws) e h)
+      subst (λ (values : List Value). AreFrames items g s v r.names.known fs values ls r.names.scope p n ws) (sym (take-length r.values))
+      (subst (λ (j : ℕ). AreFrames items g s v r.names.known fs r.values ls r.names.scope p j ws) e h)
 
   -- an argument is read, or the first one
   pub application_goes : (head first end place : ℕ) (applied : Head) → Top (Layer.Application head first end) → IsStart k place
-      → ((w : TermsView) (sc : Script) (p : Place) → ReaderStands s w r sc p → IsHeadFound s w r.known (Some applied) (meaning_of p sc (name_in items head).name))
+      → ((w : TermsView) (sc : Script) (p : Place) → ReaderStands s w r sc p → IsHeadFound s w r.names.known (Some applied) (meaning_of p sc (name_in items head).name))
       → Goes items g s v v (with_open r (Frame.Arguments (record { place = place; head = applied; from = length r.values; end = end }))) (Ok (Turn.Read first))
   application_goes head first end place applied h starts found =
       let a = h.at in
@@ -239,7 +241,7 @@ module _ (items : ItemsView) (g : WholeReading) (s : Table) (v : TermsView) (r :
       }
 
   pub application_unknown : (head first end place : ℕ) (refusal : Refusal) → Top (Layer.Application head first end) → IsStart head place → refusal ≡ record { cause = UnknownName; at = place }
-      → ((w : TermsView) (sc : Script) (p : Place) → ReaderStands s w r sc p → IsHeadFound s w r.known None (meaning_of p sc (name_in items head).name))
+      → ((w : TermsView) (sc : Script) (p : Place) → ReaderStands s w r sc p → IsHeadFound s w r.names.known None (meaning_of p sc (name_in items head).name))
       → Goes items g s v v r (Err (ReadFault.Text refusal))
   application_unknown head first end place refusal h starts is found =
       let a = h.at in
@@ -282,11 +284,11 @@ module _ (items : ItemsView) (g : WholeReading) (s : Table) (v : TermsView) (r :
               first_faulty = further;
               body_here = body_here;
             },
-            subst (λ (values : List Value). AreFrames items g s v r.known r.frames values (take leaf r.leaves.items) r.scope a.place (end_at items body) a.waiting)
+            subst (λ (values : List Value). AreFrames items g s v r.names.known r.frames values (take leaf r.leaves.items) r.names.scope a.place (end_at items body) a.waiting)
                 (sym (ap (λ (n : ℕ). take n r.values) from_is ∙ take-length r.values))
-                (subst (λ (ks : List ℕ). AreFrames items g s v r.known r.frames r.values ks r.scope a.place (end_at items body) a.waiting)
+                (subst (λ (ks : List ℕ). AreFrames items g s v r.names.known r.frames r.values ks r.names.scope a.place (end_at items body) a.waiting)
                 (sym (ap (λ (n : ℕ). take n r.leaves.items) leaf_is ∙ take-length r.leaves.items))
-                (subst (λ (n : ℕ). AreFrames items g s v r.known r.frames r.values r.leaves.items r.scope a.place n a.waiting) (sym body_ends) a.frames)),
+                (subst (λ (n : ℕ). AreFrames items g s v r.names.known r.frames r.values r.leaves.items r.names.scope a.place n a.waiting) (sym body_ends) a.frames)),
           );
           comes =
               sym (first_binding a.waiting place (name_in items (first + 1)) (form_at items (first + 2)) b.others (form_at items body) a.place a.script free)
@@ -328,7 +330,7 @@ module _ (items : ItemsView) (g : WholeReading) (s : Table) (v : TermsView) (r :
             a.waiting,
             refl,
             subst (λ (n : ℕ). AreTermAttributes items n end) (sym ends) attributes,
-            subst (λ (n : ℕ). AreFrames items g s v r.known r.frames r.values r.leaves.items r.scope a.place n a.waiting) (sym same_end) a.frames,
+            subst (λ (n : ℕ). AreFrames items g s v r.names.known r.frames r.values r.leaves.items r.names.scope a.place n a.waiting) (sym same_end) a.frames,
           );
           comes = sym (annotation_begins a.waiting (place_of (item_at items k)) (form_at items t) (names_at items (end_at items t) end) a.place a.script)
               ∙ ap (λ (n : ℕ). resumed a.waiting (term_from (annotated (place_of (item_at items k)) (form_at items t) (names_at items n end)) a.place a.script)) ends ∙ ap (λ (q : Form). resumed a.waiting (term_from q a.place a.script)) (sym e) ∙ a.comes;

@@ -1,5 +1,5 @@
 -- Cited by crates above. A term is given a name: the tables stand for the script with the name then.
-use Rattle.std.proofs.Common.{◌≡◌, ℕ, suc, zero, Bool, true, false, cond, ◌||◌, List, [], ◌∷◌, ◌++◌, length, slice_get, Option, Some, None, ◌⊎◌, inl, inr, refl, sym, ◌∙◌, ap, subst, bytes_eq, if◌then◌else◌, Err}
+use Rattle.std.proofs.Common.{◌≡◌, ℕ, suc, zero, Bool, true, false, cond, ◌||◌, List, [], ◌∷◌, ◌++◌, length, slice_get, Option, Some, None, is_some, refl, sym, ◌∙◌, ap, subst, bytes_eq, if◌then◌else◌, Err}
 use Rattle.std.specs.Option.{option_or}
 use Rattle.std.proofs.lemmas.List.Folds.{find-append, list_any-append}
 use Rattle.std.proofs.lemmas.Slice.Eq.{bytes_eq-Decides}
@@ -13,14 +13,14 @@ use Rattle.term_names.specs.Known.{KnownView, known_entry, PutsKnown, macro_of, 
 use Rattle.problem_text.specs.TypedTerms.{Typed}
 use Rattle.problem_text.specs.Outcomes.{Outcome, done, refuse}
 use Rattle.problem_text.specs.Scripts.{Named, Script, is_taken, with_named}
-use Rattle.term_names.specs.Standing.{IsScript, IsNameMeant, IsNamedOf, HasNoEntry, IsFunctionAt, IsFreeName, IsNoFunction, named_in_script}
+use Rattle.term_names.specs.Standing.{IsScript, IsNameMeant, IsNamedOf, HasNoEntry, IsFreeName, IsNoFunction, named_in_script}
 use Rattle.problem_text.specs.Terms.{with_names}
 use Rattle.problem_text.specs.Words.{is_among, is_built_in}
 use Rattle.term_names.specs.declared.entries.Macro as macro
 use Rattle.term_names.specs.declared.entries.Named as named
-use Rattle.term_names.specs.declared.known.KnownEntry.{KnownEntry}
-use Rattle.term_names.specs.declared.known.Which.{Which}
-use Rattle.term_names.specs.declared.known.Which.TheVariants.{Base, Own}
+use Rattle.term_names.specs.declared.names.KnownEntry.{KnownEntry}
+use Rattle.term_names.specs.declared.names.Which.{Which}
+use Rattle.term_names.specs.declared.names.Which.TheVariants.{Base, Own}
 use Rattle.term_names.proofs.HeldVariables.{slice_get-last}
 
 -- what entries say after one more named term
@@ -113,14 +113,20 @@ taken_now sc d =
 
 module _ (s : Table) (v : TermsView) (old new : KnownView) (sc : Script) (d : Named) (held : named.Named) (names : Names old new d.name held) where
   meant_before : (other : List ℕ) → bytes_eq other d.name ≡ false → (e : Option KnownEntry) → IsNameMeant s v old sc other e → IsNameMeant s v new (with_named d sc) other e
-  meant_before other differs None (none, inl f) = (
+  meant_before other differs None (none, f) = (
     record { no_named = named_before sc d other differs ∙ none.no_named; no_macro = none.no_macro },
-    inl (record { leaf = f.leaf; meant = f.meant; here = f.here; same_name = f.same_name; found = f.found; taken = taken_before sc d other differs ∙ f.taken }),
+    record { no_function = record { table = f.no_function.table; script = f.no_function.script }; free = taken_before sc d other differs ∙ f.free },
   )
-  meant_before other differs None (none, inr f) = (
-    record { no_named = named_before sc d other differs ∙ none.no_named; no_macro = none.no_macro },
-    inr (record { no_function = record { table = f.no_function.table; script = f.no_function.script }; free = taken_before sc d other differs ∙ f.free }),
-  )
+  meant_before other differs (Some (KnownEntry.Function n)) f = record {
+    no_entry = record { no_named = named_before sc d other differs ∙ f.no_entry.no_named; no_macro = f.no_entry.no_macro };
+    function = record {
+      meant = f.function.meant;
+      here = f.function.here;
+      same_name = f.function.same_name;
+      found = f.function.found;
+      taken = taken_before sc d other differs ∙ f.function.taken;
+    };
+  }
   meant_before other differs (Some KnownEntry.Reserved) r = record {
     no_entry = record { no_named = named_before sc d other differs ∙ r.no_entry.no_named; no_macro = r.no_entry.no_macro };
     no_function = record { table = r.no_function.table; script = r.no_function.script };
@@ -169,9 +175,8 @@ module _ (s : Table) (v : TermsView) (old new : KnownView) (sc : Script) (d : Na
       entry : KnownEntry
       entry = KnownEntry.Named (Own (length old.own.named))
 
-      here : HasNoEntry sc d.name × (IsFunctionAt s sc d.name ⊎ IsFreeName s sc d.name) → IsNameMeant s v new (with_named d sc) d.name (Some entry)
-      here (nothing, inl f) = let taken = f.taken in let free = either_false (is_built_in d.name) (is_among sc.taken d.name) untaken in cc
-      here (nothing, inr f) = meant_now held_is nothing f.no_function
+      here : HasNoEntry sc d.name × IsFreeName s sc d.name → IsNameMeant s v new (with_named d sc) d.name (Some entry)
+      here (nothing, f) = meant_now held_is nothing f.no_function
 
       go : (other : List ℕ) (b : Bool) → bytes_eq other d.name ≡ b → IsNameMeant s v new (with_named d sc) other (cond b (Some entry) (known_entry old other))
       go other false e = meant_before other e (known_entry old other) (is.names other)
@@ -179,21 +184,25 @@ module _ (s : Table) (v : TermsView) (old new : KnownView) (sc : Script) (d : Na
           subst (λ (n : List ℕ). IsNameMeant s v new (with_named d sc) n (Some entry)) (sym ((bytes_eq-Decides other d.name).0 e))
           (here (subst (IsNameMeant s v old sc d.name) none (is.names d.name)))
 
+-- a name has an entry exactly where it is among those that are taken
+pub entry_where_taken : (s : Table) (v : TermsView) (k : KnownView) (sc : Script) (name : List ℕ) → IsScript s v k sc → is_some (known_entry k name) ≡ is_among sc.taken name
+entry_where_taken s v k sc name is = go (known_entry k name) (is.names name)
+  where
+    go : (e : Option KnownEntry) → IsNameMeant s v k sc name e → is_some e ≡ is_among sc.taken name
+    go None (none, f) = sym f.free
+    go (Some (KnownEntry.Function n)) f = sym f.function.taken
+    go (Some KnownEntry.Reserved) r = sym r.taken
+    go (Some (KnownEntry.Macro w)) m = sym m.taken
+    go (Some (KnownEntry.Named w)) n = sym n.taken
+
 -- a name that is not taken has no entry
 pub no_entry : (s : Table) (v : TermsView) (k : KnownView) (sc : Script) (name : List ℕ) → IsScript s v k sc → is_taken sc name ≡ false → known_entry k name ≡ None
-no_entry s v k sc name is untaken = go (known_entry k name) (is.names name)
+no_entry s v k sc name is untaken =
+    go (known_entry k name) (entry_where_taken s v k sc name is ∙ either_false (is_built_in name) (is_among sc.taken name) untaken)
   where
-    free : is_among sc.taken name ≡ false
-    free = either_false (is_built_in name) (is_among sc.taken name) untaken
-
-    both : is_among sc.taken name ≡ true → ⊥
-    both taken = let untaken = free in cc
-
-    go : (e : Option KnownEntry) → IsNameMeant s v k sc name e → e ≡ None
-    go None m = refl
-    go (Some KnownEntry.Reserved) r = absurd (both r.taken)
-    go (Some (KnownEntry.Macro w)) m = absurd (both m.taken)
-    go (Some (KnownEntry.Named w)) n = absurd (both n.taken)
+    go : (e : Option KnownEntry) → is_some e ≡ false → e ≡ None
+    go None none = refl
+    go (Some e) none = cc
 
 -- one name, which is taken or not, and what comes after it
 abbrev pub one_name : Typed → Name → Script → (Script → Outcome Script Typed) → Bool → Outcome Script Typed

@@ -4,8 +4,9 @@ use Rattle.pair_pool.specs.Views.{IsUnchanged}
 use Rattle.sym_table.specs.Table.{Table}
 use Rattle.term_pool.specs.Views.{TermsView, KeepsTerms}
 use Rattle.term_reader.specs.Frames.{WholeReading}
-use Rattle.term_names.specs.Known.{KnownView, macro_of}
+use Rattle.term_names.specs.Known.{macro_of}
 use Rattle.term_reader.specs.Layers.{names_at}
+use Rattle.term_names.specs.Scope.{NamesView}
 use Rattle.term_reader.specs.Leaving.{with_open, Leaves}
 use Rattle.term_reader.specs.Naming.{GivesNames}
 use Rattle.term_reader.specs.Reading.{EndsWith, IsReadTerm}
@@ -19,7 +20,7 @@ use Rattle.problem_text.specs.Terms.{with_names}
 use Rattle.term_expansion.specs.Values.{IsValue}
 use Rattle.term_names.specs.declared.faults.ReadFault.{ReadFault}
 use Rattle.term_reader.specs.declared.frames.Frame.{Frame}
-use Rattle.term_names.specs.declared.known.Which.{Which}
+use Rattle.term_names.specs.declared.names.Which.{Which}
 use Rattle.text_items.specs.ItemsAt.{ItemsView}
 use Rattle.term_reader.specs.declared.reader.Reader.{Reader}
 use Rattle.term_reader.specs.declared.reader.Turn.{Turn}
@@ -35,13 +36,13 @@ module _ (items : ItemsView) (g : WholeReading) (s : Table) (v : TermsView) (r :
       let (rest, is, here, outer) = h.frames in
       sym (annotated_read rest (names_at items n end) h.term h.script) ∙ ap (λ (ws : List Waiting). resumed ws (done h.term h.script)) (sym is) ∙ h.comes
 
-  abbrev pub Given : TermsView → KnownView → Result Unit ReadFault → Type 0
-  Given w known result =
-      (t : Typed) (sc : Script) → IsValue s v c t → IsScript s v r.known sc → GivesNames s w known t (with_names t (names_at items n end) sc) result
+  abbrev pub Given : TermsView → NamesView → Result Unit ReadFault → Type 0
+  Given w names result =
+      (t : Typed) (sc : Script) → IsValue s v c t → IsScript s v r.names.known sc → GivesNames s w names.known t (with_names t (names_at items n end) sc) result
 
-  pub names_given : (w : TermsView) → KeepsTerms v w → IsUnchanged v.pass w.pass → (known : KnownView) → ((m : Which) → macro_of known m ≡ macro_of r.known m) → Given w known (Ok tt)
-      → Leaves items g s v (with_open r (Frame.Names end)) c n s w (record r { known = known }) (Ok (Turn.Use c end))
-  names_given w keeps same known macros given =
+  pub names_given : (w : TermsView) → KeepsTerms v w → IsUnchanged v.pass w.pass → (names : NamesView) → names.scope ≡ r.names.scope → ((m : Which) → macro_of names.known m ≡ macro_of r.names.known m) → Given w names (Ok tt)
+      → Leaves items g s v (with_open r (Frame.Names end)) c n s w (record r { names = names }) (Ok (Turn.Use c end))
+  names_given w keeps same names scope macros given =
       let (rest, is, here, outer) = h.frames in
       let (sc, whole, script) = given h.term h.script h.is h.stands.script in
       let later = here.some in
@@ -54,13 +55,13 @@ module _ (items : ItemsView) (g : WholeReading) (s : Table) (v : TermsView) (r :
             waiting = rest;
             stands = record {
               script = script;
-              scope = scope_stays s s v w (table_keeps_none s) keeps r.scope h.place.scope h.stands.scope;
+              scope = rw scope (scope_stays s s v w (table_keeps_none s) keeps r.names.scope h.place.scope h.stands.scope);
               settings = h.stands.settings;
               low = h.stands.low;
             };
             is = value_stays s s v w (table_keeps_none s) keeps c h.term h.is;
             low = h.low;
-            frames = frames_stay s s v w (table_keeps_none s) keeps items g r.known known macros r.frames r.values r.leaves.items r.scope h.place end rest outer;
+            frames = rw scope (frames_stay s s v w (table_keeps_none s) keeps items g r.names.known names.known macros r.frames r.values r.leaves.items r.names.scope h.place end rest outer);
             comes = ap (resumed rest) (sym whole) ∙ names_come;
           };
           placed = places_none s v.pass w.pass (IsReadTerm g.whole) same.placed;
@@ -72,9 +73,9 @@ module _ (items : ItemsView) (g : WholeReading) (s : Table) (v : TermsView) (r :
         };
       }
 
-  pub names_refused : (w : TermsView) → IsUnchanged v.pass w.pass → (known : KnownView) (fault : ReadFault) → Given w known (Err fault) → (q : Reader)
+  pub names_refused : (w : TermsView) → IsUnchanged v.pass w.pass → (names : NamesView) (fault : ReadFault) → Given w names (Err fault) → (q : Reader)
       → Leaves items g s v (with_open r (Frame.Names end)) c n s w q (Err fault)
-  names_refused w same known fault given q =
+  names_refused w same names fault given q =
       let (rest, is, here, outer) = h.frames in
       record {
         goes = record {
@@ -84,7 +85,7 @@ module _ (items : ItemsView) (g : WholeReading) (s : Table) (v : TermsView) (r :
         spends = λ _. tt;
       }
     where
-      ends : (f : ReadFault) → GivesNames s w known h.term (with_names h.term (names_at items n end) h.script) (Err f) → EndsWith s w.pass g.whole.result (IsReadTerm g.whole) f
+      ends : (f : ReadFault) → GivesNames s w names.known h.term (with_names h.term (names_at items n end) h.script) (Err f) → EndsWith s w.pass g.whole.result (IsReadTerm g.whole) f
       ends (ReadFault.Text x) is = fault_of_whole h.frames.0 (with_names h.term (names_at items n end) h.script) x g.whole is names_come
       ends ReadFault.PoolFull is = absurd is
       ends ReadFault.Memory is = tt

@@ -49,7 +49,7 @@ module _ (items : ItemsView) (g : WholeReading) (s : Table) (v : TermsView) (r :
   low_pushed = all_at_end _ r.values c h.stands.low h.low
 
   -- what is applied to the arguments
-  pub applied_here : (m : Meaning) × (ts : List Typed) × HeadMeans s v r.known opened.head m × AreValues s v (drop opened.from (pushed r c)) ts
+  pub applied_here : (m : Meaning) × (ts : List Typed) × HeadMeans s v r.names.known opened.head m × AreValues s v (drop opened.from (pushed r c)) ts
   applied_here =
       let (m, read, rest, is, here, outer) = h.frames in
       (m, read ++ h.term ∷ [], here.applies, values_pushed s v opened.from r.values read c h.term here.within here.read_values h.is)
@@ -61,7 +61,7 @@ module _ (items : ItemsView) (g : WholeReading) (s : Table) (v : TermsView) (r :
 
   -- it was the last one
   arguments_whole : n ≡ opened.end → (w : TermsView) (made : Result (Option Value) ReadFault)
-      → ((m : Meaning) (ts : List Typed) → HeadMeans s v r.known opened.head m → AreValues s v (drop opened.from (pushed r c)) ts → Makes s v w (meaning_applied m ts) made)
+      → ((m : Meaning) (ts : List Typed) → HeadMeans s v r.names.known opened.head m → AreValues s v (drop opened.from (pushed r c)) ts → Makes s v w (meaning_applied m ts) made)
       → IsWhole g s v w opened.place made
   arguments_whole last w made makes =
       let (m, read, rest, is, here, outer) = h.frames in
@@ -78,7 +78,7 @@ module _ (items : ItemsView) (g : WholeReading) (s : Table) (v : TermsView) (r :
       }
 
   arguments_close : n ≡ opened.end → (w : TermsView) → KeepsTerms v w → (made : Result (Option Value) ReadFault)
-      → ((m : Meaning) (ts : List Typed) → HeadMeans s v r.known opened.head m → AreValues s v (drop opened.from (pushed r c)) ts → Makes s v w (meaning_applied m ts) made)
+      → ((m : Meaning) (ts : List Typed) → HeadMeans s v r.names.known opened.head m → AreValues s v (drop opened.from (pushed r c)) ts → Makes s v w (meaning_applied m ts) made)
       → Closes items g s v w (record r { values = take opened.from (pushed r c) }) opened.place opened.end made
   unfolding arguments_whole
   arguments_close last w keeps made makes =
@@ -87,13 +87,13 @@ module _ (items : ItemsView) (g : WholeReading) (s : Table) (v : TermsView) (r :
         whole = arguments_whole last w made makes;
         around = h.place;
         stands = record {
-          script = script_stays s s v w (adds_none s) keeps r.known h.script h.stands.script;
-          scope = scope_stays s s v w (table_keeps_none s) keeps r.scope h.place.scope h.stands.scope;
+          script = script_stays s s v w (adds_none s) keeps r.names.known h.script h.stands.script;
+          scope = scope_stays s s v w (table_keeps_none s) keeps r.names.scope h.place.scope h.stands.scope;
           settings = h.stands.settings;
           low = low_below opened.from (pushed r c) low_pushed;
         };
-        frames = frames_stay s s v w (table_keeps_none s) keeps items g r.known r.known (λ _. refl) r.frames (take opened.from (pushed r c)) r.leaves.items r.scope h.place opened.end rest
-            (subst (λ values. AreFrames items g s v r.known r.frames values r.leaves.items r.scope h.place opened.end rest) (sym take_pushed) outer);
+        frames = frames_stay s s v w (table_keeps_none s) keeps items g r.names.known r.names.known (λ _. refl) r.frames (take opened.from (pushed r c)) r.leaves.items r.names.scope h.place opened.end rest
+            (subst (λ values. AreFrames items g s v r.names.known r.frames values r.leaves.items r.names.scope h.place opened.end rest) (sym take_pushed) outer);
       }
 
   -- the next one is read
@@ -120,7 +120,7 @@ module _ (items : ItemsView) (g : WholeReading) (s : Table) (v : TermsView) (r :
             read_values = values_pushed s v opened.from r.values read c h.term here.within here.read_values h.is;
             left_here = range_on items n opened.end here.left_here less;
           },
-          subst (λ values. AreFrames items g s v r.known r.frames values r.leaves.items r.scope h.place opened.end rest) (sym take_pushed) outer,
+          subst (λ values. AreFrames items g s v r.names.known r.frames values r.leaves.items r.names.scope h.place opened.end rest) (sym take_pushed) outer,
         );
         comes = sym (next_argument_read rest opened.place m read h.term (form_at items n) left h.place h.script)
             ∙ ap (λ (fs : Forms). resumed (arguments opened.place m read fs h.place ∷ rest) (done h.term h.script)) (sym (forms_more items n opened.end here.left_here less))
@@ -139,7 +139,7 @@ module _ (items : ItemsView) (g : WholeReading) (s : Table) (v : TermsView) (r :
 
   -- What is done, by the stacks as the code has them.
   pub arguments_fault : n ≡ opened.end → (w : TermsView) → (values : List Value) → values ≡ pushed r c → (fault : ReadFault)
-      → ((m : Meaning) (ts : List Typed) → HeadMeans s v r.known opened.head m → AreValues s v (drop opened.from values) ts → Makes s v w (meaning_applied m ts) (Err fault)) → (q : Reader)
+      → ((m : Meaning) (ts : List Typed) → HeadMeans s v r.names.known opened.head m → AreValues s v (drop opened.from values) ts → Makes s v w (meaning_applied m ts) (Err fault)) → (q : Reader)
       → Leaves items g s v (with_open r (Frame.Arguments opened)) c n s w q (Err fault)
   arguments_fault last w values are fault makes q = record {
     goes = unmade_ends items g s v w opened.place fault q (arguments_whole last w (Err fault) (rw are at makes));
@@ -147,7 +147,7 @@ module _ (items : ItemsView) (g : WholeReading) (s : Table) (v : TermsView) (r :
   }
 
   pub arguments_refused : n ≡ opened.end → (w : TermsView) → (values : List Value) → values ≡ pushed r c → (made : Option Value)
-      → ((m : Meaning) (ts : List Typed) → HeadMeans s v r.known opened.head m → AreValues s v (drop opened.from values) ts → Makes s v w (meaning_applied m ts) (Ok made)) → (fault : ReadFault)
+      → ((m : Meaning) (ts : List Typed) → HeadMeans s v r.names.known opened.head m → AreValues s v (drop opened.from values) ts → Makes s v w (meaning_applied m ts) (Ok made)) → (fault : ReadFault)
       → ((s : Table) (v : TermsView) (o : Option Typed) (sc : Script) → IsMade s v o (Ok made) → SettlesTerm s v opened.place o sc (Err fault)) → (q : Reader)
       → Leaves items g s v (with_open r (Frame.Arguments opened)) c n s w q (Err fault)
   arguments_refused last w values are made makes fault settles q = record {
@@ -156,7 +156,7 @@ module _ (items : ItemsView) (g : WholeReading) (s : Table) (v : TermsView) (r :
   }
 
   pub arguments_settled : n ≡ opened.end → (w : TermsView) → KeepsTerms v w → (values : List Value) → values ≡ pushed r c → (made : Option Value)
-      → ((m : Meaning) (ts : List Typed) → HeadMeans s v r.known opened.head m → AreValues s v (drop opened.from values) ts → Makes s v w (meaning_applied m ts) (Ok made)) → (t : Value)
+      → ((m : Meaning) (ts : List Typed) → HeadMeans s v r.names.known opened.head m → AreValues s v (drop opened.from values) ts → Makes s v w (meaning_applied m ts) (Ok made)) → (t : Value)
       → ((s : Table) (v : TermsView) (o : Option Typed) (sc : Script) → IsMade s v o (Ok made) → SettlesTerm s v opened.place o sc (Ok t)) → (kept : List Value) → kept ≡ take opened.from values
       → Leaves items g s v (with_open r (Frame.Arguments opened)) c n s w (record r { values = kept }) (Ok (Turn.Use t opened.end))
   arguments_settled last w keeps values are made makes t settles kept take_is = record {

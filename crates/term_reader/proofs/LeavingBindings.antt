@@ -16,7 +16,7 @@ use Rattle.term_reader.specs.Leaving.{with_open, Leaves}
 use Rattle.problem_text.specs.Names.{Bound, Place, inside}
 use Rattle.term_reader.specs.Turns.{HasRead, IsAt}
 use Rattle.term_reader.specs.Resuming.{Waiting, bindings, body_of, bound_to, resumed}
-use Rattle.term_names.specs.Scope.{Scoped}
+use Rattle.term_names.specs.Scope.{Scoped, NamesView}
 use Rattle.problem_text.specs.TypedTerms.{Typed}
 use Rattle.problem_text.specs.Outcomes.{Outcome, done, refuse}
 use Rattle.problem_text.specs.Scripts.{Script, with_let_name}
@@ -77,34 +77,34 @@ module _ (items : ItemsView) (g : WholeReading) (s : Table) (v : TermsView) (r :
         let (k, leaf_is, leaves_are) = added.leaf in
         rw leaves_are (let e = here.leaves_within in omega (arith, e, length-append r.leaves.items (k ∷ [])))
 
-    frames_now : AreFrames items g t v r.known r.frames (take opened.from values) (take opened.leaves leaves) r.scope h.place (end_at items opened.body) h.frames.3
+    frames_now : AreFrames items g t v r.names.known r.frames (take opened.from values) (take opened.leaves leaves) r.names.scope h.place (end_at items opened.body) h.frames.3
     frames_now =
         let (read, earlier, left, rest, is, here, outer) = h.frames in
         let (k, leaf_is, leaves_are) = added.leaf in
         let values_same : take opened.from values ≡ take opened.from r.values = ap (take opened.from) added.values_are ∙ take-append-le opened.from r.values (c ∷ []) here.within in
         let leaves_same : take opened.leaves leaves ≡ take opened.leaves r.leaves.items = ap (take opened.leaves) leaves_are ∙ take-append-le opened.leaves r.leaves.items (k ∷ []) here.leaves_within in
         rw (values_same, leaves_same)
-        (frames_stay s t v v added.adds.keeps (keeps_none v) items g r.known r.known (λ _. refl) r.frames (take opened.from r.values) (take opened.leaves r.leaves.items) r.scope h.place (end_at items opened.body) rest outer)
+        (frames_stay s t v v added.adds.keeps (keeps_none v) items g r.names.known r.names.known (λ _. refl) r.frames (take opened.from r.values) (take opened.leaves r.leaves.items) r.names.scope h.place (end_at items opened.body) rest outer)
 
     pub bindings_bound : (w : TermsView) × (bs : List Bound) × AreValuesBound t w (drop opened.leaves leaves) (drop opened.from values) bs
     bindings_bound = (v, all_read, bound_now)
 
     -- The last one was read: the body comes.
-    pub body_begins : n ≡ opened.body → (scope inner : List Scoped) (ks : List ℕ) → ks ≡ drop opened.leaves leaves
-        → ((w : TermsView) (bs : List Bound) (p : Place) → AreValuesBound t w ks (drop opened.from values) bs → IsScope t w r.scope p.scope → p.settings.replaces_lets ≡ r.replaces_lets → IsScope t w scope (inside bs p).scope)
-        → scope ≡ inner ++ r.scope → length inner ≡ length ks → (q : Reader) → q.leaves.items ≡ leaves
-        → IsAt items g t v (record r { scope = scope; values = values; leaves = q.leaves; frames = Frame.Body (record { place = opened.place; from = opened.from; leaves = opened.leaves }) ∷ r.frames }) opened.body
-    body_begins last scope inner ks are binds split each q leaves_are =
+    pub body_begins : n ≡ opened.body → (names : NamesView) (inner : List Scoped) (ks : List ℕ) → names.known ≡ r.names.known → ks ≡ drop opened.leaves leaves
+        → ((w : TermsView) (bs : List Bound) (p : Place) → AreValuesBound t w ks (drop opened.from values) bs → IsScope t w r.names.scope p.scope → p.settings.replaces_lets ≡ r.replaces_lets → IsScope t w names.scope (inside bs p).scope)
+        → names.scope ≡ inner ++ r.names.scope → length inner ≡ length ks → (q : Reader) → q.leaves.items ≡ leaves
+        → IsAt items g t v (record r { names = names; values = values; leaves = q.leaves; frames = Frame.Body (record { place = opened.place; from = opened.from; leaves = opened.leaves }) ∷ r.frames }) opened.body
+    body_begins last names inner ks known are binds split each q leaves_are =
         let (read, earlier, left, rest, is, here, outer) = h.frames in
         let none : left ≡ no_binds = binds_done items n left opened.body here.left_here last in
-        let around = scope_stays s t v v added.adds.keeps (keeps_none v) r.scope h.place.scope h.stands.scope in
+        let around = scope_stays s t v v added.adds.keeps (keeps_none v) r.names.scope h.place.scope h.stands.scope in
         let counted : length inner ≡ length leaves - opened.leaves = each ∙ ap length are ∙ length-drop opened.leaves leaves in
         record {
           script = h.script;
           place = inside all_read h.place;
           waiting = body_of opened.place all_read h.place ∷ rest;
           stands = record {
-            script = script_stays s t v v added.adds (keeps_none v) r.known h.script h.stands.script;
+            script = rw known (script_stays s t v v added.adds (keeps_none v) r.names.known h.script h.stands.script);
             scope = binds v all_read h.place (rw are bound_now) around (replaces_so h.place.settings r.replaces_lets h.stands.settings);
             settings = h.stands.settings;
             low = low_now;
@@ -112,7 +112,7 @@ module _ (items : ItemsView) (g : WholeReading) (s : Table) (v : TermsView) (r :
           inside = here.body_here;
           frames = rw leaves_are (
             all_read,
-            r.scope,
+            r.names.scope,
             h.place,
             rest,
             refl,
@@ -126,7 +126,7 @@ module _ (items : ItemsView) (g : WholeReading) (s : Table) (v : TermsView) (r :
               one_each = let e = leaves_within_now in omega (arith, counted, e);
               around_here = around;
             },
-            frames_now,
+            subst (λ k. AreFrames items g t v k r.frames (take opened.from values) (take opened.leaves leaves) r.names.scope h.place (end_at items opened.body) rest) (sym known) frames_now,
           );
           comes = sym (last_binding_read rest opened.place read (name_in items opened.name) earlier (form_at items opened.body) h.place h.term h.script)
               ∙ ap (λ (bs : LetBinds). resumed (bindings opened.place read (name_in items opened.name) earlier bs (form_at items opened.body) h.place ∷ rest) (done h.term h.script)) (sym none)
@@ -146,8 +146,8 @@ module _ (items : ItemsView) (g : WholeReading) (s : Table) (v : TermsView) (r :
           place = h.place;
           waiting = bindings opened.place all_read (name_in items (n + 1)) ((name_in items opened.name).name ∷ earlier) a.others (form_at items opened.body) h.place ∷ rest;
           stands = record {
-            script = same_script t v r.known h.script.terms (h.script.let_names ++ (name_in items (n + 1)).name ∷ []) h.script (script_stays s t v v added.adds (keeps_none v) r.known h.script h.stands.script);
-            scope = scope_stays s t v v added.adds.keeps (keeps_none v) r.scope h.place.scope h.stands.scope;
+            script = same_script t v r.names.known h.script.terms (h.script.let_names ++ (name_in items (n + 1)).name ∷ []) h.script (script_stays s t v v added.adds (keeps_none v) r.names.known h.script h.stands.script);
+            scope = scope_stays s t v v added.adds.keeps (keeps_none v) r.names.scope h.place.scope h.stands.scope;
             settings = h.stands.settings;
             low = low_now;
           };
@@ -197,12 +197,12 @@ module _ (items : ItemsView) (g : WholeReading) (s : Table) (v : TermsView) (r :
       ap (λ (o : Outcome Script Typed). o.result) whole
 
   -- What is done, by the stacks as the code has them.
-  pub body_next : (t : Table) (q : Reader) → IsAdded t q.leaves.items q.values → length t.leaves ≤ length s.leaves + 1 → n ≡ opened.body → (inner : List Scoped) (ks : List ℕ) → ks ≡ drop opened.leaves q.leaves.items
-      → ((w : TermsView) (bs : List Bound) (p : Place) → AreValuesBound t w ks (drop opened.from q.values) bs → IsScope t w r.scope p.scope → p.settings.replaces_lets ≡ r.replaces_lets → IsScope t w q.scope (inside bs p).scope)
-      → q.scope ≡ inner ++ r.scope → length inner ≡ length ks → q.frames ≡ Frame.Body (record { place = opened.place; from = opened.from; leaves = opened.leaves }) ∷ r.frames
-      → Leaves items g s v (with_open r (Frame.Bindings opened)) c n t v (record r { scope = q.scope; values = q.values; leaves = q.leaves; frames = q.frames }) (Ok (Turn.Read opened.body))
-  body_next t q added one_more last inner ks are binds split each frames_are = record {
-    goes = nothing_made items g t v _ (Ok (Turn.Read opened.body)) (rw frames_are (body_begins t q.leaves.items q.values added last q.scope inner ks are binds split each q refl));
+  pub body_next : (t : Table) (q : Reader) → IsAdded t q.leaves.items q.values → length t.leaves ≤ length s.leaves + 1 → n ≡ opened.body → (inner : List Scoped) (ks : List ℕ) → q.names.known ≡ r.names.known → ks ≡ drop opened.leaves q.leaves.items
+      → ((w : TermsView) (bs : List Bound) (p : Place) → AreValuesBound t w ks (drop opened.from q.values) bs → IsScope t w r.names.scope p.scope → p.settings.replaces_lets ≡ r.replaces_lets → IsScope t w q.names.scope (inside bs p).scope)
+      → q.names.scope ≡ inner ++ r.names.scope → length inner ≡ length ks → q.frames ≡ Frame.Body (record { place = opened.place; from = opened.from; leaves = opened.leaves }) ∷ r.frames
+      → Leaves items g s v (with_open r (Frame.Bindings opened)) c n t v (record r { names = q.names; values = q.values; leaves = q.leaves; frames = q.frames }) (Ok (Turn.Read opened.body))
+  body_next t q added one_more last inner ks known are binds split each frames_are = record {
+    goes = nothing_made items g t v _ (Ok (Turn.Read opened.body)) (rw frames_are (body_begins t q.leaves.items q.values added last q.names inner ks known are binds split each q refl));
     spends = λ within. rw frames_are (record { inside = omega (arith, last, within); few = omega (arith, last, one_more); progress = omega (arith, last) });
   }
 

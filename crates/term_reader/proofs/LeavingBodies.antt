@@ -40,10 +40,10 @@ scope_around scope inner around first count split each =
 module _ (items : ItemsView) (g : WholeReading) (s : Table) (v : TermsView) (r : Reader) (c : Value) (n : ℕ) (opened : OpenBody) (h : HasRead items g s v (with_open r (Frame.Body opened)) c n) where
   -- the reader without what the let owned
   abbrev pub Without : Reader → Type 0
-  Without q = (q.scope ≡ drop (length r.leaves.items - opened.leaves) r.scope) × (q.values ≡ take opened.from r.values) × (q.leaves.items ≡ take opened.leaves r.leaves.items)
+  Without q = (q.names.known ≡ r.names.known) × (q.names.scope ≡ drop (length r.leaves.items - opened.leaves) r.names.scope) × (q.values ≡ take opened.from r.values) × (q.leaves.items ≡ take opened.leaves r.leaves.items)
 
   abbrev pub without : Reader → Reader
-  without q = record r { scope = q.scope; values = q.values; leaves = q.leaves }
+  without q = record r { names = q.names; values = q.values; leaves = q.leaves }
 
   abbrev pub Closed : TermsView → Result (Option Value) ReadFault → Type 0
   Closed w made =
@@ -67,20 +67,20 @@ module _ (items : ItemsView) (g : WholeReading) (s : Table) (v : TermsView) (r :
 
   body_closes : (q : Reader) → Without q → (w : TermsView) → KeepsTerms v w → (made : Result (Option Value) ReadFault) → Closed w made → Closes items g s v w (without q) opened.place n made
   unfolding body_whole
-  body_closes q (scope_is, values_are, leaves_are) w keeps made closed =
+  body_closes q (known_is, scope_is, values_are, leaves_are) w keeps made closed =
       let (bound, around, outer, rest, is, here, frames) = h.frames in
-      let scope_same : q.scope ≡ around = scope_is ∙ scope_around r.scope here.inner around opened.leaves (length r.leaves.items) here.split here.one_each in
+      let scope_same : q.names.scope ≡ around = scope_is ∙ scope_around r.names.scope here.inner around opened.leaves (length r.leaves.items) here.split here.one_each in
       record {
         whole = body_whole w made closed;
         around = outer;
         stands = record {
-          script = script_stays s s v w (adds_none s) keeps r.known h.script h.stands.script;
+          script = rw known_is (script_stays s s v w (adds_none s) keeps r.names.known h.script h.stands.script);
           scope = subst (λ es. IsScope s w es outer.scope) (sym scope_same) (scope_stays s s v w (table_keeps_none s) keeps around outer.scope here.around_here);
           settings = outer_settings outer bound here.same_place;
           low = rw values_are (low_below opened.from r.values h.stands.low);
         };
-        frames = rw (values_are, leaves_are, scope_same)
-            (frames_stay s s v w (table_keeps_none s) keeps items g r.known r.known (λ _. refl) r.frames (take opened.from r.values) (take opened.leaves r.leaves.items) around outer n rest frames);
+        frames = rw (known_is, values_are, leaves_are, scope_same)
+            (frames_stay s s v w (table_keeps_none s) keeps items g r.names.known r.names.known (λ _. refl) r.frames (take opened.from r.values) (take opened.leaves r.leaves.items) around outer n rest frames);
       }
 
   -- What is done.

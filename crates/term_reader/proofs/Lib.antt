@@ -20,7 +20,6 @@ pub mod LeavingBodies
 pub mod LeavingBindings
 pub mod LeavingAnnotated
 pub mod InnermostForm
-pub mod FunctionNames
 pub mod TakenNames
 pub mod PushedVariables
 pub mod ViewsStay

@@ -1,5 +1,5 @@
 -- One term more that was read, on the stacks and in the script.
-use Rattle.std.proofs.Common.{◌≤◌, ℕ, zero, suc, sym, subst, List, [], ◌∷◌, ◌++◌, length, take, drop, inl, inr, Option, Some, None}
+use Rattle.std.proofs.Common.{◌≤◌, ℕ, zero, suc, sym, subst, List, [], ◌∷◌, ◌++◌, length, take, drop, Option, Some, None}
 use Rattle.std.proofs.lemmas.List.{drop-append-le}
 use Rattle.sym_table.specs.Table.{Table, IsLeaf}
 use Rattle.term_model.specs.Terms.{Term}
@@ -12,7 +12,7 @@ use Rattle.problem_text.specs.TypedTerms.{Typed}
 use Rattle.problem_text.specs.Scripts.{Script}
 use Rattle.term_names.specs.Standing.{IsFunctionAt, IsNoFunction, HasNoEntry, IsNameMeant, IsScript}
 use Rattle.term_expansion.specs.Values.{AreValues, IsValue}
-use Rattle.term_names.specs.declared.known.KnownEntry.{KnownEntry}
+use Rattle.term_names.specs.declared.names.KnownEntry.{KnownEntry}
 use Rattle.term_expansion.specs.declared.values.Value.{Value}
 
 -- stacks
@@ -65,12 +65,12 @@ module _ (s : Table) (v : TermsView) (k : KnownView) (ts : List Term) (lets : Li
   same_no_entry : (name : List ℕ) → HasNoEntry sc name → HasNoEntry (with_read ts lets sc) name
   same_no_entry name h = record { no_named = h.no_named; no_macro = h.no_macro }
 
-  same_function : (name : List ℕ) → IsFunctionAt s sc name → IsFunctionAt s (with_read ts lets sc) name
-  same_function name h = record { leaf = h.leaf; meant = h.meant; here = h.here; same_name = h.same_name; found = h.found; taken = h.taken }
+  same_function : (name : List ℕ) (n : ℕ) → IsFunctionAt s sc name n → IsFunctionAt s (with_read ts lets sc) name n
+  same_function name n h = record { meant = h.meant; here = h.here; same_name = h.same_name; found = h.found; taken = h.taken }
 
   same_meant : (name : List ℕ) (o : Option KnownEntry) → IsNameMeant s v k sc name o → IsNameMeant s v k (with_read ts lets sc) name o
-  same_meant name None (none, inl h) = (same_no_entry name none, inl (same_function name h))
-  same_meant name None (none, inr h) = (same_no_entry name none, inr (record { no_function = same_no_function name h.no_function; free = h.free }))
+  same_meant name None (none, h) = (same_no_entry name none, record { no_function = same_no_function name h.no_function; free = h.free })
+  same_meant name (Some (KnownEntry.Function n)) h = record { no_entry = same_no_entry name h.no_entry; function = same_function name n h.function }
   same_meant name (Some KnownEntry.Reserved) h =
       record { no_entry = same_no_entry name h.no_entry; no_function = same_no_function name h.no_function; taken = h.taken }
   same_meant name (Some (KnownEntry.Macro w)) h = record {

@@ -24,12 +24,12 @@ pub record IsLeft (s : Table) (v : TermsView) (items : ItemsView) (k m : ℕ) (k
   pub is : IsScript s v known script
   pub same : whole ≡ with_names t (names_at items k m) script
 
-abbrev pub AreLeft : Table → ItemsView → Value → List ℕ → ℕ → ℕ → ℕ → KnownView → KnownView → Type 0
-AreLeft s items c free first k m start now =
-    (v : TermsView) (t : Typed) (sc : Script) → IsFreeIn s v c free t → IsScript s v start sc → IsLeft s v items k m now t (with_names t (names_at items first m) sc)
+abbrev pub AreLeft : ItemsView → Value → List ℕ → ℕ → ℕ → ℕ → KnownView → KnownView → Type 0
+AreLeft items c free first k m start now =
+    (s : Table) (v : TermsView) (t : Typed) (sc : Script) → IsFreeIn s v c free t → IsScript s v start sc → IsLeft s v items k m now t (with_names t (names_at items first m) sc)
 
-pub left_start : (s : Table) (items : ItemsView) (c : Value) (free : List ℕ) (first m : ℕ) (known : KnownView) → AreLeft s items c free first first m known known
-left_start s items c free first m known = λ v t sc has is. record { script = sc; is = is; same = refl }
+pub left_start : (items : ItemsView) (c : Value) (free : List ℕ) (first m : ℕ) (known : KnownView) → AreLeft items c free first first m known known
+left_start items c free first m known = λ s v t sc has is. record { script = sc; is = is; same = refl }
 
 module _ (s : Table) (v : TermsView) (items : ItemsView) (k m : ℕ) (known : KnownView) (t : Typed) (whole : Outcome Script Typed) (left : IsLeft s v items k m known t whole) where
   pub left_end : names_at items k m ≡ [] → GivesNames s v known t whole (Ok tt)

@@ -9,7 +9,7 @@ use Rattle.term_names.specs.InScope.{IsScope}
 use Rattle.problem_text.specs.Names.{Bound, Place, itself}
 use Rattle.term_reader.specs.ProblemViews.{ReaderView, IsReaderOf, ReadsTerm, IsValueRead, ReadsValue}
 use Rattle.term_reader.specs.Reading.{IsReaderIdle, IsOutcome, ComesToTerm}
-use Rattle.term_names.specs.Scope.{Scoped}
+use Rattle.term_names.specs.Scope.{Scoped, NamesView}
 use Rattle.problem_text.specs.TypedTerms.{Typed}
 use Rattle.problem_text.specs.Outcomes.{Outcome}
 use Rattle.problem_text.specs.Scripts.{Script}
@@ -60,11 +60,11 @@ pub reader_settled : (s : Table) (v : TermsView) (r : Reader) (pushed : List ℕ
 reader_settled s v r pushed sc p e h = rw e (record { variables = []; around = p.scope; scope = refl; pushed = tt; idle = h })
 
 -- the reader once all that were pushed are in scope
-pub all_entered : (s : Table) (v : TermsView) (r : ReaderView) (ks : List ℕ) (scope : List Scoped) (sc : Script) (p : Place) → reverse ks ≡ r.pushed → AreEntered s v ks r.reader.scope scope → IsReaderOf s v r sc p
-    → IsReaderIdle s v (record r.reader { scope = scope }) sc p
-all_entered s v r ks scope sc p e entered h = record {
-  script = h.idle.script;
-  scope = subst (IsScope s v scope) (sym h.scope) (entered h.variables h.around (subst (λ js. AreLeavesOf s js h.variables) (sym e) h.pushed) h.idle.scope);
+pub all_entered : (s : Table) (v : TermsView) (r : ReaderView) (ks : List ℕ) (names : NamesView) (sc : Script) (p : Place) → reverse ks ≡ r.pushed → names.known ≡ r.reader.names.known → AreEntered s v ks r.reader.names.scope names.scope → IsReaderOf s v r sc p
+    → IsReaderIdle s v (record r.reader { names = names }) sc p
+all_entered s v r ks names sc p e known entered h = record {
+  script = rw known h.idle.script;
+  scope = subst (IsScope s v names.scope) (sym h.scope) (entered h.variables h.around (subst (λ js. AreLeavesOf s js h.variables) (sym e) h.pushed) h.idle.scope);
   settings = h.idle.settings;
   no_values = h.idle.no_values;
   no_leaves = h.idle.no_leaves;

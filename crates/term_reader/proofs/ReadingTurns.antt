@@ -31,24 +31,24 @@ reading items k around sc p = record { last = end_at items k; around = around; p
 
 -- The reader began at node k with these tables, and is at this turn now.
 pub record IsUnderWay (items : ItemsView) (k : ℕ) (s : Table) (v : TermsView) (r : Reader) (z : Table) (w : TermsView) (q : Reader) (turn : Turn) : Type 0 where
-  pub at : (sc : Script) (p : Place) → IsReaderIdle s v r sc p → IsTurn items (reading items k r.scope sc p) z w q turn
+  pub at : (sc : Script) (p : Place) → IsReaderIdle s v r sc p → IsTurn items (reading items k r.names.scope sc p) z w q turn
   pub placed : (sc : Script) (p : Place) → IsReaderIdle s v r sc p → PlacesCellsOf z v.pass w.pass (IsReadTerm (read_term (item_at items k) p sc))
   pub symbols : AddsNoSymbols s z
   pub keeps : KeepsTerms v w
   pub inside : node_of turn ≤ length items.nodes
   pub few : bound_of z items.nodes q (node_of turn) ≤ length s.leaves + (length items.nodes - k)
   pub replaces : q.replaces_lets ≡ r.replaces_lets
-  pub base : q.known.base ≡ r.known.base
+  pub base : q.names.known.base ≡ r.names.known.base
 
 -- what a turn keeps, whatever comes of it
 pub record Turns (z : Table) (w : TermsView) (q : Reader) (y : Table) (x : TermsView) (o : Reader) : Type 0 where
   pub symbols : AddsNoSymbols z y
   pub keeps : KeepsTerms w x
   pub replaces : o.replaces_lets ≡ q.replaces_lets
-  pub base : o.known.base ≡ q.known.base
+  pub base : o.names.known.base ≡ q.names.known.base
 
 at_start : (items : ItemsView) (k : ℕ) (s : Table) (v : TermsView) (r : Reader) (sc : Script) (p : Place)
-    → k < length items.nodes → IsReaderIdle s v r sc p → IsAt items (reading items k r.scope sc p) s v r k
+    → k < length items.nodes → IsReaderIdle s v r sc p → IsAt items (reading items k r.names.scope sc p) s v r k
 at_start items k s v r sc p inside idle = record {
   script = sc;
   place = p;
@@ -60,7 +60,7 @@ at_start items k s v r sc p inside idle = record {
     low = subst (λ (vs : List Value). AreLow vs) (sym idle.no_values) tt;
   };
   inside = inside;
-  frames = subst (λ (fs : List Frame). AreFrames items (reading items k r.scope sc p) s v r.known fs r.values r.leaves.items r.scope p (end_at items k) []) (sym idle.no_frames) (refl, idle.no_values, idle.no_leaves, refl, refl, refl);
+  frames = subst (λ (fs : List Frame). AreFrames items (reading items k r.names.scope sc p) s v r.names.known fs r.values r.leaves.items r.names.scope p (end_at items k) []) (sym idle.no_frames) (refl, idle.no_values, idle.no_leaves, refl, refl, refl);
   comes = refl;
 }
 
@@ -82,7 +82,7 @@ begins items k s v r there (sc, p, idle) = record {
 pub some_turn : (items : ItemsView) (k : ℕ) (s : Table) (v : TermsView) (r : Reader) (z : Table) (w : TermsView) (q : Reader) (turn : Turn)
     → (sc : Script) × (p : Place) × IsReaderIdle s v r sc p
     → IsUnderWay items k s v r z w q turn → (g : WholeReading) × IsTurn items g z w q turn
-some_turn items k s v r z w q turn (sc, p, idle) h = (reading items k r.scope sc p, h.at sc p idle)
+some_turn items k s v r z w q turn (sc, p, idle) h = (reading items k r.names.scope sc p, h.at sc p idle)
 
 -- one turn more
 pub goes_on : (items : ItemsView) (k : ℕ) (s : Table) (v : TermsView) (r : Reader) (z : Table) (w : TermsView) (q : Reader) (turn : Turn) (y : Table) (x : TermsView) (o : Reader) (next : Turn)
@@ -92,10 +92,10 @@ pub goes_on : (items : ItemsView) (k : ℕ) (s : Table) (v : TermsView) (r : Rea
     → node_of next ≤ length items.nodes → bound_of y items.nodes o (node_of next) ≤ bound_of z items.nodes q (node_of turn)
     → IsUnderWay items k s v r y x o next
 goes_on items k s v r z w q turn y x o next h goes kept inside few = record {
-  at = λ sc p idle. (goes (reading items k r.scope sc p) (h.at sc p idle)).step;
+  at = λ sc p idle. (goes (reading items k r.names.scope sc p) (h.at sc p idle)).step;
   placed = λ sc p idle.
       places_then z y v.pass w.pass x.pass (IsReadTerm (read_term (item_at items k) p sc)) kept.symbols.keeps kept.keeps.pass (h.placed sc p idle)
-      (goes (reading items k r.scope sc p) (h.at sc p idle)).placed;
+      (goes (reading items k r.names.scope sc p) (h.at sc p idle)).placed;
   symbols = adds_then s z y h.symbols kept.symbols;
   keeps = keeps_then v w x h.keeps kept.keeps;
   inside = inside;
@@ -111,7 +111,7 @@ pub fails : (items : ItemsView) (k : ℕ) (s : Table) (v : TermsView) (r : Reade
     → Turns z w q y x o
     → (sc : Script) (p : Place) → IsReaderIdle s v r sc p → ComesToTerm y v x o p (read_term (item_at items k) p sc) (Err fault)
 fails items k s v r z w q turn y x o fault h goes kept sc p idle =
-    let step = goes (reading items k r.scope sc p) (h.at sc p idle) in
+    let step = goes (reading items k r.names.scope sc p) (h.at sc p idle) in
     record {
       outcome = step.step;
       placed = places_then z y v.pass w.pass x.pass (IsReadTerm (read_term (item_at items k) p sc)) kept.symbols.keeps kept.keeps.pass (h.placed sc p idle) step.placed;
@@ -121,9 +121,9 @@ fails items k s v r z w q turn y x o fault h goes kept sc p idle =
 came_to : (items : ItemsView) (g : WholeReading) (z : Table) (w : TermsView) (q : Reader) (c : Value) (n : ℕ)
     → q.frames ≡ [] → HasRead items g z w q c n → IsOutcome z w q g.place g.whole (Ok c)
 came_to items g z w q c n none h =
-    let closed : AreFrames items g z w q.known [] q.values q.leaves.items q.scope h.place n h.waiting = rw none at h.frames in
+    let closed : AreFrames items g z w q.names.known [] q.values q.leaves.items q.names.scope h.place n h.waiting = rw none at h.frames in
     let same : resumed h.waiting (done h.term h.script) ≡ done h.term h.script = ap (λ ws. resumed ws (done h.term h.script)) closed.0 in
-    let scope : IsScope z w q.scope g.place.scope = rw (ap (λ (p : Place). p.scope) closed.4) at h.stands.scope in (
+    let scope : IsScope z w q.names.scope g.place.scope = rw (ap (λ (p : Place). p.scope) closed.4) at h.stands.scope in (
       h.term,
       h.script,
       sym h.comes ∙ same,
@@ -143,7 +143,7 @@ pub ends : (items : ItemsView) (k : ℕ) (s : Table) (v : TermsView) (r : Reader
     → q.frames ≡ [] → IsUnderWay items k s v r z w q (Turn.Use c n)
     → (sc : Script) (p : Place) → IsReaderIdle s v r sc p → ComesToTerm z v w q p (read_term (item_at items k) p sc) (Ok c)
 ends items k s v r z w q c n none h sc p idle = record {
-  outcome = came_to items (reading items k r.scope sc p) z w q c n none (h.at sc p idle);
+  outcome = came_to items (reading items k r.names.scope sc p) z w q c n none (h.at sc p idle);
   placed = h.placed sc p idle;
 }
 
@@ -153,7 +153,7 @@ pub spent : (items : ItemsView) (k : ℕ) (s : Table) (v : TermsView) (r : Reade
     → k < length items.nodes → length z.leaves ≤ length s.leaves + (end_at items k - k)
 spent items k s v r z w q c n none h (sc, p, idle) inside =
     let read = h.at sc p idle in
-    let closed : AreFrames items (reading items k r.scope sc p) z w q.known [] q.values q.leaves.items q.scope read.place n read.waiting = rw none at read.frames in
+    let closed : AreFrames items (reading items k r.names.scope sc p) z w q.names.known [] q.values q.leaves.items q.names.scope read.place n read.waiting = rw none at read.frames in
     let last : n ≡ end_at items k = closed.5 in
     omega (arith, h.few, last, ends_behind items k, ends_inside items k inside)
 

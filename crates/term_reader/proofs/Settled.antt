@@ -39,7 +39,7 @@ pub record Closes (items : ItemsView) (g : WholeReading) (s : Table) (v w : Term
   pub whole : IsWhole g s v w place made
   pub around : Place
   pub stands : ReaderStands s w r whole.script around
-  pub frames : AreFrames items g s w r.known r.frames r.values r.leaves.items r.scope around n whole.waiting
+  pub frames : AreFrames items g s w r.names.known r.frames r.values r.leaves.items r.names.scope around n whole.waiting
 
 -- a fault of what is read now is the fault of the whole
 pub fault_of_whole : (ws : List Waiting) (o : Outcome Script Typed) (r : Refusal) (whole : Outcome Script Typed) → o.result ≡ Err r → resumed ws o ≡ whole → whole.result ≡ Err r
@@ -90,7 +90,7 @@ module _ (items : ItemsView) (g : WholeReading) (s : Table) (v w : TermsView) (p
         term = t;
         waiting = h.whole.waiting;
         stands = record {
-          script = same_script s w r.known (h.whole.script.terms ++ t.tree ∷ []) h.whole.script.let_names h.whole.script h.stands.script;
+          script = same_script s w r.names.known (h.whole.script.terms ++ t.tree ∷ []) h.whole.script.let_names h.whole.script h.stands.script;
           scope = h.stands.scope;
           settings = h.stands.settings;
           low = h.stands.low;

@@ -31,8 +31,8 @@ use Rattle.term_names.specs.declared.entries.Macro as held_macro
 use Rattle.term_names.specs.declared.entries.Named as held_named
 use Rattle.term_reader.specs.declared.frames.Frame.{Frame}
 use Rattle.term_names.specs.declared.heads.Head.{Head}
-use Rattle.term_names.specs.declared.known.KnownEntry.{KnownEntry}
-use Rattle.term_names.specs.declared.known.Which.{Which}
+use Rattle.term_names.specs.declared.names.KnownEntry.{KnownEntry}
+use Rattle.term_names.specs.declared.names.Which.{Which}
 use Rattle.text_items.specs.ItemsAt.{ItemsView, end_at}
 use Rattle.term_reader.specs.declared.reader.Reader.{Reader}
 use Rattle.term_expansion.specs.declared.values.Bound as bound
@@ -304,11 +304,10 @@ module _ (s z : Table) (v w : TermsView) (adds : AddsNoSymbols s z) (terms : Kee
       named k (Some (Leaf.variable a t)) e f = absurd (let g = rw e at f in let b = g.0 in cc)
       named k (Some (Leaf.numeral n)) e f = absurd (let g = rw e at f in let b = g.0 in cc)
 
-  function_at_stays : (sc : Script) (name : List ℕ) → IsFunctionAt s sc name → IsFunctionAt z sc name
-  function_at_stays sc name h = record {
-    leaf = h.leaf;
+  function_at_stays : (sc : Script) (name : List ℕ) (n : ℕ) → IsFunctionAt s sc name n → IsFunctionAt z sc name n
+  function_at_stays sc name n h = record {
     meant = h.meant;
-    here = adds.keeps.leaves h.leaf (function_leaf h.meant) h.here;
+    here = adds.keeps.leaves n (function_leaf h.meant) h.here;
     same_name = h.same_name;
     found = h.found;
     taken = h.taken;
@@ -318,8 +317,8 @@ module _ (s z : Table) (v w : TermsView) (adds : AddsNoSymbols s z) (terms : Kee
   free_name_stays sc name h = record { no_function = no_function_stays sc name h.no_function; free = h.free }
 
   pub meant_stays : (k : KnownView) (sc : Script) (name : List ℕ) (o : Option KnownEntry) → IsNameMeant s v k sc name o → IsNameMeant z w k sc name o
-  meant_stays k sc name None (none, inl h) = (none, inl (function_at_stays sc name h))
-  meant_stays k sc name None (none, inr h) = (none, inr (free_name_stays sc name h))
+  meant_stays k sc name None (none, h) = (none, free_name_stays sc name h)
+  meant_stays k sc name (Some (KnownEntry.Function n)) h = record { no_entry = h.no_entry; function = function_at_stays sc name n h.function }
   meant_stays k sc name (Some KnownEntry.Reserved) h = record {
     no_entry = h.no_entry;
     no_function = no_function_stays sc name h.no_function;
@@ -351,8 +350,8 @@ module _ (s z : Table) (v w : TermsView) (adds : AddsNoSymbols s z) (terms : Kee
 
   pub stands_stays : (r : Reader) (sc : Script) (p : Place) → ReaderStands s v r sc p → ReaderStands z w r sc p
   stands_stays r sc p h = record {
-    script = script_stays r.known sc h.script;
-    scope = scope_stays s z v w adds.keeps terms r.scope p.scope h.scope;
+    script = script_stays r.names.known sc h.script;
+    scope = scope_stays s z v w adds.keeps terms r.names.scope p.scope h.scope;
     settings = h.settings;
     low = h.low;
   }

@@ -21,8 +21,8 @@ module _ (s z : Table) (v w : TermsView) (adds : AddsNoSymbols s z) (terms : Kee
 
   idle_stays : (r : Reader) (sc : Script) (p : Place) → IsReaderIdle s v r sc p → IsReaderIdle z w r sc p
   idle_stays r sc p h = record {
-    script = script_stays s z v w adds terms r.known sc h.script;
-    scope = scope_stays s z v w adds.keeps terms r.scope p.scope h.scope;
+    script = script_stays s z v w adds terms r.names.known sc h.script;
+    scope = scope_stays s z v w adds.keeps terms r.names.scope p.scope h.scope;
     settings = h.settings;
     no_values = h.no_values;
     no_leaves = h.no_leaves;
@@ -41,6 +41,5 @@ module _ (s z : Table) (v w : TermsView) (adds : AddsNoSymbols s z) (terms : Kee
   pub problem_stays : (p : ProblemView) (sc : Script) → IsProblemOf s v p sc → IsProblemOf z w p sc
   problem_stays p sc h = record {
     script = script_stays s z v w adds terms (record { base = p.entries; own = no_entries }) sc h.script;
-    functions = h.functions;
     assertions = refer_stays p.assertions sc.assertions h.assertions;
   }

@@ -1,7 +1,7 @@
 -- Private. Forms as nodes spell them, and the tops of forms.
 use Rattle.std.specs.Prelude.{◌≡◌, ℕ, ◌+◌, ◌<◌, ◌≤◌, List, length, true, is_some, IsTrue}
 use Rattle.sexpr.specs.Items.{Item, Items, no_items, item, symbol_name}
-use Rattle.text_items.specs.ItemShapes.{Name, name_at}
+use Rattle.text_items.specs.ItemShapes.{Name}
 use Rattle.text_items.specs.ItemsAt.{ItemsView, end_at, item_at, items_at}
 use Rattle.text_items.specs.Stepping.{EndBy, IsSymbolAt, name_in}
 use Rattle.problem_text.specs.Forms.{Form, Forms, LetBinds, no_binds, bind, form_of, forms_of, names_after}

@@ -20,16 +20,14 @@ use Rattle.term_names.specs.declared.faults.ReadFault.{ReadFault}
 use Rattle.term_expansion.specs.declared.values.Value.{Value}
 use Rattle.term_reader.specs.declared.reader.Reader.{Reader}
 
--- its macros and named terms, the names of its functions, and its assertions
+-- what its names are those of, and its assertions
 pub record ProblemView : Type 0 where
   pub entries : EntriesView
-  pub functions : List (List ℕ)
   pub assertions : List ℕ
 
 -- the problem stands for the script
 pub record IsProblemOf (s : Table) (v : TermsView) (p : ProblemView) (sc : Script) : Type 0 where
   pub script : IsScript s v (record { base = p.entries; own = no_entries }) sc
-  pub functions : p.functions ≡ map (λ f. f.name) sc.functions
   pub assertions : ReferToAll s v p.assertions sc.assertions
 
 -- a table without declarations, numerals and variables

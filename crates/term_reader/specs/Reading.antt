@@ -30,8 +30,8 @@ EndsWith s pass outcome IsWanted ReadFault.Memory = Unit {0}
 
 -- The reader holds nothing of a term, and what it holds stands for the script and the place.
 pub record IsReaderIdle (s : Table) (v : TermsView) (r : Reader) (sc : Script) (p : Place) : Type 0 where
-  pub script : IsScript s v r.known sc
-  pub scope : IsScope s v r.scope p.scope
+  pub script : IsScript s v r.names.known sc
+  pub scope : IsScope s v r.names.scope p.scope
   pub settings : p.settings ≡ limited r.replaces_lets
   pub no_values : r.values ≡ []
   pub no_leaves : r.leaves.items ≡ []

@@ -24,8 +24,8 @@ use Rattle.term_reader.specs.Reading.{IsReadTerm, EndsWith}
 
 -- the reader's own tables stand for the script and the place
 pub record ReaderStands (s : Table) (v : TermsView) (r : Reader) (sc : Script) (p : Place) : Type 0 where
-  pub script : IsScript s v r.known sc
-  pub scope : IsScope s v r.scope p.scope
+  pub script : IsScript s v r.names.known sc
+  pub scope : IsScope s v r.names.scope p.scope
   pub settings : p.settings ≡ limited r.replaces_lets
   pub low : AreLow r.values
 
@@ -36,7 +36,7 @@ pub record IsAt (items : ItemsView) (g : WholeReading) (s : Table) (v : TermsVie
   pub waiting : List Waiting
   pub stands : ReaderStands s v r script place
   pub inside : k < length items.nodes
-  pub frames : AreFrames items g s v r.known r.frames r.values r.leaves.items r.scope place (end_at items k) waiting
+  pub frames : AreFrames items g s v r.names.known r.frames r.values r.leaves.items r.names.scope place (end_at items k) waiting
   pub comes : resumed waiting (term_from (form_at items k) place script) ≡ g.whole
 
 -- A term was read, and the next item begins at node n.
@@ -48,7 +48,7 @@ pub record HasRead (items : ItemsView) (g : WholeReading) (s : Table) (v : Terms
   pub stands : ReaderStands s v r script place
   pub is : IsValue s v c term
   pub low : c.height ≤ most_height
-  pub frames : AreFrames items g s v r.known r.frames r.values r.leaves.items r.scope place n waiting
+  pub frames : AreFrames items g s v r.names.known r.frames r.values r.leaves.items r.names.scope place n waiting
   pub comes : resumed waiting (done term script) ≡ g.whole
 
 abbrev pub IsTurn : ItemsView → WholeReading → Table → TermsView → Reader → Turn → Type 0

@@ -20,8 +20,8 @@ use term_expansion::values::Value;
 use term_model::Sort;
 use term_names::faults::ReadFault;
 use term_names::heads::Head;
-use term_names::known::NameTables;
 use term_names::looking_up::{Found, find, head_of};
+use term_names::names::NameTables;
 use term_names::using::use_alone;
 use term_pool::Terms;
 use text_items::nodes::ItemText;
@@ -61,16 +61,16 @@ pub(crate) fn symbol_value(
     ensures keeps { KeepsTerms terms.old terms.new }
 {
     let place = place_at(items, k);
-    let found = find(symbols, &reader.known, &reader.scope, name_of(items, k));
+    let found = find(symbols, &reader.names, name_of(items, k));
     if is_unknown(&found) {
         return Err(ReadFault::Text(refused(Cause::UnknownName, place)));
     }
     let tables = NameTables {
         alloc: reader.alloc,
         symbols,
-        known: &reader.known,
+        names: &reader.names,
     };
-    let made = use_alone(&tables, terms, &reader.scope, reader.replaces_lets, found)?;
+    let made = use_alone(&tables, terms, reader.replaces_lets, found)?;
     settle(place, made)
 }
 
@@ -82,9 +82,9 @@ pub(crate) fn head_at(
     k: usize,
 ) -> Option<Head>
     requires { IsSymbolAt items.now k }
-    ensures { (v : TermsView) (sc : Script) (p : Place) → ReaderStands symbols.now v reader.now sc p → IsHeadFound symbols.now v reader.now.known result (meaning_of p sc (name_in items.now k).name) }
+    ensures { (v : TermsView) (sc : Script) (p : Place) → ReaderStands symbols.now v reader.now sc p → IsHeadFound symbols.now v reader.now.names.known result (meaning_of p sc (name_in items.now k).name) }
 {
-    let found = find(symbols, &reader.known, &reader.scope, name_of(items, k));
+    let found = find(symbols, &reader.names, name_of(items, k));
     if is_unknown(&found) {
         return None;
     }

@@ -44,7 +44,7 @@ pub(crate) fn enter(
     ensures few_at_all { OnErr result (length symbols.new.leaves ≤ bound_of symbols.old items.now.nodes reader.old k) }
     ensures progress { IfOk result (λ t. effort items.now.nodes reader.new t < effort items.now.nodes reader.old (turn.Read k)) }
     ensures replaces { reader.new.replaces_lets ≡ reader.old.replaces_lets }
-    ensures base { reader.new.known.base ≡ reader.old.known.base }
+    ensures base { reader.new.names.known.base ≡ reader.old.names.known.base }
     ensures keeps { KeepsTerms terms.old terms.new }
 {
     // A place in the list of nodes, or behind it, is a number that fits.
@@ -88,7 +88,7 @@ fn enter_application(
     ensures few { IfOk result (λ t. bound_of symbols.now items.now.nodes reader.new (node_of t) ≤ bound_of symbols.now items.now.nodes reader.old k) }
     ensures progress { IfOk result (λ t. effort items.now.nodes reader.new t < effort items.now.nodes reader.old (turn.Read k)) }
     ensures replaces { reader.new.replaces_lets ≡ reader.old.replaces_lets }
-    ensures base { reader.new.known.base ≡ reader.old.known.base }
+    ensures base { reader.new.names.known.base ≡ reader.old.names.known.base }
 {
     let ApplicationParts { head, first, end } = *parts;
     let Some(applied) = head_at(items, symbols, reader, head) else {
@@ -118,7 +118,7 @@ fn enter_let(
     ensures few { (s : Table) → IfOk result (λ t. bound_of s items.now.nodes reader.new (node_of t) ≤ bound_of s items.now.nodes reader.old k) }
     ensures progress { IfOk result (λ t. effort items.now.nodes reader.new t < effort items.now.nodes reader.old (turn.Read k)) }
     ensures replaces { reader.new.replaces_lets ≡ reader.old.replaces_lets }
-    ensures base { reader.new.known.base ≡ reader.old.known.base }
+    ensures base { reader.new.names.known.base ≡ reader.old.names.known.base }
 {
     // A place in the list of nodes, or behind it, is a number that fits.
     let _count = items.count();
@@ -142,7 +142,7 @@ fn open_form(reader: &mut Reader<'_>, frame: Frame, next: usize) -> Result<Turn,
     ensures opened { IfOk result (λ t. (t ≡ turn.Read next) × (reader.new ≡ with_open reader.old frame)) }
     ensures fault { IfErr result (λ f. f ≡ fault.Memory) }
     ensures replaces { reader.new.replaces_lets ≡ reader.old.replaces_lets }
-    ensures base { reader.new.known.base ≡ reader.old.known.base }
+    ensures base { reader.new.names.known.base ≡ reader.old.names.known.base }
 {
     reader.frames.push(frame)?;
     Ok(Turn::Read(next))

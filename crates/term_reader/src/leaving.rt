@@ -20,7 +20,7 @@ use sym_table::Symbols;
 use term_expansion::values::Value;
 use term_names::applying::apply;
 use term_names::faults::ReadFault;
-use term_names::known::NameTables;
+use term_names::names::NameTables;
 use term_pool::Terms;
 use text_items::nodes::ItemText;
 
@@ -44,7 +44,7 @@ pub(crate) fn leave(
     ensures few_at_all { OnErr result (length symbols.new.leaves ≤ bound_of symbols.old items.now.nodes reader.old n) }
     ensures progress { IfOk result (λ t. effort items.now.nodes reader.new t < effort items.now.nodes reader.old (turn.Use value n)) }
     ensures replaces { reader.new.replaces_lets ≡ reader.old.replaces_lets }
-    ensures base { reader.new.known.base ≡ reader.old.known.base }
+    ensures base { reader.new.names.known.base ≡ reader.old.names.known.base }
     ensures keeps { KeepsTerms terms.old terms.new }
 {
     // An application stays where it is until its last argument is read.
@@ -81,14 +81,14 @@ fn leave_arguments(
     requires read { (items : ItemsView) × (g : WholeReading) × HasRead items g symbols.now terms.old (with_open reader.old (frame.Arguments form.now)) value form.now.end }
     ensures leaves { (items : ItemsView) (g : WholeReading) → HasRead items g symbols.now terms.old (with_open reader.old (frame.Arguments form.now)) value form.now.end → Leaves items g symbols.now terms.old (with_open reader.old (frame.Arguments form.now)) value form.now.end symbols.now terms.new reader.new result }
     ensures replaces { reader.new.replaces_lets ≡ reader.old.replaces_lets }
-    ensures base { reader.new.known.base ≡ reader.old.known.base }
+    ensures base { reader.new.names.known.base ≡ reader.old.names.known.base }
     ensures keeps { KeepsTerms terms.old terms.new }
 {
     reader.values.push(value)?;
     let tables = NameTables {
         alloc: reader.alloc,
         symbols,
-        known: &reader.known,
+        names: &reader.names,
     };
     let made = apply(&tables, terms, form.head, &reader.values, form.from)?;
     reader.values.truncate(form.from);
@@ -107,7 +107,7 @@ fn leave_annotated(
     requires read { (g : WholeReading) × HasRead attributes.now.items.now g symbols.now terms.old (with_open reader.old (frame.Names attributes.now.end)) value attributes.now.first }
     ensures leaves { (g : WholeReading) → HasRead attributes.now.items.now g symbols.now terms.old (with_open reader.old (frame.Names attributes.now.end)) value attributes.now.first → Leaves attributes.now.items.now g symbols.now terms.old (with_open reader.old (frame.Names attributes.now.end)) value attributes.now.first symbols.now terms.new reader.new result }
     ensures replaces { reader.new.replaces_lets ≡ reader.old.replaces_lets }
-    ensures base { reader.new.known.base ≡ reader.old.known.base }
+    ensures base { reader.new.names.known.base ≡ reader.old.names.known.base }
     ensures keeps { KeepsTerms terms.old terms.new }
 {
     // The value is needed again once its names are given, so it is lent and copied.
@@ -117,7 +117,7 @@ fn leave_annotated(
         attributes,
         symbols,
         terms,
-        &mut reader.known,
+        &mut reader.names,
         *term,
     )?;
     Ok(Turn::Use(value, attributes.end))

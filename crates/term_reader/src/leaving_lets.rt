@@ -44,7 +44,7 @@ pub(crate) fn leave_binding(
     ensures symbols { AddsNoSymbols symbols.old symbols.new }
     ensures one_more { length symbols.new.leaves ≤ length symbols.old.leaves + 1 }
     ensures replaces { reader.new.replaces_lets ≡ reader.old.replaces_lets }
-    ensures base { reader.new.known.base ≡ reader.old.known.base }
+    ensures base { reader.new.names.known.base ≡ reader.old.names.known.base }
 {
     let OpenBindings {
         place,
@@ -61,7 +61,7 @@ pub(crate) fn leave_binding(
     if n == body {
         bind(
             symbols,
-            &mut reader.scope,
+            &mut reader.names,
             &reader.leaves[leaves..],
             &reader.values,
             from,
@@ -120,7 +120,7 @@ pub(crate) fn leave_body(
     requires read { (items : ItemsView) × (g : WholeReading) × HasRead items g symbols.now terms.old (with_open reader.old (frame.Body form.now)) value n }
     ensures leaves { (items : ItemsView) (g : WholeReading) → HasRead items g symbols.now terms.old (with_open reader.old (frame.Body form.now)) value n → Leaves items g symbols.now terms.old (with_open reader.old (frame.Body form.now)) value n symbols.now terms.new reader.new result }
     ensures replaces { reader.new.replaces_lets ≡ reader.old.replaces_lets }
-    ensures base { reader.new.known.base ≡ reader.old.known.base }
+    ensures base { reader.new.names.known.base ≡ reader.old.names.known.base }
     ensures keeps { KeepsTerms terms.old terms.new }
 {
     let OpenBody {
@@ -134,7 +134,7 @@ pub(crate) fn leave_body(
         from,
     };
     let made = close(symbols, terms, &variables, value, reader.replaces_lets)?;
-    unbind(&mut reader.scope, reader.leaves.len() - leaves);
+    unbind(&mut reader.names, reader.leaves.len() - leaves);
     reader.values.truncate(from);
     reader.leaves.truncate(leaves);
     let term = settle(place, made)?;

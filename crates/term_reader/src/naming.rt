@@ -1,6 +1,7 @@
 //! Names that attributes give to terms (SMT-LIB 2.6, on attributes of terms).
 ghost use Rattle.std.specs.Prelude.{◌≡◌, ◌≤◌, [], ◌∷◌};
 ghost use Rattle.pair_pool.specs.Views.{IsUnchanged};
+ghost use Rattle.sym_table.specs.Table.{Table};
 ghost use Rattle.term_pool.specs.Views.{TermsView, KeepsTerms};
 ghost use Rattle.problem_text.specs.Limits.{most_height};
 ghost use Rattle.term_names.specs.Known.{macro_of};
@@ -12,7 +13,7 @@ ghost use Rattle.problem_text.specs.Scripts.{Script};
 ghost use Rattle.term_names.specs.Standing.{IsScript};
 ghost use Rattle.problem_text.specs.Terms.{with_names};
 ghost use Rattle.term_expansion.specs.Values.{IsValue};
-ghost use Rattle.term_names.specs.declared.known.Which.{Which};
+ghost use Rattle.term_names.specs.declared.names.Which.{Which};
 
 use crate::attributes::{TermAttributes, next_name};
 use crate::taken::is_taken;
@@ -22,7 +23,7 @@ use sym_table::Symbols;
 use term_expansion::values::Value;
 use term_names::faults::ReadFault;
 use term_names::free::free_leaves;
-use term_names::known::Known;
+use term_names::names::Names;
 use term_pool::Terms;
 use text_items::nodes::ItemText;
 use text_items::refusals::refused;
@@ -45,16 +46,17 @@ pub(crate) fn give_names(
     attributes: &TermAttributes<'_, '_, '_>,
     symbols: &Symbols,
     terms: &mut Terms<'_>,
-    known: &mut Known<'_>,
+    names: &mut Names<'_>,
     value: Value,
 ) -> Result<(), ReadFault>
     requires attributes { AreTermAttributes attributes.now.items.now attributes.now.first attributes.now.end }
     requires term { (t : Typed) × IsValue symbols.now terms.old value t }
     requires low { value.height ≤ most_height }
-    requires script { (sc : Script) × IsScript symbols.now terms.old known.old sc }
-    ensures given { (t : Typed) (sc : Script) → IsValue symbols.now terms.old value t → IsScript symbols.now terms.old known.old sc → GivesNames symbols.now terms.new known.new t (with_names t (names_at attributes.now.items.now attributes.now.first attributes.now.end) sc) result }
-    ensures macros { (w : Which) → macro_of known.new w ≡ macro_of known.old w }
-    ensures base { known.new.base ≡ known.old.base }
+    requires script { (sc : Script) × IsScript symbols.now terms.old names.old.known sc }
+    ensures given { (t : Typed) (sc : Script) → IsValue symbols.now terms.old value t → IsScript symbols.now terms.old names.old.known sc → GivesNames symbols.now terms.new names.new.known t (with_names t (names_at attributes.now.items.now attributes.now.first attributes.now.end) sc) result }
+    ensures macros { (w : Which) → macro_of names.new.known w ≡ macro_of names.old.known w }
+    ensures base { names.new.known.base ≡ names.old.known.base }
+    ensures scope { names.new.scope ≡ names.old.scope }
     ensures keeps { KeepsTerms terms.old terms.new }
     ensures unchanged { IsUnchanged terms.old.pass terms.new.pass }
 {
@@ -62,35 +64,35 @@ pub(crate) fn give_names(
     if next_name(items, first, end).is_none() {
         return Ok(());
     }
-    let free = free_leaves(alloc, symbols, terms, known, value)?;
+    let free = free_leaves(alloc, symbols, terms, names, value)?;
     let term = TermToName {
         value: &value,
         free: &free,
     };
-    give_each(alloc, attributes, symbols, known, &term)
+    give_each(alloc, attributes, names, &term)
 }
 
 /// Gives a term the names of its attributes.
 fn give_each(
     alloc: Global,
     attributes: &TermAttributes<'_, '_, '_>,
-    symbols: &Symbols,
-    known: &mut Known<'_>,
+    names: &mut Names<'_>,
     term: &TermToName<'_>,
 ) -> Result<(), ReadFault>
     requires attributes { AreTermAttributes attributes.now.items.now attributes.now.first attributes.now.end }
-    requires script { (v : TermsView) × (t : Typed) × (sc : Script) × IsFreeIn symbols.now v term.now.value.now term.now.free.now t × IsScript symbols.now v known.old sc }
-    ensures given { (v : TermsView) (t : Typed) (sc : Script) → IsFreeIn symbols.now v term.now.value.now term.now.free.now t → IsScript symbols.now v known.old sc → GivesNames symbols.now v known.new t (with_names t (names_at attributes.now.items.now attributes.now.first attributes.now.end) sc) result }
-    ensures macros { (w : Which) → macro_of known.new w ≡ macro_of known.old w }
-    ensures base { known.new.base ≡ known.old.base }
+    requires script { (s : Table) × (v : TermsView) × (t : Typed) × (sc : Script) × IsFreeIn s v term.now.value.now term.now.free.now t × IsScript s v names.old.known sc }
+    ensures given { (s : Table) (v : TermsView) (t : Typed) (sc : Script) → IsFreeIn s v term.now.value.now term.now.free.now t → IsScript s v names.old.known sc → GivesNames s v names.new.known t (with_names t (names_at attributes.now.items.now attributes.now.first attributes.now.end) sc) result }
+    ensures macros { (w : Which) → macro_of names.new.known w ≡ macro_of names.old.known w }
+    ensures base { names.new.known.base ≡ names.old.known.base }
+    ensures scope { names.new.scope ≡ names.old.scope }
 {
     let TermAttributes { items, first, end } = *attributes;
     let mut k = first;
-    'names: loop {
+    'each: loop {
         let Some(at) = next_name(items, k, end) else {
             return Ok(());
         };
-        give_name(alloc, items, symbols, known, term, at)?;
+        give_name(alloc, items, names, term, at)?;
         k = at;
     }
 }
@@ -99,23 +101,23 @@ fn give_each(
 fn give_name(
     alloc: Global,
     items: &ItemText<'_, '_>,
-    symbols: &Symbols,
-    known: &mut Known<'_>,
+    names: &mut Names<'_>,
     term: &TermToName<'_>,
     at: usize,
 ) -> Result<(), ReadFault>
     requires name { IsSymbolAt items.now at }
-    requires script { (v : TermsView) × (sc : Script) × IsScript symbols.now v known.old sc }
-    ensures given { (v : TermsView) (t : Typed) (sc : Script) → IsFreeIn symbols.now v term.now.value.now term.now.free.now t → IsScript symbols.now v known.old sc → GivesNames symbols.now v known.new t (with_names t (name_in items.now at ∷ []) sc) result }
-    ensures macros { (w : Which) → macro_of known.new w ≡ macro_of known.old w }
-    ensures base { known.new.base ≡ known.old.base }
+    requires script { (s : Table) × (v : TermsView) × (sc : Script) × IsScript s v names.old.known sc }
+    ensures given { (s : Table) (v : TermsView) (t : Typed) (sc : Script) → IsFreeIn s v term.now.value.now term.now.free.now t → IsScript s v names.old.known sc → GivesNames s v names.new.known t (with_names t (name_in items.now at ∷ []) sc) result }
+    ensures macros { (w : Which) → macro_of names.new.known w ≡ macro_of names.old.known w }
+    ensures base { names.new.known.base ≡ names.old.known.base }
+    ensures scope { names.new.scope ≡ names.old.scope }
 {
     let name = name_of(items, at);
-    if is_taken(symbols, known, name) {
+    if is_taken(names, name) {
         let place = place_at(items, at);
         return Err(ReadFault::Text(refused(Cause::Repeated, place)));
     }
     let owned = Vec::from_slice(alloc, term.free)?;
-    known.give_name(name, *term.value, owned)?;
+    names.give_name(name, *term.value, owned)?;
     Ok(())
 }

@@ -6,17 +6,15 @@ ghost use Rattle.term_reader.specs.ProblemViews.{IsProblemOf};
 ghost use Rattle.problem_text.specs.Scripts.{Script};
 ghost use Rattle.problem_text.specs.Words.{is_among};
 
-use name_set::NameSet;
 use pair_pool::Ref;
 use std::marker::Model;
 use term_names::entries::Entries;
 
-/// A problem that was read: its assertions, in their order, and the names that it takes. Contracts see them, and its
-/// macros and named terms, which a [`TermReader`](crate::TermReader) knows.
+/// A problem that was read: its assertions, in their order, and its functions, macros and named terms. Contracts see them,
+/// and a [`TermReader`](crate::TermReader) knows what they name.
 #[derive(Drop)]
 pub struct Problem {
     pub entries: Entries,
-    pub functions: NameSet,
     pub assertions: Vec<Ref>,
 }
 
@@ -25,17 +23,16 @@ impl Model for Problem {
 
     ghost Value = { ProblemView };
 
-    ghost view = { λ p. record { entries = p.entries; functions = p.functions; assertions = p.assertions.items } };
+    ghost view = { λ p. record { entries = p.entries; assertions = p.assertions.items } };
 }
 
 impl Problem {
-    /// The problem with these macros and named terms, functions and assertions.
-    pub fn new(entries: Entries, functions: NameSet, assertions: Vec<Ref>) -> Problem
-        ensures { result ≡ record { entries = entries; functions = functions; assertions = assertions.items } }
+    /// The problem with these functions, macros and named terms, and these assertions.
+    pub fn new(entries: Entries, assertions: Vec<Ref>) -> Problem
+        ensures { result ≡ record { entries = entries; assertions = assertions.items } }
     {
         Problem {
             entries,
-            functions,
             assertions,
         }
     }
@@ -55,10 +52,10 @@ impl Problem {
         self.assertions[i]
     }
 
-    /// Whether a function, a macro or a named term has this name. Costs a look-up or two.
+    /// Whether a function, a macro or a named term has this name. Costs a look-up.
     pub fn takes_name(&self, name: &[u8]) -> bool
         ensures { (s : Table) (v : TermsView) (sc : Script) → IsProblemOf s v self.now sc → result ≡ is_among sc.taken name.now }
     {
-        self.entries.find(name).is_some() || self.functions.find(name).is_some()
+        self.entries.find(name).is_some()
     }
 }

@@ -3,8 +3,7 @@
 use crate::frame_stacks::Frames;
 use std::alloc::Global;
 use term_expansion::values::Value;
-use term_names::known::Known;
-use term_names::scope::Scope;
+use term_names::names::Names;
 use term_names::stacks::Values;
 
 /// What a reader of terms holds: the names that it knows, the variables in scope, and of the term that is being read
@@ -14,8 +13,7 @@ pub struct Reader<'a> {
     pub alloc: Global,
     /// Whether lets are replaced by their bodies.
     pub replaces_lets: bool,
-    pub known: Known<'a>,
-    pub scope: Scope,
+    pub names: Names<'a>,
     /// The terms that were read and not yet used.
     pub values: Values,
     /// The variables of the lets that are open, by their leaves.

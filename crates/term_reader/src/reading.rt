@@ -37,7 +37,7 @@ pub fn read(
     // Each leaf that is added has a node of the item.
     ensures spent { OnOk result (length symbols.new.leaves ≤ length symbols.old.leaves + (end_at items.now k - k)) }
     ensures replaces { reader.new.replaces_lets ≡ reader.old.replaces_lets }
-    ensures base { reader.new.known.base ≡ reader.old.known.base }
+    ensures base { reader.new.names.known.base ≡ reader.old.names.known.base }
     ensures keeps { KeepsTerms terms.old terms.new }
 {
     items.items_in_items();

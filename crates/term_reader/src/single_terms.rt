@@ -32,9 +32,8 @@ use std::marker::Model;
 use sym_table::{Kind, Memory, Symbols};
 use term_expansion::values::{Bound as Binding, Value};
 use term_names::faults::ReadFault;
-use term_names::known::Known;
 use term_names::lets::as_itself;
-use term_names::scope::Scope;
+use term_names::names::Names;
 use term_names::stacks::Values;
 use term_pool::Terms;
 use text_items::item_laws::items_begin_at_tokens;
@@ -68,8 +67,7 @@ impl<'a> TermReader<'a> {
             reader: Reader {
                 alloc,
                 replaces_lets: flags.expand_lets,
-                known: Known::new(alloc, Some(&problem.entries)),
-                scope: Scope::new(alloc),
+                names: Names::new(alloc, Some(&problem.entries)),
                 values: Values::new(alloc),
                 leaves: Vec::new(alloc),
                 frames: Frames::new(alloc),
@@ -95,7 +93,7 @@ impl<'a> TermReader<'a> {
         ensures reader { (s : Table) (v : TermsView) (sc : Script) (p : Place) (x : Bound) (outer : List Bound) → IsReaderOf s v self.old sc p → p.scope ≡ x ∷ outer → IsReaderOf s v self.new sc (record p { scope = outer }) }
     {
         if self.pushed.pop().is_none() {
-            self.reader.scope.pop();
+            self.reader.names.pop();
         }
     }
 
@@ -127,7 +125,7 @@ impl<'a> TermReader<'a> {
         ensures symbols { AddsNoSymbols symbols.old symbols.new }
         ensures keeps { KeepsTerms terms.old terms.new }
     {
-        enter_each(symbols, &mut self.reader.scope, &self.pushed)?;
+        enter_each(symbols, &mut self.reader.names, &self.pushed)?;
         self.pushed.clear();
         let value = read_first(
             lexer,
@@ -182,16 +180,17 @@ impl<'a> TermReader<'a> {
         ensures symbols { AddsNoSymbols symbols.old symbols.new }
         ensures keeps { KeepsTerms terms.old terms.new }
     {
-        enter_each(symbols, &mut self.reader.scope, &self.pushed)?;
+        enter_each(symbols, &mut self.reader.names, &self.pushed)?;
         self.pushed.clear();
         read(items, symbols, terms, &mut self.reader, k)
     }
 }
 
 /// Puts a variable in scope, by its leaf, where it stands for itself. Refuses want of memory alone.
-fn enter_variable(symbols: &Symbols, scope: &mut Scope, leaf: u32) -> Result<(), Memory>
+fn enter_variable(symbols: &Symbols, names: &mut Names<'_>, leaf: u32) -> Result<(), Memory>
     requires { (x : Var) × IsLeaf symbols.now leaf (variable_leaf x) }
-    ensures { (v : TermsView) (x : Var) (bs : List Bound) → IsLeaf symbols.now leaf (variable_leaf x) → IsScope symbols.now v scope.old bs → OnOk result (IsScope symbols.now v scope.new (itself x ∷ bs)) }
+    ensures scope { (v : TermsView) (x : Var) (bs : List Bound) → IsLeaf symbols.now leaf (variable_leaf x) → IsScope symbols.now v names.old.scope bs → OnOk result (IsScope symbols.now v names.new.scope (itself x ∷ bs)) }
+    ensures known { names.new.known ≡ names.old.known }
 {
     // A table has few leaves, so the leaf is a reference too.
     let _leaves = symbols.count();
@@ -202,18 +201,19 @@ fn enter_variable(symbols: &Symbols, scope: &mut Scope, leaf: u32) -> Result<(),
         variable: leaf,
         value: as_itself(leaf, sort),
     };
-    scope.push(symbols.name(leaf), bound)
+    names.push(symbols.name(leaf), bound)
 }
 
 /// Puts variables in scope, by their leaves, the first one outermost, where they stand for themselves. Refuses want of
 /// memory alone.
-fn enter_each(symbols: &Symbols, scope: &mut Scope, leaves: &[u32]) -> Result<(), Memory>
+fn enter_each(symbols: &Symbols, names: &mut Names<'_>, leaves: &[u32]) -> Result<(), Memory>
     requires { (xs : List Var) × AreLeavesOf symbols.now (reverse leaves.now) xs }
-    ensures { (v : TermsView) (xs : List Var) (bs : List Bound) → AreLeavesOf symbols.now (reverse leaves.now) xs → IsScope symbols.now v scope.old bs → OnOk result (IsScope symbols.now v scope.new (map itself xs ++ bs)) }
+    ensures scope { (v : TermsView) (xs : List Var) (bs : List Bound) → AreLeavesOf symbols.now (reverse leaves.now) xs → IsScope symbols.now v names.old.scope bs → OnOk result (IsScope symbols.now v names.new.scope (map itself xs ++ bs)) }
+    ensures known { names.new.known ≡ names.old.known }
 {
     let mut at = 0;
     'variables: while at < leaves.len() {
-        enter_variable(symbols, scope, leaves[at])?;
+        enter_variable(symbols, names, leaves[at])?;
         at += 1;
     }
     Ok(())

@@ -13,17 +13,17 @@ pub returns-then-is_taken-clause-performs : goal.returns-then-is_taken-clause-pe
 returns-then-is_taken-clause-performs c = λ sc session.
     name_taken _ (name_in c.args.items.now c.args.head.name) (items_at c.args.items.now c.args.head.first c.args.head.end) (item_at c.args.items.now c.args.head.target) (item_at c.args.items.now c.args.body) sc
     _ _ c.args.session.now _ c.refused.result
-    (sym (c.is_taken.ensures _ sc session.idle.script ∙ ap (is_taken sc) c.name_of-spelled.ensures) ∙ c.if-is_taken.true)
+    (sym (c.is_taken.ensures _ _ sc session.idle.script ∙ ap (is_taken sc) c.name_of-spelled.ensures) ∙ c.if-is_taken.true)
     (c.refused.ensures ∙ ap (λ (p : ℕ). record { cause = Repeated; at = p }) c.node-place.ensures.start)
 
 pub reserve-requires : goal.reserve-requires
 reserve-requires c =
     let (sc, session) = c.requires.session in
-    no_entry _ _ c.args.session.now.reader.known sc c.name_of-spelled.result.now session.idle.script (sym (c.is_taken.ensures _ sc session.idle.script) ∙ c.if-is_taken.false)
+    no_entry _ _ c.args.session.now.reader.names.known sc c.name_of-spelled.result.now session.idle.script (sym (c.is_taken.ensures _ _ sc session.idle.script) ∙ c.if-is_taken.false)
 
 pub returns-in_err-sort-clause-performs : goal.returns-in_err-sort-clause-performs
 returns-in_err-sort-clause-performs c = λ sc session.
-    let free = sym (c.is_taken.ensures _ sc session.idle.script ∙ ap (is_taken sc) c.name_of-spelled.ensures) ∙ c.if-is_taken.false in
+    let free = sym (c.is_taken.ensures _ _ sc session.idle.script ∙ ap (is_taken sc) c.name_of-spelled.ensures) ∙ c.if-is_taken.false in
     let p = err_from_is_err_and c.from_residual-in_err-sort.result c.from_residual-in_err-sort.ensures.1 in
     rw (p.1, p.2)
     (signature_fails _ (name_in c.args.items.now c.args.head.name) (items_at c.args.items.now c.args.head.first c.args.head.end) (item_at c.args.items.now c.args.head.target) (item_at c.args.items.now c.args.body) sc
@@ -34,11 +34,11 @@ define_macro-requires-clause-defining c =
     let (sc, session) = c.requires.session in
     let n = name_in c.args.items.now c.args.head.name in
     let same = c.name_of-spelled.ensures in
-    let free = sym (c.is_taken.ensures _ sc session.idle.script ∙ ap (is_taken sc) same) ∙ c.if-is_taken.false in (
+    let free = sym (c.is_taken.ensures _ _ sc session.idle.script ∙ ap (is_taken sc) same) ∙ c.if-is_taken.false in (
       with_name n.name sc,
       is_defining true n (items_at c.args.items.now c.args.head.first c.args.head.end) (item_at c.args.items.now c.args.head.target) (item_at c.args.items.now c.args.body) sc
           _ _ c.args.session.now session free c.reserve.new.self c.name_of-spelled.result.now same
-          (record { entry = c.in_ok-reserve.ensures.entry; macros = c.reserve.ensures.macros; named = c.reserve.ensures.named; base = c.reserve.ensures.base }),
+          (record { entry = c.in_ok-reserve.ensures.entry; keeps = record { macros = c.reserve.ensures.macros; named = c.reserve.ensures.named; base = c.reserve.ensures.base } }) c.reserve.ensures.scope,
     )
 
 pub returns-clause-performs : goal.returns-clause-performs
@@ -48,9 +48,9 @@ returns-clause-performs c = λ sc session.
     let target = item_at c.args.items.now c.args.head.target in
     let value = item_at c.args.items.now c.args.body in
     let same = c.name_of-spelled.ensures in
-    let free = sym (c.is_taken.ensures _ sc session.idle.script ∙ ap (is_taken sc) same) ∙ c.if-is_taken.false in
+    let free = sym (c.is_taken.ensures _ _ sc session.idle.script ∙ ap (is_taken sc) same) ∙ c.if-is_taken.false in
     let defining = is_defining true n pairs target value sc _ _ c.args.session.now session free c.reserve.new.self c.name_of-spelled.result.now same
-    (record { entry = c.in_ok-reserve.ensures.entry; macros = c.reserve.ensures.macros; named = c.reserve.ensures.named; base = c.reserve.ensures.base }) in
+    (record { entry = c.in_ok-reserve.ensures.entry; keeps = record { macros = c.reserve.ensures.macros; named = c.reserve.ensures.named; base = c.reserve.ensures.base } }) c.reserve.ensures.scope in
     is_performed _ n pairs target value sc _ _ c.args.session.now session free _ _ c.define_macro.new.reader c.signature_at.new.parameters c.name_of-spelled.result.now
     (parameters_said c.args.items.now c.signature_at.new.parameters.items) c.in_ok-sort.sort _ same c.in_ok-sort.ensures.0
     c.define_macro.ensures.symbols c.define_macro.ensures.keeps

@@ -65,7 +65,7 @@ returns-clause-defines c = λ sc d.
     let entered = c.in_ok-listed.ensures.entered _ sc d.idle in
     is_defined c.args.new.now.name.now xs c.args.new.now.target i sc _ _ _ c.read_body.new.reader c.in_ok-value.value (c.in_ok-value.ensures.reads xs sc entered.1) _ d.reserved _ c.define.new.self c.in_ok-listed.listed
     entered.0 c.read_body.ensures.symbols c.in_ok-expect_sort.ensures
-    (record { entry = c.in_ok-define.ensures.entry; macros = c.in_ok-define.ensures.macros; named = c.define.ensures.named; base = c.define.ensures.base })
+    (record { entry = c.in_ok-define.ensures.entry; macros = c.in_ok-define.ensures.macros; named = c.define.ensures.named; base = c.define.ensures.base }) c.define.ensures.scope
 
 pub returns-clause-symbols : goal.returns-clause-symbols
 returns-clause-symbols c = adds_then _ _ _ c.enter_parameters.ensures.symbols c.read_body.ensures.symbols

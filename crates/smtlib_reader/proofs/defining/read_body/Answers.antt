@@ -16,6 +16,7 @@ returns-in_err-value-clause-reads c = λ xs sc ready.
 
 pub returns-clause-reads : goal.returns-clause-reads
 returns-clause-reads c = λ xs sc ready.
-    body_there _ _ _ _ c.args.reader.now c.read-outcome.new.reader xs (item_at c.args.items.now c.args.body) sc c.in_ok-value.value c.unbind.new.scope ready
+    body_there _ _ _ _ c.args.reader.now c.read-outcome.new.reader xs (item_at c.args.items.now c.args.body) sc c.in_ok-value.value c.unbind.new.names ready
     (c.in_ok-value.ensures.reads sc (within xs) (ready_to_read _ _ c.args.reader.now xs sc ready))
-    (c.unbind.ensures ∙ ap (λ n. drop n c.read-outcome.new.reader.scope) c.len-count.ensures ∙ none_in_scope c.read-outcome.new.reader.scope)
+    c.unbind.ensures.known
+    (c.unbind.ensures.scope ∙ ap (λ n. drop n c.read-outcome.new.reader.names.scope) c.depth-count.ensures ∙ none_in_scope c.read-outcome.new.reader.names.scope)

@@ -1,5 +1,5 @@
 -- Nothing was read, and no leaf of a new table is that of a function.
-use Rattle.std.proofs.Common.{◌≡◌, inr, ℕ, zero, suc, false, List, [], ◌∷◌, IsTrue, slice_get, None, refl, sym, subst, rules}
+use Rattle.std.proofs.Common.{◌≡◌, ℕ, zero, suc, false, List, [], ◌∷◌, IsTrue, slice_get, None, refl, sym, subst, rules}
 use Rattle.std.specs.Option.{IsSomeAnd}
 use Rattle.sym_table.specs.Leaf.{Leaf, is_function, name_of, first_leaves}
 use Rattle.sym_table.specs.Table.{Table, IsFunctionName}
@@ -33,19 +33,18 @@ returns-clause-session c s v new = record {
       sorts = new.sorts;
       built_in = λ name built. refl;
       names = λ name.
-          subst (IsNameMeant s v c.new.result empty_script name) (sym (no_entry c.new.result name c.new.ensures.base c.new.ensures.own)) (
+          subst (IsNameMeant s v c.new.result.known empty_script name) (sym (no_entry c.new.result.known name c.new.ensures.base c.new.ensures.own)) (
             record { no_named = refl; no_macro = refl },
-            inr (record { no_function = record { table = no_function s name new.leaves; script = refl }; free = refl }),
+            record { no_function = record { table = no_function s name new.leaves; script = refl }; free = refl },
           );
     };
-    scope = subst (λ es. IsScope s v es []) (sym c.new-2.ensures) tt;
+    scope = subst (λ es. IsScope s v es []) (sym c.new.ensures.scope) tt;
     settings = refl;
-    no_values = c.new-3.ensures;
-    no_leaves = c.new-4.ensures.items;
-    no_frames = c.new-5.ensures;
+    no_values = c.new-2.ensures;
+    no_leaves = c.new-3.ensures.items;
+    no_frames = c.new-4.ensures;
   };
-  functions = c.new-6.ensures;
-  assertions = subst (λ rs. ReferToAll s v rs []) (sym c.new-7.ensures.items) tt;
+  assertions = subst (λ rs. ReferToAll s v rs []) (sym c.new-5.ensures.items) tt;
   has_logic = refl;
   is_checked = refl;
 }

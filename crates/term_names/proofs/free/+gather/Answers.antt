@@ -46,7 +46,7 @@ gather-gather_let-requires t c =
     let v = c.args.terms.now in
     let w = c.head.new.self in
     let first : w ≡ v = leaf.stays v w c.head.ensures.keeps c.head.ensures.unchanged in
-    (omega arith, (c.requires.table, (subst (λ z. IsAtMost s z c.args.most c.args.r) (sym first) c.requires.low, (λ u refers. c.in_default-head.ensures.let_term s u c.requires.table (subst (λ z. RefersTo s z c.args.r u) first refers), (subst (λ z. AreBodies s z c.args.bodies.now) (sym first) c.requires.bodies, (subst (λ z. CoversFree s z c.args.region.now.seen.keys c.args.region.now.found.keys) (sym first) c.requires.covers, (c.requires.script.0, subst (λ z. IsScript s z c.args.tables.now.known.now c.requires.script.0) (sym first) c.requires.script.1)))))))
+    (omega arith, (c.requires.table, (subst (λ z. IsAtMost s z c.args.most c.args.r) (sym first) c.requires.low, (λ u refers. c.in_default-head.ensures.let_term s u c.requires.table (subst (λ z. RefersTo s z c.args.r u) first refers), (subst (λ z. AreBodies s z c.args.bodies.now) (sym first) c.requires.bodies, (subst (λ z. CoversFree s z c.args.region.now.seen.keys c.args.region.now.found.keys) (sym first) c.requires.covers, (c.requires.script.0, subst (λ z. IsScript s z c.args.tables.now.names.now.known c.requires.script.0) (sym first) c.requires.script.1)))))))
 
 pub gather-returns-in_default-head-clause-covers : goal.gather-returns-in_default-head-clause-covers
 gather-returns-in_default-head-clause-covers t c =
@@ -95,7 +95,7 @@ gather-gather_all-requires t c =
     let same = c.arguments.ensures.same in
     let no_let = λ (u : Term) (refers : RefersTo s w c.args.r u). leaf.application-no_let s c.in-Some-head.head (arguments_of u) u (c.in-Some-head.ensures.application s u c.requires.table (subst (λ z. RefersTo s z c.args.r u) first refers)) in
     let low = c.parts_are_lower.ensures.arguments s w c.args.most c.args.r c.in_ok-list.list.items (subst (λ z. IsAtMost s z c.args.most c.args.r) (sym first) c.requires.low) (λ u refers. c.in_ok-list.ensures.arguments s u refers (no_let u refers)) in
-    (omega arith, (c.requires.table, (lemma.low_at s w c.arguments.new.terms (c.args.most - 1) c.in_ok-list.list.items c.deref.result.now same c.deref.ensures.value low, (subst (λ z. AreBodies s z c.args.bodies.now) (sym (same ∙ first)) c.requires.bodies, (subst (λ z. CoversFree s z c.args.region.now.seen.keys c.args.region.now.found.keys) (sym (same ∙ first)) c.requires.covers, (c.requires.script.0, subst (λ z. IsScript s z c.args.tables.now.known.now c.requires.script.0) (sym (same ∙ first)) c.requires.script.1))))))
+    (omega arith, (c.requires.table, (lemma.low_at s w c.arguments.new.terms (c.args.most - 1) c.in_ok-list.list.items c.deref.result.now same c.deref.ensures.value low, (subst (λ z. AreBodies s z c.args.bodies.now) (sym (same ∙ first)) c.requires.bodies, (subst (λ z. CoversFree s z c.args.region.now.seen.keys c.args.region.now.found.keys) (sym (same ∙ first)) c.requires.covers, (c.requires.script.0, subst (λ z. IsScript s z c.args.tables.now.names.now.known c.requires.script.0) (sym (same ∙ first)) c.requires.script.1))))))
 
 -- what the arguments have
 adds : (t : ℕ) (c : goal.gather-After-drop-list-2 t) → (u : Term) → RefersTo c.args.tables.now.symbols.now c.args.terms.now c.args.r u → AddsLeaves c.args.tables.now.symbols.now c.args.region.now.found.keys c.gather_all.new.region.found.keys (λ x. IsFree x u)
@@ -170,7 +170,7 @@ gather_let-gather_all-requires t c =
         c.requires.table,
         (
           lemma.low_at s v c.let_parts.new.terms (c.args.most - 1) p.values.items c.deref-2.result.now same c.deref-2.ensures.value low,
-          (subst (λ z. AreBodies s z c.args.bodies.now) (sym same) c.requires.bodies, (subst (λ z. CoversFree s z c.args.region.now.seen.keys c.args.region.now.found.keys) (sym same) c.requires.covers, (c.requires.script.0, subst (λ z. IsScript s z c.args.tables.now.known.now c.requires.script.0) (sym same) c.requires.script.1))),
+          (subst (λ z. AreBodies s z c.args.bodies.now) (sym same) c.requires.bodies, (subst (λ z. CoversFree s z c.args.region.now.seen.keys c.args.region.now.found.keys) (sym same) c.requires.covers, (c.requires.script.0, subst (λ z. IsScript s z c.args.tables.now.names.now.known c.requires.script.0) (sym same) c.requires.script.1))),
         ),
       ),
     )
@@ -186,7 +186,7 @@ gather_let-leaves_of-requires t c =
       omega arith,
       (
         c.requires.table,
-        (subst (λ z. IsAtMost s z (c.args.most - 1) p.body) (sym (again ∙ c.let_parts.ensures.same)) low, (subst (λ z. AreBodies s z c.gather_all.new.bodies) (sym again) c.in_ok-gather_all.ensures.bodies, (c.requires.script.0, subst (λ z. IsScript s z c.args.tables.now.known.now c.requires.script.0) (sym (again ∙ c.let_parts.ensures.same)) c.requires.script.1))),
+        (subst (λ z. IsAtMost s z (c.args.most - 1) p.body) (sym (again ∙ c.let_parts.ensures.same)) low, (subst (λ z. AreBodies s z c.gather_all.new.bodies) (sym again) c.in_ok-gather_all.ensures.bodies, (c.requires.script.0, subst (λ z. IsScript s z c.args.tables.now.names.now.known c.requires.script.0) (sym (again ∙ c.let_parts.ensures.same)) c.requires.script.1))),
       ),
     )
 

@@ -25,11 +25,12 @@ bind_one-requires c =
 pub variables-preserved : goal.variables-preserved
 variables-preserved c =
     let below = c.variables.invariant.0 in
-    let (inner, split, many) = c.variables.invariant.2 in
+    let (inner, split, many) = c.variables.invariant.3 in
     let (e, more) = c.in_ok-bind_one.ensures.inner in (
       omega arith,
       λ v bs ps h g.
-          bind-next _ v c.args.replaces_lets c.args.leaves.now c.args.values.now c.args.from c.variables.at c.get.result c.args.scope.now c.variables.scope
-          c.bind_one.new.scope c.variables-test.true below c.get.ensures (c.in_ok-bind_one.ensures.bound v) (c.variables.invariant.1 v) bs ps h g,
+          bind-next _ v c.args.replaces_lets c.args.leaves.now c.args.values.now c.args.from c.variables.at c.get.result c.args.names.now.scope c.variables.names.scope
+          c.bind_one.new.names.scope c.variables-test.true below c.get.ensures (c.in_ok-bind_one.ensures.bound v) (c.variables.invariant.1 v) bs ps h g,
+      c.in_ok-bind_one.ensures.known ∙ c.variables.invariant.2,
       (e ∷ inner, more ∙ ap (λ xs. e ∷ xs) split, omega arith),
     )

@@ -8,8 +8,9 @@ use Rattle.term_names.proofs.lets.bind.Given as goal
 abbrev pub invariant-variables : goal.invariant-variables
 invariant-variables l =
     (l.at ≤ length l.leaves)
-    × ((v : TermsView) (bs ps : List Bound) → AreValuesBound l.symbols v (drop l.at l.leaves) (drop (l.from + l.at) l.values) bs → IsScope l.symbols v l.fn.scope ps → IsScope l.symbols v l.scope ((if l.replaces_lets then bs else map (λ b. itself b.variable) bs) ++ ps))
-    × ((inner : List Scoped) × (l.scope ≡ inner ++ l.fn.scope) × (length inner + l.at ≡ length l.leaves))
+    × ((v : TermsView) (bs ps : List Bound) → AreValuesBound l.symbols v (drop l.at l.leaves) (drop (l.from + l.at) l.values) bs → IsScope l.symbols v l.fn.names.scope ps → IsScope l.symbols v l.names.scope ((if l.replaces_lets then bs else map (λ b. itself b.variable) bs) ++ ps))
+    × (l.names.known ≡ l.fn.names.known)
+    × ((inner : List Scoped) × (l.names.scope ≡ inner ++ l.fn.names.scope) × (length inner + l.at ≡ length l.leaves))
 
 abbrev pub decreases-variables : goal.decreases-variables
 decreases-variables l = l.at

@@ -7,8 +7,9 @@ pub variables-preserved : goal.variables-preserved
 variables-preserved c =
     let within = c.variables.invariant.0 in
     let next : suc (c.args.count - c.variables.left) ≡ c.args.count - (c.variables.left - 1) = omega arith in
-    let (e, same) = c.pop.ensures in (
+    let (e, same) = c.pop.ensures.scope in (
       omega arith,
-      subst (λ n. c.pop.new.self ≡ drop n c.args.scope.now) next
-          (sym (drop-tail {X = Scoped} (c.args.count - c.variables.left) c.args.scope.now e c.pop.new.self (sym c.variables.invariant.1 ∙ same))),
+      subst (λ n. c.pop.new.self.scope ≡ drop n c.args.names.now.scope) next
+          (sym (drop-tail {X = Scoped} (c.args.count - c.variables.left) c.args.names.now.scope e c.pop.new.self.scope (sym c.variables.invariant.1 ∙ same))),
+      c.pop.ensures.known ∙ c.variables.invariant.2,
     )

@@ -9,5 +9,5 @@ use Rattle.term_names.proofs.looking_up.are_bound.Given as goal
 
 abbrev pub invariant-leaves : goal.invariant-leaves
 invariant-leaves l =
-    (v : TermsView) (p : Place) (x : Var) → IsScope l.symbols v l.scope p.scope
+    (v : TermsView) (p : Place) (x : Var) → IsScope l.symbols v l.names.scope p.scope
     → (k : ℕ) → k < l.leaf-index → IsLeaf l.symbols (get_or l.leaves k 0) (variable_leaf x) → is_bound p.scope x ≡ true

@@ -7,7 +7,7 @@ leaves-init c = λ v p xs h free bound. rw c.new-bounds.ensures.items (puts_none
 
 pub bound_here-requires : goal.bound_here-requires
 bound_here-requires c =
-    leaf_is_bound_here c.args.symbols.now c.args.scope.now c.args.leaves.now c.requires c.leaves.leaf-index c.leaves-test.true
+    leaf_is_bound_here c.args.symbols.now c.args.names.now.scope c.args.leaves.now c.requires c.leaves.leaf-index c.leaves-test.true
 
 pub leaves-preserved : goal.leaves-preserved
 leaves-preserved c =

@@ -10,5 +10,5 @@ use Rattle.term_names.proofs.using.bounds_of.Given as goal
 
 abbrev pub invariant-leaves : goal.invariant-leaves
 invariant-leaves l =
-    (v : TermsView) (p : Place) (xs : List Var) → IsScope l.symbols v l.scope p.scope → AreFreeLeaves l.symbols l.leaves xs
+    (v : TermsView) (p : Place) (xs : List Var) → IsScope l.symbols v l.names.scope p.scope → AreFreeLeaves l.symbols l.leaves xs
     → list_all (is_bound p.scope) xs ≡ true → PutsBefore l.symbols v l.bounds.items p.scope l.leaves l.leaf-index

@@ -8,9 +8,9 @@ returns-in_err-give_names-clause-leaves c = λ g h.
     let p = err_from_is_err_and c.from_residual.result c.from_residual.ensures.1 in
     rw (p.1, p.2)
     (names_refused c.args.attributes.now.items.now g c.args.symbols.now c.args.terms.now c.args.reader.now c.args.value c.args.attributes.now.first c.args.attributes.now.end h
-    c.give_names.new.terms c.give_names.ensures.unchanged c.give_names.new.known c.in_err-give_names.field-0.0 c.in_err-give_names.ensures.given _)
+    c.give_names.new.terms c.give_names.ensures.unchanged c.give_names.new.names c.in_err-give_names.field-0.0 c.in_err-give_names.ensures.given _)
 
 pub returns-clause-leaves : goal.returns-clause-leaves
 returns-clause-leaves c = λ g h.
     names_given c.args.attributes.now.items.now g c.args.symbols.now c.args.terms.now c.args.reader.now c.args.value c.args.attributes.now.first c.args.attributes.now.end h
-    c.give_names.new.terms c.give_names.ensures.keeps c.give_names.ensures.unchanged c.give_names.new.known c.give_names.ensures.macros c.in_ok-give_names.ensures.given
+    c.give_names.new.terms c.give_names.ensures.keeps c.give_names.ensures.unchanged c.give_names.new.names c.give_names.ensures.scope c.give_names.ensures.macros c.in_ok-give_names.ensures.given

@@ -41,8 +41,8 @@ returns-then-n-body-clause-leaves c = λ v g h.
     let added : IsAdded c.args.items.now g c.args.symbols.now v c.args.reader.now c.args.value c.args.n c.args.form.now h c.add_variable.new.symbols c.add_variable.new.leaves.items c.push.new.self = record { adds = c.add_variable.ensures.symbols; leaf = c.in_ok-add_variable.ensures.added; values_are = c.in_ok-push.ensures.pushed } in
     let (inner, split, each) = c.in_ok-bind.ensures.inner in
     body_next c.args.items.now g c.args.symbols.now v c.args.reader.now c.args.value c.args.n c.args.form.now h
-    c.add_variable.new.symbols (record c.args.reader.now { scope = c.bind.new.scope; values = c.push.new.self; leaves = c.add_variable.new.leaves; frames = c.push-then-n-body.new.self })
-    added c.add_variable.ensures.one_more c.if-n-body.true inner _ (take_rest c.deref.result.now c.args.form.now.leaves ∙ ap (drop c.args.form.now.leaves) c.deref.ensures.value)
+    c.add_variable.new.symbols (record c.args.reader.now { names = c.bind.new.names; values = c.push.new.self; leaves = c.add_variable.new.leaves; frames = c.push-then-n-body.new.self })
+    added c.add_variable.ensures.one_more c.if-n-body.true inner _ c.bind.ensures.known (take_rest c.deref.result.now c.args.form.now.leaves ∙ ap (drop c.args.form.now.leaves) c.deref.ensures.value)
     c.in_ok-bind.ensures.bound split each c.in_ok-push-2.ensures.pushed
 
 pub overflow_add-n : goal.overflow_add-n

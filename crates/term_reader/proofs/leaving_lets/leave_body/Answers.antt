@@ -22,6 +22,6 @@ returns-in_err-term-clause-leaves c = λ items g h.
 pub returns-clause-leaves : goal.returns-clause-leaves
 returns-clause-leaves c = λ items g h.
     body_settled items g c.args.symbols.now c.args.terms.now c.args.reader.now c.args.value c.args.n c.args.form.now h
-    (record c.args.reader.now { scope = c.unbind.new.scope; values = c.truncate.new.self; leaves = c.truncate-2.new.self })
-    (c.unbind.ensures ∙ ap (λ k. drop (k - c.args.form.now.leaves) c.args.reader.now.scope) (c.len.ensures ∙ c.args.reader.now.leaves.ok.0), c.truncate.ensures, c.truncate-2.ensures.items)
+    (record c.args.reader.now { names = c.unbind.new.names; values = c.truncate.new.self; leaves = c.truncate-2.new.self })
+    (c.unbind.ensures.known, c.unbind.ensures.scope ∙ ap (λ k. drop (k - c.args.form.now.leaves) c.args.reader.now.names.scope) (c.len.ensures ∙ c.args.reader.now.leaves.ok.0), c.truncate.ensures, c.truncate-2.ensures.items)
     c.close.new.terms c.close.ensures.keeps c.in_ok-made.made (_, take_rest c.deref.result.now c.args.form.now.leaves ∙ ap (drop c.args.form.now.leaves) c.deref.ensures.value, c.in_ok-made.ensures.makes) c.in_ok-term.term c.in_ok-term.ensures

@@ -12,30 +12,30 @@ place_at-place-requires c = c.requires.name.inside
 
 pub returns-then-is_taken-clause-given : goal.returns-then-is_taken-clause-given
 returns-then-is_taken-clause-given c =
-    λ v t sc free is.
+    λ s v t sc free is.
     let place = c.place_at-place.ensures in
-    name_refused t (name_in c.args.items.now c.args.at) sc c.refused.result (sym (c.is_taken.ensures v sc is ∙ ap (is_taken sc) c.name_of-name.ensures) ∙ c.if-is_taken.true)
+    name_refused t (name_in c.args.items.now c.args.at) sc c.refused.result (sym (c.is_taken.ensures s v sc is ∙ ap (is_taken sc) c.name_of-name.ensures) ∙ c.if-is_taken.true)
     (c.refused.ensures ∙ ap (λ (p : ℕ). record { cause = Repeated; at = p }) place)
 
 pub give_name-requires : goal.give_name-requires
 give_name-requires c =
-    let (v, sc, is) = c.requires.script in
-    no_entry c.args.symbols.now v c.args.known.now sc c.name_of-name.result.now is (sym (c.is_taken.ensures v sc is) ∙ c.if-is_taken.false)
+    let (s, v, sc, is) = c.requires.script in
+    no_entry s v c.args.names.now.known sc c.name_of-name.result.now is (sym (c.is_taken.ensures s v sc is) ∙ c.if-is_taken.false)
 
 pub returns-clause-given : goal.returns-clause-given
 returns-clause-given c =
-    λ v t sc free is.
+    λ s v t sc free is.
     let same = c.name_of-name.ensures in
-    name_given c.args.symbols.now v c.args.known.now c.give_name.new.self sc c.name_of-name.result.now (name_in c.args.items.now c.args.at) t (record { value = c.args.term.now.value.now; free = c.in_ok-owned.owned }) same
+    name_given s v c.args.names.now.known c.give_name.new.self.known sc c.name_of-name.result.now (name_in c.args.items.now c.args.at) t (record { value = c.args.term.now.value.now; free = c.in_ok-owned.owned }) same
     (record {
       entry = c.in_ok-give_name.ensures.entry;
       named = c.in_ok-give_name.ensures.named;
       macros = c.in_ok-give_name.ensures.macros;
       base = c.in_ok-give_name.ensures.base;
     })
-    is (sym (c.is_taken.ensures v sc is ∙ ap (is_taken sc) same) ∙ c.if-is_taken.false)
+    is (sym (c.is_taken.ensures s v sc is ∙ ap (is_taken sc) same) ∙ c.if-is_taken.false)
     (record {
       value = free.value;
       low = free.low;
-      free = subst (λ (leaves : List ℕ). AreFreeLeaves c.args.symbols.now leaves (free_variables t.tree)) (sym c.in_ok-owned.ensures.items) free.free;
+      free = subst (λ (leaves : List ℕ). AreFreeLeaves s leaves (free_variables t.tree)) (sym c.in_ok-owned.ensures.items) free.free;
     })

@@ -20,10 +20,10 @@ returns-clause-given c =
     let old = c.args.terms.now in
     let new = c.free_leaves.new.terms in
     let keeps = c.free_leaves.ensures.keeps in
-    c.give_each.ensures.given new t sc
+    c.give_each.ensures.given s new t sc
     (record {
       value = value_stays s s old new (table_keeps_none s) keeps c.args.value t value;
       low = c.requires.low;
       free = subst (λ (leaves : List ℕ). AreFreeLeaves s leaves (free_variables t.tree)) (sym c.deref.ensures.value) (c.in_ok-free.ensures.free t value);
     })
-    (script_stays s s old new (adds_none s) keeps c.args.known.now sc is)
+    (script_stays s s old new (adds_none s) keeps c.args.names.now.known sc is)

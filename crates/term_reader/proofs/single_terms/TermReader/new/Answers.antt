@@ -8,18 +8,18 @@ use Rattle.term_reader.specs.ProblemViews.{ProblemView}
 use Rattle.term_reader.proofs.PushedVariables.{reader_settled}
 use Rattle.term_reader.proofs.single_terms.TermReader.new.Goals as goal
 
-known : (c : goal.After-new-7) → c.new.result ≡ record { base = c.args.problem.now.entries; own = no_entries }
+known : (c : goal.After-new-6) → c.new.result.known ≡ record { base = c.args.problem.now.entries; own = no_entries }
 known c =
-    let base : c.new.result.base ≡ c.args.problem.now.entries = c.new.ensures.base ∙ ap (λ (p : ProblemView). p.entries) c.problem.view_is in
-    ap (λ (e : EntriesView). record { base = e; own = c.new.result.own }) base
+    let base : c.new.result.known.base ≡ c.args.problem.now.entries = c.new.ensures.base ∙ ap (λ (p : ProblemView). p.entries) c.problem.view_is in
+    ap (λ (e : EntriesView). record { base = e; own = c.new.result.known.own }) base
     ∙ ap (λ (e : EntriesView). record { base = c.args.problem.now.entries; own = e }) c.new.ensures.own
 
 pub returns : goal.returns
-returns c s v sc h = reader_settled s v _ _ sc _ (ap reverse c.new-6.ensures.items) (record {
+returns c s v sc h = reader_settled s v _ _ sc _ (ap reverse c.new-5.ensures.items) (record {
   script = subst (λ (k : KnownView). IsScript s v k sc) (sym (known c)) h.script;
-  scope = subst (λ es. IsScope s v es []) (sym c.new-2.ensures) tt;
+  scope = subst (λ es. IsScope s v es []) (sym c.new.ensures.scope) tt;
   settings = refl;
-  no_values = c.new-3.ensures;
-  no_leaves = c.new-4.ensures.items;
-  no_frames = c.new-5.ensures;
+  no_values = c.new-2.ensures;
+  no_leaves = c.new-3.ensures.items;
+  no_frames = c.new-4.ensures;
 })

@@ -11,10 +11,10 @@ returns-in_err-value-clause-read c i rest sc p goes h =
     let reader = subst (λ r. IsReaderOf c.args.symbols.now c.args.terms.now r sc p) (sym c.self.view_is) h in
     rw (is.1, is.2)
     (term_refused _ _ _ c.read_first.new.reader _ p _ _
-    (c.in_err-value.ensures.reads i rest sc p goes (all_entered _ _ _ c.deref.result.now c.enter_each.new.scope sc p (ap reverse c.deref.ensures.value) (c.in_ok-enter_each.ensures c.args.terms.now) reader)))
+    (c.in_err-value.ensures.reads i rest sc p goes (all_entered _ _ _ c.deref.result.now c.enter_each.new.names sc p (ap reverse c.deref.ensures.value) c.enter_each.ensures.known (c.in_ok-enter_each.ensures.scope c.args.terms.now) reader)))
 
 pub returns-clause-read : goal.returns-clause-read
 returns-clause-read c i rest sc p goes h =
     let reader = subst (λ r. IsReaderOf c.args.symbols.now c.args.terms.now r sc p) (sym c.self.view_is) h in
     term_read _ _ _ c.read_first.new.reader _ p _ c.in_ok-value.value (ap reverse c.clear.ensures.items)
-    (c.in_ok-value.ensures.reads i rest sc p goes (all_entered _ _ _ c.deref.result.now c.enter_each.new.scope sc p (ap reverse c.deref.ensures.value) (c.in_ok-enter_each.ensures c.args.terms.now) reader))
+    (c.in_ok-value.ensures.reads i rest sc p goes (all_entered _ _ _ c.deref.result.now c.enter_each.new.names sc p (ap reverse c.deref.ensures.value) c.enter_each.ensures.known (c.in_ok-enter_each.ensures.scope c.args.terms.now) reader))

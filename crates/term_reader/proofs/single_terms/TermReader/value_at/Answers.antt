@@ -8,4 +8,4 @@ pub returns-clause-read : goal.returns-clause-read
 returns-clause-read c sc p h =
     let reader = subst (λ r. IsReaderOf c.args.symbols.now c.args.terms.now r sc p) (sym c.self.view_is) h in
     value_read _ _ _ c.read.new.reader _ p _ c.read.result (ap reverse c.clear.ensures.items)
-    (c.read.ensures.reads sc p (all_entered _ _ _ c.deref.result.now c.enter_each.new.scope sc p (ap reverse c.deref.ensures.value) (c.in_ok-enter_each.ensures c.args.terms.now) reader))
+    (c.read.ensures.reads sc p (all_entered _ _ _ c.deref.result.now c.enter_each.new.names sc p (ap reverse c.deref.ensures.value) c.enter_each.ensures.known (c.in_ok-enter_each.ensures.scope c.args.terms.now) reader))
