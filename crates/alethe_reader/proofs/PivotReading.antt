@@ -13,7 +13,7 @@ use Rattle.problem_text.specs.Outcomes.{Outcome, done, and_then}
 use Rattle.term_names.specs.Standing.{AddsNoSymbols}
 use Rattle.term_names.specs.declared.faults.ReadFault.{ReadFault}
 use Rattle.term_reader.specs.ProblemViews.{ReaderView, IsReaderOf}
-use Rattle.term_reader.proofs.Staying.{refers_stays}
+use Rattle.term_reader.proofs.Staying.{zip_weaken, refers_stays}
 use Rattle.alethe_text.specs.Arguments.{pivots_from}
 use Rattle.alethe_text.specs.Commands.{behind_first}
 use Rattle.alethe_text.specs.ProofTerms.{place_in}
@@ -26,7 +26,6 @@ use Rattle.alethe_reader.proofs.LeftToRead.{and_then_then, and_then_same, and_th
 use Rattle.alethe_reader.proofs.PivotPairs.{others_behind, pair_split, both_assoc, none_before, none_behind}
 use Rattle.alethe_reader.proofs.StillRead.{keeps_give, keeps_then}
 use Rattle.alethe_reader.proofs.StillReadCommands.{keeps_pivots}
-use Rattle.alethe_reader.proofs.StoredItems.{zip_weaken}
 
 -- pivots go on standing for those that they are
 module _ (s z : Table) (v w : TermsView) (table : Keeps s z) (terms : KeepsTerms v w) where

@@ -1,12 +1,12 @@
 -- Proofs over references that stand for proofs over terms: they have as many commands and subproofs, and go on standing for them.
 use Rattle.std.proofs.Common.{◌≡◌, ℕ, suc, List, [], ◌∷◌, refl, ap, arith}
-use Rattle.std.specs.List.{AllZip}
 use Rattle.sym_table.specs.Table.{Table, Keeps}
 use Rattle.term_model.specs.Terms.{Var, Term}
 use Rattle.term_pool.specs.Views.{TermsView, RefersTo}
 use Rattle.rule_model.specs.Proofs.{Step, ProofItems}
 use Rattle.rule_model.specs.Scopes.{commands_in, subproofs_in}
 use Rattle.proof_store.specs.Meaning.{IsBindingOf, IsPivotOf, IsStepOf, StandForItems, no_items_stand, assume_stands, step_stands, subproof_stands}
+use Rattle.term_reader.proofs.Staying.{zip_weaken}
 
 -- as many commands, and subproofs
 pub commands_same : (s : Table) (v : TermsView) (is : ProofItems ℕ ℕ) (ps : ProofItems Var Term) → StandForItems s v is ps → commands_in is ≡ commands_in ps
@@ -22,12 +22,6 @@ subproofs_same s v _ _ (assume_stands is ps id r t h k) = subproofs_same s v is 
 subproofs_same s v _ _ (step_stands is ps a of h k) = subproofs_same s v is ps h
 subproofs_same s v _ _ (subproof_stands is ps bs cs within proof a of h b k l) =
     let outer = subproofs_same s v is ps h in let deep = subproofs_same s v within proof k in omega arith
-
-pub zip_weaken : {A B : Type 0} (R S : A → B → Type 0) → ((x : A) (y : B) → R x y → S x y) → (xs : List A) (ys : List B) → AllZip R xs ys → AllZip S xs ys
-zip_weaken R S weak [] [] h = tt
-zip_weaken R S weak [] (y ∷ ys) h = absurd h
-zip_weaken R S weak (x ∷ xs) [] h = absurd h
-zip_weaken R S weak (x ∷ xs) (y ∷ ys) h = (weak x y h.0, zip_weaken R S weak xs ys h.1)
 
 -- what stands for something goes on standing for it
 step_stays : (s z : Table) (v w : TermsView) → ((r : ℕ) (t : Term) → RefersTo s v r t → RefersTo z w r t) → (step' : Step ℕ) (of : Step Term) → IsStepOf s v step' of → IsStepOf z w step' of

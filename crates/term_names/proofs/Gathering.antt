@@ -12,11 +12,11 @@ use Rattle.term_pool.specs.StandsFor.{variable_leaf}
 use Rattle.term_pool.specs.Views.{TermsView, RefersTo, ReferToAll}
 use Rattle.term_expansion.specs.Free.{HasVariable, IsLeafOfSome, AreFreeLeaves, AddsLeaves, AddsOne, AddsUnbound}
 use Rattle.term_expansion.specs.Heights.{IsAtMost}
-use Rattle.term_names.specs.FreeParts.{IsFreeInAny, AreLeavesOf, ArePartsOfLet, CoversFree, Bodies, AreBodies}
+use Rattle.term_names.specs.FreeParts.{IsFreeInAny, ArePartsOfLet, CoversFree, Bodies, AreBodies}
 use Rattle.term_names.specs.Known.{KnownView, named_of}
 use Rattle.rule_model.specs.Replacement.{free_variables}
 use Rattle.problem_text.specs.Scripts.{Script}
-use Rattle.term_names.specs.Standing.{IsNameMeant}
+use Rattle.term_names.specs.Standing.{AreLeavesOf, IsNameMeant}
 use Rattle.term_names.specs.declared.entries.Named as held
 use Rattle.term_names.specs.declared.names.KnownEntry.{KnownEntry}
 use Rattle.term_names.specs.declared.names.Which.{Which}

@@ -1,6 +1,7 @@
 -- What is put in for the parameters of a macro, and what comes of it.
 use Rattle.std.proofs.Common.{◌≡◌, ℕ, zero, suc, ◌+◌, ◌<◌, List, [], ◌∷◌, ◌++◌, length, map, zip, take, drop, get_or, slice_get, Bool, true, false, if◌then◌else◌, Option, Some, None, Result, Ok, Err, refl, sym, ◌∙◌, ap, subst, arith}
 use Rattle.std.proofs.lemmas.List.{length-map}
+use Rattle.std.proofs.lemmas.Slice.Zip.{AllZip-long}
 use Rattle.sexpr.specs.declared.causes.Refusal.{Refusal}
 use Rattle.sym_table.specs.Table.{Table}
 use Rattle.term_model.specs.declared.symbols.Sort.{Sort}
@@ -82,10 +83,7 @@ expansion-refused s old new t ReadFault.Memory h full text = record {
 }
 
 leaves-lengths : (s : Table) (ks : List ℕ) (xs : List Var) → AreLeavesOf s ks xs → length ks ≡ length xs
-leaves-lengths s [] [] h = refl
-leaves-lengths s [] (x ∷ xs) h = absurd h
-leaves-lengths s (k ∷ ks) [] h = absurd h
-leaves-lengths s (k ∷ ks) (x ∷ xs) h = ap suc (leaves-lengths s ks xs h.1)
+leaves-lengths s ks xs h = sym (AllZip-long _ ks xs h)
 
 -- A macro whose parameters' sorts were compared with those of values: `first` and `second` are the sorts, and `fits` tells
 -- whether they are the same.

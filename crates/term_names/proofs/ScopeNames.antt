@@ -53,10 +53,10 @@ found_in_scope s v [] [] h name = tt
 found_in_scope s v [] (b ∷ bs) h name = absurd h
 found_in_scope s v (e ∷ es) [] h name = absurd h
 found_in_scope s v (e ∷ es) (b ∷ bs) h name =
-    go (bytes_eq e.name name) (bytes_eq b.variable.name name) (ap (λ n. bytes_eq n name) h.0) (bytes_eq-Decides b.variable.name name).0 (found_in_scope s v es bs h.2 name)
+    go (bytes_eq e.name name) (bytes_eq b.variable.name name) (ap (λ n. bytes_eq n name) h.0.0) (bytes_eq-Decides b.variable.name name).0 (found_in_scope s v es bs h.1 name)
   where
     go : (t u : Bool) → t ≡ u → (u ≡ true → b.variable.name ≡ name) → AreFound s v name (find (λ e. bytes_eq e.name name) es) (innermost bs name) → AreFound s v name (cond t (Some e) (find (λ e. bytes_eq e.name name) es)) (cond u (Some b) (innermost bs name))
-    go true true same is rest = (is refl, h.1)
+    go true true same is rest = (is refl, h.0.1)
     go true false same is rest = absurd (cc)
     go false true same is rest = absurd (cc)
     go false false same is rest = rest

@@ -4,11 +4,10 @@ use Rattle.std.specs.HashMap.{HashMap, get}
 use Rattle.std.specs.declared.alloc.Global.{Global}
 use Rattle.std.specs.declared.hash.BuildHasherDefault.{BuildHasherDefault}
 use Rattle.std.specs.declared.hash.FoldHasher.{FoldHasher}
-use Rattle.sym_table.specs.Table.{Table, IsLeaf}
+use Rattle.sym_table.specs.Table.{Table}
 use Rattle.term_model.specs.FreeVariables.{IsFree}
 use Rattle.term_model.specs.Terms.{Var, Term, Bindings, let_in}
 use Rattle.term_pool.specs.Building.{AreBindings}
-use Rattle.term_pool.specs.StandsFor.{variable_leaf}
 use Rattle.term_pool.specs.Views.{TermsView, RefersTo}
 use Rattle.term_expansion.specs.Free.{HasVariable, AddsLeaves}
 
@@ -16,13 +15,6 @@ use Rattle.term_expansion.specs.Free.{HasVariable, AddsLeaves}
 abbrev pub IsFreeInAny : Var → List Term → Type 0
 IsFreeInAny x [] = ⊥
 IsFreeInAny x (t ∷ ts) = IsFree x t ⊎ IsFreeInAny x ts
-
--- leaves and variables in the same order, each leaf that of its variable
-abbrev pub AreLeavesOf : Table → List ℕ → List Var → Type 0
-AreLeavesOf s [] [] = Unit {0}
-AreLeavesOf s [] (x ∷ xs) = ⊥
-AreLeavesOf s (k ∷ ks) [] = ⊥
-AreLeavesOf s (k ∷ ks) (x ∷ xs) = IsLeaf s k (variable_leaf x) × AreLeavesOf s ks xs
 
 -- of a let that the reference stands for, the leaves of the variables that it binds, the references of what it gives them and
 -- that of its body

@@ -1,5 +1,6 @@
 -- Public. When the tables of the code stand for a script. Names are tied by what they are looked up to be, not by lists.
-use Rattle.std.specs.Prelude.{◌≡◌, ◌≤◌, ℕ, List, [], ◌∷◌, map, find, bytes_eq, true, false, Option, Some, None}
+use Rattle.std.specs.Prelude.{◌≡◌, ◌≤◌, ℕ, List, map, find, bytes_eq, true, false, Option, Some, None}
+use Rattle.std.specs.List.{AllZip}
 use Rattle.sym_table.specs.Table.{Table, IsLeaf, IsFunctionName, Keeps}
 use Rattle.term_model.specs.Terms.{Var, Fun}
 use Rattle.term_pool.specs.StandsFor.{variable_leaf, function_leaf}
@@ -27,10 +28,7 @@ function_in sc name = find (λ f. bytes_eq f.name name) sc.functions
 
 -- the leaves are those of the variables, in order
 abbrev pub AreLeavesOf : Table → List ℕ → List Var → Type 0
-AreLeavesOf s [] [] = Unit {0}
-AreLeavesOf s [] (x ∷ xs) = ⊥
-AreLeavesOf s (k ∷ ks) [] = ⊥
-AreLeavesOf s (k ∷ ks) (x ∷ xs) = IsLeaf s k (variable_leaf x) × AreLeavesOf s ks xs
+AreLeavesOf s ks xs = AllZip (λ k x. IsLeaf s k (variable_leaf x)) ks xs
 
 pub record IsMacroOf (s : Table) (v : TermsView) (m : macro.Macro) (d : Macro) : Type 0 where
   pub parameters : AreLeavesOf s m.parameters.items d.parameters

@@ -110,7 +110,8 @@ fn is_bound_here(symbols: &Symbols, names: &Names<'_>, leaf: u32) -> bool
 
 /// What is found, as the head of an application. A term takes no arguments.
 pub fn head_of(found: Found) -> Option<Head>
-    ensures { (s : Table) (v : TermsView) (k : KnownView) (p : Place) (m : Meaning) → IsFoundMeaning s v k p found (Some m) → (h : head.Head) × (result ≡ Some h) × HeadMeans s v k h m }
+    ensures means { (s : Table) (v : TermsView) (k : KnownView) (p : Place) (m : Meaning) → IsFoundMeaning s v k p found (Some m) → (h : head.Head) × (result ≡ Some h) × HeadMeans s v k h m }
+    ensures unknown { (s : Table) (v : TermsView) (k : KnownView) (p : Place) → IsFoundMeaning s v k p found None → result ≡ None }
 {
     match found {
         Found::Term(_) | Found::Named(_) => Some(Head::Fixed),

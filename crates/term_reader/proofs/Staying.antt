@@ -1,6 +1,7 @@
 -- Cited by crates above. What the code holds stays what it is, as the table of symbols grows and as the pass comes to know more; and the cells
 -- that were placed stay cells of what was wanted.
 use Rattle.std.proofs.Common.{◌≡◌, ◌≢◌, ◌⊎◌, inl, inr, ℕ, ℤ, pos, ◌+◌, ◌≤◌, zero, suc, refl, ◌∙◌, ap, arith, List, [], ◌∷◌, ◌++◌, length, take, drop, slice_get, Option, Some, None}
+use Rattle.std.specs.List.{AllZip}
 use Rattle.std.proofs.lemmas.List.{length-append}
 use Rattle.pair_pool.specs.Trees.{Tree, leaf, cell}
 use Rattle.pair_pool.specs.Views.{PassView, IsPlaced, IsFullFor}
@@ -15,7 +16,7 @@ use Rattle.term_names.specs.Heads.{IsSymbolOf, IsMacroMeant, HeadMeans}
 use Rattle.term_reader.specs.Frames.{HasArgumentsSoFar, HasBindings, HasBody, WholeReading, AreFrames}
 use Rattle.term_expansion.specs.Free.{AreFreeLeaves}
 use Rattle.term_expansion.specs.Images.{PlacesTerm, LacksRoomFor}
-use Rattle.term_names.specs.InScope.{IsScope, AreValuesBound}
+use Rattle.term_names.specs.InScope.{IsScoped, IsScope, AreValuesBound}
 use Rattle.term_names.specs.Known.{KnownView, known_entry, macro_of}
 use Rattle.term_names.specs.Making.{IsWantedCell, PlacesCellsOf, LacksCellOf}
 use Rattle.problem_text.specs.Names.{Bound, Place, Meaning}
@@ -37,6 +38,13 @@ use Rattle.text_items.specs.ItemsAt.{ItemsView, end_at}
 use Rattle.term_reader.specs.declared.reader.Reader.{Reader}
 use Rattle.term_expansion.specs.declared.values.Bound as bound
 use Rattle.term_expansion.specs.declared.values.Value.{Value}
+
+-- what holds of the items of two lists, place by place, holds where it says more
+pub zip_weaken : {A B : Type 0} (R S : A → B → Type 0) → ((x : A) (y : B) → R x y → S x y) → (xs : List A) (ys : List B) → AllZip R xs ys → AllZip S xs ys
+zip_weaken R S weak [] [] h = tt
+zip_weaken R S weak [] (y ∷ ys) h = absurd h
+zip_weaken R S weak (x ∷ xs) [] h = absurd h
+zip_weaken R S weak (x ∷ xs) (y ∷ ys) h = (weak x y h.0, zip_weaken R S weak xs ys h.1)
 
 -- tables
 pub table_keeps_none : (s : Table) → Keeps s s
@@ -182,10 +190,7 @@ module _ (s z : Table) (v w : TermsView) (keeps : Keeps s z) (terms : KeepsTerms
   replacement_stays (b ∷ bs) (x ∷ q) h = (puts_in_stays b x.0 x.1 h.0, replacement_stays bs q h.1)
 
   pub scope_stays : (es : List Scoped) (bs : List Bound) → IsScope s v es bs → IsScope z w es bs
-  scope_stays [] [] h = h
-  scope_stays [] (b ∷ bs) h = absurd h
-  scope_stays (e ∷ es) [] h = absurd h
-  scope_stays (e ∷ es) (b ∷ bs) h = (h.0, puts_in_stays e.bound b.variable b.stands_for h.1, scope_stays es bs h.2)
+  scope_stays = zip_weaken (IsScoped s v) (IsScoped z w) (λ e b h. (h.0, puts_in_stays e.bound b.variable b.stands_for h.1))
 
   pub bound_stays : (ks : List ℕ) (cs : List Value) (bs : List Bound) → AreValuesBound s v ks cs bs → AreValuesBound z w ks cs bs
   bound_stays [] [] [] h = h

@@ -15,4 +15,4 @@ returns c =
     λ v sc p stands.
     let found = found_named c.args.symbols.now v c.args.reader.now.names.known p sc (name_in c.args.items.now c.args.k) c.find-found.result c.name_of.result.now c.name_of.ensures (c.find-found.ensures v sc p stands.script stands.scope) in
     head_found c.args.symbols.now v c.args.reader.now.names.known p c.find-found.result (meaning_of p sc (name_in c.args.items.now c.args.k).name) c.head_of.result (sym c.is_unknown.ensures ∙ c.if-is_unknown.false) found
-    (λ m is. c.head_of.ensures c.args.symbols.now v c.args.reader.now.names.known p m is)
+    (λ m is. c.head_of.ensures.means c.args.symbols.now v c.args.reader.now.names.known p m is)
