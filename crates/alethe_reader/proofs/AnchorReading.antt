@@ -25,6 +25,7 @@ use Rattle.problem_text.specs.Words.{is_among}
 use Rattle.term_names.specs.Standing.{AddsNoSymbols}
 use Rattle.term_names.specs.declared.faults.ReadFault.{ReadFault}
 use Rattle.term_reader.specs.ProblemViews.{ReaderView, IsReaderOf}
+use Rattle.term_reader.proofs.Coming.{answers, refuses, no_memory, same_outcome}
 use Rattle.term_reader.proofs.Staying.{adds_none, keeps_none}
 use Rattle.alethe_text.proofs.Lists.{or_parts}
 use Rattle.alethe_text.specs.Anchors.{bound_names, arguments_read, with_anchor, anchor_read}
@@ -46,7 +47,7 @@ use Rattle.alethe_reader.specs.IdsInUse.{in_use, ids_in}
 use Rattle.alethe_reader.specs.Judging.{is_named}
 use Rattle.alethe_reader.specs.Opening.{AreFresh, AreArgumentsRead, entered}
 use Rattle.alethe_reader.specs.Sessions.{StandForNesting, starts, counts, IsProofSession, IsWritten, StandsAfter}
-use Rattle.alethe_reader.proofs.Answering.{stops, goes, answers, refuses, no_memory, same_outcome}
+use Rattle.alethe_reader.proofs.Answering.{stops, goes}
 use Rattle.alethe_reader.proofs.BoundLemmas.{zip_joined}
 use Rattle.alethe_reader.proofs.IdsInUse.{ids_open, unused_new}
 use Rattle.alethe_reader.proofs.OpenedNames.{among_joined, fresh_apart, unbound_leaf}

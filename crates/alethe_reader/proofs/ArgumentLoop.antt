@@ -1,34 +1,35 @@
 -- The arguments of an anchor, one after another.
-use Rattle.std.proofs.Common.{◌≡◌, ◌<◌, ℕ, List, [], ◌∷◌, ◌++◌, map, length, Option, Some, None, Result, Ok, Err, refl, sym, ap, subst, ◌∙◌}
+use Rattle.std.proofs.Common.{◌≡◌, ◌<◌, ℕ, List, [], ◌∷◌, ◌++◌, map, length, Option, Some, None, Ok, Err, refl, sym, ap, subst, ◌∙◌}
 use Rattle.std.specs.List.{AllZip}
 use Rattle.std.specs.Option.{option_or}
 use Rattle.std.proofs.lemmas.List.{append_assoc, append-nil}
-use Rattle.sexpr.specs.declared.causes.Refusal.{Refusal}
 use Rattle.sym_table.specs.Table.{Table}
 use Rattle.term_model.specs.Terms.{Var, Term}
 use Rattle.term_pool.specs.Views.{TermsView, KeepsTerms}
 use Rattle.proof_store.specs.Meaning.{IsBindingOf}
 use Rattle.text_items.specs.ItemsAt.{ItemsView, end_at, item_at, items_at}
 use Rattle.text_items.proofs.ItemsAtLemmas.{items_are}
-use Rattle.problem_text.specs.Outcomes.{Outcome, done, going_on, and_then}
+use Rattle.problem_text.specs.Outcomes.{Outcome, done, and_then}
 use Rattle.problem_text.specs.Words.{is_among}
 use Rattle.term_names.specs.Making.{PlacesCellsOf}
 use Rattle.term_names.specs.Standing.{AddsNoSymbols}
 use Rattle.term_names.specs.declared.faults.ReadFault.{ReadFault}
 use Rattle.term_reader.specs.ProblemViews.{ReaderView, IsReaderOf}
-use Rattle.term_reader.proofs.Staying.{adds_then, places_none, places_more, places_then}
+use Rattle.term_reader.proofs.Coming.{IsPartOf}
+use Rattle.term_reader.proofs.Staying.{adds_then, places_none}
 use Rattle.alethe_commands.specs.CommandNodes.{AreArgumentsAt}
 use Rattle.alethe_text.specs.Anchors.{bound_names, argument_read, arguments_read}
 use Rattle.alethe_text.specs.Commands.{Argument, argument_fault, each_argument_fault, argument_of, arguments_in}
 use Rattle.alethe_text.specs.ProofTerms.{place_in}
 use Rattle.alethe_text.specs.States.{ProofSettings, ProofState, Reading, ◌>>=◌, give}
-use Rattle.alethe_reader.specs.Answers.{WasRead, AnswersAs}
+use Rattle.alethe_reader.specs.Answers.{terms_in, WasRead, AnswersAs}
 use Rattle.alethe_reader.specs.Ids.{IdsView}
 use Rattle.alethe_reader.specs.KeptReads.{KeepsRead}
 use Rattle.alethe_reader.specs.Bound.{AreBound, images_in}
 use Rattle.alethe_reader.specs.Opening.{IsOpening, IsSameScope, IsArgumentRead, AreArgumentsRead}
 use Rattle.alethe_reader.specs.declared.bound.BoundVariables.{BoundVariables}
-use Rattle.alethe_reader.proofs.Answering.{read_on, stops}
+use Rattle.alethe_reader.proofs.Answering.{part_of_whole, placed_with, fails_with}
+use Rattle.alethe_reader.proofs.LeftToRead.{and_then_then, and_then_same, and_then_give}
 use Rattle.alethe_reader.proofs.StillRead.{keeps_give, keeps_then as keeps_both}
 use Rattle.alethe_reader.proofs.StillReadCommands.{keeps_each_argument}
 
@@ -51,20 +52,9 @@ module _ (items : ItemsView) (k : ℕ) (h : AreArgumentsAt items k (length items
   first_split next is = rw is (ap arguments_in (items_are items k (length items.nodes) less h.inside))
 
 -- outcomes one after another
-nothing_after : (o : Outcome ProofState (List (Var × Term))) → and_then o (λ more. give ([] ++ more)) ≡ o
-nothing_after o = go o.result
-  where
-    go : (r : Result (List (Var × Term)) Refusal) → going_on r o.state (λ more. give ([] ++ more)) ≡ record { result = r; state = o.state }
-    go (Ok more) = refl
-    go (Err refusal) = refl
-
 regrouped : (read : List (Var × Term)) (b : Var × Term) (o : Outcome ProofState (List (Var × Term)))
     → and_then (and_then o (λ bs. give (b ∷ bs))) (λ more. give (read ++ more)) ≡ and_then o (λ more. give ((read ++ b ∷ []) ++ more))
-regrouped read b o = go o.result
-  where
-    go : (r : Result (List (Var × Term)) Refusal) → and_then (going_on r o.state (λ bs. give (b ∷ bs))) (λ more. give (read ++ more)) ≡ going_on r o.state (λ more. give ((read ++ b ∷ []) ++ more))
-    go (Ok more) = ap (λ cs. done cs o.state) (sym (append_assoc read (b ∷ []) more))
-    go (Err refusal) = refl
+regrouped read b o = and_then_then o _ _ ∙ and_then_same o _ _ (λ more s. ap (λ cs. done cs s) (sym (append_assoc read (b ∷ []) more)))
 
 module _ (settings : ProofSettings) (earlier : List (List ℕ)) (rest : List Argument) where
   abbrev behind_one : Var × Term → Reading (List (Var × Term))
@@ -105,7 +95,7 @@ begins s v r d e names images opened settings p left reader bound = record {
     fresh = tt;
   };
   same = record { scope = refl; anchors = refl };
-  comes = nothing_after (arguments_read settings [] left p);
+  comes = and_then_give (arguments_read settings [] left p) (λ more. [] ++ more) (λ more. refl);
   placed = places_none s v.pass v.pass (WasRead (arguments_read settings [] left p)) refl;
 }
   where
@@ -120,7 +110,8 @@ module _ {settings : ProofSettings} {z : Table} {v w : TermsView} {t : ReaderVie
     answer = record {
       value = l.read;
       state = l.now;
-      comes = sym l.comes ∙ (ap (λ xs. and_then (arguments_read settings l.earlier xs l.now) (λ more. give (l.read ++ more))) none ∙ ap (λ xs. done xs l.now) (append-nil l.read));
+      is = sym l.comes
+          ∙ (ap (λ xs. and_then (arguments_read settings l.earlier xs l.now) (λ more. give (l.read ++ more))) none ∙ ap (λ xs. done xs l.now) (append-nil l.read));
       after = record { earlier = l.earlier; opening = l.opening; same = l.same };
     };
     placed = l.placed;
@@ -135,21 +126,15 @@ module _ {settings : ProofSettings} {z : Table} {v w : TermsView} {t : ReaderVie
     unfolding arguments_read ◌>>=◌
     whole_is = ap (λ xs. and_then (arguments_read settings l.earlier xs l.now) (λ more. give (l.read ++ more))) (sym split) ∙ l.comes
 
-    -- what was read of the first is read of the whole
-    first_read : (term : Term) → WasRead this term → WasRead whole term
-    first_read term was =
-        subst (λ (o : Outcome ProofState (List (Var × Term))). WasRead o term) whole_is
-        (read_on (and_then this (behind_one settings l.earlier rest)) (behind_all l.read) (keeps_all l.read) term (read_on this (behind_one settings l.earlier rest) (keeps_behind settings l.earlier rest) term was))
-
-    placed_now : PlacesCellsOf y w.pass x.pass (WasRead this) → PlacesCellsOf y v.pass x.pass (WasRead whole)
-    placed_now placed = places_then z y v.pass w.pass x.pass (WasRead whole) symbols.keeps terms.pass l.placed (places_more y w.pass x.pass (WasRead this) (WasRead whole) first_read placed)
+    part : IsPartOf terms_in this whole
+    part =
+        let first = part_of_whole this (behind_one settings l.earlier rest) (keeps_behind settings l.earlier rest) refl in
+        let more = part_of_whole (and_then this (behind_one settings l.earlier rest)) (behind_all l.read) (keeps_all l.read) whole_is in
+        record { reads = λ term was. more.reads term (first.reads term was); faults = λ refusal e. more.faults refusal (first.faults refusal e) }
 
     module _ {u : ReaderView} {f : BoundVariables} where
       pub fails : {fault : ReadFault} → AnswersAs y w x (IsArgumentRead y x settings u f l.earlier l.read l.now) this (Err fault) → AnswersAs y v x (AreArgumentsRead y x settings u f p) whole (Err fault)
-      fails {fault} g =
-          let one : AnswersAs y w x (AreArgumentsRead y x settings u f p) (and_then this (behind_one settings l.earlier rest)) (Err fault) = stops (behind_one settings l.earlier rest) (keeps_behind settings l.earlier rest) g in
-          let all : AnswersAs y w x (AreArgumentsRead y x settings u f p) (and_then (and_then this (behind_one settings l.earlier rest)) (behind_all l.read)) (Err fault) = stops (behind_all l.read) (keeps_all l.read) one in
-          record { answer = (subst (λ (o : Outcome ProofState (List (Var × Term))). AnswersAs y w x (AreArgumentsRead y x settings u f p) o (Err fault)) whole_is all).answer; placed = placed_now g.placed }
+      fails g = fails_with v part symbols.keeps terms l.placed g
 
       pub goes_on : AnswersAs y w x (IsArgumentRead y x settings u f l.earlier l.read l.now) this (Ok tt) → AreLeft settings y v x u f p rest whole
       unfolding ◌>>=◌
@@ -163,8 +148,8 @@ module _ {settings : ProofSettings} {z : Table} {v w : TermsView} {t : ReaderVie
             opening = g.answer.after.opening;
             same = record { scope = g.answer.after.same.scope ∙ l.same.scope; anchors = g.answer.after.same.anchors ∙ l.same.anchors };
             comes = sym (regrouped l.read b (arguments_read settings (b.0.name ∷ l.earlier) rest q))
-                ∙ (ap (λ (o : Outcome ProofState (Var × Term)). and_then (and_then o (behind_one settings l.earlier rest)) (behind_all l.read)) (sym g.answer.comes) ∙ whole_is);
-            placed = placed_now g.placed;
+                ∙ (ap (λ (o : Outcome ProofState (Var × Term)). and_then (and_then o (behind_one settings l.earlier rest)) (behind_all l.read)) (sym g.answer.is) ∙ whole_is);
+            placed = placed_with v part symbols.keeps terms l.placed g;
           }
 
 -- some argument is left, and what reading it adds

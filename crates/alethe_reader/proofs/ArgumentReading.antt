@@ -23,11 +23,13 @@ use Rattle.problem_text.specs.Scripts.{Script, with_let_name}
 use Rattle.problem_text.specs.Terms.{read_term}
 use Rattle.problem_text.specs.TypedTerms.{Typed}
 use Rattle.problem_text.specs.Words.{is_among, is_built_in}
+use Rattle.term_expansion.specs.SymbolsAndTerms.{both}
 use Rattle.term_expansion.specs.Values.{IsValue}
 use Rattle.term_expansion.specs.declared.values.Value.{Value}
 use Rattle.term_names.specs.Standing.{AddsNoSymbols}
 use Rattle.term_names.specs.declared.faults.ReadFault.{ReadFault}
 use Rattle.term_reader.specs.ProblemViews.{ReaderView, IsReaderOf, ReadsValue}
+use Rattle.term_reader.proofs.Coming.{answers_more, same_outcome}
 use Rattle.term_reader.proofs.Staying.{adds_none, adds_then, keeps_none, refers_stays, places_none, places_then, pass_keeps_none}
 use Rattle.term_reader.proofs.ViewsStay.{reader_stays}
 use Rattle.alethe_text.specs.Anchors.{bound_names, sort_given, image_of, script_changed, argument_read}
@@ -41,7 +43,7 @@ use Rattle.alethe_reader.specs.declared.judging.Named.{Named}
 use Rattle.alethe_reader.specs.Opening.{IsOpening, IsSameScope, IsArgumentRead, IsNameJudged, image_read, IsImageRead}
 use Rattle.alethe_reader.specs.ReadTerms.{IsReadValue}
 use Rattle.alethe_reader.specs.declared.bound.BoundVariables.{BoundVariables}
-use Rattle.alethe_reader.proofs.Answering.{stops, goes, answers_more, same_outcome}
+use Rattle.alethe_reader.proofs.Answering.{stops, goes}
 use Rattle.alethe_reader.proofs.BoundLemmas.{zip_front}
 use Rattle.alethe_reader.proofs.ImageReading.{keeps_image}
 use Rattle.alethe_reader.proofs.OpenedNames.{judged_more, fresh_more}
@@ -57,7 +59,7 @@ fails N fault h = record { answer = h.answer; placed = h.placed }
 pub ends_so : {A T U : Type 0} {s z : Table} {v w : TermsView} {M : T → A → ProofState → Type 0} (N : U → A → ProofState → Type 0) {o : Outcome ProofState A} {t : T} (u : U) → Keeps s z → AnswersAs s v w M o (Ok t)
     → ((a : A) (p : ProofState) → M t a p → N u a p) → AnswersAs z v w N o (Ok u)
 ends_so {A} {T} {U} {s} {z} {v} {w} {M} N {o} {t} u keeps h more = record {
-  answer = record { value = h.answer.value; state = h.answer.state; comes = h.answer.comes; after = more h.answer.value h.answer.state h.answer.after };
+  answer = record { value = h.answer.value; state = h.answer.state; is = h.answer.is; after = more h.answer.value h.answer.state h.answer.after };
   placed = places_then s z v.pass w.pass w.pass (WasRead o) keeps (pass_keeps_none w.pass) h.placed (places_none z w.pass w.pass (WasRead o) refl);
 }
 
@@ -128,7 +130,7 @@ module _ (settings : ProofSettings) (earlier : List (List ℕ)) (place : ℕ) (x
 
       no_term : {T U : Type 0} {s : Table} {v w : TermsView} {M : T → Typed → ProofState → Type 0} (N : U → Var × Term → ProofState → Type 0) (fault : ReadFault) → AnswersAs s v w M (term_in settings p.scope.nesting i named_state) (Err fault)
           → AnswersAs s v w N (argument_read settings earlier (assigned place x o i) p) (Err fault)
-      no_term N fault h = same_outcome to_term (stops (image_read place x.name wanted p.scope.nesting) (λ t. keeps_image place x.name wanted p.scope.nesting t) h)
+      no_term N fault h = same_outcome to_term (stops (image_read place x.name wanted p.scope.nesting) (keeps_image place x.name wanted p.scope.nesting) h)
 
       module _ (s : Table) (v mid w : TermsView) (r : ReaderView) (c : Value) (h : AnswersAs s v mid (IsReadValue s mid settings p.scope.nesting r named_state) (term_in settings p.scope.nesting i named_state) (Ok c)) (keeps : KeepsTerms mid w) where
         read_after : (t : Typed) (q : ProofState) → IsReadValue s mid settings p.scope.nesting r named_state c t q → (image : ℕ) (b : Var × Term) (z : ProofState) → IsImageRead s w x.name p.scope.nesting t q image b z
@@ -147,7 +149,7 @@ module _ (settings : ProofSettings) (earlier : List (List ℕ)) (place : ℕ) (x
             → AnswersAs s v w (IsVariableRead s w settings r x.name c p) (argument_read settings earlier (assigned place x o i) p) result
         variable_read result k =
             same_outcome to_term
-            (goes (image_read place x.name wanted p.scope.nesting) (λ t. keeps_image place x.name wanted p.scope.nesting t) h (adds_none s).keeps keeps
+            (goes (image_read place x.name wanted p.scope.nesting) (keeps_image place x.name wanted p.scope.nesting) h (adds_none s).keeps keeps
             (λ t q m. answers_more (IsVariableRead s w settings r x.name c p) (λ image b z g. read_after t q m image b z g) (k t q m)))
 
 -- The argument's variable joins those that were read.
@@ -251,7 +253,7 @@ module _ {s : Table} {v : TermsView} {settings : ProofSettings} {r : ReaderView}
       term_bad N fault read = no_term settings earlier place x o i p free.0 free.1 wanted (given_here s v settings r d earlier bs p opening o (Ok wanted) sort) N fault (term_read (Err fault) read)
 
       pub image_answers : {y : TermsView} {c : Value} {result : Result ℕ ReadFault} → ReadsItem s v r i z w t (Ok c) → AddsNoSymbols s z → KeepsTerms v w → KeepsTerms w y
-          → ((name : List ℕ) (t : Typed) (nesting : Nesting Var Term) (more : List (List ℕ)) (q : ProofState) → IsValue z w c t → BindApart nesting
+          → ((name : List ℕ) (t : Typed) (nesting : Nesting Var Term) (more : List (List ℕ)) (q : ProofState) → IsValue (both z w) c t → BindApart nesting
           → AllZip (IsBindingOf z w) (take (length d.images.items - length d.opened.items) d.images.items) (images_in nesting) → map (λ u. u.id) d.names.used ≡ bound_names nesting ++ more
           → AnswersAs z w y (IsImageRead z y name nesting t q) (image_read place name wanted nesting t q) result)
           → AnswersAs z v y (IsVariableRead z y settings t x.name c p) (argument_read settings earlier (assigned place x o i) p) result

@@ -13,6 +13,7 @@ use Rattle.proof_store.specs.Meaning.{assume_stands}
 use Rattle.text_items.specs.ItemShapes.{Name}
 use Rattle.problem_text.specs.Outcomes.{Outcome, given, and_then}
 use Rattle.term_names.specs.declared.faults.ReadFault.{ReadFault}
+use Rattle.term_reader.proofs.Coming.{answers, refuses, no_memory, same_outcome}
 use Rattle.term_reader.proofs.Staying.{adds_none, keeps_none}
 use Rattle.alethe_text.specs.Ids.{id_judged}
 use Rattle.alethe_text.specs.ProofTerms.{formula_in}
@@ -27,7 +28,7 @@ use Rattle.alethe_reader.specs.Ids.{IsIdFound}
 use Rattle.alethe_reader.specs.IdsInUse.{in_use, ids_in}
 use Rattle.alethe_reader.specs.ReadTerms.{IsReadFormula}
 use Rattle.alethe_reader.specs.Sessions.{IsProofSession, IsWritten, StandsAfter}
-use Rattle.alethe_reader.proofs.Answering.{stops, goes, answers, refuses, no_memory, same_outcome}
+use Rattle.alethe_reader.proofs.Answering.{stops, goes}
 use Rattle.alethe_reader.proofs.IdsInUse.{ids_assume}
 use Rattle.alethe_reader.proofs.StillRead.{keeps_changed}
 use Rattle.alethe_reader.proofs.WrittenStays.{found_now, written_stays}

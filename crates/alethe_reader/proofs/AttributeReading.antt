@@ -21,7 +21,8 @@ use Rattle.term_names.specs.Making.{PlacesCellsOf}
 use Rattle.term_names.specs.Standing.{AddsNoSymbols}
 use Rattle.term_names.specs.declared.faults.ReadFault.{ReadFault}
 use Rattle.term_reader.specs.ProblemViews.{ReaderView, IsReaderOf}
-use Rattle.term_reader.proofs.Staying.{adds_none, adds_then, keeps_none, places_none, places_more, places_then}
+use Rattle.term_reader.proofs.Coming.{IsPartOf, answers, refuses, no_memory, same_outcome}
+use Rattle.term_reader.proofs.Staying.{adds_none, adds_then, keeps_none, places_none}
 use Rattle.alethe_commands.specs.CommandNodes.{LiesWithin}
 use Rattle.alethe_commands.specs.declared.attributes.StepAttribute.{StepAttribute}
 use Rattle.alethe_text.specs.Arguments.{takes_coefficients, takes_pivots, named_among, pivots_from, arguments_from}
@@ -32,7 +33,7 @@ use Rattle.alethe_reader.specs.Ids.{IdsView}
 use Rattle.alethe_text.specs.ProofTerms.{place_in}
 use Rattle.alethe_text.specs.States.{ProofSettings, ProofState, Reading, ◌>>=◌, give, given, demand}
 use Rattle.alethe_text.specs.Steps.{attribute_read, attributes_read}
-use Rattle.alethe_reader.specs.Answers.{WasRead, IsAnswerOf, AnswersAs}
+use Rattle.alethe_reader.specs.Answers.{terms_in, WasRead, AnswersAs}
 use Rattle.alethe_reader.specs.Arguments.{AreNamed}
 use Rattle.alethe_reader.specs.Pivots.{AreReadPivots}
 use Rattle.alethe_reader.specs.Reach.{IsReach, AreIndices}
@@ -40,7 +41,7 @@ use Rattle.alethe_reader.specs.StepParts.{AreStepParts, IsBare, StandsAt, AreRea
 use Rattle.alethe_reader.specs.declared.session.Session.{Session}
 use Rattle.alethe_reader.specs.declared.session.StepParts.{StepParts}
 use Rattle.alethe_reader.specs.declared.standing.Standing.{Standing}
-use Rattle.alethe_reader.proofs.Answering.{read_on, stops, goes, answers, refuses, no_memory, same_outcome}
+use Rattle.alethe_reader.proofs.Answering.{part_of_whole, placed_with, fails_with, stops, goes}
 use Rattle.alethe_reader.proofs.PivotReading.{pivots_stay}
 use Rattle.alethe_reader.proofs.StillRead.{keeps_give}
 use Rattle.alethe_reader.proofs.StillReadCommands.{keeps_attributes}
@@ -211,7 +212,7 @@ module _ (settings : ProofSettings) (at : text.Standing) (standing : Standing) (
     pub all_read : left ≡ [] → AnswersAs s old v (AreReadAttributes s v settings at.nesting d p before) whole (Ok tt)
     unfolding attributes_read
     all_read none = record {
-      answer = record { value = h.step; state = h.state; comes = h.comes ∙ ap (λ (xs : List Attribute). attributes_read settings at xs h.step h.state) none; after = h.read };
+      answer = record { value = h.step; state = h.state; is = h.comes ∙ ap (λ (xs : List Attribute). attributes_read settings at xs h.step h.state) none; after = h.read };
       placed = h.placed;
     }
 
@@ -224,16 +225,11 @@ module _ (settings : ProofSettings) (at : text.Standing) (standing : Standing) (
       unfolding attributes_read ◌>>=◌
       splits = h.comes ∙ ap (λ (xs : List Attribute). attributes_read settings at xs h.step h.state) split
 
-      grows : (x : Term) → WasRead this x → WasRead whole x
-      grows x k = subst (λ (o : Outcome ProofState (Step Term)). WasRead o x) (sym splits) (read_on this (attributes_read settings at rest) (keeps_attributes settings at rest) x k)
-
-      placed_then : PlacesCellsOf z v.pass w.pass (WasRead this) → PlacesCellsOf z old.pass w.pass (WasRead whole)
-      placed_then placed = places_then s z old.pass v.pass w.pass (WasRead whole) adds.keeps keeps.pass h.placed (places_more z v.pass w.pass _ _ grows placed)
+      part : IsPartOf terms_in this whole
+      part = part_of_whole this (attributes_read settings at rest) (keeps_attributes settings at rest) (sym splits)
 
       pub fails : {e : Session} {fault : ReadFault} → AnswersAs z v w (AreReadAttributes z w settings at.nesting e h.state h.step) this (Err fault) → AnswersAs z old w (AreReadAttributes z w settings at.nesting e p before) whole (Err fault)
-      fails {e} {fault} read =
-          let all : AnswersAs z v w (AreReadAttributes z w settings at.nesting e p before) (and_then this (attributes_read settings at rest)) (Err fault) = stops (attributes_read settings at rest) (keeps_attributes settings at rest) read in
-          record { answer = subst (λ (o : Outcome ProofState (Step Term)). IsAnswerOf z w.pass (AreReadAttributes z w settings at.nesting e p before) o (Err fault)) (sym splits) all.answer; placed = placed_then read.placed }
+      fails read = fails_with old part adds.keeps keeps h.placed read
 
       pub so_far_next : {e : Session} → AnswersAs z v w (AreReadAttributes z w settings at.nesting e h.state h.step) this (Ok tt) → KeepsOthers d e → AreSoFar settings at standing z old w e p before rest whole
       so_far_next read others =
@@ -241,7 +237,7 @@ module _ (settings : ProofSettings) (at : text.Standing) (standing : Standing) (
           record {
             step = a.value;
             state = a.state;
-            comes = splits ∙ ap (λ (o : Outcome ProofState (Step Term)). and_then o (attributes_read settings at rest)) a.comes;
+            comes = splits ∙ ap (λ (o : Outcome ProofState (Step Term)). and_then o (attributes_read settings at rest)) a.is;
             stands = record {
               strict = h.stands.strict ∙ sym others.strict;
               sees = subst (λ (x : IdsView). IsReach x.used standing.premises at.sees) (sym others.ids) h.stands.sees;
@@ -256,7 +252,7 @@ module _ (settings : ProofSettings) (at : text.Standing) (standing : Standing) (
               clause = a.after.clause ∙ h.read.clause;
               behind = record { reader = a.after.behind.reader; scope = a.after.behind.scope ∙ h.read.behind.scope; anchors = a.after.behind.anchors ∙ h.read.behind.anchors };
             };
-            placed = placed_then read.placed;
+            placed = placed_with old part adds.keeps keeps h.placed read;
           }
 
 -- the nodes of an attribute's arguments lie where the attribute does

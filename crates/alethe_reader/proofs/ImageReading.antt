@@ -23,6 +23,7 @@ use Rattle.problem_text.specs.Limits.{most_height}
 use Rattle.problem_text.specs.Outcomes.{Outcome, done}
 use Rattle.problem_text.specs.Scripts.{with_term}
 use Rattle.problem_text.specs.TypedTerms.{Typed}
+use Rattle.term_expansion.specs.SymbolsAndTerms.{both}
 use Rattle.term_expansion.specs.Values.{IsValue}
 use Rattle.term_expansion.specs.declared.values.Value.{Value}
 use Rattle.term_expansion.proofs.SameTerms.{height-is}
@@ -60,7 +61,7 @@ names_at (b ∷ q) more zero c e = ap (λ (o : Option (Var × Term)). option_map
 names_at (b ∷ q) more (suc k) c e = names_at q more k c e
 
 -- What is put in for the images that the term needs makes the image.
-module _ (s : Table) (v w : TermsView) (names more : List (List ℕ)) (outer bs : List (ℕ × ℕ)) (nesting : Nesting Var Term) (t : Typed) (c : Value) (table : IsTable s) (is : IsValue s v c t) (zip : AllZip (IsBindingOf s v) outer (images_in nesting)) (named : names ≡ bound_names nesting ++ more) (needed : AreNeeded s v.pass names outer c.term bs) where
+module _ (s : Table) (v w : TermsView) (names more : List (List ℕ)) (outer bs : List (ℕ × ℕ)) (nesting : Nesting Var Term) (t : Typed) (c : Value) (table : IsTable s) (is : IsValue (both s v) c t) (zip : AllZip (IsBindingOf s v) outer (images_in nesting)) (named : names ≡ bound_names nesting ++ more) (needed : AreNeeded s v.pass names outer c.term bs) where
   named_at : (k : ℕ) (b : Var × Term) → slice_get (images_in nesting) k ≡ Some b → slice_get names k ≡ Some b.0.name
   named_at k b e =
       subst (λ ns. slice_get ns k ≡ Some b.0.name) (ap (λ ns. ns ++ more) (images_named nesting) ∙ sym named) (names_at (images_in nesting) more k b e)
@@ -173,6 +174,6 @@ module _ (place : ℕ) (name : List ℕ) (wanted : Option Sort) (nesting : Nesti
 
           pub image_made : nat_le (height image) most_height ≡ true → (c : ℕ) → RefersTo s x c image → AnswersAs s v x (IsImageRead s x name nesting t q) (image_read place name wanted nesting t q) (Ok c)
           image_made e c refers = record {
-            answer = record { value = variable_of; state = with_image; comes = image_done e; after = record { refers = refers; same = refl; state = refl } };
+            answer = record { value = variable_of; state = with_image; is = image_done e; after = record { refers = refers; same = refl; state = refl } };
             placed = cells_still;
           }

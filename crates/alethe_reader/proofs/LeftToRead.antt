@@ -1,5 +1,5 @@
 -- Readings one after another: what was read of a whole, and what is left of it.
-use Rattle.std.proofs.Common.{◌≡◌, ◌<◌, ◌≤◌, ◌+◌, ◌-◌, ℕ, length, arith, Result, Ok, Err, IsErrAnd, refl, sym, ap, subst, ◌∙◌}
+use Rattle.std.proofs.Common.{◌≡◌, ◌<◌, ◌≤◌, ◌+◌, ◌-◌, ℕ, length, arith, Result, Ok, Err, IsErrAnd, refl, sym, ap, ◌∙◌}
 use Rattle.std.proofs.lemmas.Result.{err_from_is_err_and}
 use Rattle.sexpr.specs.declared.causes.Refusal.{Refusal}
 use Rattle.sexpr.specs.Items.{Items, no_items}
@@ -13,11 +13,12 @@ use Rattle.problem_text.specs.Outcomes.{Outcome, done, going_on, and_then}
 use Rattle.term_names.specs.Making.{PlacesCellsOf}
 use Rattle.term_names.specs.Standing.{AddsNoSymbols}
 use Rattle.term_names.specs.declared.faults.ReadFault.{ReadFault}
-use Rattle.term_reader.proofs.Staying.{adds_none, adds_then, keeps_none, keeps_then, places_none, places_more, places_then}
+use Rattle.term_reader.proofs.Coming.{IsPartOf}
+use Rattle.term_reader.proofs.Staying.{adds_none, adds_then, keeps_none, keeps_then, places_none}
 use Rattle.alethe_text.specs.States.{ProofState, Reading, give}
-use Rattle.alethe_reader.specs.Answers.{WasRead, AnswersAs}
+use Rattle.alethe_reader.specs.Answers.{terms_in, WasRead, AnswersAs}
 use Rattle.alethe_reader.specs.KeptReads.{KeepsRead}
-use Rattle.alethe_reader.proofs.Answering.{read_on, stops, same_outcome}
+use Rattle.alethe_reader.proofs.Answering.{part_of_whole, placed_with, fails_with}
 
 -- one reading and then two more
 pub and_then_then : {A B C : Type 0} (o : Outcome ProofState A) (next : A → Reading B) (last : B → Reading C) → and_then (and_then o next) last ≡ and_then o (λ a s. and_then (next a s) last)
@@ -64,21 +65,23 @@ module _ {A B : Type 0} {s : Table} {old v : TermsView} {rest : Items → B → 
   -- all was read
   pub none_left : {T : Type 0} {N : T → A → ProofState → Type 0} {t : T} (h : Left s old v rest Holds items k end whole) → end ≤ k → (a : A) → rest no_items h.read h.state ≡ done a h.state → N t a h.state
       → AnswersAs s old v N whole (Ok t)
-  none_left h at_end a e after = record { answer = record { value = a; state = h.state; comes = h.comes ∙ ap (λ xs. rest xs h.read h.state) (no_items_are items k end at_end) ∙ e; after = after }; placed = h.placed }
+  none_left h at_end a e after = record {
+    answer = record { value = a; state = h.state; is = h.comes ∙ ap (λ xs. rest xs h.read h.state) (no_items_are items k end at_end) ∙ e; after = after };
+    placed = h.placed;
+  }
+
+  part : {C : Type 0} (h : Left s old v rest Holds items k end whole) (one : Outcome ProofState C) (tail : C → Reading A) → ((c : C) → KeepsRead (tail c))
+      → rest (items_at items k end) h.read h.state ≡ and_then one tail → IsPartOf terms_in one whole
+  part h one tail keeps splits = part_of_whole one tail keeps (sym (h.comes ∙ splits))
 
   -- One part more was read, with this answer, or it has a fault.
   module _ {C T : Type 0} {z : Table} {w : TermsView} {M : T → C → ProofState → Type 0} (h : Left s old v rest Holds items k end whole) (adds : AddsNoSymbols s z) (keeps : KeepsTerms v w) (one : Outcome ProofState C) (tail : C → Reading A)
       (keeps_tail : (c : C) → KeepsRead (tail c)) (splits : rest (items_at items k end) h.read h.state ≡ and_then one tail) where
-    placed_then : {r : Result T ReadFault} → AnswersAs z v w M one r → PlacesCellsOf z old.pass w.pass (WasRead whole)
-    placed_then this =
-        places_then s z old.pass v.pass w.pass (WasRead whole) adds.keeps keeps.pass h.placed
-        (places_more z v.pass w.pass _ _ (λ x k. subst (λ (o : Outcome ProofState A). WasRead o x) (sym (h.comes ∙ splits)) (read_on one tail keeps_tail x k)) this.placed)
-
     pub fails : {U : Type 0} {N : U → A → ProofState → Type 0} {fault : ReadFault} → AnswersAs z v w M one (Err fault) → AnswersAs z old w N whole (Err fault)
-    fails {U} {N} {fault} this = record { answer = (same_outcome {T = U} {M = N} (h.comes ∙ splits) (stops tail keeps_tail this)).answer; placed = placed_then this }
+    fails this = fails_with old (part h one tail keeps_tail splits) adds.keeps keeps h.placed this
 
     pub no_room : {U : Type 0} {N : U → A → ProofState → Type 0} {t : T} → AnswersAs z v w M one (Ok t) → AnswersAs z old w N whole (Err ReadFault.Memory)
-    no_room this = record { answer = tt; placed = placed_then this }
+    no_room this = record { answer = tt; placed = placed_with old (part h one tail keeps_tail splits) adds.keeps keeps h.placed this }
 
     pub goes_on : {Now : B → ProofState → Type 0} {m : ℕ} {t : T} (this : AnswersAs z v w M one (Ok t)) (b : B) → tail this.answer.value this.answer.state ≡ rest (items_at items m end) b this.answer.state
         → Now b this.answer.state
@@ -86,9 +89,9 @@ module _ {A B : Type 0} {s : Table} {old v : TermsView} {rest : Items → B → 
     goes_on this b e now = record {
       read = b;
       state = this.answer.state;
-      comes = h.comes ∙ splits ∙ ap (λ (o : Outcome ProofState C). and_then o tail) this.answer.comes ∙ e;
+      comes = h.comes ∙ splits ∙ ap (λ (o : Outcome ProofState C). and_then o tail) this.answer.is ∙ e;
       holds = now;
-      placed = placed_then this;
+      placed = placed_with old (part h one tail keeps_tail splits) adds.keeps keeps h.placed this;
     }
 
 -- one call after another

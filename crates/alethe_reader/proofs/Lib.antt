@@ -1,6 +1,6 @@
+pub mod Answering
 mod IdLemmas
 pub mod IdsInUse
-pub mod Answering
 pub mod StillRead
 pub mod TermAnswers
 mod JudgedIds

@@ -19,6 +19,7 @@ use Rattle.problem_text.specs.TypedTerms.{Typed}
 use Rattle.term_expansion.specs.declared.values.Value.{Value}
 use Rattle.term_names.specs.declared.faults.ReadFault.{ReadFault}
 use Rattle.term_reader.specs.ProblemViews.{ReaderView, IsReaderOf}
+use Rattle.term_reader.proofs.Coming.{answers, same_outcome}
 use Rattle.term_reader.proofs.Staying.{adds_none, keeps_none, refers_stays}
 use Rattle.alethe_commands.specs.CommandNodes.{AreItemsAt}
 use Rattle.alethe_text.specs.Arguments.{named_in, named_among, truth_of, with_pivot, pivots_from}
@@ -30,7 +31,7 @@ use Rattle.alethe_reader.specs.KeptReads.{KeepsRead}
 use Rattle.alethe_reader.specs.Arguments.{AreNamed}
 use Rattle.alethe_reader.specs.Pivots.{first_alone, EndsPair, truth_among, with_truth, pivot_read, one_pivot, both_lists, BothOrNeither, IsReadPivot}
 use Rattle.alethe_reader.specs.ReadTerms.{IsReadValue}
-use Rattle.alethe_reader.proofs.Answering.{stops, goes, answers, same_outcome}
+use Rattle.alethe_reader.proofs.Answering.{stops, goes}
 use Rattle.alethe_reader.proofs.StillRead.{keeps_give, keeps_then}
 use Rattle.alethe_reader.proofs.StillReadCommands.{keeps_named_among}
 

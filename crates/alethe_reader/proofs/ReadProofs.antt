@@ -226,20 +226,20 @@ module _ {text : List ℕ} (settings : ProofSettings) (before : Script) (form : 
     pub read_fault : (f : ReadFault) (r : Refusal) → f ≡ ReadFault.Text r → ReadsText text settings before source s old new d at (Err f) → IsFirstProofFault text settings before r
     read_fault f r is reads =
         first_fault form.0 form.1 r
-        (subst (λ (x : ReadFault). EndsWith s new.pass (whole_of form.0).result (WasRead (whole_of form.0)) x) is (reads form.0 form.1).outcome)
+        (subst (λ (x : ReadFault). EndsWith s new.pass (whole_of form.0).result (WasRead (whole_of form.0)) x) is (reads form.0 form.1).answer)
 
     pub read_full : (f : ReadFault) → f ≡ ReadFault.PoolFull → ReadsText text settings before source s old new d at (Err f) → LacksCellOf s new.pass (IsCountedOfProof text settings before)
     read_full f is reads =
         lacks_more s new.pass (WasRead (whole_of form.0)) (IsCountedOfProof text settings before) (counted form.0 form.1)
-        (subst (λ (x : ReadFault). EndsWith s new.pass (whole_of form.0).result (WasRead (whole_of form.0)) x) is (reads form.0 form.1).outcome)
+        (subst (λ (x : ReadFault). EndsWith s new.pass (whole_of form.0).result (WasRead (whole_of form.0)) x) is (reads form.0 form.1).answer)
 
     ended : {u : Unit {0}} (result : Result (Proof ℕ ℕ) ReadFault) → ReadsText text settings before source s old new d at (Ok u) → Finishes settings source s new d at result → (p : ProofState) × IsFinished s new p (whole_of form.0) result
     ended result reads finishes =
-        let (p, none, session) = (reads form.0 form.1).outcome in
+        let (p, none, session) = (reads form.0 form.1).answer in
         (p, subst (λ (w : Outcome ProofState (Proof Var Term)). IsFinished s new p w result) none.comes (finishes p none.behind none.here session))
 
     pub some_end : {u : Unit {0}} → ReadsText text settings before source s old new d at (Ok u) → (p : ProofState) × (behind : Items) × HasCommandItems source false at behind no_items × IsProofSession s new settings d p
-    some_end reads = let (p, none, session) = (reads form.0 form.1).outcome in (p, none.behind, none.here, session)
+    some_end reads = let (p, none, session) = (reads form.0 form.1).answer in (p, none.behind, none.here, session)
 
     module _ {u : Unit {0}} (result : Result (Proof ℕ ℕ) ReadFault) (reads : ReadsText text settings before source s old new d at (Ok u)) (finishes : Finishes settings source s new d at result) where
       pub finished_proof : IfOk result (IsProofOf text settings before s new)

@@ -14,6 +14,7 @@ use Rattle.text_items.specs.ItemShapes.{Name}
 use Rattle.problem_text.specs.Outcomes.{Outcome, done, going_on, and_then}
 use Rattle.term_names.specs.Standing.{AddsNoSymbols}
 use Rattle.term_names.specs.declared.faults.ReadFault.{ReadFault}
+use Rattle.term_reader.proofs.Coming.{answers, refuses, no_memory, same_outcome}
 use Rattle.term_reader.proofs.Staying.{adds_none, adds_then, keeps_none, keeps_then as terms_kept, refers_stays}
 use Rattle.term_reader.specs.ProblemViews.{ReaderView, IsReaderOf}
 use Rattle.alethe_text.specs.Commands.{Attribute}
@@ -36,7 +37,7 @@ use Rattle.alethe_reader.specs.ReadTerms.{AreReadFormulas}
 use Rattle.alethe_reader.specs.Sessions.{IsProofSession, IsWritten, StandsAfter}
 use Rattle.alethe_reader.specs.Standing.{IsAnchorOf, IsClosing, IsStandingOf, IsStanding}
 use Rattle.alethe_reader.specs.StepParts.{AreReadAttributes, IsBare, KeepsOthers, StandsAt}
-use Rattle.alethe_reader.proofs.Answering.{stops, goes, answers, refuses, no_memory, same_outcome}
+use Rattle.alethe_reader.proofs.Answering.{stops, goes}
 use Rattle.alethe_text.proofs.FormedSteps.{read_has_rule}
 use Rattle.alethe_reader.proofs.StillRead.{keeps_then, keeps_changed}
 use Rattle.alethe_reader.proofs.StillReadCommands.{keeps_attributes}
@@ -45,7 +46,7 @@ use Rattle.alethe_reader.proofs.WrittenStays.{written_stays}
 -- the answer says what it is the outcome of
 with_outcome : {A T : Type 0} {s : Table} {v w : TermsView} {M : T → A → ProofState → Type 0} {o : Outcome ProofState A} {t : T} → AnswersAs s v w M o (Ok t) → AnswersAs s v w (λ t a p. M t a p × (o ≡ done a p)) o (Ok t)
 with_outcome h = record {
-  answer = record { value = h.answer.value; state = h.answer.state; comes = h.answer.comes; after = (h.answer.after, h.answer.comes) };
+  answer = record { value = h.answer.value; state = h.answer.state; is = h.answer.is; after = (h.answer.after, h.answer.is) };
   placed = h.placed;
 }
 
@@ -228,7 +229,7 @@ module _ {s : Table} {v : TermsView} {settings : ProofSettings} {d : Session} {p
             may_add =
                 let f = formulas.answer in
                 let a = (at_attributes (Ok tt) read f.value f.state f.after).answer in
-                (y, x, settings, a.value, a.state, to_be_added f.value f.state f.after a.value a.state a.after a.comes)
+                (y, x, settings, a.value, a.state, to_be_added f.value f.state f.after a.value a.state a.after a.is)
 
             pub is_stepped : (f : Session) → ((s : Table) (v : TermsView) (settings : ProofSettings) (step : Step Term) (p : ProofState) → IsToAdd s v settings e new step p → IsProofSession s v settings f (with_step step p))
                 → AnswersAs y v x (StandsAfter y x settings f) (step_read settings n literals attributes p) (Ok tt)

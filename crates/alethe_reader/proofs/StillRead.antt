@@ -12,11 +12,12 @@ use Rattle.rule_model.specs.Visibility.{Sight}
 use Rattle.text_items.specs.ItemShapes.{Name}
 use Rattle.problem_text.specs.Forms.{form_of}
 use Rattle.problem_text.proofs.Growing as growing
+use Rattle.term_reader.proofs.Coming.{part_then}
 use Rattle.alethe_text.specs.States.{ProofSettings, ProofState, Reading, ◌>>=◌, give, refuse, demand, given, found, seen_in, changed}
 use Rattle.alethe_text.specs.Ids.{indices_of}
 use Rattle.alethe_text.specs.ProofTerms.{place_in, term_in, formula_in, formulas_in}
+use Rattle.alethe_reader.specs.Answers.{terms_in}
 use Rattle.alethe_reader.specs.KeptReads.{KeepsRead}
-use Rattle.alethe_reader.proofs.Answering.{read_on}
 
 pub keeps_give : {A : Type 0} (a : A) → KeepsRead (give a)
 keeps_give a = record { keeps = λ x p h. h }
@@ -40,7 +41,7 @@ keeps_seen look = record { keeps = λ x p h. h }
 
 pub keeps_then : {A B : Type 0} (reading : Reading A) (next : A → Reading B) → KeepsRead reading → ((a : A) → KeepsRead (next a)) → KeepsRead (reading >>= next)
 unfolding ◌>>=◌
-keeps_then reading next h k = record { keeps = λ x p r. read_on (reading p) next k x (h.keeps x p r) }
+keeps_then reading next h k = record { keeps = λ x p r. (part_then terms_in (reading p) next (λ a. (k a).keeps)).reads x (h.keeps x p r) }
 
 pub keeps_either : {A : Type 0} (b : Bool) (one other : Reading A) → KeepsRead one → KeepsRead other → KeepsRead (if b then one else other)
 keeps_either true one other h k = h

@@ -15,13 +15,14 @@ use Rattle.problem_text.specs.TypedTerms.{Typed}
 use Rattle.term_expansion.specs.declared.values.Value.{Value}
 use Rattle.term_names.specs.declared.faults.ReadFault.{ReadFault}
 use Rattle.term_reader.specs.ProblemViews.{ReaderView, ReadsValue}
+use Rattle.term_reader.proofs.Coming.{answers, refuses}
 use Rattle.term_reader.proofs.Staying.{adds_none, keeps_none}
 use Rattle.alethe_text.specs.ProofTerms.{place_in, term_in, formula_in}
 use Rattle.alethe_text.specs.States.{ProofSettings, ProofState, Reading, ◌>>=◌, give, demand}
 use Rattle.alethe_reader.specs.Answers.{AnswersAs}
 use Rattle.alethe_reader.specs.KeptReads.{KeepsRead}
 use Rattle.alethe_reader.specs.ReadTerms.{IsReadValue, IsReadFormula}
-use Rattle.alethe_reader.proofs.Answering.{stops, goes, answers, refuses}
+use Rattle.alethe_reader.proofs.Answering.{stops, goes}
 use Rattle.alethe_reader.proofs.StillRead.{keeps_then, keeps_demand, keeps_give}
 
 module _ (s : Table) (old new : TermsView) (settings : ProofSettings) (nesting : Nesting Var Term) (r : ReaderView) (i : Item) (p : ProofState) where
@@ -30,16 +31,14 @@ module _ (s : Table) (old new : TermsView) (settings : ProofSettings) (nesting :
   unfolding term_in
   value_answers (Ok c) h = record {
     answer = record {
-      value = h.outcome.0;
-      state = record p { script = h.outcome.1 };
-      comes = ap (λ (o : Outcome Script Typed). record { result = o.result; state = record p { script = o.state } }) h.outcome.2;
-      after = record { is = h.outcome.3; low = h.outcome.4; behind = record { reader = h.outcome.5; scope = refl; anchors = refl } };
+      value = h.answer.value;
+      state = record p { script = h.answer.state };
+      is = ap (λ (o : Outcome Script Typed). record { result = o.result; state = record p { script = o.state } }) h.answer.is;
+      after = record { is = h.answer.after.is; low = h.answer.after.low; behind = record { reader = h.answer.after.reader; scope = refl; anchors = refl } };
     };
     placed = h.placed;
   }
-  value_answers (Err (ReadFault.Text refusal)) h = record { answer = h.outcome; placed = h.placed }
-  value_answers (Err ReadFault.PoolFull) h = record { answer = h.outcome; placed = h.placed }
-  value_answers (Err ReadFault.Memory) h = record { answer = tt; placed = h.placed }
+  value_answers (Err fault) h = record { answer = h.answer; placed = h.placed }
 
   -- a term that was read is a formula, where its sort is Bool
   abbrev judged : Typed → Reading Term

@@ -12,28 +12,23 @@ use Rattle.text_items.specs.Nesting.{AreNested}
 use Rattle.text_items.specs.declared.nodes.Node.{Node}
 use Rattle.problem_text.specs.Outcomes.{Outcome, going_on, and_then}
 use Rattle.term_names.specs.declared.faults.ReadFault.{ReadFault}
-use Rattle.term_reader.proofs.Staying.{places_none, places_more}
+use Rattle.term_reader.proofs.Coming.{IsPartOf, fails, answers_whole, refuses}
+use Rattle.term_reader.proofs.Staying.{places_none}
 use Rattle.alethe_text.specs.Commands.{Command, command_of}
 use Rattle.alethe_text.specs.ProofTexts.{performed, commands}
-use Rattle.alethe_text.specs.States.{ProofSettings, ProofState, Reading, ◌>>=◌}
+use Rattle.alethe_text.specs.States.{ProofSettings, ProofState, ◌>>=◌}
 use Rattle.alethe_commands.specs.CommandNodes.{IsCommand, command_said}
 use Rattle.alethe_commands.specs.declared.commands.Command as code
-use Rattle.alethe_reader.specs.Answers.{WasRead, AnswersAs}
+use Rattle.alethe_reader.specs.Answers.{terms_in, WasRead, AnswersAs}
 use Rattle.alethe_items.specs.TextItems.{HasCommandItems, IsFirst}
 use Rattle.alethe_text.specs.CommandNames.{HasNames, HaveNames, IsNamed}
 use Rattle.alethe_reader.specs.Sessions.{IsProofSession, StandsAfter}
 use Rattle.alethe_reader.specs.TextReading.{closing_from, left_from, AreCommandsLeft, NoneLeft, ReadsProofCommand}
 use Rattle.alethe_reader.specs.declared.session.Session.{Session}
-use Rattle.alethe_reader.proofs.Answering.{read_on, stops, same_outcome}
 use Rattle.alethe_text.proofs.CommandNames.{is_named_so}
+use Rattle.alethe_reader.proofs.Answering.{part_of_whole}
+use Rattle.alethe_reader.proofs.LeftToRead.{and_then_then}
 use Rattle.alethe_reader.proofs.StillReadCommands.{keeps_left}
-
-then_then : {A B C : Type 0} (o : Outcome ProofState A) (f : A → Reading B) (g : B → Reading C) → and_then (and_then o f) g ≡ and_then o (λ a s. and_then (f a s) g)
-then_then {A} {B} {C} o f g = go o.result o.state
-  where
-    go : (r : Result A Refusal) (s : ProofState) → and_then (going_on r s f) g ≡ going_on r s (λ a t. and_then (f a t) g)
-    go (Ok a) s = refl
-    go (Err refusal) s = refl
 
 -- the first of the commands, by its shape
 abbrev then_rest : ProofSettings → Items → Items → Outcome ProofState ⊤ → Outcome ProofState (Proof Var Term)
@@ -47,7 +42,7 @@ unfolding left_from commands ◌>>=◌
 unfolds settings i rest behind p = go (command_of i)
   where
     go : (r : Result Command Refusal) → and_then (going_on r p (λ c q. and_then (performed settings c q) (λ _. commands settings rest))) (closing_from settings behind) ≡ first_of settings rest behind p r
-    go (Ok c) = then_then (performed settings c p) (λ _. commands settings rest) (closing_from settings behind)
+    go (Ok c) = and_then_then (performed settings c p) (λ _. commands settings rest) (closing_from settings behind)
     go (Err refusal) = refl
 
 none_comes : (settings : ProofSettings) (behind : Items) (p : ProofState) → left_from settings no_items behind p ≡ closing_from settings behind tt p
@@ -111,32 +106,27 @@ module _ (settings : ProofSettings) (in_list : Bool) (p : ProofState) (whole : O
     pub command_named : (c : code.Command) → IsCommand items (Ok c) (command_of (item_at items 0)) → IsNamed (command_said items c)
     command_named c is = is_named_so (item_at items 0) (command_said items c) is.0 h.named.0
 
-  read_by_whole : (others behind : Items) (o : Outcome ProofState ⊤) → then_rest settings others behind o ≡ whole → (t : Term) → WasRead o t → WasRead whole t
-  read_by_whole others behind o e t h = subst (λ (w : Outcome ProofState (Proof Var Term)). WasRead w t) e (read_on o (λ _. left_from settings others behind) (λ _. keeps_left settings others behind) t h)
+  part_read : (others behind : Items) (o : Outcome ProofState ⊤) → then_rest settings others behind o ≡ whole → IsPartOf terms_in o whole
+  part_read others behind o comes = part_of_whole o (λ _. left_from settings others behind) (λ _. keeps_left settings others behind) comes
 
   -- a command more
   pub performs_well : {source : List ℕ} {s : Table} {old new : TermsView} {d : Session} {at : ℕ} {u : ⊤} (others behind : Items) (o : Outcome ProofState ⊤)
       → HasCommandItems source in_list at others behind → HaveNames others → then_rest settings others behind o ≡ whole
       → AnswersAs s old new (StandsAfter s new settings d) o (Ok u) → ReadsProofCommand source s old new settings d in_list at whole (Ok true)
-  performs_well {source} {s} {old} {new} others behind o here named comes h = record {
-    outcome = (
-      h.answer.state,
-      record { items = others; behind = behind; here = here; named = named; comes = sym (ap (then_rest settings others behind) h.answer.comes) ∙ comes },
-      h.answer.after.session,
-    );
-    placed = places_more s old.pass new.pass (WasRead o) (WasRead whole) (read_by_whole others behind o comes) h.placed;
-  }
+  performs_well others behind o here named comes h =
+      answers_whole whole (part_read others behind o comes) h (
+        h.answer.state,
+        record { items = others; behind = behind; here = here; named = named; comes = sym (ap (then_rest settings others behind) h.answer.is) ∙ comes },
+        h.answer.after.session,
+      )
 
   pub performs_not : {source : List ℕ} {s : Table} {old new : TermsView} {d : Session} {at : ℕ} {fault : ReadFault} (others behind : Items) (o : Outcome ProofState ⊤)
       → then_rest settings others behind o ≡ whole
       → AnswersAs s old new (StandsAfter s new settings d) o (Err fault) → ReadsProofCommand source s old new settings d in_list at whole (Err fault)
-  performs_not {source} {s} {old} {new} {d} {at} {fault} others behind o comes h =
-      let N : ⊤ → Proof Var Term → ProofState → Type 0 = λ _ _ _. ⊤ in
-      let all : AnswersAs s old new N whole (Err fault) = same_outcome (sym comes) (stops (λ _. left_from settings others behind) (λ _. keeps_left settings others behind) h) in
-      record { outcome = all.answer; placed = all.placed }
+  performs_not others behind o comes h = fails whole (part_read others behind o comes) h
 
   pub ends_here : {source : List ℕ} {s : Table} {v : TermsView} {d : Session} {at : ℕ} → NoneLeft source settings at p whole → IsProofSession s v settings d p → ReadsProofCommand source s v v settings d in_list at whole (Ok false)
-  ends_here {source} {s} {v} none session = record { outcome = (p, none, session); placed = places_none s v.pass v.pass (WasRead whole) refl }
+  ends_here {source} {s} {v} none session = record { answer = (p, none, session); placed = places_none s v.pass v.pass (WasRead whole) refl }
 
   pub refused_here : {source : List ℕ} {s : Table} {v : TermsView} {d : Session} {at : ℕ} (r : Refusal) → whole.result ≡ Err r → ReadsProofCommand source s v v settings d in_list at whole (Err (ReadFault.Text r))
-  refused_here {source} {s} {v} r is = record { outcome = is; placed = places_none s v.pass v.pass (WasRead whole) refl }
+  refused_here r is = refuses refl is

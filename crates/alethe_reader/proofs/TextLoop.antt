@@ -60,7 +60,7 @@ module _ {in_list : Bool} {l : Lexer} {s : Table} {v : TermsView} {d : Session} 
         → most_after (length y.leaves) (source o) (position o) ≤ most_after (length z.leaves) (source m) (position m)
         → IsUnderWay in_list l s v d o y x f
     goes_on reads text inside short few = record {
-      left = λ settings p whole left session. let (now, more, stands) = h.left settings p whole left session in (reads settings now whole more stands).outcome;
+      left = λ settings p whole left session. let (now, more, stands) = h.left settings p whole left session in (reads settings now whole more stands).answer;
       placed = λ settings p whole left session. let (now, more, stands) = h.left settings p whole left session in placed_so_far symbols terms settings p whole left session (reads settings now whole more stands).placed;
       symbols = adds_then s z y h.symbols symbols;
       keeps = keeps_then v w x h.keeps terms;
@@ -75,11 +75,11 @@ module _ {in_list : Bool} {l : Lexer} {s : Table} {v : TermsView} {d : Session} 
     fails fault reads settings p whole left session =
         let (now, more, stands) = h.left settings p whole left session in
         let r = reads settings now whole more stands in
-        record { outcome = r.outcome; placed = placed_so_far symbols terms settings p whole left session r.placed }
+        record { answer = r.answer; placed = placed_so_far symbols terms settings p whole left session r.placed }
 
     pub ends : ((settings : ProofSettings) (p : ProofState) (whole : Outcome ProofState (Proof Var Term)) → AreCommandsLeft (source m) settings in_list (position m) p whole → IsProofSession z w settings e p → ReadsProofCommand (source o) y w x settings f in_list (position o) whole (Ok false))
         → (settings : ProofSettings) (p : ProofState) (whole : Outcome ProofState (Proof Var Term)) → AreCommandsLeft (source l) settings in_list (position l) p whole → IsProofSession s v settings d p → ReadsProof (source o) y v x settings f (position o) whole (Ok tt)
     ends reads settings p whole left session =
         let (now, more, stands) = h.left settings p whole left session in
         let r = reads settings now whole more stands in
-        record { outcome = r.outcome; placed = placed_so_far symbols terms settings p whole left session r.placed }
+        record { answer = r.answer; placed = placed_so_far symbols terms settings p whole left session r.placed }

@@ -1,6 +1,6 @@
 -- Cited by crates above. What is written of a proof stands for the same as the table and the pool grow, and has the ids of the
 -- proof over terms.
-use Rattle.std.proofs.Common.{◌≡◌, ℕ, List, [], ◌∷◌, Option, Some, None, refl, ◌∙◌, subst}
+use Rattle.std.proofs.Common.{◌≡◌, ℕ, List, Option, Some, None, refl, ◌∙◌, subst}
 use Rattle.std.specs.List.{AllZip}
 use Rattle.sym_table.specs.Table.{Table, Keeps}
 use Rattle.term_model.specs.Terms.{Var, Term}
@@ -8,7 +8,7 @@ use Rattle.term_pool.specs.Views.{TermsView, KeepsTerms}
 use Rattle.rule_model.specs.Proofs.{ProofItems, with_assume, with_step, with_subproof}
 use Rattle.rule_model.specs.Scopes.{Nesting, outermost, inside, Scope, first_index, scope_number, commands_in}
 use Rattle.proof_store.specs.Meaning.{IsBindingOf, StandForItems, no_items_stand, assume_stands, step_stands, subproof_stands}
-use Rattle.term_reader.proofs.Staying.{refers_stays}
+use Rattle.term_reader.proofs.Staying.{zip_weaken, refers_stays}
 use Rattle.alethe_text.specs.States.{ProofState}
 use Rattle.alethe_reader.specs.declared.session.Session.{Session}
 use Rattle.alethe_reader.specs.Bound.{AreBound, images_in}
@@ -21,11 +21,8 @@ use Rattle.alethe_reader.proofs.StoredItems.{commands_same, subproofs_same, item
 
 module _ (s z : Table) (v w : TermsView) (table : Keeps s z) (terms : KeepsTerms v w) where
   pub bindings_stay : (bs : List (ℕ × ℕ)) (cs : List (Var × Term)) → AllZip (IsBindingOf s v) bs cs → AllZip (IsBindingOf z w) bs cs
-  bindings_stay [] [] h = h
-  bindings_stay [] (c ∷ cs) h = absurd h
-  bindings_stay (b ∷ bs) [] h = absurd h
-  bindings_stay (b ∷ bs) (c ∷ cs) h =
-      (record { variable = table.leaves b.0 _ h.0.variable; term = refers_stays s z v w table terms b.1 c.1 h.0.term }, bindings_stay bs cs h.1)
+  bindings_stay = zip_weaken (IsBindingOf s v) (IsBindingOf z w)
+      (λ b c h. record { variable = table.leaves b.0 _ h.variable; term = refers_stays s z v w table terms b.1 c.1 h.term })
 
   pub stored_stay : (is : ProofItems ℕ ℕ) (ps : ProofItems Var Term) → StandForItems s v is ps → StandForItems z w is ps
   stored_stay is ps h = items_stay s z v w table (refers_stays s z v w table terms) is ps h

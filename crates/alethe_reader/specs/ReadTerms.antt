@@ -6,6 +6,7 @@ use Rattle.term_pool.specs.Views.{TermsView, RefersTo, ReferToAll}
 use Rattle.rule_model.specs.Scopes.{Nesting}
 use Rattle.problem_text.specs.Limits.{most_height}
 use Rattle.problem_text.specs.TypedTerms.{Typed}
+use Rattle.term_expansion.specs.SymbolsAndTerms.{both}
 use Rattle.term_expansion.specs.Values.{IsValue}
 use Rattle.term_expansion.specs.declared.values.Value.{Value}
 use Rattle.term_reader.specs.ProblemViews.{ReaderView}
@@ -14,7 +15,7 @@ use Rattle.alethe_reader.specs.Behind.{IsBehind}
 
 -- a term was read, with its sort and its height
 pub record IsReadValue (s : Table) (v : TermsView) (settings : ProofSettings) (nesting : Nesting Var Term) (r : ReaderView) (old : ProofState) (c : Value) (t : Typed) (new : ProofState) : Type 0 where
-  pub is : IsValue s v c t
+  pub is : IsValue (both s v) c t
   pub low : c.height ≤ most_height
   pub behind : IsBehind s v settings nesting r old new
 

@@ -10,12 +10,12 @@ use Rattle.rule_model.specs.Scopes.{Scope, next_index, next_scope}
 use Rattle.proof_store.specs.Meaning.{StandForItems}
 use Rattle.text_items.specs.ItemShapes.{excess}
 use Rattle.problem_text.specs.Outcomes.{Outcome, done}
-use Rattle.term_names.specs.Making.{PlacesCellsOf}
+use Rattle.term_expansion.specs.SymbolsAndTerms.{both}
 use Rattle.term_names.specs.declared.faults.ReadFault.{ReadFault}
-use Rattle.term_reader.specs.Reading.{EndsWith}
+use Rattle.term_reader.specs.Reading.{Comes}
 use Rattle.alethe_text.specs.ProofTexts.{commands, none_behind, finished}
 use Rattle.alethe_text.specs.States.{ProofSettings, ProofState, Reading, ◌>>=◌}
-use Rattle.alethe_reader.specs.Answers.{WasRead}
+use Rattle.alethe_reader.specs.Answers.{terms_in}
 use Rattle.alethe_items.specs.TextItems.{HasCommandItems}
 use Rattle.alethe_text.specs.CommandNames.{HaveNames}
 use Rattle.alethe_reader.specs.Sessions.{IsProofSession}
@@ -45,24 +45,28 @@ pub record NoneLeft (source : List ℕ) (settings : ProofSettings) (at : ℕ) (p
   pub here : HasCommandItems source false at behind no_items
   pub comes : closing_from settings behind tt p ≡ whole
 
--- A command was read, and others may be left; or none was left; or it has a fault.
-abbrev pub IsProofCommandRead : List ℕ → Table → TermsView → ProofSettings → Session → Bool → ℕ → Outcome ProofState (Proof Var Term) → Result Bool ReadFault → Type 0
-IsProofCommandRead source s v settings d in_list at whole (Ok true) = (p : ProofState) × AreCommandsLeft source settings in_list at p whole × IsProofSession s v settings d p
-IsProofCommandRead source s v settings d in_list at whole (Ok false) = (p : ProofState) × NoneLeft source settings at p whole × IsProofSession s v settings d p
-IsProofCommandRead source s v settings d in_list at whole (Err fault) = EndsWith s v.pass whole.result (WasRead whole) fault
+-- All commands were read.
+abbrev pub AreAllRead : List ℕ → Table → TermsView → ProofSettings → Session → ℕ → Outcome ProofState (Proof Var Term) → Type 0
+AreAllRead source s v settings d at whole = (p : ProofState) × NoneLeft source settings at p whole × IsProofSession s v settings d p
 
-pub record ReadsProofCommand (source : List ℕ) (s : Table) (old new : TermsView) (settings : ProofSettings) (d : Session) (in_list : Bool) (at : ℕ) (whole : Outcome ProofState (Proof Var Term)) (result : Result Bool ReadFault) : Type 0 where
-  pub outcome : IsProofCommandRead source s new settings d in_list at whole result
-  pub placed : PlacesCellsOf s old.pass new.pass (WasRead whole)
+-- A command was read, and others may be left; or none was left.
+abbrev pub IsProofCommandRead : List ℕ → Table → TermsView → ProofSettings → Session → Bool → ℕ → Outcome ProofState (Proof Var Term)
+    → Bool → Type 0
+IsProofCommandRead source s v settings d in_list at whole true =
+    (p : ProofState) × AreCommandsLeft source settings in_list at p whole × IsProofSession s v settings d p
+IsProofCommandRead source s v settings d in_list at whole false = AreAllRead source s v settings d at whole
+
+-- the same, or the command has a fault
+abbrev pub ReadsProofCommand : List ℕ → Table → TermsView → TermsView → ProofSettings → Session → Bool → ℕ → Outcome ProofState (Proof Var Term)
+    → Result Bool ReadFault → Type 0
+ReadsProofCommand source s old new settings d in_list at whole result =
+    Comes terms_in old (both s new) (IsProofCommandRead source s new settings d in_list at whole) whole result
 
 -- All commands of a text were read, or one has a fault.
-abbrev pub AreAllRead : List ℕ → Table → TermsView → ProofSettings → Session → ℕ → Outcome ProofState (Proof Var Term) → Result Unit ReadFault → Type 0
-AreAllRead source s v settings d at whole (Ok _) = (p : ProofState) × NoneLeft source settings at p whole × IsProofSession s v settings d p
-AreAllRead source s v settings d at whole (Err fault) = EndsWith s v.pass whole.result (WasRead whole) fault
-
-pub record ReadsProof (source : List ℕ) (s : Table) (old new : TermsView) (settings : ProofSettings) (d : Session) (at : ℕ) (whole : Outcome ProofState (Proof Var Term)) (result : Result Unit ReadFault) : Type 0 where
-  pub outcome : AreAllRead source s new settings d at whole result
-  pub placed : PlacesCellsOf s old.pass new.pass (WasRead whole)
+abbrev pub ReadsProof : List ℕ → Table → TermsView → TermsView → ProofSettings → Session → ℕ → Outcome ProofState (Proof Var Term)
+    → Result Unit ReadFault → Type 0
+ReadsProof source s old new settings d at whole result =
+    Comes terms_in old (both s new) (λ _. AreAllRead source s new settings d at whole) whole result
 
 -- Nothing stands behind the commands and no anchor is open, or the reading is refused for what stands there.
 abbrev pub IsEndJudged : Session → Items → Outcome ProofState (Proof Var Term) → Result Unit Refusal → Type 0

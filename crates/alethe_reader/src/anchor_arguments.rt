@@ -20,6 +20,7 @@ ghost use Rattle.alethe_text.specs.States.{ProofSettings, ProofState};
 ghost use Rattle.alethe_reader.specs.Answers.{AnswersAs};
 ghost use Rattle.alethe_reader.specs.Bound.{AreBound, BindApart, images_in};
 ghost use Rattle.alethe_reader.specs.Opening.{IsOpening, IsArgumentRead, AreArgumentsRead, IsNameJudged, is_wanted, image_read, IsImageRead};
+ghost use Rattle.term_expansion.specs.SymbolsAndTerms.{both};
 
 use crate::bound::{BoundVariables, OpenedVariable};
 use crate::judging::{Named, named_at};
@@ -214,10 +215,10 @@ fn image_at(
     symbols: &Symbols,
     terms: &mut Terms<'_>,
 ) -> Result<Ref, ReadFault>
-    requires value { (t : Typed) × IsValue symbols.now terms.old value t }
+    requires value { (t : Typed) × IsValue (both symbols.now terms.old) value t }
     requires outer { length bound.now.opened.items ≤ length bound.now.images.items }
     requires images { (nesting : Nesting Var Term) × (more : List (List ℕ)) × AllZip (IsBindingOf symbols.now terms.old) (take (length bound.now.images.items - length bound.now.opened.items) bound.now.images.items) (images_in nesting) × (map (λ u. u.id) bound.now.names.used ≡ bound_names nesting ++ more) }
-    ensures read { (name : List ℕ) (t : Typed) (nesting : Nesting Var Term) (more : List (List ℕ)) (q : ProofState) → IsValue symbols.now terms.old value t → BindApart nesting → AllZip (IsBindingOf symbols.now terms.old) (take (length bound.now.images.items - length bound.now.opened.items) bound.now.images.items) (images_in nesting) → map (λ u. u.id) bound.now.names.used ≡ bound_names nesting ++ more → AnswersAs symbols.now terms.old terms.new (IsImageRead symbols.now terms.new name nesting t q) (image_read wanted.place name wanted.sort nesting t q) result }
+    ensures read { (name : List ℕ) (t : Typed) (nesting : Nesting Var Term) (more : List (List ℕ)) (q : ProofState) → IsValue (both symbols.now terms.old) value t → BindApart nesting → AllZip (IsBindingOf symbols.now terms.old) (take (length bound.now.images.items - length bound.now.opened.items) bound.now.images.items) (images_in nesting) → map (λ u. u.id) bound.now.names.used ≡ bound_names nesting ++ more → AnswersAs symbols.now terms.old terms.new (IsImageRead symbols.now terms.new name nesting t q) (image_read wanted.place name wanted.sort nesting t q) result }
     ensures keeps { KeepsTerms terms.old terms.new }
 {
     if !is_wanted(wanted.sort, value.sort) {

@@ -1,50 +1,41 @@
--- What a command comes to where it adds no term: it is done, or it has its fault.
-use Rattle.std.proofs.Common.{◌≡◌, Bool, true, ◌⊎◌, inl, inr, refl, ap, Ok, Err}
-use Rattle.std.specs.Prelude.{⊤}
-use Rattle.sexpr.specs.declared.causes.Refusal.{Refusal}
+-- What a command comes to that asks for nothing, or that notes something of the script alone.
+use Rattle.std.proofs.Common.{◌≡◌, Bool, true, ◌⊎◌, inl, inr, refl, ap, Ok}
 use Rattle.sym_table.specs.Table.{Table}
 use Rattle.term_pool.specs.Views.{TermsView}
 use Rattle.text_items.specs.ItemsAt.{ItemsView}
 use Rattle.smtlib_reader.specs.CommandShapes.{command_said}
 use Rattle.smtlib_reader.specs.declared.commands.Command.{Command}
 use Rattle.problem_text.specs.Problems.{script_performed}
-use Rattle.problem_text.specs.Outcomes.{Outcome, done}
 use Rattle.problem_text.specs.Scripts.{Script}
-use Rattle.smtlib_reader.specs.Sessions.{IsSession, top, IsReadBy, Performs}
-use Rattle.term_names.specs.declared.faults.ReadFault.{ReadFault}
-use Rattle.smtlib_reader.specs.declared.session.Session.{Session}
+use Rattle.smtlib_reader.specs.Sessions.{SessionView, IsSession, IsPerformed, top}
 use Rattle.smtlib_reader.proofs.AgreeingScripts.{idle_agrees}
-use Rattle.term_reader.proofs.Staying.{places_none}
+use Rattle.term_reader.proofs.Coming.{answers}
+use Rattle.term_reader.proofs.Staying.{table_keeps_none, keeps_none}
+use Rattle.term_expansion.specs.SymbolsAndTerms.{both}
+use Rattle.term_reader.specs.Reading.{ComesTo, terms_read}
 
-module _ (s : Table) (v : TermsView) (d : Session) where
-  pub performs_done : (o : Outcome Script ⊤) (sc : Script) → o ≡ done tt sc → IsSession s v d sc → Performs s v v d o (Ok tt)
-  performs_done o sc same is = record { outcome = (sc, same, is); placed = places_none s v.pass v.pass (IsReadBy o) refl }
+module _ (s : Table) (v : TermsView) (d : SessionView) (sc : Script) (is : IsSession (both s v) d sc) where
+  -- the same names, another logic or another word on checks
+  pub session_noted : (logic checked : Bool) → IsSession (both s v) (record d { has_logic = logic; is_checked = checked }) (record sc { has_logic = logic; is_checked = checked })
+  session_noted logic checked = record {
+    idle = idle_agrees s s v v (table_keeps_none s) (keeps_none v) d.reader sc (record sc { has_logic = logic; is_checked = checked }) (top d.reader.replaces_lets) is.idle.script.sorts
+        (λ name. record { functions = refl; macros = refl; named = refl; taken = refl; back = λ f. f }) is.idle;
+    assertions = is.assertions;
+    has_logic = refl;
+    is_checked = refl;
+  }
 
-  pub performs_refused : (o : Outcome Script ⊤) (r : Refusal) → o.result ≡ Err r → Performs s v v d o (Err (ReadFault.Text r))
-  performs_refused o r same = record { outcome = same; placed = places_none s v.pass v.pass (IsReadBy o) refl }
-
-  pub performs_memory : (o : Outcome Script ⊤) → Performs s v v d o (Err ReadFault.Memory)
-  performs_memory o = record { outcome = tt; placed = places_none s v.pass v.pass (IsReadBy o) refl }
-
-  module _ (replaces : Bool) (items : ItemsView) (asked : Command) (sc : Script) (is : IsSession s v d sc) where
-    abbrev comes : Outcome Script ⊤
-    comes = script_performed replaces (command_said items asked) sc
-
-    -- nothing is asked for
-    pub nothing_performed : (asked ≡ Command.WithoutEffect) ⊎ (asked ≡ Command.Exit) → Performs s v v d comes (Ok tt)
+  module _ (replaces : Bool) (items : ItemsView) (asked : Command) where
+    pub nothing_performed : (asked ≡ Command.WithoutEffect) ⊎ (asked ≡ Command.Exit)
+        → ComesTo terms_read v (both s v) (IsPerformed (both s v) d) (script_performed replaces (command_said items asked) sc) (Ok tt)
     unfolding script_performed
-    nothing_performed (inl e) = performs_done comes sc (ap (λ c. script_performed replaces (command_said items c) sc) e) is
-    nothing_performed (inr e) = performs_done comes sc (ap (λ c. script_performed replaces (command_said items c) sc) e) is
+    nothing_performed (inl e) = answers tt sc refl (ap (λ c. script_performed replaces (command_said items c) sc) e) (record { session = is })
+    nothing_performed (inr e) = answers tt sc refl (ap (λ c. script_performed replaces (command_said items c) sc) e) (record { session = is })
 
--- a check is noted
-pub checked_performed : (s : Table) (v : TermsView) (d : Session) (replaces : Bool) (items : ItemsView) (asked : Command) (sc : Script) → asked ≡ Command.CheckSat → IsSession s v d sc
-    → Performs s v v (record d { is_checked = true }) (script_performed replaces (command_said items asked) sc) (Ok tt)
-unfolding script_performed
-checked_performed s v d replaces items asked sc e is =
-    performs_done s v (record d { is_checked = true }) (script_performed replaces (command_said items asked) sc) (record sc { is_checked = true }) (ap (λ c. script_performed replaces (command_said items c) sc) e)
-    (record {
-      idle = idle_agrees s v d.reader sc (record sc { is_checked = true }) (top d.reader.replaces_lets) refl (λ name. record { functions = refl; macros = refl; named = refl; taken = refl }) is.idle;
-      assertions = is.assertions;
-      has_logic = is.has_logic;
-      is_checked = refl;
-    })
+    -- a check is noted
+    pub checked_performed : asked ≡ Command.CheckSat
+        → ComesTo terms_read v (both s v) (IsPerformed (both s v) (record d { is_checked = true })) (script_performed replaces (command_said items asked) sc) (Ok tt)
+    unfolding script_performed
+    checked_performed e =
+        answers tt (record sc { is_checked = true }) refl (ap (λ c. script_performed replaces (command_said items c) sc) e)
+        (record { session = let noted = session_noted sc.has_logic true in record { idle = noted.idle; assertions = noted.assertions; has_logic = is.has_logic; is_checked = refl } })

@@ -1,11 +1,13 @@
 -- A sort is declared: the tables stand for the script with the sort then.
-use Rattle.std.proofs.Common.{◌≡◌, ◌⊎◌, inl, inr, ◌↔◌, ℕ, ◌==◌, Bool, true, false, ◌||◌, zero, suc, List, [], ◌∷◌, ◌++◌, Option, Some, None, IfSome, IfErr, IsNone, OnOk, refl, sym, ap, subst, ◌∙◌, if◌then◌else◌, Result, Ok, Err}
+use Rattle.std.proofs.Common.{◌≡◌, ◌⊎◌, inl, inr, ◌↔◌, ℕ, ◌==◌, Bool, true, false, ◌||◌, List, [], ◌∷◌, ◌++◌, Option, Some, None, IfSome, IfErr, IsNone, OnOk, refl, sym, ap, subst, ◌∙◌, if◌then◌else◌, Result, Ok, Err}
 use Rattle.std.specs.Cmp.Lexicographic.{nat_list_eq_equiv}
 use Rattle.std.specs.Option.{is_some}
-use Rattle.std.specs.Prelude.{⊤, bytes_eq, slice_get}
+use Rattle.std.specs.Prelude.{⊤, bytes_eq, position, slice_get}
 use Rattle.std.proofs.lemmas.Bool.{or_parts}
 use Rattle.std.proofs.lemmas.Map.Views.{list_any-from_Contains}
-use Rattle.std.proofs.lemmas.Slice.Eq.{bytes_eq-Decides}
+use Rattle.sym_table.proofs.Places.{position-there}
+use Rattle.term_names.proofs.Positions.{list_any-no_place}
+use Rattle.smtlib_reader.proofs.SortItems.{among_at}
 use Rattle.sexpr.specs.declared.causes.Cause.TheVariants.{Repeated, LeftOut}
 use Rattle.sexpr.specs.declared.causes.Refusal.{Refusal}
 use Rattle.sym_table.specs.Table.{Table, IsSortName, IsDeclaredSort, Keeps, with_sort_name}
@@ -14,39 +16,27 @@ use Rattle.term_model.specs.declared.symbols.Sort.{Sort}
 use Rattle.term_pool.specs.Views.{TermsView}
 use Rattle.problem_text.specs.Commands.{declare_sort}
 use Rattle.text_items.specs.ItemShapes.{Name}
-use Rattle.term_names.specs.Known.{KnownView, known_entry}
 use Rattle.problem_text.specs.Problems.{script_performed}
 use Rattle.problem_text.specs.Scripts as spec
 use Rattle.problem_text.specs.Outcomes.{Outcome, done, refuse}
 use Rattle.problem_text.specs.Scripts.{Script}
-use Rattle.smtlib_reader.specs.Sessions.{IsSession, top, Performs}
-use Rattle.term_names.specs.Standing.{IsScript}
+use Rattle.smtlib_reader.specs.Sessions.{IsSession, top, IsPerformed}
 use Rattle.problem_text.specs.Words.{is_among, is_built_in}
 use Rattle.term_names.specs.declared.faults.ReadFault.{ReadFault}
-use Rattle.smtlib_reader.specs.declared.session.Session.{Session}
-use Rattle.smtlib_reader.proofs.AgreeingScripts.{meant_moves, idle_moves, all_refer_still}
-use Rattle.smtlib_reader.proofs.CommandSteps.{performs_done, performs_refused, performs_memory}
+use Rattle.smtlib_reader.specs.Sessions.{SessionView}
+use Rattle.smtlib_reader.proofs.AgreeingScripts.{idle_agrees, all_stay}
+use Rattle.term_reader.proofs.Coming.{answers, refuses, no_memory}
 use Rattle.term_reader.proofs.Staying.{keeps_none}
+use Rattle.term_expansion.specs.SymbolsAndTerms.{both}
+use Rattle.term_reader.specs.Reading.{ComesTo, terms_read}
 
--- a name at a place is among the names, and one among them has a place
-among_at : (names : List (List ℕ)) (n : ℕ) (name : List ℕ) → slice_get names n ≡ Some name → is_among names name ≡ true
-among_at [] n name e = cc
-among_at (m ∷ names) zero name e =
-    let same : m ≡ name = cc in
-    ap (λ b. b || is_among names name) ((bytes_eq-Decides name m).1 (sym same))
-among_at (m ∷ names) (suc n) name e = go (bytes_eq name m) (is_among names name) (among_at names n name e)
-  where
-    go : (a b : Bool) → b ≡ true → (a || b) ≡ true
-    go true b h = refl
-    go false b h = h
-
+-- a name among the names has a place
 place_among : (names : List (List ℕ)) (name : List ℕ) → is_among names name ≡ true → (n : ℕ) × (slice_get names n ≡ Some name)
-place_among [] name e = cc
-place_among (m ∷ names) name e = go (bytes_eq name m) refl (place_among names name) e
+place_among names name e = go (position (bytes_eq name) names) refl
   where
-    go : (b : Bool) → bytes_eq name m ≡ b → (is_among names name ≡ true → (n : ℕ) × (slice_get names n ≡ Some name)) → (b || is_among names name) ≡ true → (n : ℕ) × (slice_get (m ∷ names) n ≡ Some name)
-    go true e rest h = (zero, ap Some (sym ((bytes_eq-Decides name m).0 e)))
-    go false e rest h = let (n, there) = rest h in (suc n, there)
+    go : (o : Option ℕ) → position (bytes_eq name) names ≡ o → (n : ℕ) × (slice_get names n ≡ Some name)
+    go None f = absurd (let g = list_any-no_place (bytes_eq name) names f in cc)
+    go (Some k) f = (k, position-there names name k f)
 
 -- what the table finds is among its sorts
 pub sort_is_among : (s : Table) (name : List ℕ) (o : Option Sort) → IfSome o (λ sort. IsDeclaredSort s sort name) → IsNone o ↔ (IsSortName s name → ⊥) → is_some o ≡ is_among s.sorts name
@@ -72,50 +62,44 @@ sort_is_free s name e (inr (n, there)) =
     cc
 
 -- the script with one more sort
-module _ (s : Table) (v : TermsView) (name : List ℕ) (sc : Script) (keeps : Keeps s (with_sort_name s name)) where
-  sort_script : (k : KnownView) → IsScript s v k sc → IsScript (with_sort_name s name) v k (spec.with_sort name sc)
-  sort_script k h = record {
-    sorts = ap (λ names. names ++ name ∷ []) h.sorts;
-    built_in = h.built_in;
-    names = λ other.
-        meant_moves s (with_sort_name s name) v v keeps (keeps_none v) sc (spec.with_sort name sc) other
-        (record { functions = refl; macros = refl; named = refl; taken = refl }) (λ f. f) k (known_entry k other) (h.names other);
-  }
+sort_session : (s : Table) (v : TermsView) (name : List ℕ) (sc : Script) → Keeps s (with_sort_name s name) → (d : SessionView) → IsSession (both s v) d sc
+    → IsSession (both (with_sort_name s name) v) d (spec.with_sort name sc)
+sort_session s v name sc keeps d h = record {
+  idle = idle_agrees s (with_sort_name s name) v v keeps (keeps_none v) d.reader sc (spec.with_sort name sc) (top d.reader.replaces_lets) (ap (λ names. names ++ name ∷ []) h.idle.script.sorts)
+      (λ other. record { functions = refl; macros = refl; named = refl; taken = refl; back = λ f. f }) h.idle;
+  assertions = all_stay s (with_sort_name s name) v v keeps (keeps_none v) d.assertions.items sc.assertions h.assertions;
+  has_logic = h.has_logic;
+  is_checked = h.is_checked;
+}
 
-  sort_session : (d : Session) → IsSession s v d sc → IsSession (with_sort_name s name) v d (spec.with_sort name sc)
-  sort_session d h = record {
-    idle = idle_moves s (with_sort_name s name) v d.reader sc (spec.with_sort name sc) (top d.reader.replaces_lets) keeps h.idle (sort_script d.reader.names.known h.idle.script);
-    assertions = all_refer_still s (with_sort_name s name) v keeps d.assertions.items sc.assertions h.assertions;
-    has_logic = h.has_logic;
-    is_checked = h.is_checked;
-  }
+module _ (s : Table) (v : TermsView) (d : SessionView) (replaces : Bool) (x : Name) (place arity : ℕ) (sc : Script) (is : IsSession (both s v) d sc) where
+  abbrev asked : Outcome Script ⊤
+  asked = script_performed replaces (declare_sort x place arity) sc
 
-module _ (s : Table) (v : TermsView) (d : Session) (replaces : Bool) (x : Name) (place arity : ℕ) (sc : Script) (is : IsSession s v d sc) where
   -- by whether the name is taken, and whether the sort has no parameters
   abbrev sort_by : Bool → Bool → Outcome Script ⊤
   sort_by taken none = if taken then refuse Repeated x.place sc else if none then done tt (spec.with_sort x.name sc) else refuse LeftOut place sc
 
-  sort_parts : (taken none : Bool) → (is_built_in x.name || is_among s.sorts x.name) ≡ taken → (arity == 0) ≡ none → script_performed replaces (declare_sort x place arity) sc ≡ sort_by taken none
+  sort_parts : (taken none : Bool) → (is_built_in x.name || is_among s.sorts x.name) ≡ taken → (arity == 0) ≡ none → asked ≡ sort_by taken none
   unfolding script_performed
   sort_parts taken none e f =
       ap (λ (names : List (List ℕ)). sort_by (is_built_in x.name || is_among names x.name) (arity == 0)) (sym is.idle.script.sorts)
       ∙ ap (λ b. sort_by b (arity == 0)) e
       ∙ ap (sort_by taken) f
 
-  pub sort_repeated : (r : Refusal) → (is_built_in x.name || is_among s.sorts x.name) ≡ true → r ≡ record { cause = Repeated; at = x.place } → Performs s v v d (script_performed replaces (declare_sort x place arity) sc) (Err (ReadFault.Text r))
-  sort_repeated r taken same =
-      performs_refused s v d (script_performed replaces (declare_sort x place arity) sc) r (ap (λ o. o.result) (sort_parts true (arity == 0) taken refl) ∙ ap Err (sym same))
+  pub sort_repeated : (r : Refusal) → (is_built_in x.name || is_among s.sorts x.name) ≡ true → r ≡ record { cause = Repeated; at = x.place }
+      → ComesTo terms_read v (both s v) (IsPerformed (both s v) d) asked (Err (ReadFault.Text r))
+  sort_repeated r taken same = refuses refl (ap (λ o. o.result) (sort_parts true (arity == 0) taken refl) ∙ ap Err (sym same))
 
-  pub sort_left_out : (r : Refusal) → (is_built_in x.name || is_among s.sorts x.name) ≡ false → (arity == 0) ≡ false → r ≡ record { cause = LeftOut; at = place } → Performs s v v d (script_performed replaces (declare_sort x place arity) sc) (Err (ReadFault.Text r))
-  sort_left_out r taken none same =
-      performs_refused s v d (script_performed replaces (declare_sort x place arity) sc) r (ap (λ o. o.result) (sort_parts false false taken none) ∙ ap Err (sym same))
+  pub sort_left_out : (r : Refusal) → (is_built_in x.name || is_among s.sorts x.name) ≡ false → (arity == 0) ≡ false → r ≡ record { cause = LeftOut; at = place }
+      → ComesTo terms_read v (both s v) (IsPerformed (both s v) d) asked (Err (ReadFault.Text r))
+  sort_left_out r taken none same = refuses refl (ap (λ o. o.result) (sort_parts false false taken none) ∙ ap Err (sym same))
 
-  pub sort_added : (z : Table) (result : Result Unit ReadFault) → (is_built_in x.name || is_among s.sorts x.name) ≡ false → (arity == 0) ≡ true → OnOk result (z ≡ with_sort_name s x.name) → IfErr result (λ fault. fault ≡ ReadFault.Memory) → Keeps s z → Performs z v v d (script_performed replaces (declare_sort x place arity) sc) result
+  pub sort_added : (z : Table) (result : Result Unit ReadFault) → (is_built_in x.name || is_among s.sorts x.name) ≡ false → (arity == 0) ≡ true → OnOk result (z ≡ with_sort_name s x.name)
+      → IfErr result (λ fault. fault ≡ ReadFault.Memory) → Keeps s z → ComesTo terms_read v (both z v) (IsPerformed (both z v) d) asked result
   sort_added z (Ok u) taken none added fault keeps =
       let kept : Keeps s (with_sort_name s x.name) = subst (λ (t : Table). Keeps s t) added keeps in
-      subst (λ (t : Table). Performs t v v d (script_performed replaces (declare_sort x place arity) sc) (Ok tt)) (sym added)
-      (performs_done (with_sort_name s x.name) v d (script_performed replaces (declare_sort x place arity) sc) (spec.with_sort x.name sc) (sort_parts false true taken none) (sort_session s v x.name sc kept d is))
-  sort_added z (Err f) taken none added fault keeps =
-      subst (λ (g : ReadFault). Performs z v v d (script_performed replaces (declare_sort x place arity) sc) (Err g)) (sym fault) (performs_memory z v d (script_performed replaces (declare_sort x place arity) sc))
+      rw added (answers tt (spec.with_sort x.name sc) refl (sort_parts false true taken none) (record { session = sort_session s v x.name sc kept d is }))
+  sort_added z (Err f) taken none added fault keeps = rw fault (no_memory refl)
 
 pub ruleset sort_declared = (sort_repeated, sort_left_out, sort_added)

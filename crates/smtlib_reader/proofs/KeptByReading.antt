@@ -3,18 +3,20 @@ use Rattle.std.proofs.Common.{◌≡◌, ℕ, List, [], ◌∷◌, Bool, true, f
 use Rattle.std.specs.Prelude.{⊤}
 use Rattle.std.proofs.lemmas.Slice.Eq.{bytes_eq-Decides}
 use Rattle.sexpr.specs.declared.causes.Cause.{Cause}
-use Rattle.sexpr.specs.declared.causes.Cause.TheVariants.{Repeated, TooHigh}
+use Rattle.sexpr.specs.declared.causes.Cause.TheVariants.{Repeated, SortMismatch, TooHigh}
 use Rattle.sexpr.specs.declared.causes.Refusal.{Refusal}
 use Rattle.term_model.specs.declared.symbols.Sort.{Sort}
-use Rattle.term_model.specs.Terms.{Term, numeral}
+use Rattle.sexpr.specs.Items.{Item, place_of}
+use Rattle.smtlib_reader.specs.Defining.{within, body_read, macro_defined}
+use Rattle.term_model.specs.Terms.{Term, Var, numeral, sort_eq}
 use Rattle.problem_text.specs.Words.{is_among, is_built_in}
 use Rattle.text_items.specs.ItemShapes.{Name}
-use Rattle.problem_text.specs.Forms.{Form, faulty, number, symbol, application, let_form, annotated, Forms, no_forms, form, LetBinds, no_binds, bind}
+use Rattle.problem_text.specs.Forms.{Form, faulty, number, symbol, application, let_form, annotated, Forms, no_forms, form, LetBinds, no_binds, bind, form_of}
 use Rattle.rule_model.specs.Heights.{height}
 use Rattle.problem_text.specs.Limits.{is_low}
 use Rattle.problem_text.specs.TypedTerms.{Typed}
 use Rattle.problem_text.specs.Outcomes.{Outcome, done, refuse, and_then}
-use Rattle.problem_text.specs.Scripts.{Named, Script, is_taken, with_named, with_term, with_let_name}
+use Rattle.problem_text.specs.Scripts.{Named, Script, is_taken, with_macro, with_named, with_term, with_let_name}
 use Rattle.problem_text.specs.Names.{Place, Meaning, meaning_of, meaning_applied, inside, let_term}
 use Rattle.term_names.specs.Standing.{named_in_script, macro_in, function_in}
 use Rattle.problem_text.specs.Terms.{settled, with_meaning, with_names, term_from, terms_from, bounds_from}
@@ -97,7 +99,7 @@ pub record IsStill (old new : Script) : Type 0 where
   pub has_logic : new.has_logic ≡ old.has_logic
   pub is_checked : new.is_checked ≡ old.is_checked
 
-pub still_then : (old s after : Script) → after.assertions ≡ s.assertions → after.has_logic ≡ s.has_logic → after.is_checked ≡ s.is_checked → IsStill old s → IsStill old after
+still_then : (old s after : Script) → after.assertions ≡ s.assertions → after.has_logic ≡ s.has_logic → after.is_checked ≡ s.is_checked → IsStill old s → IsStill old after
 still_then old s after a b c h = record { assertions = a ∙ h.assertions; has_logic = b ∙ h.has_logic; is_checked = c ∙ h.is_checked }
 
 -- a term asserts nothing
@@ -105,6 +107,21 @@ pub still_after_term : (f : Form) (p : Place) (s : Script) → IsStill s (term_f
 still_after_term f p s =
     (in_term (λ after. IsStill s after) (λ t sc h. still_then s sc (with_term t sc) refl refl refl h) (λ name sc h. still_then s sc (with_let_name name sc) refl refl refl h)
     (λ n sc e h. still_then s sc (with_named n sc) refl refl refl h) f p s (record { assertions = refl; has_logic = refl; is_checked = refl })).0
+
+-- nor does the definition of a macro
+pub still_after_macro : (name : List ℕ) (xs : List Var) (target : Sort) (body : Item) (s : Script) → IsStill s (macro_defined name xs target body s).state
+still_after_macro name xs target body s =
+    (ends-and_then (IsStill s) Anything Anything (body_read xs body s) (λ t last. next t last (sort_eq t.sort target)) (read, anything (body_read xs body s).result) (λ t last _ p. go t last p (sort_eq t.sort target))).0
+  where
+    next : Typed → Script → Bool → Outcome Script ⊤
+    next t last b = if b then done tt (with_macro (record { name = name; parameters = xs; target = target; body = t.tree }) last) else refuse SortMismatch (place_of body) last
+
+    read : IsStill s (body_read xs body s).state
+    read = still_after_term (form_of body) (within xs) s
+
+    go : (t : Typed) (last : Script) → IsStill s last → (b : Bool) → Ends (IsStill s) Anything (next t last b)
+    go t last p true = (still_then s last (next t last true).state refl refl refl p, tt)
+    go t last p false = (p, tt)
 
 -- the name is taken, but it is that of no function, macro or named term
 pub record IsReservedIn (sc : Script) (name : List ℕ) : Type 0 where

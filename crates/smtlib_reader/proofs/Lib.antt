@@ -11,6 +11,7 @@ pub mod KeptByReading
 pub mod AgreeingScripts
 pub mod DefinedMacros
 pub mod DefinedCommands
+pub mod JudgedTerms
 pub mod AssertedTerms
 pub mod DefinedFunctions
 pub mod ScriptItems

@@ -1,28 +1,28 @@
 -- The commands of a text, the first one after the other.
 use Rattle.std.proofs.Common.{◌≡◌, ◌<◌, refl, sym, ◌∙◌, ap, subst, ℕ, List, length, Bool, true, false, Result, Ok, Err}
-use Rattle.std.specs.Prelude.{⊤, Contains}
+use Rattle.std.specs.Prelude.{⊤}
 use Rattle.sexpr.specs.declared.causes.Refusal.{Refusal}
 use Rattle.sexpr.specs.Items.{Item, Items, no_items, item}
 use Rattle.sym_table.specs.Table.{Table}
-use Rattle.term_model.specs.Terms.{Term}
 use Rattle.term_pool.specs.Views.{TermsView}
 use Rattle.smtlib_reader.specs.CommandShapes.{command_said}
 use Rattle.problem_text.specs.Commands.{ScriptCommand, script_command_of}
 use Rattle.text_items.specs.ItemsAt.{ItemsView, end_at, item_at}
 use Rattle.text_items.specs.Nesting.{AreNested}
-use Rattle.smtlib_reader.specs.ProblemReading.{HasItems, IsFirstItem, AreLeft, ReadsCommand}
+use Rattle.smtlib_reader.specs.ProblemReading.{HasItems, IsFirstItem, AreLeft, IsCommandRead}
 use Rattle.problem_text.specs.Problems.{script_performed, ends, goes_on_after, script_commands}
-use Rattle.term_reader.specs.Reading.{EndsWith}
+use Rattle.term_reader.specs.Reading.{ComesTo, Comes, terms_read}
 use Rattle.problem_text.specs.Outcomes.{Outcome, done, going_on, and_then}
 use Rattle.problem_text.specs.Scripts.{Script}
-use Rattle.smtlib_reader.specs.Sessions.{IsSession, IsReadBy, Performs}
+use Rattle.smtlib_reader.specs.Sessions.{SessionView, IsSession, IsPerformed}
 use Rattle.smtlib_reader.specs.declared.commands.Command as code
 use Rattle.smtlib_reader.specs.declared.commands.Command.TheVariants.{SetLogic, WithoutEffect, DeclareSort, DeclareFun, DefineFun, Assert, CheckSat, Exit}
 use Rattle.term_names.specs.declared.faults.ReadFault.{ReadFault}
 use Rattle.text_items.specs.declared.nodes.Node.{Node}
-use Rattle.smtlib_reader.specs.declared.session.Session.{Session}
 use Rattle.problem_text.proofs.Growing.{by_commands}
-use Rattle.term_reader.proofs.Staying.{places_none, places_more, lacks_more}
+use Rattle.term_reader.proofs.Coming.{IsPartOf, part_then, answers_whole, fails, refuses}
+use Rattle.term_reader.proofs.Staying.{places_none}
+use Rattle.term_expansion.specs.SymbolsAndTerms.{both}
 
 -- the first of the commands, by its shape
 abbrev comes_of : Bool → Script → Items → Result ScriptCommand Refusal → Outcome Script ⊤
@@ -49,20 +49,6 @@ performs_first replaces c rest sc goes = rw goes refl
 
 exits : (replaces : Bool) (c : ScriptCommand) (rest : Items) (sc : Script) → ends c ≡ true → comes_of replaces sc rest (Ok c) ≡ done tt sc
 exits replaces c rest sc is = rw is refl
-
--- what was read by the first command is read by the end
-read_by_end : (replaces : Bool) (rest : Items) (o : Outcome Script ⊤) (t : Term) → Contains o.state.terms t → Contains (then_rest replaces rest o).state.terms t
-read_by_end replaces rest o t h = go o.result
-  where
-    go : (r : Result ⊤ Refusal) → Contains (going_on r o.state (λ _ after. script_commands replaces rest after)).state.terms t
-    go (Ok a) = (by_commands t rest replaces o.state h).0
-    go (Err refusal) = h
-
-fault_stays : (replaces : Bool) (rest : Items) (o : Outcome Script ⊤) (r : Refusal) → o.result ≡ Err r → (then_rest replaces rest o).result ≡ Err r
-fault_stays replaces rest o r e = rw e refl
-
-done_goes_on : (replaces : Bool) (rest : Items) (sc : Script) (o : Outcome Script ⊤) → o ≡ done tt sc → then_rest replaces rest o ≡ script_commands replaces rest sc
-done_goes_on replaces rest sc o e = ap (then_rest replaces rest) e
 
 -- No command but an exit ends the text.
 goes_further : (items : ItemsView) (c : code.Command) → (c ≡ Exit → ⊥) → ends (command_said items c) ≡ false
@@ -99,43 +85,28 @@ module _ {old new : List ℕ} {nodes slice : List Node} {from at : ℕ} {replace
   pub are_nested : AreNested new slice
   are_nested = rw same (found h.items h.here).here.nested
 
-ends_here : (source : List ℕ) (s : Table) (v : TermsView) (d : Session) (at : ℕ) (sc : Script) (whole : Outcome Script ⊤)
-    → whole ≡ done tt sc → IsSession s v d sc → ReadsCommand source s v v d at whole (Ok false)
-ends_here source s v d at sc whole is session = record {
-  outcome = (sc, is, session);
-  placed = places_none s v.pass v.pass (IsReadBy whole) refl;
-}
+ends_here : (source : List ℕ) {s : Table} {v : TermsView} {d : SessionView} (at : ℕ) (sc : Script) (whole : Outcome Script ⊤) → whole ≡ done tt sc → IsSession (both s v) d sc
+    → Comes terms_read v (both s v) (IsCommandRead source (both s v) d at whole) whole (Ok false)
+ends_here source {s} {v} at sc whole is session = record { answer = (sc, is, session); placed = places_none s v.pass v.pass _ refl }
 
-pub nothing_left : {source : List ℕ} {s : Table} {v : TermsView} {d : Session} {at : ℕ} {replaces : Bool} {sc : Script} {whole : Outcome Script ⊤}
-    → ((items : Items) → HasItems source at items → items ≡ no_items)
-    → AreLeft source replaces at sc whole → IsSession s v d sc → (after : List ℕ) (behind : ℕ) → ReadsCommand after s v v d behind whole (Ok false)
+pub nothing_left : {source : List ℕ} {s : Table} {v : TermsView} {d : SessionView} {at : ℕ} {replaces : Bool} {sc : Script} {whole : Outcome Script ⊤}
+    → ((items : Items) → HasItems source at items → items ≡ no_items) → AreLeft source replaces at sc whole → IsSession (both s v) d sc → (after : List ℕ) (behind : ℕ)
+    → Comes terms_read v (both s v) (IsCommandRead after (both s v) d behind whole) whole (Ok false)
 nothing_left {source} {s} {v} {d} {at} {replaces} {sc} {whole} none h session after behind =
-    ends_here after s v d behind sc whole (sym h.comes ∙ (ap (λ x. script_commands replaces x sc) (none h.items h.here) ∙ no_commands replaces sc)) session
-
-read_by_whole : (replaces : Bool) (rest : Items) (o whole : Outcome Script ⊤) → then_rest replaces rest o ≡ whole → (t : Term) → IsReadBy o t → IsReadBy whole t
-read_by_whole replaces rest o whole e t h = subst (λ (w : Outcome Script ⊤). Contains w.state.terms t) e (read_by_end replaces rest o t h)
-
-ends_whole : (s : Table) (v : TermsView) (replaces : Bool) (rest : Items) (o whole : Outcome Script ⊤) (fault : ReadFault)
-    → then_rest replaces rest o ≡ whole → EndsWith s v.pass o.result (IsReadBy o) fault → EndsWith s v.pass whole.result (IsReadBy whole) fault
-ends_whole s v replaces rest o whole (ReadFault.Text r) comes h = sym (ap (λ (w : Outcome Script ⊤). w.result) comes) ∙ fault_stays replaces rest o r h
-ends_whole s v replaces rest o whole ReadFault.PoolFull comes h = lacks_more s v.pass (IsReadBy o) (IsReadBy whole) (read_by_whole replaces rest o whole comes) h
-ends_whole s v replaces rest o whole ReadFault.Memory comes h = h
+    ends_here after behind sc whole (sym h.comes ∙ (ap (λ x. script_commands replaces x sc) (none h.items h.here) ∙ no_commands replaces sc)) session
 
 module _ {source : List ℕ} {items : ItemsView} {at : ℕ} {replaces : Bool} {sc : Script} {whole : Outcome Script ⊤} (h : HasFirst source items at replaces sc whole) {checked : Bool} (same : checked ≡ sc.is_checked) where
   first_is : (r : Result ScriptCommand Refusal) → script_command_of checked (item_at items 0) ≡ r → comes_of replaces sc h.others r ≡ whole
   first_is r found = first_comes replaces (item_at items 0) h.others sc whole r (ap (λ b. script_command_of b (item_at items 0)) (sym same) ∙ found) h.comes
 
-  pub command_fault : (s : Table) (v : TermsView) (d : Session) (r : Refusal) → script_command_of checked (item_at items 0) ≡ Err r → ReadsCommand source s v v d at whole (Err (ReadFault.Text r))
-  command_fault s v d r found = record {
-    outcome = ap (λ (o : Outcome Script ⊤). o.result) (sym (first_is (Err r) found));
-    placed = places_none s v.pass v.pass (IsReadBy whole) refl;
-  }
+  pub command_fault : (s : Table) (v : TermsView) (d : SessionView) (r : Refusal) → script_command_of checked (item_at items 0) ≡ Err r
+      → Comes terms_read v (both s v) (IsCommandRead source (both s v) d at whole) whole (Err (ReadFault.Text r))
+  command_fault s v d r found = refuses refl (ap (λ (o : Outcome Script ⊤). o.result) (sym (first_is (Err r) found)))
 
   module _ (c : code.Command) (found : script_command_of checked (item_at items 0) ≡ Ok (command_said items c)) where
-    pub exit_read : {s : Table} {v : TermsView} {d : Session} → c ≡ Exit → IsSession s v d sc → ReadsCommand source s v v d at whole (Ok false)
-    exit_read {s} {v} {d} is session =
-        ends_here source s v d at sc whole
-        (sym (first_is (Ok (command_said items c)) found) ∙ exits replaces (command_said items c) h.others sc (ap (λ x. ends (command_said items x)) is)) session
+    pub exit_read : {s : Table} {v : TermsView} {d : SessionView} → c ≡ Exit → IsSession (both s v) d sc → Comes terms_read v (both s v) (IsCommandRead source (both s v) d at whole) whole (Ok false)
+    exit_read is session =
+        ends_here source at sc whole (sym (first_is (Ok (command_said items c)) found) ∙ exits replaces (command_said items c) h.others sc (ap (λ x. ends (command_said items x)) is)) session
 
     module _ (other : c ≡ Exit → ⊥) where
       abbrev first_does : Outcome Script ⊤
@@ -144,17 +115,20 @@ module _ {source : List ℕ} {items : ItemsView} {at : ℕ} {replaces : Bool} {s
       comes : then_rest replaces h.others first_does ≡ whole
       comes = sym (performs_first replaces (command_said items c) h.others sc (goes_further items c other)) ∙ first_is (Ok (command_said items c)) found
 
-      -- a command more
-      pub performed : {s : Table} {old new : TermsView} {d : Session} → d.reader.replaces_lets ≡ replaces → Performs s old new d first_does (Ok tt) → ReadsCommand source s old new d at whole (Ok true)
-      performed {s} {old} {new} {d} kept does =
-          let (after, is, session) = does.outcome in
-          record {
-            outcome = (after, record { items = h.others; here = h.left; comes = ap (λ b. script_commands b h.others after) kept ∙ (sym (done_goes_on replaces h.others after first_does is) ∙ comes) }, session);
-            placed = places_more s old.pass new.pass (IsReadBy first_does) (IsReadBy whole) (read_by_whole replaces h.others first_does whole comes) does.placed;
-          }
+      part : IsPartOf terms_read first_does whole
+      part = subst (λ (o : Outcome Script ⊤). IsPartOf terms_read first_does o) comes (part_then terms_read first_does _ (λ _ x q e. (by_commands x h.others replaces q e).0))
 
-      pub not_performed : {s : Table} {old new : TermsView} {d : Session} (fault : ReadFault) → Performs s old new d first_does (Err fault) → ReadsCommand source s old new d at whole (Err fault)
-      not_performed {s} {old} {new} {d} fault does = record {
-        outcome = ends_whole s new replaces h.others first_does whole fault comes does.outcome;
-        placed = places_more s old.pass new.pass (IsReadBy first_does) (IsReadBy whole) (read_by_whole replaces h.others first_does whole comes) does.placed;
-      }
+      -- a command more
+      pub performed : {s : Table} {old new : TermsView} {d : SessionView} → d.reader.replaces_lets ≡ replaces → ComesTo terms_read old (both s new) (IsPerformed (both s new) d) first_does (Ok tt)
+          → Comes terms_read old (both s new) (IsCommandRead source (both s new) d at whole) whole (Ok true)
+      performed kept does =
+          let after = does.answer.state in
+          answers_whole whole part does (
+            after,
+            record { items = h.others; here = h.left; comes = ap (λ b. script_commands b h.others after) kept ∙ (sym (ap (then_rest replaces h.others) does.answer.is) ∙ comes) },
+            does.answer.after.session,
+          )
+
+      pub not_performed : {s : Table} {old new : TermsView} {d : SessionView} {fault : ReadFault} → ComesTo terms_read old (both s new) (IsPerformed (both s new) d) first_does (Err fault)
+          → Comes terms_read old (both s new) (IsCommandRead source (both s new) d at whole) whole (Err fault)
+      not_performed does = fails whole part does

@@ -1,11 +1,10 @@
 -- The sort that an item stands for, by the token that begins the item.
-use Rattle.std.proofs.Common.{◌≡◌, ℕ, zero, suc, ◌+◌, cond, not, nat_lt, arith, List, [], ◌∷◌, Some, None, Option, refl, sym, ap, ◌∙◌, subst, true, false, Bool, slice_get, length, ◌<◌}
+use Rattle.std.proofs.Common.{◌≡◌, ℕ, zero, suc, List, [], ◌∷◌, Some, None, Option, refl, sym, ap, ◌∙◌, subst, true, false, ◌||◌, Bool, slice_get}
 use Rattle.std.specs.Prelude.{position, bytes_eq, Result, Ok, Err, OnOk}
-use Rattle.std.specs.List.{position_or_len}
 use Rattle.std.proofs.lemmas.Slice.Eq.{bytes_eq-Decides}
-use Rattle.std.proofs.lemmas.Bool.{lt-ltb}
-use Rattle.std.proofs.lemmas.Option.{slice_get-get_or}
-use Rattle.std.proofs.lemmas.List.Quantifiers.{position-Some}
+use Rattle.sym_table.proofs.Places.{position-there, position-lacks}
+use Rattle.term_names.proofs.Positions.{list_any-no_place}
+use Rattle.problem_text.specs.Words.{is_among}
 use Rattle.sexpr.specs.declared.causes.Cause.TheVariants.{LeftOut, UnknownName}
 use Rattle.sexpr.specs.declared.causes.Refusal.{Refusal}
 use Rattle.sexpr.specs.declared.lexing.Lexer.{Lexer}
@@ -76,31 +75,17 @@ on_ok (Err refusal) P p = tt
 abbrev pub AreApart : List (List ℕ) → Type 0
 AreApart names = (m n : ℕ) (name : List ℕ) → slice_get names m ≡ Some name → slice_get names n ≡ Some name → m ≡ n
 
--- whether the first place of a name is what the name was found at, or was not
-is_reached : (p : List ℕ → Bool) (xs : List (List ℕ)) (n : ℕ) (x : List ℕ) → slice_get xs n ≡ Some x → p x ≡ true → position_or_len p xs < length xs
-is_reached p [] n x e h = cc
-is_reached p (y ∷ ys) zero x e h =
-    let same : y ≡ x = cc in
-    let passes : p y ≡ true = ap p same ∙ h in
-    rw passes (omega arith)
-is_reached p (y ∷ ys) (suc n) x e h = go (p y) (is_reached p ys n x e h)
+-- a name at a place is among the names
+pub among_at : (names : List (List ℕ)) (n : ℕ) (name : List ℕ) → slice_get names n ≡ Some name → is_among names name ≡ true
+among_at [] n name e = cc
+among_at (m ∷ names) zero name e =
+    let same : m ≡ name = cc in
+    ap (λ b. b || is_among names name) ((bytes_eq-Decides name m).1 (sym same))
+among_at (m ∷ names) (suc n) name e = go (bytes_eq name m) (is_among names name) (among_at names n name e)
   where
-    go : (b : Bool) → position_or_len p ys < length ys → cond (not b) (1 + position_or_len p ys) 0 < length (y ∷ ys)
-    go true rest = omega arith
-    go false rest = omega arith
-
-none_there : (name : List ℕ) (names : List (List ℕ)) → position (bytes_eq name) names ≡ None → (n : ℕ) → slice_get names n ≡ Some name → ⊥
-none_there name names e n there =
-    let reached = is_reached (bytes_eq name) names n name there ((bytes_eq-Decides name name).1 refl) in
-    let passes : nat_lt (position_or_len (bytes_eq name) names) (length names) ≡ true = lt-ltb _ _ reached in
-    let some : position (bytes_eq name) names ≡ Some (position_or_len (bytes_eq name) names) = rw passes refl in
-    let both : None ≡ Some (position_or_len (bytes_eq name) names) = sym e ∙ some in
-    cc
-
-at_place : (name : List ℕ) (names : List (List ℕ)) (k : ℕ) → position (bytes_eq name) names ≡ Some k → slice_get names k ≡ Some name
-at_place name names k e =
-    let at = position-Some (bytes_eq name) names k [] e in
-    slice_get-get_or names k [] at.0 ∙ ap Some (sym ((bytes_eq-Decides name _).0 at.1))
+    go : (a b : Bool) → b ≡ true → (a || b) ≡ true
+    go true b h = refl
+    go false b h = h
 
 -- The declared sort of a name stands where the name does first.
 pub declared_found : (t : Table) (sort : Sort) (name : List ℕ) (at : ℕ) → AreApart t.sorts → IsDeclaredSort t sort name → Ok sort ≡ declared_sort at (position (bytes_eq name) t.sorts)
@@ -109,13 +94,9 @@ declared_found t Sort.Int name at apart there = absurd there
 declared_found t (Sort.Declared n) name at apart there = go (position (bytes_eq name) t.sorts) refl
   where
     go : (o : Option ℕ) → position (bytes_eq name) t.sorts ≡ o → Ok (Sort.Declared n) ≡ declared_sort at o
-    go None e = absurd (none_there name t.sorts e n there)
-    go (Some k) e = ap (λ m. Ok (Sort.Declared m)) (apart n k name there (at_place name t.sorts k e))
+    go None e = absurd (let a = list_any-no_place (bytes_eq name) t.sorts e in let b = among_at t.sorts n name there in cc)
+    go (Some k) e = ap (λ m. Ok (Sort.Declared m)) (apart n k name there (position-there t.sorts name k e))
 
 -- No sort is declared by the name.
 pub declared_nowhere : (t : Table) (name : List ℕ) (at : ℕ) → ((n : ℕ) → slice_get t.sorts n ≡ Some name → ⊥) → refused UnknownName at ≡ declared_sort at (position (bytes_eq name) t.sorts)
-declared_nowhere t name at none = go (position (bytes_eq name) t.sorts) refl
-  where
-    go : (o : Option ℕ) → position (bytes_eq name) t.sorts ≡ o → refused UnknownName at ≡ declared_sort at o
-    go None e = refl
-    go (Some k) e = absurd (none k (at_place name t.sorts k e))
+declared_nowhere t name at none = ap (declared_sort at) (sym (position-lacks t.sorts name none))

@@ -1,5 +1,5 @@
 -- Private. The parts of a command that defines a function (SMT-LIB 2.6, "Commands"), as the code holds them.
-use Rattle.std.specs.Prelude.{◌≡◌, ◌≤◌, ℕ, true, if◌then◌else◌, List, [], ◌∷◌, ◌++◌, map, length, All, None, Result, Ok, Err, ⊤}
+use Rattle.std.specs.Prelude.{◌≡◌, ◌≤◌, ℕ, true, if◌then◌else◌, List, [], ◌∷◌, ◌++◌, map, length, All, Result, Ok, Err, ⊤}
 use Rattle.sexpr.specs.declared.causes.Cause.TheVariants.{SortMismatch}
 use Rattle.sexpr.specs.declared.causes.Refusal.{Refusal}
 use Rattle.sexpr.specs.Items.{Item, Items, place_of}
@@ -7,18 +7,15 @@ use Rattle.sym_table.specs.Table.{Table, IsLeaf}
 use Rattle.term_model.specs.declared.symbols.Sort.{Sort}
 use Rattle.term_model.specs.Terms.{Var, variable, sort_eq}
 use Rattle.term_pool.specs.StandsFor.{variable_leaf}
-use Rattle.term_pool.specs.Views.{TermsView}
-use Rattle.term_names.specs.Entries.{lookup}
 use Rattle.term_names.specs.InScope.{IsScope}
-use Rattle.term_names.specs.Making.{PlacesCellsOf}
 use Rattle.problem_text.specs.Limits.{limited}
 use Rattle.problem_text.specs.Names.{Place, itself}
 use Rattle.smtlib_reader.specs.Parameters.{IsParameterThere, parameters_said}
-use Rattle.term_reader.specs.Reading.{IsReadTerm, EndsWith, IsReaderIdle}
+use Rattle.term_reader.specs.Reading.{IsReaderIdle}
 use Rattle.problem_text.specs.TypedTerms.{Typed}
 use Rattle.problem_text.specs.Outcomes.{Outcome, done, refuse, and_then}
 use Rattle.problem_text.specs.Scripts.{Script, with_macro}
-use Rattle.smtlib_reader.specs.Sessions.{IsReadBy, top}
+use Rattle.smtlib_reader.specs.Sessions.{top}
 use Rattle.problem_text.specs.Sorts.{result_then, sort_from, parameters_from}
 use Rattle.term_names.specs.Standing.{AreLeavesOf, IsScript, IsReservedName}
 use Rattle.problem_text.specs.Terms.{read_term}
@@ -27,8 +24,9 @@ use Rattle.smtlib_reader.specs.declared.defining.Listed.{Listed}
 use Rattle.term_names.specs.declared.faults.ReadFault.{ReadFault}
 use Rattle.text_items.specs.ItemsAt.{ItemsView}
 use Rattle.smtlib_reader.specs.declared.parameters.Parameter.{Parameter}
-use Rattle.term_reader.specs.declared.reader.Reader.{Reader}
+use Rattle.term_reader.specs.ReadingViews.{ReadingView}
 use Rattle.term_expansion.specs.declared.values.Value.{Value}
+use Rattle.term_expansion.specs.SymbolsAndTerms.{SymbolsAndTerms}
 
 -- what stands before the body: the parameters, and the sort of the uses
 pub record Signature : Type 0 where
@@ -63,11 +61,11 @@ macro_defined name xs target body s =
     else refuse SortMismatch (place_of body) last)
 
 -- The leaf is that of the variable, and its term was put on the values.
-pub record AddsParameter (s : Table) (v : TermsView) (old new : List Value) (k : ℕ) (x : Var) : Type 0 where
-  pub leaf : IsLeaf s k (variable_leaf x)
+pub record AddsParameter (w : SymbolsAndTerms) (old new : List Value) (k : ℕ) (x : Var) : Type 0 where
+  pub leaf : IsLeaf w.symbols k (variable_leaf x)
   pub value : Value
   pub pushed : new ≡ old ++ value ∷ []
-  pub is : IsValue s v value (record { tree = variable x; sort = x.sort })
+  pub is : IsValue w value (record { tree = variable x; sort = x.sort })
 
 -- The leaves and the sorts are those of the parameters.
 pub record AreListed (s : Table) (l : Listed) (xs : List Var) : Type 0 where
@@ -75,34 +73,24 @@ pub record AreListed (s : Table) (l : Listed) (xs : List Var) : Type 0 where
   pub sorts : l.sorts.items ≡ map (λ x. x.sort) xs
 
 -- The reader is ready for a body with these parameters.
-pub record IsReadyForBody (s : Table) (v : TermsView) (r : Reader) (xs : List Var) (sc : Script) : Type 0 where
-  pub script : IsScript s v r.names.known sc
-  pub scope : IsScope s v r.names.scope (map itself xs)
+pub record IsReadyForBody (w : SymbolsAndTerms) (r : ReadingView) (xs : List Var) (sc : Script) : Type 0 where
+  pub script : IsScript w r.names.known sc
+  pub scope : IsScope w r.names.scope (map itself xs)
   pub no_values : r.values ≡ []
   pub no_leaves : r.leaves.items ≡ []
   pub no_frames : r.frames ≡ []
 
--- What a body came to: a value without a let, and the reader outside the definition again; or a fault.
-abbrev pub IsBody : Table → TermsView → Reader → Outcome Script Typed → Result Value ReadFault → Type 0
-IsBody s v r whole (Ok c) =
-    (t : Typed) × (sc : Script) × (whole ≡ done t sc) × IsValue s v c t × (c.plain ≡ true) × IsReaderIdle s v r sc (top r.replaces_lets)
-IsBody s v r whole (Err fault) = EndsWith s v.pass whole.result (IsReadTerm whole) fault
-
-pub record ReadsBody (s : Table) (old new : TermsView) (r : Reader) (whole : Outcome Script Typed) (result : Result Value ReadFault) : Type 0 where
-  pub outcome : IsBody s new r whole result
-  pub placed : PlacesCellsOf s old.pass new.pass (IsReadTerm whole)
+-- A body was read: a value without a let; and the reader is outside the definition again.
+pub record IsBodyRead (w : SymbolsAndTerms) (r : ReadingView) (c : Value) (t : Typed) (sc : Script) : Type 0 where
+  pub is : IsValue w c t
+  pub plain : c.plain ≡ true
+  pub idle : IsReaderIdle w r sc (top r.replaces_lets)
 
 -- The reader holds nothing of a term, and the name is taken for a macro of its own.
-pub record IsDefining (s : Table) (v : TermsView) (r : Reader) (name : List ℕ) (sc : Script) : Type 0 where
-  pub idle : IsReaderIdle s v r sc (top r.replaces_lets)
-  pub reserved : IsReservedName s sc name
-  pub no_base : lookup r.names.known.base.names name ≡ None
+pub record IsDefining (w : SymbolsAndTerms) (r : ReadingView) (name : List ℕ) (sc : Script) : Type 0 where
+  pub idle : IsReaderIdle w r sc (top r.replaces_lets)
+  pub reserved : IsReservedName w.symbols sc name
 
--- The macro is defined, or the command has its fault.
-abbrev pub IsDefined : Table → TermsView → Reader → Outcome Script ⊤ → Result Unit ReadFault → Type 0
-IsDefined s v r o (Ok _) = (sc : Script) × (o ≡ done tt sc) × IsReaderIdle s v r sc (top r.replaces_lets)
-IsDefined s v r o (Err fault) = EndsWith s v.pass o.result (IsReadBy o) fault
-
-pub record Defines (s : Table) (old new : TermsView) (r : Reader) (o : Outcome Script ⊤) (result : Result Unit ReadFault) : Type 0 where
-  pub outcome : IsDefined s new r o result
-  pub placed : PlacesCellsOf s old.pass new.pass (IsReadBy o)
+-- The macro is defined, and the reader is outside the definition again.
+pub record IsDefined (w : SymbolsAndTerms) (r : ReadingView) (answer : Unit {0}) (done : ⊤) (sc : Script) : Type 0 where
+  pub idle : IsReaderIdle w r sc (top r.replaces_lets)

@@ -1,17 +1,20 @@
 //! Declarations of sorts and functions, and the logic (SMT-LIB 2.6, "Commands").
 ghost use Rattle.std.specs.Prelude.{◌≡◌, ◌≤◌, ◌<◌, ◌^◌, ◌+◌, ◌||◌, length, false, None, OnOk, IfErr};
 ghost use Rattle.sym_table.specs.Leaf.{function};
-ghost use Rattle.sym_table.specs.Table.{Keeps, IsFunctionName, with_leaf, with_sort_name};
-ghost use Rattle.term_names.specs.Known.{known_entry, PutsKnown};
-ghost use Rattle.term_pool.specs.Views.{KeepsTerms};
+ghost use Rattle.sym_table.specs.Table.{Table, Keeps, IsFunctionName, with_leaf, with_sort_name};
+ghost use Rattle.term_names.specs.Entries.{Puts};
+ghost use Rattle.term_names.specs.declared.entries.Entry.TheVariants as Entry;
+ghost use Rattle.term_names.specs.declared.settings.ReadSettings.{ReadSettings};
+ghost use Rattle.term_pool.specs.Views.{TermsView};
 ghost use Rattle.smtlib_reader.specs.CommandShapes.{command_said, IsCommandThere};
 ghost use Rattle.problem_text.specs.Problems.{script_performed};
 ghost use Rattle.problem_text.specs.Scripts.{Script};
-ghost use Rattle.smtlib_reader.specs.Sessions.{IsSession, Performs};
+ghost use Rattle.smtlib_reader.specs.Sessions.{SessionView, IsSession, IsPerformed, session_in};
 ghost use Rattle.problem_text.specs.Words.{is_among, is_built_in};
 ghost use Rattle.smtlib_reader.specs.declared.commands.Command.TheVariants as command;
 ghost use Rattle.term_names.specs.declared.faults.ReadFault.TheVariants as ReadFault;
-ghost use Rattle.term_names.specs.declared.names.KnownEntry.TheVariants as KnownEntry;
+ghost use Rattle.term_expansion.specs.SymbolsAndTerms.{both};
+ghost use Rattle.term_reader.specs.Reading.{ComesTo, terms_read};
 
 use crate::commands::{FunctionHead, SortHead};
 use crate::session::Session;
@@ -21,8 +24,8 @@ use sym_table::{NameFault, Symbols};
 use term_model::Sort;
 use term_names::faults::ReadFault;
 use term_names::names::Names;
+use term_names::settings::ReadSettings;
 use term_names::words::is_logic;
-use term_pool::Terms;
 use term_reader::repeats;
 use term_reader::taken::is_taken;
 use text_items::nodes::ItemText;
@@ -33,22 +36,11 @@ use text_items::shapes::name_of;
 #[tactic(auto, using(crate::proofs::DeclaredLogics::logic_set))]
 pub(crate) fn set_logic(
     items: &ItemText<'_, '_>,
-    symbols: &mut Symbols,
-    terms: &mut Terms<'_>,
-    session: &mut Session<'_>,
+    session: &mut Session,
     name: usize,
 ) -> Result<(), ReadFault>
     requires there { IsCommandThere items.now (command.SetLogic name) }
-    requires session { (sc : Script) × IsSession symbols.old terms.old session.old sc }
-    requires room { length symbols.old.leaves + length items.now.nodes ≤ 2 ^ 30 }
-    requires room_for_sorts { length symbols.old.sorts + length items.now.nodes ≤ 2 ^ 30 }
-    ensures performs { (sc : Script) → IsSession symbols.old terms.old session.old sc → Performs symbols.new terms.old terms.new session.new (script_performed session.old.reader.replaces_lets (command_said items.now (command.SetLogic name)) sc) result }
-    ensures symbols { Keeps symbols.old symbols.new }
-    ensures few { length symbols.new.leaves ≤ length symbols.old.leaves + length items.now.nodes }
-    ensures few_sorts { length symbols.new.sorts ≤ length symbols.old.sorts + length items.now.nodes }
-    ensures replaces { session.new.reader.replaces_lets ≡ session.old.reader.replaces_lets }
-    ensures base { session.new.reader.names.known.base ≡ session.old.reader.names.known.base }
-    ensures keeps { KeepsTerms terms.old terms.new }
+    ensures performs { (e : ReadSettings) (s : Table) (v : TermsView) (sc : Script) → IsSession (both s v) (session_in e session.old) sc → ComesTo terms_read v (both s v) (IsPerformed (both s v) (session_in e session.new)) (script_performed e.replaces_lets (command_said items.now (command.SetLogic name)) sc) result }
 {
     let spelled = name_of(items, name);
     let place = items.node(name).token.start;
@@ -67,21 +59,14 @@ pub(crate) fn set_logic(
 pub(crate) fn declare_sort(
     items: &ItemText<'_, '_>,
     symbols: &mut Symbols,
-    terms: &mut Terms<'_>,
-    session: &mut Session<'_>,
     head: SortHead,
 ) -> Result<(), ReadFault>
     requires there { IsCommandThere items.now (command.DeclareSort head) }
-    requires session { (sc : Script) × IsSession symbols.old terms.old session.old sc }
-    requires room { length symbols.old.leaves + length items.now.nodes ≤ 2 ^ 30 }
-    requires room_for_sorts { length symbols.old.sorts + length items.now.nodes ≤ 2 ^ 30 }
-    ensures performs { (sc : Script) → IsSession symbols.old terms.old session.old sc → Performs symbols.new terms.old terms.new session.new (script_performed session.old.reader.replaces_lets (command_said items.now (command.DeclareSort head)) sc) result }
+    requires room { length symbols.old.sorts < 2 ^ 30 }
+    ensures performs { (v : TermsView) (d : SessionView) (sc : Script) → IsSession (both symbols.old v) d sc → ComesTo terms_read v (both symbols.new v) (IsPerformed (both symbols.new v) d) (script_performed d.reader.replaces_lets (command_said items.now (command.DeclareSort head)) sc) result }
     ensures symbols { Keeps symbols.old symbols.new }
-    ensures few { length symbols.new.leaves ≤ length symbols.old.leaves + length items.now.nodes }
-    ensures few_sorts { length symbols.new.sorts ≤ length symbols.old.sorts + length items.now.nodes }
-    ensures replaces { session.new.reader.replaces_lets ≡ session.old.reader.replaces_lets }
-    ensures base { session.new.reader.names.known.base ≡ session.old.reader.names.known.base }
-    ensures keeps { KeepsTerms terms.old terms.new }
+    ensures few { length symbols.new.sorts ≤ length symbols.old.sorts + 1 }
+    ensures leaves { symbols.new.leaves ≡ symbols.old.leaves }
 {
     let SortHead {
         name,
@@ -128,26 +113,22 @@ fn add_sort(symbols: &mut Symbols, name: &[u8]) -> Result<(), ReadFault>
 
 /// Declares the function of the name at a node.
 pub(crate) fn declare_fun(
+    settings: &ReadSettings<'_>,
     items: &ItemText<'_, '_>,
     symbols: &mut Symbols,
-    terms: &mut Terms<'_>,
-    session: &mut Session<'_>,
+    session: &mut Session,
     head: FunctionHead,
 ) -> Result<(), ReadFault>
     requires there { IsCommandThere items.now (command.DeclareFun head) }
-    requires session { (sc : Script) × IsSession symbols.old terms.old session.old sc }
-    requires room { length symbols.old.leaves + length items.now.nodes ≤ 2 ^ 30 }
-    requires room_for_sorts { length symbols.old.sorts + length items.now.nodes ≤ 2 ^ 30 }
-    ensures performs { (sc : Script) → IsSession symbols.old terms.old session.old sc → Performs symbols.new terms.old terms.new session.new (script_performed session.old.reader.replaces_lets (command_said items.now (command.DeclareFun head)) sc) result }
+    requires session { (v : TermsView) × (sc : Script) × IsSession (both symbols.old v) (session_in settings.now session.old) sc }
+    requires room { length symbols.old.leaves < 2 ^ 30 }
+    ensures performs { (v : TermsView) (sc : Script) → IsSession (both symbols.old v) (session_in settings.now session.old) sc → ComesTo terms_read v (both symbols.new v) (IsPerformed (both symbols.new v) (session_in settings.now session.new)) (script_performed settings.now.replaces_lets (command_said items.now (command.DeclareFun head)) sc) result }
     ensures symbols { Keeps symbols.old symbols.new }
-    ensures few { length symbols.new.leaves ≤ length symbols.old.leaves + length items.now.nodes }
-    ensures few_sorts { length symbols.new.sorts ≤ length symbols.old.sorts + length items.now.nodes }
-    ensures replaces { session.new.reader.replaces_lets ≡ session.old.reader.replaces_lets }
-    ensures base { session.new.reader.names.known.base ≡ session.old.reader.names.known.base }
-    ensures keeps { KeepsTerms terms.old terms.new }
+    ensures few { length symbols.new.leaves ≤ length symbols.old.leaves + 1 }
+    ensures sorts { symbols.new.sorts ≡ symbols.old.sorts }
 {
     let spelled = name_of(items, head.name);
-    if is_taken(&session.reader.names, spelled) {
+    if is_taken(settings, &session.reader.names, spelled) {
         let place = items.node(head.name).token.start;
         return Err(ReadFault::Text(refused(Cause::Repeated, place)));
     }
@@ -165,19 +146,17 @@ pub(crate) fn declare_fun(
 /// Adds a function of a name that is free, and gives the name its entry. Refused for want of memory alone.
 fn add_function(
     symbols: &mut Symbols,
-    names: &mut Names<'_>,
+    names: &mut Names,
     name: &[u8],
     arguments: &[Sort],
     target: Sort,
 ) -> Result<(), ReadFault>
     requires free { (is_built_in name.now ≡ false) × (IsFunctionName symbols.old name.now → ⊥) }
-    requires new { known_entry names.old.known name.now ≡ None }
     requires room { length symbols.old.leaves < 2 ^ 30 }
     ensures added { OnOk result (symbols.new ≡ with_leaf symbols.old (function name.now arguments.now target)) }
-    ensures entry { OnOk result (PutsKnown names.old.known name.now (KnownEntry.Function (length symbols.old.leaves)) names.new.known) }
-    ensures macros { names.new.known.own.macros ≡ names.old.known.own.macros }
-    ensures named { names.new.known.own.named ≡ names.old.known.own.named }
-    ensures base { names.new.known.base ≡ names.old.known.base }
+    ensures names { OnOk result (Puts names.old.own.names name.now (Entry.Function (length symbols.old.leaves)) names.new.own.names) }
+    ensures macros { names.new.own.macros ≡ names.old.own.macros }
+    ensures named { names.new.own.named ≡ names.old.own.named }
     ensures scope { names.new.scope ≡ names.old.scope }
     ensures fault { IfErr result (λ fault. fault ≡ ReadFault.Memory) }
     ensures few { length symbols.new.leaves ≤ length symbols.old.leaves + 1 }

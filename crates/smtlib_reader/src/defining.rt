@@ -4,19 +4,21 @@ ghost use Rattle.sym_table.specs.Table.{Keeps};
 ghost use Rattle.term_model.specs.Terms.{Var};
 ghost use Rattle.term_pool.specs.Views.{TermsView, KeepsTerms};
 ghost use Rattle.smtlib_reader.specs.CommandShapes.{command_said, IsCommandThere, IsFunctionThere};
-ghost use Rattle.smtlib_reader.specs.Defining.{IsSignatureRead, signature_from, IsDefining, Defines, macro_defined, AreListed, IsReadyForBody, AddsParameter, ReadsBody, body_read};
+ghost use Rattle.smtlib_reader.specs.Defining.{IsSignatureRead, signature_from, IsDefining, IsDefined, macro_defined, AreListed, IsReadyForBody, AddsParameter, IsBodyRead, body_read};
 ghost use Rattle.text_items.specs.ItemShapes.{pairs_fault};
 ghost use Rattle.term_names.specs.InScope.{AreValuesBound};
 ghost use Rattle.problem_text.specs.Names.{itself};
 ghost use Rattle.text_items.specs.ItemsAt.{item_at, items_at};
 ghost use Rattle.smtlib_reader.specs.Parameters.{IsParameterThere, parameter_said, parameters_said};
 ghost use Rattle.problem_text.specs.Problems.{script_performed};
-ghost use Rattle.term_reader.specs.Reading.{IsReaderIdle};
+ghost use Rattle.term_reader.specs.Reading.{IsReaderIdle, ComesTo, terms_read};
 ghost use Rattle.problem_text.specs.Scripts.{Script};
-ghost use Rattle.smtlib_reader.specs.Sessions.{IsSession, Performs, top};
-ghost use Rattle.term_names.specs.Standing.{AddsNoSymbols};
+ghost use Rattle.smtlib_reader.specs.Sessions.{IsSession, IsPerformed, session_in, top};
+ghost use Rattle.term_names.specs.Standing.{AddsNoSymbols, GrowByTerms};
 ghost use Rattle.smtlib_reader.specs.declared.commands.Command.TheVariants as command;
 ghost use Rattle.term_names.specs.declared.faults.ReadFault.TheVariants as ReadFault;
+ghost use Rattle.term_expansion.specs.SymbolsAndTerms.{both, Grow};
+ghost use Rattle.term_reader.specs.ReadingViews.{reader_in};
 
 use crate::commands::FunctionHead;
 use crate::expected_sorts::expect_sort;
@@ -31,6 +33,7 @@ use term_expansion::values::Value;
 use term_model::Sort;
 use term_names::faults::ReadFault;
 use term_names::lets::{bind, unbind};
+use term_names::settings::ReadSettings;
 use term_names::stacks::Values;
 use term_pool::Terms;
 use term_reader::reader::Reader;
@@ -40,41 +43,52 @@ use text_items::nodes::ItemText;
 use text_items::refusals::refused;
 use text_items::shapes::name_of;
 
+/// A function that is to be defined, by the nodes of what stands before its body, and of its body.
+#[derive(Clone, Copy)]
+pub(crate) struct Definition {
+    pub(crate) head: FunctionHead,
+    pub(crate) body: usize,
+}
+
 /// Defines the macro of the name at a node. The name is taken from where it stands, and usable after the command.
 pub(crate) fn define_fun(
+    settings: &ReadSettings<'_>,
     items: &ItemText<'_, '_>,
     symbols: &mut Symbols,
     terms: &mut Terms<'_>,
-    session: &mut Session<'_>,
-    head: FunctionHead,
-    body: usize,
+    session: &mut Session,
+    definition: Definition,
 ) -> Result<(), ReadFault>
-    requires there { IsCommandThere items.now (command.DefineFun head body) }
-    requires session { (sc : Script) × IsSession symbols.old terms.old session.old sc }
+    requires there { IsCommandThere items.now (command.DefineFun definition.head definition.body) }
+    requires session { (sc : Script) × IsSession (both symbols.old terms.old) (session_in settings.now session.old) sc }
     requires room { length symbols.old.leaves + length items.now.nodes ≤ 2 ^ 30 }
     requires room_for_sorts { length symbols.old.sorts + length items.now.nodes ≤ 2 ^ 30 }
-    ensures performs { (sc : Script) → IsSession symbols.old terms.old session.old sc → Performs symbols.new terms.old terms.new session.new (script_performed session.old.reader.replaces_lets (command_said items.now (command.DefineFun head body)) sc) result }
-    ensures symbols { Keeps symbols.old symbols.new }
+    ensures performs { (sc : Script) → IsSession (both symbols.old terms.old) (session_in settings.now session.old) sc → ComesTo terms_read terms.old (both symbols.new terms.new) (IsPerformed (both symbols.new terms.new) (session_in settings.now session.new)) (script_performed settings.now.replaces_lets (command_said items.now (command.DefineFun definition.head definition.body)) sc) result }
     ensures few { length symbols.new.leaves ≤ length symbols.old.leaves + length items.now.nodes }
     ensures few_sorts { length symbols.new.sorts ≤ length symbols.old.sorts + length items.now.nodes }
-    ensures replaces { session.new.reader.replaces_lets ≡ session.old.reader.replaces_lets }
-    ensures base { session.new.reader.names.known.base ≡ session.old.reader.names.known.base }
-    ensures keeps { KeepsTerms terms.old terms.new }
+    ensures grow { Grow (both symbols.old terms.old) (both symbols.new terms.new) }
 {
+    let Definition { head, body } = definition;
     let spelled = name_of(items, head.name);
-    if is_taken(&session.reader.names, spelled) {
+    if is_taken(settings, &session.reader.names, spelled) {
         let place = items.node(head.name).token.start;
         return Err(ReadFault::Text(refused(Cause::Repeated, place)));
     }
     session.reader.names.reserve(spelled)?;
-    let alloc = session.reader.alloc;
-    let sort = signature_at(alloc, items, symbols, &mut session.parameters, head)?;
+    let sort = signature_at(
+        settings.alloc,
+        items,
+        symbols,
+        &mut session.parameters,
+        head,
+    )?;
     let new = NewMacro {
         name: spelled,
         parameters: &session.parameters,
         target: sort,
+        body,
     };
-    define_macro(items, symbols, terms, &mut session.reader, &new, body)
+    define_macro(settings, items, symbols, terms, &mut session.reader, &new)
 }
 
 /// Reads what stands before the body: the parameters, into `parameters`, and the sort of the uses.
@@ -95,38 +109,36 @@ fn signature_at(
     Ok(sort)
 }
 
-/// A macro that is to be defined, but for its body: its name, its parameters, and the sort of its uses.
+/// A macro that is to be defined: its name, its parameters, the sort of its uses, and the node of its body.
 #[derive(Clone, Copy)]
 struct NewMacro<'a> {
     name: &'a [u8],
     parameters: &'a [Parameter],
     target: Sort,
+    body: usize,
 }
 
 /// Defines the macro of a name that was taken for it, whose parameters and target were read.
 fn define_macro(
+    settings: &ReadSettings<'_>,
     items: &ItemText<'_, '_>,
     symbols: &mut Symbols,
     terms: &mut Terms<'_>,
-    reader: &mut Reader<'_>,
+    reader: &mut Reader,
     new: &NewMacro<'_>,
-    body: usize,
 ) -> Result<(), ReadFault>
     requires parameters { All (IsParameterThere items.now) new.now.parameters.now }
-    requires body { body < length items.now.nodes }
-    requires defining { (sc : Script) × IsDefining symbols.old terms.old reader.old new.now.name.now sc }
-    requires few_parameters { length new.now.parameters.now ≤ body }
+    requires body { new.now.body < length items.now.nodes }
+    requires defining { (sc : Script) × IsDefining (both symbols.old terms.old) (reader_in settings.now reader.old) new.now.name.now sc }
+    requires few_parameters { length new.now.parameters.now ≤ new.now.body }
     requires room { length symbols.old.leaves + length items.now.nodes ≤ 2 ^ 30 }
-    ensures defines { (sc : Script) → IsDefining symbols.old terms.old reader.old new.now.name.now sc → Defines symbols.new terms.old terms.new reader.new (macro_defined new.now.name.now (parameters_said items.now new.now.parameters.now) new.now.target (item_at items.now body) sc) result }
-    ensures symbols { AddsNoSymbols symbols.old symbols.new }
+    ensures defines { (sc : Script) → IsDefining (both symbols.old terms.old) (reader_in settings.now reader.old) new.now.name.now sc → ComesTo terms_read terms.old (both symbols.new terms.new) (IsDefined (both symbols.new terms.new) (reader_in settings.now reader.new)) (macro_defined new.now.name.now (parameters_said items.now new.now.parameters.now) new.now.target (item_at items.now new.now.body) sc) result }
     ensures few { length symbols.new.leaves ≤ length symbols.old.leaves + length items.now.nodes }
-    ensures replaces { reader.new.replaces_lets ≡ reader.old.replaces_lets }
-    ensures base { reader.new.names.known.base ≡ reader.old.names.known.base }
-    ensures keeps { KeepsTerms terms.old terms.new }
+    ensures grow { GrowByTerms (both symbols.old terms.old) (both symbols.new terms.new) }
 {
-    let listed = enter_parameters(items, symbols, reader, new.parameters)?;
-    let value = read_body(items, symbols, terms, reader, body)?;
-    expect_sort(items, body, value.sort, new.target)?;
+    let listed = enter_parameters(settings, items, symbols, reader, new.parameters)?;
+    let value = read_body(settings, items, symbols, terms, reader, new.body)?;
+    expect_sort(items, new.body, value.sort, new.target)?;
     reader
         .names
         .define(new.name, listed.leaves, listed.sorts, new.target, value)?;
@@ -142,23 +154,29 @@ struct Listed {
 
 /// Puts the parameters in scope, the first one innermost, and lists their leaves and sorts.
 fn enter_parameters(
+    settings: &ReadSettings<'_>,
     items: &ItemText<'_, '_>,
     symbols: &mut Symbols,
-    reader: &mut Reader<'_>,
+    reader: &mut Reader,
     parameters: &[Parameter],
 ) -> Result<Listed, ReadFault>
     requires parameters { All (IsParameterThere items.now) parameters.now }
-    requires idle { (v : TermsView) × (sc : Script) × IsReaderIdle symbols.old v reader.old sc (top reader.old.replaces_lets) }
+    requires idle { (v : TermsView) × (sc : Script) × IsReaderIdle (both symbols.old v) (reader_in settings.now reader.old) sc (top settings.now.replaces_lets) }
     requires room { length symbols.old.leaves + length parameters.now ≤ 2 ^ 30 }
-    ensures entered { (v : TermsView) (sc : Script) → IsReaderIdle symbols.old v reader.old sc (top reader.old.replaces_lets) → IfOk result (λ l. AreListed symbols.new l (parameters_said items.now parameters.now) × IsReadyForBody symbols.new v reader.new (parameters_said items.now parameters.now) sc) }
+    ensures entered { (v : TermsView) (sc : Script) → IsReaderIdle (both symbols.old v) (reader_in settings.now reader.old) sc (top settings.now.replaces_lets) → IfOk result (λ l. AreListed symbols.new l (parameters_said items.now parameters.now) × IsReadyForBody (both symbols.new v) (reader_in settings.now reader.new) (parameters_said items.now parameters.now) sc) }
     ensures memory { IfErr result (λ fault. fault ≡ ReadFault.Memory) }
     ensures symbols { AddsNoSymbols symbols.old symbols.new }
     ensures few { length symbols.new.leaves ≤ length symbols.old.leaves + length parameters.now }
-    ensures known { reader.new.names.known ≡ reader.old.names.known }
-    ensures replaces { reader.new.replaces_lets ≡ reader.old.replaces_lets }
+    ensures own { reader.new.names.own ≡ reader.old.names.own }
 {
-    let leaves = list_parameters(items, symbols, &mut reader.values, reader.alloc, parameters)?;
-    let sorts = Vec::from_slice(reader.alloc, reader.values.sorts_from(0))?;
+    let leaves = list_parameters(
+        items,
+        symbols,
+        &mut reader.values,
+        settings.alloc,
+        parameters,
+    )?;
+    let sorts = Vec::from_slice(settings.alloc, reader.values.sorts_from(0))?;
     bind(
         symbols,
         &mut reader.names,
@@ -183,7 +201,7 @@ fn list_parameters(
     requires parameters { All (IsParameterThere items.now) parameters.now }
     requires no_values { values.old ≡ [] }
     requires room { length symbols.old.leaves + length parameters.now ≤ 2 ^ 30 }
-    ensures bound { (v : TermsView) → IfOk result (λ leaves. AreValuesBound symbols.new v leaves.items values.new (map itself (parameters_said items.now parameters.now))) }
+    ensures bound { (v : TermsView) → IfOk result (λ leaves. AreValuesBound (both symbols.new v) leaves.items values.new (map itself (parameters_said items.now parameters.now))) }
     ensures memory { IfErr result (λ fault. fault ≡ ReadFault.Memory) }
     ensures symbols { AddsNoSymbols symbols.old symbols.new }
     ensures few { length symbols.new.leaves ≤ length symbols.old.leaves + length parameters.now }
@@ -206,7 +224,7 @@ fn add_parameter(
 ) -> Result<u32, ReadFault>
     requires parameter { IsParameterThere items.now parameter.now }
     requires room { length symbols.old.leaves < 2 ^ 30 }
-    ensures added { (v : TermsView) → IfOk result (λ leaf. AddsParameter symbols.new v values.old values.new leaf (parameter_said items.now parameter.now)) }
+    ensures added { (v : TermsView) → IfOk result (λ leaf. AddsParameter (both symbols.new v) values.old values.new leaf (parameter_said items.now parameter.now)) }
     ensures memory { IfErr result (λ fault. fault ≡ ReadFault.Memory) }
     ensures symbols { AddsNoSymbols symbols.old symbols.new }
     ensures few { length symbols.new.leaves ≤ length symbols.old.leaves + 1 }
@@ -227,27 +245,25 @@ fn add_parameter(
 
 /// Reads the body, which stands with the parameters in scope, and takes them out of scope. Lets are replaced.
 fn read_body(
+    settings: &ReadSettings<'_>,
     items: &ItemText<'_, '_>,
     symbols: &mut Symbols,
     terms: &mut Terms<'_>,
-    reader: &mut Reader<'_>,
+    reader: &mut Reader,
     body: usize,
 ) -> Result<Value, ReadFault>
     requires body { body < length items.now.nodes }
-    requires ready { (xs : List Var) × (sc : Script) × IsReadyForBody symbols.old terms.old reader.old xs sc }
+    requires ready { (xs : List Var) × (sc : Script) × IsReadyForBody (both symbols.old terms.old) (reader_in settings.now reader.old) xs sc }
     requires room { length symbols.old.leaves + (length items.now.nodes - body) ≤ 2 ^ 30 }
-    ensures reads { (xs : List Var) (sc : Script) → IsReadyForBody symbols.old terms.old reader.old xs sc → ReadsBody symbols.new terms.old terms.new reader.new (body_read xs (item_at items.now body) sc) result }
-    ensures symbols { AddsNoSymbols symbols.old symbols.new }
+    ensures reads { (xs : List Var) (sc : Script) → IsReadyForBody (both symbols.old terms.old) (reader_in settings.now reader.old) xs sc → ComesTo terms_read terms.old (both symbols.new terms.new) (IsBodyRead (both symbols.new terms.new) (reader_in settings.now reader.new)) (body_read xs (item_at items.now body) sc) result }
     ensures few { length symbols.new.leaves ≤ length symbols.old.leaves + (length items.now.nodes - body) }
-    ensures replaces { reader.new.replaces_lets ≡ reader.old.replaces_lets }
-    ensures base { reader.new.names.known.base ≡ reader.old.names.known.base }
-    ensures keeps { KeepsTerms terms.old terms.new }
+    ensures grow { GrowByTerms (both symbols.old terms.old) (both symbols.new terms.new) }
 {
-    let replaces_lets = reader.replaces_lets;
-    reader.replaces_lets = true;
-    let outcome = read(items, symbols, terms, reader, body);
-    reader.replaces_lets = replaces_lets;
-    let value = outcome?;
+    let replacing = ReadSettings {
+        replaces_lets: true,
+        ..*settings
+    };
+    let value = read(&replacing, items, symbols, terms, reader, body)?;
     let count = reader.names.depth();
     unbind(&mut reader.names, count);
     Ok(Value {

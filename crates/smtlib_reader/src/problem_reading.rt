@@ -1,5 +1,5 @@
 //! Reading a problem (SMT-LIB 2.6, "Scripts" and "Commands").
-ghost use Rattle.std.specs.Prelude.{◌≡◌, ◌≤◌, ◌<◌, ◌+◌, length, Err, All, IfOk};
+ghost use Rattle.std.specs.Prelude.{◌≡◌, ◌≤◌, ◌<◌, ◌+◌, length, None, Err, All, IfOk};
 ghost use Rattle.pair_pool.specs.Views.{IsKnown};
 ghost use Rattle.sexpr.specs.declared.causes.Refusal.{Refusal};
 ghost use Rattle.sym_table.specs.Table.{Table, Keeps};
@@ -7,10 +7,11 @@ ghost use Rattle.term_pool.specs.Views.{TermsView, KeepsTerms};
 ghost use Rattle.term_names.specs.Making.{PlacesCellsOf, LacksCellOf};
 ghost use Rattle.term_reader.specs.ProblemViews.{IsProblemOf, IsNewTable, IsCounted};
 ghost use Rattle.problem_text.specs.Problems.{StandsForProblem, IsFirstFault};
-ghost use Rattle.term_names.specs.Entries.{no_entries};
+ghost use Rattle.term_names.specs.declared.settings.ReadSettings.{ReadSettings};
 ghost use Rattle.problem_text.specs.Scripts.{Script, empty_script};
-ghost use Rattle.smtlib_reader.specs.Sessions.{IsSession};
+ghost use Rattle.smtlib_reader.specs.Sessions.{IsSession, session_in};
 ghost use Rattle.term_names.specs.declared.faults.ReadFault.TheVariants as fault;
+ghost use Rattle.term_expansion.specs.SymbolsAndTerms.{both};
 
 use crate::script_reading::read_commands;
 use crate::session::Session;
@@ -21,28 +22,18 @@ use std::mem::replace;
 use sym_table::Symbols;
 use term_names::faults::ReadFault;
 use term_names::names::Names;
-use term_names::stacks::Values;
+use term_names::settings::ReadSettings;
 use term_pool::Terms;
 use term_reader::flags::Flags;
-use term_reader::frame_stacks::Frames;
 use term_reader::problem::Problem;
 use term_reader::reader::Reader;
 
 /// A problem of which nothing was read yet.
-fn new_session(alloc: Global, replaces_lets: bool) -> Session<'static>
-    ensures session { (s : Table) (v : TermsView) → IsNewTable s → IsSession s v result empty_script }
-    ensures replaces { result.reader.replaces_lets ≡ replaces_lets }
-    ensures base { result.reader.names.known.base ≡ no_entries }
+fn new_session(alloc: Global) -> Session
+    ensures { (e : ReadSettings) (s : Table) (v : TermsView) → e.base ≡ None → IsNewTable s → IsSession (both s v) (session_in e result) empty_script }
 {
     Session {
-        reader: Reader {
-            alloc,
-            replaces_lets,
-            names: Names::new(alloc, None),
-            values: Values::new(alloc),
-            leaves: Vec::new(alloc),
-            frames: Frames::new(alloc),
-        },
+        reader: Reader::new(alloc),
         assertions: Vec::new(alloc),
         has_logic: false,
         is_checked: false,
@@ -52,10 +43,10 @@ fn new_session(alloc: Global, replaces_lets: bool) -> Session<'static>
 }
 
 /// The problem that was read, which is taken out of the session.
-fn problem_of(alloc: Global, session: &mut Session<'_>) -> Problem
-    ensures { (s : Table) (v : TermsView) (sc : Script) → IsSession s v session.old sc → session.old.reader.names.known.base ≡ no_entries → IsProblemOf s v result sc }
+fn problem_of(alloc: Global, session: &mut Session) -> Problem
+    ensures { (e : ReadSettings) (s : Table) (v : TermsView) (sc : Script) → e.base ≡ None → IsSession (both s v) (session_in e session.old) sc → IsProblemOf s v result sc }
 {
-    let names = replace(&mut session.reader.names, Names::new(alloc, None));
+    let names = replace(&mut session.reader.names, Names::new(alloc));
     let assertions = replace(&mut session.assertions, Vec::new(alloc));
     Problem::new(names.into_own(), assertions)
 }
@@ -96,8 +87,20 @@ pub fn read_problem(
     form(bytes)?;
     let mut lexer = Lexer::new(bytes);
     let mut nodes = Vec::new(alloc);
-    let mut session = new_session(alloc, flags.expand_lets);
-    let read = read_commands(&mut lexer, &mut nodes, symbols, terms, &mut session);
+    let mut session = new_session(alloc);
+    let settings = ReadSettings {
+        alloc,
+        replaces_lets: flags.expand_lets,
+        base: None,
+    };
+    let read = read_commands(
+        &settings,
+        &mut lexer,
+        &mut nodes,
+        symbols,
+        terms,
+        &mut session,
+    );
     // The session is given up by a call of its own: given up in parts, at the end of a scope, it is very dear to prove.
     match read {
         Ok(()) => {

@@ -5,11 +5,13 @@ ghost use Rattle.sexpr.specs.Items.{Items};
 ghost use Rattle.sexpr.specs.Source as at;
 ghost use Rattle.sym_table.specs.Table.{Keeps};
 ghost use Rattle.term_pool.specs.Views.{KeepsTerms};
-ghost use Rattle.smtlib_reader.specs.ProblemReading.{HasItems, IsItemFound, AreLeft, ReadsCommand, ReadsAll, most_after};
+ghost use Rattle.smtlib_reader.specs.ProblemReading.{HasItems, IsItemFound, AreLeft, IsCommandRead, most_after};
 ghost use Rattle.problem_text.specs.Outcomes.{Outcome};
 ghost use Rattle.problem_text.specs.Scripts.{Script};
-ghost use Rattle.smtlib_reader.specs.Sessions.{IsSession};
+ghost use Rattle.smtlib_reader.specs.Sessions.{IsSession, session_in, IsPerformed};
 ghost use Rattle.term_names.specs.declared.faults.ReadFault.TheVariants as fault;
+ghost use Rattle.term_expansion.specs.SymbolsAndTerms.{both, Grow};
+ghost use Rattle.term_reader.specs.Reading.{ComesTo, Comes, terms_read};
 
 use crate::commands::{Command, command_of};
 use crate::performing::perform;
@@ -17,6 +19,7 @@ use crate::session::Session;
 use sexpr::Lexer;
 use sym_table::Symbols;
 use term_names::faults::ReadFault;
+use term_names::settings::ReadSettings;
 use term_pool::Terms;
 use text_items::nodes::{ItemText, Node, read_item};
 
@@ -50,26 +53,24 @@ fn is_exit(command: Command) -> bool
 
 /// Reads the next command of a text, and does what it asks for. Answers whether there was one that is no exit.
 fn read_command(
+    settings: &ReadSettings<'_>,
     lexer: &mut Lexer<'_>,
     nodes: &mut Vec<Node>,
     symbols: &mut Symbols,
     terms: &mut Terms<'_>,
-    session: &mut Session<'_>,
+    session: &mut Session,
 ) -> Result<bool, ReadFault>
-    requires left { (sc : Script) × (whole : Outcome Script ⊤) × AreLeft (at.source lexer.old) session.old.reader.replaces_lets (at.position lexer.old) sc whole × IsSession symbols.old terms.old session.old sc }
+    requires left { (sc : Script) × (whole : Outcome Script ⊤) × AreLeft (at.source lexer.old) settings.now.replaces_lets (at.position lexer.old) sc whole × IsSession (both symbols.old terms.old) (session_in settings.now session.old) sc }
     requires room { most_after (length symbols.old.leaves) (at.source lexer.old) (at.position lexer.old) ≤ 2 ^ 30 }
     requires room_for_sorts { most_after (length symbols.old.sorts) (at.source lexer.old) (at.position lexer.old) ≤ 2 ^ 30 }
-    ensures reads { (sc : Script) (whole : Outcome Script ⊤) → AreLeft (at.source lexer.old) session.old.reader.replaces_lets (at.position lexer.old) sc whole → IsSession symbols.old terms.old session.old sc → ReadsCommand (at.source lexer.new) symbols.new terms.old terms.new session.new (at.position lexer.new) whole result }
+    ensures reads { (sc : Script) (whole : Outcome Script ⊤) → AreLeft (at.source lexer.old) settings.now.replaces_lets (at.position lexer.old) sc whole → IsSession (both symbols.old terms.old) (session_in settings.now session.old) sc → Comes terms_read terms.old (both symbols.new terms.new) (IsCommandRead (at.source lexer.new) (both symbols.new terms.new) (session_in settings.now session.new) (at.position lexer.new) whole) whole result }
     ensures source { at.source lexer.new ≡ at.source lexer.old }
     ensures progress { IfOk result (λ found. IsTrue found → at.position lexer.old < at.position lexer.new) }
     ensures inside { IfOk result (λ found. IsTrue found → at.position lexer.new ≤ length (at.source lexer.old)) }
     ensures few { IfOk result (λ found. IsTrue found → most_after (length symbols.new.leaves) (at.source lexer.new) (at.position lexer.new) ≤ most_after (length symbols.old.leaves) (at.source lexer.old) (at.position lexer.old)) }
     ensures few_sorts { IfOk result (λ found. IsTrue found → most_after (length symbols.new.sorts) (at.source lexer.new) (at.position lexer.new) ≤ most_after (length symbols.old.sorts) (at.source lexer.old) (at.position lexer.old)) }
     ensures few_at_all { length symbols.new.leaves ≤ most_after (length symbols.old.leaves) (at.source lexer.old) (at.position lexer.old) }
-    ensures symbols { Keeps symbols.old symbols.new }
-    ensures replaces { session.new.reader.replaces_lets ≡ session.old.reader.replaces_lets }
-    ensures base { session.new.reader.names.known.base ≡ session.old.reader.names.known.base }
-    ensures keeps { KeepsTerms terms.old terms.new }
+    ensures grow { Grow (both symbols.old terms.old) (both symbols.new terms.new) }
 {
     if !next_item(lexer, nodes)? {
         return Ok(false);
@@ -79,30 +80,29 @@ fn read_command(
     if is_exit(command) {
         return Ok(false);
     }
-    perform(&items, symbols, terms, session, command)?;
+    perform(settings, &items, symbols, terms, session, command)?;
     Ok(true)
 }
 
 /// Reads the commands that are left of a text.
 pub(crate) fn read_commands(
+    settings: &ReadSettings<'_>,
     lexer: &mut Lexer<'_>,
     nodes: &mut Vec<Node>,
     symbols: &mut Symbols,
     terms: &mut Terms<'_>,
-    session: &mut Session<'_>,
+    session: &mut Session,
 ) -> Result<(), ReadFault>
-    requires left { (sc : Script) × (whole : Outcome Script ⊤) × AreLeft (at.source lexer.old) session.old.reader.replaces_lets (at.position lexer.old) sc whole × IsSession symbols.old terms.old session.old sc }
+    requires left { (sc : Script) × (whole : Outcome Script ⊤) × AreLeft (at.source lexer.old) settings.now.replaces_lets (at.position lexer.old) sc whole × IsSession (both symbols.old terms.old) (session_in settings.now session.old) sc }
     requires inside { at.position lexer.old ≤ length (at.source lexer.old) }
     requires room { most_after (length symbols.old.leaves) (at.source lexer.old) (at.position lexer.old) ≤ 2 ^ 30 }
     requires room_for_sorts { most_after (length symbols.old.sorts) (at.source lexer.old) (at.position lexer.old) ≤ 2 ^ 30 }
-    ensures reads { (sc : Script) (whole : Outcome Script ⊤) → AreLeft (at.source lexer.old) session.old.reader.replaces_lets (at.position lexer.old) sc whole → IsSession symbols.old terms.old session.old sc → ReadsAll symbols.new terms.old terms.new session.new whole result }
+    ensures reads { (sc : Script) (whole : Outcome Script ⊤) → AreLeft (at.source lexer.old) settings.now.replaces_lets (at.position lexer.old) sc whole → IsSession (both symbols.old terms.old) (session_in settings.now session.old) sc → ComesTo terms_read terms.old (both symbols.new terms.new) (IsPerformed (both symbols.new terms.new) (session_in settings.now session.new)) whole result }
     ensures few { length symbols.new.leaves ≤ most_after (length symbols.old.leaves) (at.source lexer.old) (at.position lexer.old) }
-    ensures symbols { Keeps symbols.old symbols.new }
-    ensures base { session.new.reader.names.known.base ≡ session.old.reader.names.known.base }
-    ensures keeps { KeepsTerms terms.old terms.new }
+    ensures grow { Grow (both symbols.old terms.old) (both symbols.new terms.new) }
 {
     'commands: loop {
-        if !read_command(lexer, nodes, symbols, terms, session)? {
+        if !read_command(settings, lexer, nodes, symbols, terms, session)? {
             return Ok(());
         }
     }

@@ -7,8 +7,8 @@ use term_reader::reader::Reader;
 
 /// What was read of a problem.
 #[derive(Drop)]
-pub(crate) struct Session<'a> {
-    pub(crate) reader: Reader<'a>,
+pub(crate) struct Session {
+    pub(crate) reader: Reader,
     pub(crate) assertions: Vec<Ref>,
     pub(crate) has_logic: bool,
     /// Whether a check stands before.

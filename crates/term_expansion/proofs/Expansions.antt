@@ -28,40 +28,41 @@ use Rattle.term_expansion.specs.declared.assignments.Assigned.{Assigned}
 use Rattle.term_expansion.specs.declared.expanding.Expansion.{Expansion}
 use Rattle.term_expansion.proofs.Images.{same_some}
 use Rattle.term_expansion.proofs.NeedLemmas as need
-use Rattle.term_expansion.proofs.NeedLemmas.{AreGivenTerms, HasGivenTerms, part-trans, refers-grow}
+use Rattle.term_expansion.proofs.NeedLemmas.{HasGivenTerms, part-trans, refers-grow}
 use Rattle.term_expansion.proofs.TermParts.{becomes_application, no_let, let_is}
+use Rattle.term_expansion.specs.SymbolsAndTerms.{both}
 
 -- the law that references are equal exactly where terms are
 abbrev pub AreOne : Table → TermsView → Type 0
 AreOne s v = (p q : ℕ) (t u : Term) → RefersTo s v p t → RefersTo s v q u → (p ≡ q) ↔ (t ≡ u)
 
 -- the same for an equal view
-pub expands_moved : (s : Table) (v w z : TermsView) (a : List Assigned) (r i : ℕ) → w ≡ v → ExpandsOne s w z a r i → ExpandsOne s v z a r i
-expands_moved s v w z a r i e h = subst (λ (x : TermsView). ExpandsOne s x z a r i) e h
+pub expands_moved : (s : Table) (v w z : TermsView) (a : List Assigned) (r i : ℕ) → w ≡ v → ExpandsOne (both s w) z a r i → ExpandsOne (both s v) z a r i
+expands_moved s v w z a r i e h = subst (λ (x : TermsView). ExpandsOne (both s x) z a r i) e h
 
-pub places_moved : (s : Table) (v w z : TermsView) (a : List Assigned) (r : ℕ) → w ≡ v → PlacesOne s w z a r → PlacesOne s v z a r
-places_moved s v w z a r e h = subst (λ (x : TermsView). PlacesOne s x z a r) e h
+pub places_moved : (s : Table) (v w z : TermsView) (a : List Assigned) (r : ℕ) → w ≡ v → PlacesOne (both s w) z a r → PlacesOne (both s v) z a r
+places_moved s v w z a r e h = subst (λ (x : TermsView). PlacesOne (both s x) z a r) e h
 
-pub fills_moved : (s : Table) (v w z : TermsView) (a : List Assigned) (r : ℕ) → w ≡ v → FillsOne s w z a r → FillsOne s v z a r
-fills_moved s v w z a r e h = subst (λ (x : TermsView). FillsOne s x z a r) e h
+pub fills_moved : (s : Table) (v w z : TermsView) (a : List Assigned) (r : ℕ) → w ≡ v → FillsOne (both s w) z a r → FillsOne (both s v) z a r
+fills_moved s v w z a r e h = subst (λ (x : TermsView). FillsOne (both s x) z a r) e h
 
-pub said_moved : (s : Table) (v w : TermsView) (a : List Assigned) (r : ℕ) → w ≡ v → IsSaid s v a r → IsSaid s w a r
-said_moved s v w a r e h = subst (λ (x : TermsView). IsSaid s x a r) (sym e) h
+pub said_moved : (s : Table) (v w : TermsView) (a : List Assigned) (r : ℕ) → w ≡ v → IsSaid (both s v) a r → IsSaid (both s w) a r
+said_moved s v w a r e h = subst (λ (x : TermsView). IsSaid (both s x) a r) (sym e) h
 
-pub are_done_moved : (s : Table) (v w : TermsView) (done : Done) → w ≡ v → AreDone s v done → AreDone s w done
-are_done_moved s v w done e h = subst (λ (x : TermsView). AreDone s x done) (sym e) h
+pub are_done_moved : (s : Table) (v w : TermsView) (done : Done) → w ≡ v → AreDone (both s v) done → AreDone (both s w) done
+are_done_moved s v w done e h = subst (λ (x : TermsView). AreDone (both s x) done) (sym e) h
 
-pub expansion_moved : (s : Table) (v w : TermsView) (e : Expansion) → w ≡ v → IsExpansion s v e → IsExpansion s w e
-expansion_moved s v w e f h = subst (λ (x : TermsView). IsExpansion s x e) (sym f) h
+pub expansion_moved : (s : Table) (v w : TermsView) (e : Expansion) → w ≡ v → IsExpansion (both s v) e → IsExpansion (both s w) e
+expansion_moved s v w e f h = subst (λ (x : TermsView). IsExpansion (both s x) e) (sym f) h
 
-pub if_fills_moved : (o : Result ℕ TermStop) (s : Table) (v w z : TermsView) (a : List Assigned) (r : ℕ) → w ≡ v → IfErr o (λ e. e ≡ Stop.PoolFull → FillsOne s w z a r) → IfErr o (λ e. e ≡ Stop.PoolFull → FillsOne s v z a r)
-if_fills_moved o s v w z a r e h = subst (λ (x : TermsView). IfErr o (λ e. e ≡ Stop.PoolFull → FillsOne s x z a r)) e h
+pub if_fills_moved : (o : Result ℕ TermStop) (s : Table) (v w z : TermsView) (a : List Assigned) (r : ℕ) → w ≡ v → IfErr o (λ e. e ≡ Stop.PoolFull → FillsOne (both s w) z a r) → IfErr o (λ e. e ≡ Stop.PoolFull → FillsOne (both s v) z a r)
+if_fills_moved o s v w z a r e h = subst (λ (x : TermsView). IfErr o (λ e. e ≡ Stop.PoolFull → FillsOne (both s x) z a r)) e h
 
-pub has_needs_moved : (s : Table) (v w : TermsView) (r : ℕ) (leaves ks : List ℕ) → w ≡ v → ks ≡ leaves → HasNeeds s v r leaves → HasNeeds s w r ks
-has_needs_moved s v w r leaves ks e f h = subst (λ (x : List ℕ). HasNeeds s w r x) (sym f) (subst (λ (x : TermsView). HasNeeds s x r leaves) (sym e) h)
+pub has_needs_moved : (s : Table) (v w : TermsView) (r : ℕ) (leaves ks : List ℕ) → w ≡ v → ks ≡ leaves → HasNeeds (both s v) r leaves → HasNeeds (both s w) r ks
+has_needs_moved s v w r leaves ks e f h = subst (λ (x : List ℕ). HasNeeds (both s w) r x) (sym f) (subst (λ (x : TermsView). HasNeeds (both s x) r leaves) (sym e) h)
 
-pub needs_back : (s : Table) (v w : TermsView) (r : ℕ) (leaves ks : List ℕ) → w ≡ v → ks ≡ leaves → HasNeeds s w r leaves → HasNeeds s v r ks
-needs_back s v w r leaves ks e f h = subst (λ (x : List ℕ). HasNeeds s v r x) (sym f) (subst (λ (x : TermsView). HasNeeds s x r leaves) e h)
+pub needs_back : (s : Table) (v w : TermsView) (r : ℕ) (leaves ks : List ℕ) → w ≡ v → ks ≡ leaves → HasNeeds (both s w) r leaves → HasNeeds (both s v) r ks
+needs_back s v w r leaves ks e f h = subst (λ (x : List ℕ). HasNeeds (both s v) r x) (sym f) (subst (λ (x : TermsView). HasNeeds (both s x) r leaves) e h)
 
 pub one_moved : (s : Table) (v w : TermsView) → w ≡ v → AreOne s w → AreOne s v
 one_moved s v w e h = subst (λ (x : TermsView). AreOne s x) e h
@@ -78,7 +79,7 @@ keeps-trans u v w h k = record {
 }
 
 -- the term that is said
-pub is_term : (s : Table) (v : TermsView) (a : List Assigned) (r : ℕ) → IsSaid s v a r → IsTerm s v r
+pub is_term : (s : Table) (v : TermsView) (a : List Assigned) (r : ℕ) → IsSaid (both s v) a r → IsTerm s v r
 is_term s v a r h = record { means = h.means; refers = h.refers }
 
 -- leaves
@@ -96,7 +97,7 @@ not_assigned s (b ∷ a) k l h g never = go (eqb b.variable k) (eqb_tells b.vari
 leaf_stays : (s : Table) (v : TermsView) (a : List Assigned) (r : ℕ) (l : Leaf) (t : Term) → AreVariables s a → IsLeaf s r l → ((x : Var) → l ≢ variable_leaf x) → RefersTo s v r t → RefersTo s v (term_of r a) t
 leaf_stays s v a r l t h g never refers = subst (λ (k : ℕ). RefersTo s v k t) (sym (not_assigned s a r l h g never)) refers
 
-leaf_is : (s : Table) (v : TermsView) (a : List Assigned) (q : Replacement) (r : ℕ) (t : Term) → StandsFor s (leaf r) t → RefersTo s v r t → Says s v a q t → RefersTo s v (term_of r a) (replaced q t)
+leaf_is : (s : Table) (v : TermsView) (a : List Assigned) (q : Replacement) (r : ℕ) (t : Term) → StandsFor s (leaf r) t → RefersTo s v r t → Says (both s v) a q t → RefersTo s v (term_of r a) (replaced q t)
 unfolding replaced
 leaf_is s v a q r (numeral n) p refers says = leaf_stays s v a r (Leaf.numeral (pos n)) (numeral n) says.variables p (λ x e. cc) refers
 leaf_is s v a q r (variable x) p refers says = says.puts r x p refl
@@ -106,7 +107,7 @@ leaf_is s v a q r (call f no_terms) p refers says = leaf_stays s v a r (function
 leaf_is s v a q r (call f (term t ts)) p refers says = absurd p
 leaf_is s v a q r (let_in bs u) p refers says = absurd p
 
-pub leaf_becomes : (s : Table) (v : TermsView) (a : List Assigned) (r i : ℕ) → IsOneToOne v.pass → Knows v.pass r (leaf r) → i ≡ term_of r a → ExpandsOne s v v a r i
+pub leaf_becomes : (s : Table) (v : TermsView) (a : List Assigned) (r i : ℕ) → IsOneToOne v.pass → Knows v.pass r (leaf r) → i ≡ term_of r a → ExpandsOne (both s v) v a r i
 leaf_becomes s v a r i one known e t q refers says =
     subst (λ (k : ℕ). RefersTo s v k (replaced q t)) (sym e)
     (leaf_is s v a q r t (subst (λ (b : Tree). StandsFor s b t) (one.one_tree r refers.tree (leaf r) refers.known known) refers.stands) refers says)
@@ -117,9 +118,9 @@ known_leaf pass r number k e f known =
     subst (λ (n : ℕ). Knows pass n (leaf n)) e (subst (λ (n : ℕ). Knows pass n (leaf number)) f (known pass))
 
 -- what is remembered
-pub remembered : (s : Table) (v : TermsView) (a : List Assigned) (r i : ℕ) (leaves : List ℕ) (key : Vec ℕ Global) (done : Done) → AreOne s v → AreDone s v done → key.items ≡ key_of r a leaves → Some i ≡ get (λ x y. pointwise nat_eq x.items y.items) done key → ExpandsOne s v v a r i
+pub remembered : (s : Table) (v : TermsView) (a : List Assigned) (r i : ℕ) (leaves : List ℕ) (key : Vec ℕ Global) (done : Done) → AreOne s v → AreDone (both s v) done → key.items ≡ key_of r a leaves → Some i ≡ get (λ x y. pointwise nat_eq x.items y.items) done key → ExpandsOne (both s v) v a r i
 remembered s v a r i leaves key done one are is e t q refers says =
-    let h : HasBecomeBy s v key.items i = are.each key i (sym e) in
+    let h : HasBecomeBy (both s v) key.items i = are.each key i (sym e) in
     let same = need.pairs-same h.assigned a h.cell r h.leaves leaves (sym h.key_is ∙ is) in
     let term : h.means ≡ t = (one h.cell r h.means t h.refers refers).0 same.0 in
     let becomes : replaced h.puts h.means ≡ replaced q h.means =
@@ -127,7 +128,7 @@ remembered s v a r i leaves key done one are is e t q refers says =
     (λ x n. let (k, is_leaf, c) = h.covered x n in (one (term_of k h.assigned) (term_of k a) (replaced_by h.puts x) (replaced_by q x) (h.says.puts k x is_leaf n) (says.puts k x is_leaf (subst (λ (u : Term). IsNeeded x u) term n))).0 (same.2 k c)) in
     subst (λ (u : Term). RefersTo s v i u) (becomes ∙ ap (replaced q) term) h.becomes
 
-pub has_become : (s : Table) (v w : TermsView) (a : List Assigned) (r i : ℕ) (leaves : List ℕ) (key : Vec ℕ Global) → AreOne s v → KeepsTerms v w → IsSaid s v a r → HasNeeds s v r leaves → key.items ≡ key_of r a leaves → ExpandsOne s v w a r i → HasBecomeBy s w key.items i
+pub has_become : (s : Table) (v w : TermsView) (a : List Assigned) (r i : ℕ) (leaves : List ℕ) (key : Vec ℕ Global) → AreOne s v → KeepsTerms v w → IsSaid (both s v) a r → HasNeeds (both s v) r leaves → key.items ≡ key_of r a leaves → ExpandsOne (both s v) w a r i → HasBecomeBy (both s w) key.items i
 has_become s v w a r i leaves key one keeps said needs is expands = record {
   cell = r;
   assigned = a;
@@ -141,13 +142,13 @@ has_become s v w a r i leaves key one keeps said needs is expands = record {
   becomes = expands said.means said.puts said.refers said.says;
 }
 
-pub noted : (s : Table) (w : TermsView) (i : ℕ) (key : Vec ℕ Global) (old new : Done) → AreDone s w old → HasBecomeBy s w key.items i → ((k : Vec ℕ Global) → get (λ x y. pointwise nat_eq x.items y.items) new k ≡ cond (pointwise nat_eq key.items k.items) (Some i) (get (λ x y. pointwise nat_eq x.items y.items) old k)) → AreDone s w new
+pub noted : (s : Table) (w : TermsView) (i : ℕ) (key : Vec ℕ Global) (old new : Done) → AreDone (both s w) old → HasBecomeBy (both s w) key.items i → ((k : Vec ℕ Global) → get (λ x y. pointwise nat_eq x.items y.items) new k ≡ cond (pointwise nat_eq key.items k.items) (Some i) (get (λ x y. pointwise nat_eq x.items y.items) old k)) → AreDone (both s w) new
 noted s w i key old new are h updates = record { each = λ k j e. go k j (pointwise nat_eq key.items k.items) refl (sym (updates k) ∙ e) }
   where
-    go : (k : Vec ℕ Global) (j : ℕ) (b : Bool) → pointwise nat_eq key.items k.items ≡ b → cond b (Some i) (get (λ x y. pointwise nat_eq x.items y.items) old k) ≡ Some j → HasBecomeBy s w k.items j
+    go : (k : Vec ℕ Global) (j : ℕ) (b : Bool) → pointwise nat_eq key.items k.items ≡ b → cond b (Some i) (get (λ x y. pointwise nat_eq x.items y.items) old k) ≡ Some j → HasBecomeBy (both s w) k.items j
     go k j true same e =
-        subst (λ (n : ℕ). HasBecomeBy s w k.items n) (same_some e)
-        (subst (λ (ks : List ℕ). HasBecomeBy s w ks i) (need.list-same key.items k.items same) h)
+        subst (λ (n : ℕ). HasBecomeBy (both s w) k.items n) (same_some e)
+        (subst (λ (ks : List ℕ). HasBecomeBy (both s w) ks i) (need.list-same key.items k.items same) h)
     go k j false same e = are.each k j e
 
 -- items of lists
@@ -229,39 +230,39 @@ full-larger : (p : PassView) (s t : Tree) → IsPartOf s t → IsFullIn p s → 
 full-larger p s t part h = record { first = h.first; second = h.second; wanted = cell-larger p h.first h.second s t part h.wanted; full = h.full }
 
 -- one term of a list
-pub said_at : (s : Table) (v w : TermsView) (a b : List Assigned) (rs : List ℕ) (i r : ℕ) → KeepsTerms v w → b ≡ a → AreSaid s v a rs → i < length rs → r ≡ get_or rs i r → IsSaid s w b r
+pub said_at : (s : Table) (v w : TermsView) (a b : List Assigned) (rs : List ℕ) (i r : ℕ) → KeepsTerms v w → b ≡ a → AreSaid (both s v) a rs → i < length rs → r ≡ get_or rs i r → IsSaid (both s w) b r
 said_at s v w a b rs i r keeps same h l e =
     let x = item_at s v rs h.means i r h.refer l e in
-    subst (λ (c : List Assigned). IsSaid s w c r) (sym same)
+    subst (λ (c : List Assigned). IsSaid (both s w) c r) (sym same)
     (record {
       means = x.means;
       refers = refers-grow s v w keeps r x.means x.refers;
       puts = h.puts;
-      says = need.says-grow s v w (refers-grow s v w keeps) a h.puts x.means (all_at (Says s v a h.puts) h.means i x.means h.says x.there);
+      says = need.says-grow s v w (refers-grow s v w keeps) a h.puts x.means (all_at (Says (both s v) a h.puts) h.means i x.means h.says x.there);
     })
 
-pub placed-next : (s : Table) (v w z : TermsView) (a b : List Assigned) (rs : List ℕ) (i r : ℕ) → KeepsTerms v w → KeepsTerms w z → b ≡ a → i < length rs → r ≡ get_or rs i r → PlacesAll s v w a rs → PlacesOne s w z b r → PlacesAll s v z a rs
+pub placed-next : (s : Table) (v w z : TermsView) (a b : List Assigned) (rs : List ℕ) (i r : ℕ) → KeepsTerms v w → KeepsTerms w z → b ≡ a → i < length rs → r ≡ get_or rs i r → PlacesAll (both s v) w a rs → PlacesOne (both s w) z b r → PlacesAll (both s v) z a rs
 placed-next s v w z a b rs i r keeps later same l e before one ts q whole refer says parts =
     let x = item_at s v rs ts i r refer l e in
-    let next : PlacesOne s w z a r = subst (λ (c : List Assigned). PlacesOne s w z c r) same one in
+    let next : PlacesOne (both s w) z a r = subst (λ (c : List Assigned). PlacesOne (both s w) z c r) same one in
     placed-then v.pass w.pass z.pass whole later.pass (before ts q whole refer says parts)
-    (next x.means q whole (refers-grow s v w keeps r x.means x.refers) (need.says-grow s v w (refers-grow s v w keeps) a q x.means (all_at (Says s v a q) ts i x.means says x.there)) (parts_at s whole q ts i x.means parts x.there))
+    (next x.means q whole (refers-grow s v w keeps r x.means x.refers) (need.says-grow s v w (refers-grow s v w keeps) a q x.means (all_at (Says (both s v) a q) ts i x.means says x.there)) (parts_at s whole q ts i x.means parts x.there))
 
-pub fills-next : (s : Table) (v w z : TermsView) (a b : List Assigned) (rs : List ℕ) (i r : ℕ) → KeepsTerms v w → b ≡ a → i < length rs → r ≡ get_or rs i r → FillsOne s w z b r → FillsAll s v z a rs
+pub fills-next : (s : Table) (v w z : TermsView) (a b : List Assigned) (rs : List ℕ) (i r : ℕ) → KeepsTerms v w → b ≡ a → i < length rs → r ≡ get_or rs i r → FillsOne (both s w) z b r → FillsAll (both s v) z a rs
 fills-next s v w z a b rs i r keeps same l e one ts q whole refer says parts =
     let x = item_at s v rs ts i r refer l e in
-    let next : FillsOne s w z a r = subst (λ (c : List Assigned). FillsOne s w z c r) same one in
-    next x.means q whole (refers-grow s v w keeps r x.means x.refers) (need.says-grow s v w (refers-grow s v w keeps) a q x.means (all_at (Says s v a q) ts i x.means says x.there)) (parts_at s whole q ts i x.means parts x.there)
+    let next : FillsOne (both s w) z a r = subst (λ (c : List Assigned). FillsOne (both s w) z c r) same one in
+    next x.means q whole (refers-grow s v w keeps r x.means x.refers) (need.says-grow s v w (refers-grow s v w keeps) a q x.means (all_at (Says (both s v) a q) ts i x.means says x.there)) (parts_at s whole q ts i x.means parts x.there)
 
-pub expanded-next : (s : Table) (v w z : TermsView) (a b : List Assigned) (rs all new : List ℕ) (i r j : ℕ) → KeepsTerms v w → KeepsTerms w z → b ≡ a → i < length rs → r ≡ get_or rs i r → new ≡ all ++ j ∷ [] → ((ts : List Term) (q : Replacement) → ReferToAll s v rs ts → SaysAll s v a q ts → ReferToAll s w all (take i (replaced_each q ts))) → ExpandsOne s w z b r j → (ts : List Term) (q : Replacement) → ReferToAll s v rs ts → SaysAll s v a q ts → ReferToAll s z new (take (i + 1) (replaced_each q ts))
+pub expanded-next : (s : Table) (v w z : TermsView) (a b : List Assigned) (rs all new : List ℕ) (i r j : ℕ) → KeepsTerms v w → KeepsTerms w z → b ≡ a → i < length rs → r ≡ get_or rs i r → new ≡ all ++ j ∷ [] → ((ts : List Term) (q : Replacement) → ReferToAll s v rs ts → SaysAll (both s v) a q ts → ReferToAll s w all (take i (replaced_each q ts))) → ExpandsOne (both s w) z b r j → (ts : List Term) (q : Replacement) → ReferToAll s v rs ts → SaysAll (both s v) a q ts → ReferToAll s z new (take (i + 1) (replaced_each q ts))
 expanded-next s v w z a b rs all new i r j keeps later same l e is before one ts q refer says =
     let x = item_at s v rs ts i r refer l e in
-    let next : ExpandsOne s w z a r j = subst (λ (c : List Assigned). ExpandsOne s w z c r j) same one in
+    let next : ExpandsOne (both s w) z a r j = subst (λ (c : List Assigned). ExpandsOne (both s w) z c r j) same one in
     subst (λ (us : List Term). ReferToAll s z new us) (sym (take-each q ts i x.means x.there))
     (subst (λ (ks : List ℕ). ReferToAll s z ks (take i (replaced_each q ts) ++ replaced q x.means ∷ [])) (sym is)
     (refer-push s z all j (take i (replaced_each q ts)) (replaced q x.means)
     (need.refer-grow s w z (refers-grow s w z later) all (take i (replaced_each q ts)) (before ts q refer says))
-    (next x.means q (refers-grow s v w keeps r x.means x.refers) (need.says-grow s v w (refers-grow s v w keeps) a q x.means (all_at (Says s v a q) ts i x.means says x.there)))))
+    (next x.means q (refers-grow s v w keeps r x.means x.refers) (need.says-grow s v w (refers-grow s v w keeps) a q x.means (all_at (Says (both s v) a q) ts i x.means says x.there)))))
 
 take-all : (q : Replacement) (s : Table) (v : TermsView) (rs : List ℕ) (ts : List Term) (n : ℕ) → ReferToAll s v rs ts → length rs ≤ n → take n (replaced_each q ts) ≡ replaced_each q ts
 take-all q s v [] [] zero h l = refl
@@ -271,29 +272,29 @@ take-all q s v (r ∷ rs) [] n h l = absurd h
 take-all q s v (r ∷ rs) (t ∷ ts) zero h l = absurd (omega arith)
 take-all q s v (r ∷ rs) (t ∷ ts) (suc n) h l = ap (λ (us : List Term). replaced q t ∷ us) (take-all q s v rs ts n h.1 (omega arith))
 
-pub expanded-end : (s : Table) (v w : TermsView) (a : List Assigned) (rs all : List ℕ) (n : ℕ) → length rs ≤ n → ((ts : List Term) (q : Replacement) → ReferToAll s v rs ts → SaysAll s v a q ts → ReferToAll s w all (take n (replaced_each q ts))) → ExpandsAll s v w a rs all
+pub expanded-end : (s : Table) (v w : TermsView) (a : List Assigned) (rs all : List ℕ) (n : ℕ) → length rs ≤ n → ((ts : List Term) (q : Replacement) → ReferToAll s v rs ts → SaysAll (both s v) a q ts → ReferToAll s w all (take n (replaced_each q ts))) → ExpandsAll (both s v) w a rs all
 expanded-end s v w a rs all n l h ts q refer says =
     subst (λ (us : List Term). ReferToAll s w all us) (take-all q s v rs ts n refer l) (h ts q refer says)
 
 -- the same for an equal list
-pub all_said_moved : (s : Table) (v w : TermsView) (a : List Assigned) (rs ks : List ℕ) → w ≡ v → ks ≡ rs → AreSaid s v a rs → AreSaid s w a ks
-all_said_moved s v w a rs ks e f h = subst (λ (x : List ℕ). AreSaid s w a x) (sym f) (subst (λ (x : TermsView). AreSaid s x a rs) (sym e) h)
+pub all_said_moved : (s : Table) (v w : TermsView) (a : List Assigned) (rs ks : List ℕ) → w ≡ v → ks ≡ rs → AreSaid (both s v) a rs → AreSaid (both s w) a ks
+all_said_moved s v w a rs ks e f h = subst (λ (x : List ℕ). AreSaid (both s w) a x) (sym f) (subst (λ (x : TermsView). AreSaid (both s x) a rs) (sym e) h)
 
-pub all_expand_moved : (s : Table) (v w z : TermsView) (a : List Assigned) (rs ks is : List ℕ) → w ≡ v → ks ≡ rs → ExpandsAll s w z a ks is → ExpandsAll s v z a rs is
-all_expand_moved s v w z a rs ks is e f h = subst (λ (x : List ℕ). ExpandsAll s v z a x is) f (subst (λ (x : TermsView). ExpandsAll s x z a ks is) e h)
+pub all_expand_moved : (s : Table) (v w z : TermsView) (a : List Assigned) (rs ks is : List ℕ) → w ≡ v → ks ≡ rs → ExpandsAll (both s w) z a ks is → ExpandsAll (both s v) z a rs is
+all_expand_moved s v w z a rs ks is e f h = subst (λ (x : List ℕ). ExpandsAll (both s v) z a x is) f (subst (λ (x : TermsView). ExpandsAll (both s x) z a ks is) e h)
 
-pub all_placed_moved : (s : Table) (v w z : TermsView) (a : List Assigned) (rs ks : List ℕ) → w ≡ v → ks ≡ rs → PlacesAll s w z a ks → PlacesAll s v z a rs
-all_placed_moved s v w z a rs ks e f h = subst (λ (x : List ℕ). PlacesAll s v z a x) f (subst (λ (x : TermsView). PlacesAll s x z a ks) e h)
+pub all_placed_moved : (s : Table) (v w z : TermsView) (a : List Assigned) (rs ks : List ℕ) → w ≡ v → ks ≡ rs → PlacesAll (both s w) z a ks → PlacesAll (both s v) z a rs
+all_placed_moved s v w z a rs ks e f h = subst (λ (x : List ℕ). PlacesAll (both s v) z a x) f (subst (λ (x : TermsView). PlacesAll (both s x) z a ks) e h)
 
-pub all_fill_moved : (s : Table) (v w z : TermsView) (a : List Assigned) (rs ks : List ℕ) → w ≡ v → ks ≡ rs → FillsAll s w z a ks → FillsAll s v z a rs
-all_fill_moved s v w z a rs ks e f h = subst (λ (x : List ℕ). FillsAll s v z a x) f (subst (λ (x : TermsView). FillsAll s x z a ks) e h)
+pub all_fill_moved : (s : Table) (v w z : TermsView) (a : List Assigned) (rs ks : List ℕ) → w ≡ v → ks ≡ rs → FillsAll (both s w) z a ks → FillsAll (both s v) z a rs
+all_fill_moved s v w z a rs ks e f h = subst (λ (x : List ℕ). FillsAll (both s v) z a x) f (subst (λ (x : TermsView). FillsAll (both s x) z a ks) e h)
 
 -- applications
 module _ (s : Table) (v : TermsView) (a : List Assigned) (r head : ℕ) (rs : List ℕ) (application : (t : Term) → RefersTo s v r t → IsAppliedLeaf s head (arguments_of t) t) (refer : (t : Term) → RefersTo s v r t → ReferToAll s v rs (arguments_of t)) where
   never_let : (t : Term) → RefersTo s v r t → IsLet t → ⊥
   never_let t refers = no_let s head (arguments_of t) t (application t refers)
 
-  pub arguments_said : IsSaid s v a r → AreSaid s v a rs
+  pub arguments_said : IsSaid (both s v) a r → AreSaid (both s v) a rs
   arguments_said h = record {
     means = arguments_of h.means;
     refer = refer h.means h.refers;
@@ -301,15 +302,15 @@ module _ (s : Table) (v : TermsView) (a : List Assigned) (r head : ℕ) (rs : Li
     says = need.argument-says s v a h.puts h.means (never_let h.means h.refers) h.says;
   }
 
-  pub arguments_placed : (w : TermsView) → PlacesAll s v w a rs → PlacesOne s v w a r
+  pub arguments_placed : (w : TermsView) → PlacesAll (both s v) w a rs → PlacesOne (both s v) w a r
   arguments_placed w h t q whole refers says part =
       h (arguments_of t) q whole (refer t refers) (need.argument-says s v a q t (never_let t refers) says) (need.argument-parts s q whole t (never_let t refers) part)
 
-  pub arguments_full : (w : TermsView) → FillsAll s v w a rs → FillsOne s v w a r
+  pub arguments_full : (w : TermsView) → FillsAll (both s v) w a rs → FillsOne (both s v) w a r
   arguments_full w h t q whole refers says part =
       h (arguments_of t) q whole (refer t refers) (need.argument-says s v a q t (never_let t refers) says) (need.argument-parts s q whole t (never_let t refers) part)
 
-  pub arguments_expanded : (w : TermsView) (is : List ℕ) → ExpandsAll s v w a rs is → (t : Term) (q : Replacement) → RefersTo s v r t → Says s v a q t → ReferToAll s w is (replaced_each q (arguments_of t))
+  pub arguments_expanded : (w : TermsView) (is : List ℕ) → ExpandsAll (both s v) w a rs is → (t : Term) (q : Replacement) → RefersTo s v r t → Says (both s v) a q t → ReferToAll s w is (replaced_each q (arguments_of t))
   arguments_expanded w is h t q refers says = h (arguments_of t) q (refer t refers) (need.argument-says s v a q t (never_let t refers) says)
 
   -- the trees of what the arguments become
@@ -335,7 +336,7 @@ module _ (s : Table) (v : TermsView) (a : List Assigned) (r head : ℕ) (rs : Li
       go (i ∷ is) (u ∷ us) h zero l = record { tree = h.0.tree; stands = h.0.known }
       go (i ∷ is) (u ∷ us) h (suc k) l = go is us h.1 k (omega arith)
 
-  module _ (table : IsTable s) (built : (s : Table) (head : ℕ) (trees : List Tree) (ts : List Term) (t : Term) → StandForAll s trees ts → IsAppliedLeaf s head ts t → StandsFor s (app_tree head trees) t) (one_tree : (s : Table) (a b : Tree) (t : Term) → IsTable s → StandsFor s a t → StandsFor s b t → a ≡ b) (never : (x : Var) → RefersTo s v r (variable x) → ⊥) (w z : TermsView) (is : List ℕ) (expands : ExpandsAll s v w a rs is) where
+  module _ (table : IsTable s) (built : (s : Table) (head : ℕ) (trees : List Tree) (ts : List Term) (t : Term) → StandForAll s trees ts → IsAppliedLeaf s head ts t → StandsFor s (app_tree head trees) t) (one_tree : (s : Table) (a b : Tree) (t : Term) → IsTable s → StandsFor s a t → StandsFor s b t → a ≡ b) (never : (x : Var) → RefersTo s v r (variable x) → ⊥) (w z : TermsView) (is : List ℕ) (expands : ExpandsAll (both s v) w a rs is) where
     becomes : (t : Term) (q : Replacement) → RefersTo s v r t → IsAppliedLeaf s head (replaced_each q (arguments_of t)) (replaced q t)
     becomes t q refers = becomes_application s q head t (λ x e. never x (subst (λ (u : Term). RefersTo s v r u) e refers)) (application t refers)
 
@@ -344,23 +345,23 @@ module _ (s : Table) (v : TermsView) (a : List Assigned) (r head : ℕ) (rs : Li
         subst (λ (b : Tree). IsPartOf b whole)
         (one_tree s part.tree (app_tree head h.trees) (replaced q t) table part.stands (built s head h.trees (replaced_each q (arguments_of t)) (replaced q t) h.stand (becomes t q refers))) part.part
 
-    pub application_placed : KeepsTerms w z → PlacesAll s v w a rs → ((ts : List Tree) → KnowsAll w.pass is ts → PlacesOnlyIn w.pass z.pass (app_tree head ts)) → PlacesOne s v z a r
+    pub application_placed : KeepsTerms w z → PlacesAll (both s v) w a rs → ((ts : List Tree) → KnowsAll w.pass is ts → PlacesOnlyIn w.pass z.pass (app_tree head ts)) → PlacesOne (both s v) z a r
     application_placed keeps before last t q whole refers says part =
         let h = trees_of w is (replaced_each q (arguments_of t)) (arguments_expanded w is expands t q refers says) in
         placed-then v.pass w.pass z.pass whole keeps.pass (arguments_placed w before t q whole refers says part)
         (placed-larger w.pass z.pass (app_tree head h.trees) whole (part_is t q whole refers h part) (last h.trees h.known))
 
-    pub application_full : ((ts : List Tree) → KnowsAll w.pass is ts → IsFullIn z.pass (app_tree head ts)) → FillsOne s v z a r
+    pub application_full : ((ts : List Tree) → KnowsAll w.pass is ts → IsFullIn z.pass (app_tree head ts)) → FillsOne (both s v) z a r
     application_full last t q whole refers says part =
         let h = trees_of w is (replaced_each q (arguments_of t)) (arguments_expanded w is expands t q refers says) in
         full-larger z.pass (app_tree head h.trees) whole (part_is t q whole refers h part) (last h.trees h.known)
 
-    pub application_is : (i : ℕ) → ((ts : List Term) (t : Term) → ReferToAll s w is ts → IsAppliedLeaf s head ts t → RefersTo s z i t) → ExpandsOne s v z a r i
+    pub application_is : (i : ℕ) → ((ts : List Term) (t : Term) → ReferToAll s w is ts → IsAppliedLeaf s head ts t → RefersTo s z i t) → ExpandsOne (both s v) z a r i
     application_is i made t q refers says =
         made (replaced_each q (arguments_of t)) (replaced q t) (arguments_expanded w is expands t q refers says) (becomes t q refers)
 
 -- lets
-pub let_work : (s : Table) (v : TermsView) (r body : ℕ) (vars values leaves gs ps : List ℕ) (m : Values) → IsTable s → AreOne s v → ((t : Term) → RefersTo s v r t → IsLet t) → ((s : Table) (bs : Bindings) (u : Term) → RefersTo s v r (let_in bs u) → AreBindings s v vars values bs) → ((s : Table) (bs : Bindings) (u : Term) → RefersTo s v r (let_in bs u) → RefersTo s v body u) → HasNeeds s v body leaves → AreValuesOf m vars values → ((ks rs : List ℕ) → AreValuesOf m ks rs → AreValuesGiven leaves ks rs gs ps) → (t : Term) → RefersTo s v r t → IsLetWork s v body gs ps t
+pub let_work : (s : Table) (v : TermsView) (r body : ℕ) (vars values leaves gs ps : List ℕ) (m : Values) → IsTable s → AreOne s v → ((t : Term) → RefersTo s v r t → IsLet t) → ((s : Table) (bs : Bindings) (u : Term) → RefersTo s v r (let_in bs u) → AreBindings s v vars values bs) → ((s : Table) (bs : Bindings) (u : Term) → RefersTo s v r (let_in bs u) → RefersTo s v body u) → HasNeeds (both s v) body leaves → AreValuesOf m vars values → ((ks rs : List ℕ) → AreValuesOf m ks rs → AreValuesGiven leaves ks rs gs ps) → (t : Term) → RefersTo s v r t → IsLetWork (both s v) body gs ps t
 let_work s v r body vars values leaves gs ps m table one is_let bindings bodies needs by_leaves given t refers =
     let (bs, u, e) = let_is t (is_let t refers) in
     let let_refers : RefersTo s v r (let_in bs u) = subst (λ (x : Term). RefersTo s v r x) e refers in
@@ -382,55 +383,55 @@ let_work s v r body vars values leaves gs ps m table one is_let bindings bodies 
       given = is_given;
     }
 
-pub let_work_from : (s : Table) (v w x : TermsView) (r body : ℕ) (own_vars own_values vars values inside leaves gs ps : List ℕ) (m : Values) → IsTable s → w ≡ v → x ≡ w → AreOne s x → ((t : Term) → RefersTo s v r t → IsLet t) → ((s : Table) (bs : Bindings) (u : Term) → RefersTo s v r (let_in bs u) → AreBindings s v own_vars own_values bs) → ((s : Table) (bs : Bindings) (u : Term) → RefersTo s v r (let_in bs u) → RefersTo s v body u) → HasNeeds s w body inside → vars ≡ own_vars → values ≡ own_values → leaves ≡ inside → AreValuesOf m vars values → ((ks rs : List ℕ) → AreValuesOf m ks rs → AreValuesGiven leaves ks rs gs ps) → (t : Term) → RefersTo s v r t → IsLetWork s v body gs ps t
+pub let_work_from : (s : Table) (v w x : TermsView) (r body : ℕ) (own_vars own_values vars values inside leaves gs ps : List ℕ) (m : Values) → IsTable s → w ≡ v → x ≡ w → AreOne s x → ((t : Term) → RefersTo s v r t → IsLet t) → ((s : Table) (bs : Bindings) (u : Term) → RefersTo s v r (let_in bs u) → AreBindings s v own_vars own_values bs) → ((s : Table) (bs : Bindings) (u : Term) → RefersTo s v r (let_in bs u) → RefersTo s v body u) → HasNeeds (both s w) body inside → vars ≡ own_vars → values ≡ own_values → leaves ≡ inside → AreValuesOf m vars values → ((ks rs : List ℕ) → AreValuesOf m ks rs → AreValuesGiven leaves ks rs gs ps) → (t : Term) → RefersTo s v r t → IsLetWork (both s v) body gs ps t
 let_work_from s v w x r body own_vars own_values vars values inside leaves gs ps m table e f one is_let bindings bodies needs same_vars same_values same_leaves by_leaves given =
     let_work s v r body vars values leaves gs ps m table (one_moved s v x (f ∙ e) one) is_let
     (λ z bs u refers. subst (λ (ks : List ℕ). AreBindings z v ks values bs) (sym same_vars) (subst (λ (rs : List ℕ). AreBindings z v own_vars rs bs) (sym same_values) (bindings z bs u refers)))
     bodies (needs_back s v w body inside leaves e same_leaves needs) by_leaves given
 
-module _ (s : Table) (v : TermsView) (a : List Assigned) (r body : ℕ) (gs ps : List ℕ) (table : IsTable s) (work : (t : Term) → RefersTo s v r t → IsLetWork s v body gs ps t) where
-  terms_of : (t : Term) (w : IsLetWork s v body gs ps t) → HasGivenTerms s v w.bindings w.inner gs ps
+module _ (s : Table) (v : TermsView) (a : List Assigned) (r body : ℕ) (gs ps : List ℕ) (table : IsTable s) (work : (t : Term) → RefersTo s v r t → IsLetWork (both s v) body gs ps t) where
+  terms_of : (t : Term) (w : IsLetWork (both s v) body gs ps t) → HasGivenTerms s v w.bindings w.inner gs ps
   terms_of t w =
       need.given-terms s v table w.vars w.values w.bindings w.inner w.bound w.leaves (need.leaves-needed s w.leaves w.inner w.needed) gs ps w.given.are
 
-  says_let : (t : Term) (q : Replacement) (w : IsLetWork s v body gs ps t) → Says s v a q t → Says s v a q (let_in w.bindings w.inner)
-  says_let t q w says = subst (λ (x : Term). Says s v a q x) w.is says
+  says_let : (t : Term) (q : Replacement) (w : IsLetWork (both s v) body gs ps t) → Says (both s v) a q t → Says (both s v) a q (let_in w.bindings w.inner)
+  says_let t q w says = subst (λ (x : Term). Says (both s v) a q x) w.is says
 
-  pub values_said : IsSaid s v a r → AreSaid s v a ps
+  pub values_said : IsSaid (both s v) a r → AreSaid (both s v) a ps
   values_said h =
       let w = work h.means h.refers in
       let g = terms_of h.means w in
       record {
         means = g.means;
-        refer = need.given-refer s v w.bindings w.inner gs ps g.means g.are;
+        refer = g.refer;
         puts = h.puts;
-        says = need.given-says s v v w.bindings w.inner gs ps g.means a h.puts g.are (says_let h.means h.puts w h.says);
+        says = need.given-says s v w.bindings w.inner gs g.means a h.puts g.are (says_let h.means h.puts w h.says);
       }
 
-  pub values_placed : (z : TermsView) → PlacesAll s v z a ps → PlacesOne s v z a r
+  pub values_placed : (z : TermsView) → PlacesAll (both s v) z a ps → PlacesOne (both s v) z a r
   values_placed z h t q whole refers says part =
       let w = work t refers in
       let g = terms_of t w in
-      h g.means q whole (need.given-refer s v w.bindings w.inner gs ps g.means g.are)
-      (need.given-says s v v w.bindings w.inner gs ps g.means a q g.are (says_let t q w says))
-      (need.given-parts s v w.bindings w.inner gs ps g.means q whole g.are (subst (λ (x : Term). HasPart s whole (replaced q x)) w.is part))
+      h g.means q whole g.refer
+      (need.given-says s v w.bindings w.inner gs g.means a q g.are (says_let t q w says))
+      (need.given-parts s w.bindings w.inner gs g.means q whole g.are (subst (λ (x : Term). HasPart s whole (replaced q x)) w.is part))
 
-  pub values_full : (z : TermsView) → FillsAll s v z a ps → FillsOne s v z a r
+  pub values_full : (z : TermsView) → FillsAll (both s v) z a ps → FillsOne (both s v) z a r
   values_full z h t q whole refers says part =
       let w = work t refers in
       let g = terms_of t w in
-      h g.means q whole (need.given-refer s v w.bindings w.inner gs ps g.means g.are)
-      (need.given-says s v v w.bindings w.inner gs ps g.means a q g.are (says_let t q w says))
-      (need.given-parts s v w.bindings w.inner gs ps g.means q whole g.are (subst (λ (x : Term). HasPart s whole (replaced q x)) w.is part))
+      h g.means q whole g.refer
+      (need.given-says s v w.bindings w.inner gs g.means a q g.are (says_let t q w says))
+      (need.given-parts s w.bindings w.inner gs g.means q whole g.are (subst (λ (x : Term). HasPart s whole (replaced q x)) w.is part))
 
-  module _ (z : TermsView) (keeps : KeepsTerms v z) (is : List ℕ) (expands : ExpandsAll s v z a ps is) where
-    body_says : (t : Term) (q : Replacement) → (w : IsLetWork s v body gs ps t) → Says s v a q t → Says s z (assigned_all gs is a) (replaced_bindings q w.bindings ++ q) w.inner
+  module _ (z : TermsView) (keeps : KeepsTerms v z) (is : List ℕ) (expands : ExpandsAll (both s v) z a ps is) where
+    body_says : (t : Term) (q : Replacement) → (w : IsLetWork (both s v) body gs ps t) → Says (both s v) a q t → Says (both s z) (assigned_all gs is a) (replaced_bindings q w.bindings ++ q) w.inner
     body_says t q w says =
         let g = terms_of t w in
         need.inside-says s v z table (refers-grow s v z keeps) w.vars w.values w.bindings w.inner w.bound w.leaves w.needed gs ps w.given g.means g.are is a q (says_let t q w says)
-        (expands g.means q (need.given-refer s v w.bindings w.inner gs ps g.means g.are) (need.given-says s v v w.bindings w.inner gs ps g.means a q g.are (says_let t q w says)))
+        (expands g.means q g.refer (need.given-says s v w.bindings w.inner gs g.means a q g.are (says_let t q w says)))
 
-    pub body_said : IsSaid s v a r → IsSaid s z (assigned_all gs is a) body
+    pub body_said : IsSaid (both s v) a r → IsSaid (both s z) (assigned_all gs is a) body
     body_said h =
         let w = work h.means h.refers in
         record {
@@ -440,23 +441,23 @@ module _ (s : Table) (v : TermsView) (a : List Assigned) (r body : ℕ) (gs ps :
           says = body_says h.means h.puts w h.says;
         }
 
-    let_becomes : (t : Term) (q : Replacement) (w : IsLetWork s v body gs ps t) → replaced q t ≡ replaced (replaced_bindings q w.bindings ++ q) w.inner
+    let_becomes : (t : Term) (q : Replacement) (w : IsLetWork (both s v) body gs ps t) → replaced q t ≡ replaced (replaced_bindings q w.bindings ++ q) w.inner
     unfolding replaced
     let_becomes t q w = ap (replaced q) w.is
 
-    pub let_expanded : (y : TermsView) (i : ℕ) → ExpandsOne s z y (assigned_all gs is a) body i → ExpandsOne s v y a r i
+    pub let_expanded : (y : TermsView) (i : ℕ) → ExpandsOne (both s z) y (assigned_all gs is a) body i → ExpandsOne (both s v) y a r i
     let_expanded y i h t q refers says =
         let w = work t refers in
         subst (λ (x : Term). RefersTo s y i x) (sym (let_becomes t q w))
         (h w.inner (replaced_bindings q w.bindings ++ q) (refers-grow s v z keeps body w.inner w.inside) (body_says t q w says))
 
-    pub let_placed : (y : TermsView) → KeepsTerms z y → PlacesAll s v z a ps → PlacesOne s z y (assigned_all gs is a) body → PlacesOne s v y a r
+    pub let_placed : (y : TermsView) → KeepsTerms z y → PlacesAll (both s v) z a ps → PlacesOne (both s z) y (assigned_all gs is a) body → PlacesOne (both s v) y a r
     let_placed y later before last t q whole refers says part =
         let w = work t refers in
         placed-then v.pass z.pass y.pass whole later.pass (values_placed z before t q whole refers says part)
         (last w.inner (replaced_bindings q w.bindings ++ q) whole (refers-grow s v z keeps body w.inner w.inside) (body_says t q w says) (subst (λ (x : Term). HasPart s whole x) (let_becomes t q w) part))
 
-    pub let_full : (y : TermsView) → FillsOne s z y (assigned_all gs is a) body → FillsOne s v y a r
+    pub let_full : (y : TermsView) → FillsOne (both s z) y (assigned_all gs is a) body → FillsOne (both s v) y a r
     let_full y last t q whole refers says part =
         let w = work t refers in
         last w.inner (replaced_bindings q w.bindings ++ q) whole (refers-grow s v z keeps body w.inner w.inside) (body_says t q w says) (subst (λ (x : Term). HasPart s whole x) (let_becomes t q w) part)

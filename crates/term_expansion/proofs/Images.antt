@@ -22,6 +22,7 @@ use Rattle.problem_text.specs.TypedTerms.{Typed}
 use Rattle.term_expansion.specs.Values.{IsValue, PutsIn, IsReplacement}
 use Rattle.term_expansion.specs.declared.values.Bound.{Bound}
 use Rattle.term_expansion.specs.declared.values.Value.{Value}
+use Rattle.term_expansion.specs.SymbolsAndTerms.{both}
 
 -- a term is no higher than its tree allows
 mutual
@@ -117,19 +118,19 @@ puts_more s table n p x t q f leaf_is piece h = record { variables = vars; other
     rest k l g never = stays k l g never (eqb k n) (eqb_tells k n)
 
 -- one variable more
-abbrev pub piece_in : (s : Table) (v : TermsView) (b : Bound) (x : Var) (t : Term) → PutsIn s v b x t → Piece
+abbrev pub piece_in : (s : Table) (v : TermsView) (b : Bound) (x : Var) (t : Term) → PutsIn (both s v) b x t → Piece
 piece_in s v b x t h = record { tree = h.value.refers.tree; height = b.value.height; highest = 0; plain = b.value.plain }
 
-piece_in-is : (s : Table) (v : TermsView) (b : Bound) (x : Var) (t : Term) → (h : PutsIn s v b x t) → IsPieceOf s (piece_in s v b x t h) t
+piece_in-is : (s : Table) (v : TermsView) (b : Bound) (x : Var) (t : Term) → (h : PutsIn (both s v) b x t) → IsPieceOf s (piece_in s v b x t h) t
 piece_in-is s v b x t h = record { stands = h.value.refers.stands; height = h.value.high; plain = h.value.plain }
 
-piece_in-within : (s : Table) (v : TermsView) (b : Bound) (x : Var) (t : Term) → (h : PutsIn s v b x t) → IsLowPiece (piece_in s v b x t h)
+piece_in-within : (s : Table) (v : TermsView) (b : Bound) (x : Var) (t : Term) → (h : PutsIn (both s v) b x t) → IsLowPiece (piece_in s v b x t h)
 piece_in-within s v b x t h =
     let d = height-depth s t h.value.refers.tree h.value.refers.stands in
     let e = h.value.high in
     record { height = omega arith; highest = omega arith }
 
-pub put_for : (s : Table) (v : TermsView) → IsTable s → (bs : List Bound) (q : Replacement) → IsReplacement s v bs q → (f : ℕ → Piece) × PutsFor s q f
+pub put_for : (s : Table) (v : TermsView) → IsTable s → (bs : List Bound) (q : Replacement) → IsReplacement (both s v) bs q → (f : ℕ → Piece) × PutsFor s q f
 put_for s v table [] [] h = (staying, puts_start s)
 put_for s v table [] (c ∷ q) h = absurd h
 put_for s v table (b ∷ bs) [] h = absurd h
@@ -145,7 +146,7 @@ image_at p k o o2 x y e f h = rw (e, f) h
 none_at : (images : CellImages) (k : ℕ) → images.entries ≡ [] → get nat_eq images k ≡ None
 none_at images k e = rw e
 
-pub images_start : (s : Table) (v : TermsView) (images : CellImages) (bs : List Bound) (q : Replacement) → images.entries ≡ [] → length bs ≡ 0 → IsReplacement s v bs q → ArePutFor s v images q
+pub images_start : (s : Table) (v : TermsView) (images : CellImages) (bs : List Bound) (q : Replacement) → images.entries ≡ [] → length bs ≡ 0 → IsReplacement (both s v) bs q → ArePutFor (both s v) images q
 images_start s v images [] [] e z h = record {
   pieces = staying;
   puts = puts_start s;
@@ -154,7 +155,7 @@ images_start s v images [] [] e z h = record {
 images_start s v images [] (c ∷ q) e z h = absurd h
 images_start s v images (b ∷ bs) q e z h = absurd (omega arith)
 
-pub images_more : (s : Table) (v : TermsView) → IsTable s → (old new : CellImages) (b : Bound) (bs : List Bound) → get nat_eq new b.variable ≡ Some (record { term = b.value.term; height = b.value.height; highest = 0; plain = b.value.plain }) → ((k : ℕ) → k ≢ b.variable → get nat_eq new k ≡ get nat_eq old k) → ((q : Replacement) → IsReplacement s v bs q → ArePutFor s v old q) → (q : Replacement) → IsReplacement s v (b ∷ bs) q → ArePutFor s v new q
+pub images_more : (s : Table) (v : TermsView) → IsTable s → (old new : CellImages) (b : Bound) (bs : List Bound) → get nat_eq new b.variable ≡ Some (record { term = b.value.term; height = b.value.height; highest = 0; plain = b.value.plain }) → ((k : ℕ) → k ≢ b.variable → get nat_eq new k ≡ get nat_eq old k) → ((q : Replacement) → IsReplacement (both s v) bs q → ArePutFor (both s v) old q) → (q : Replacement) → IsReplacement (both s v) (b ∷ bs) q → ArePutFor (both s v) new q
 images_more s v table old new b bs here others before [] h = absurd h
 images_more s v table old new b bs here others before (c ∷ q) h =
     let was = before q h.1 in
@@ -271,27 +272,27 @@ mutual
   replaced_all-none no_terms h = refl
   replaced_all-none (term t ts) h = let e = replaced-none t h.0 in let f = replaced_all-none ts h.1 in cc
 
-pub empty_value : (s : Table) (v : TermsView) (bs : List Bound) (c : Value) → length bs ≡ 0 → c.plain ≡ true → (t : Typed) (q : Replacement) → IsValue s v c t → IsReplacement s v bs q → IsValue s v c (record { tree = replaced q t.tree; sort = t.sort })
+pub empty_value : (s : Table) (v : TermsView) (bs : List Bound) (c : Value) → length bs ≡ 0 → c.plain ≡ true → (t : Typed) (q : Replacement) → IsValue (both s v) c t → IsReplacement (both s v) bs q → IsValue (both s v) c (record { tree = replaced q t.tree; sort = t.sort })
 empty_value s v [] c z p t [] h k =
     let e = replaced-none t.tree (h.plain p) in
-    subst (λ (u : Term). IsValue s v c (record { tree = u; sort = t.sort })) (sym e) (record { refers = h.refers; sort = h.sort; high = h.high; plain = h.plain })
+    subst (λ (u : Term). IsValue (both s v) c (record { tree = u; sort = t.sort })) (sym e) (record { refers = h.refers; sort = h.sort; high = h.high; plain = h.plain })
 empty_value s v [] c z p t (x ∷ q) h k = absurd k
 empty_value s v (b ∷ bs) c z p t q h k = absurd (omega arith)
 
-pub places_nothing : (s : Table) (v w : TermsView) → IsTable s → (bs : List Bound) (c : Value) → w.pass.placed ≡ v.pass.placed → c.plain ≡ true → (t : Typed) (q : Replacement) → IsValue s v c t → IsReplacement s v bs q → PlacesTerm s v.pass w.pass (replaced q t.tree)
+pub places_nothing : (s : Table) (v w : TermsView) → IsTable s → (bs : List Bound) (c : Value) → w.pass.placed ≡ v.pass.placed → c.plain ≡ true → (t : Typed) (q : Replacement) → IsValue (both s v) c t → IsReplacement (both s v) bs q → PlacesTerm s v.pass w.pass (replaced q t.tree)
 places_nothing s v w table bs c e p t q h k =
     let (f, puts) = put_for s v table bs q k in
     let piece = put_term s table q f puts t.tree h.refers.tree h.refers.stands (h.plain p) in
     record { tree = (put f h.refers.tree).tree; stands = piece.stands; placed = λ r a b g. inl (rw e at g) }
 
-pub some_images : (s : Table) (v : TermsView) → IsTable s → (bs : List Bound) (images : CellImages) → ((s : Table) (v : TermsView) (q : Replacement) → IsTable s → IsReplacement s v bs q → ArePutFor s v images q) → IsSomeReplacement s v bs → HasPieceImages v.pass images
+pub some_images : (s : Table) (v : TermsView) → IsTable s → (bs : List Bound) (images : CellImages) → ((s : Table) (v : TermsView) (q : Replacement) → IsTable s → IsReplacement (both s v) bs q → ArePutFor (both s v) images q) → IsSomeReplacement (both s v) bs → HasPieceImages v.pass images
 some_images s v table bs images put_in h =
     let r = put_in s v h.means table h.is in record { pieces = r.pieces; are = r.are }
 
-pub value_known : (s : Table) (v : TermsView) (c : Value) → IsSomeValue s v c → IsKnown v.pass c.term
+pub value_known : (s : Table) (v : TermsView) (c : Value) → IsSomeValue (both s v) c → IsKnown v.pass c.term
 value_known s v c h = record { tree = h.is.refers.tree; stands = h.is.refers.known }
 
-pub image_value : (s : Table) (v w : TermsView) → IsTable s → (bs : List Bound) (images : CellImages) (c d : Value) (i : Image) → ((s : Table) (v : TermsView) (q : Replacement) → IsTable s → IsReplacement s v bs q → ArePutFor s v images q) → ((f : ℕ → Piece) (t : Tree) → ArePiecesOfLeaves v.pass images f → Knows v.pass c.term t → IsImageOfPiece w.pass i (put f t)) → d ≡ record { term = i.term; sort = c.sort; height = i.height; plain = i.plain } → c.plain ≡ true → (t : Typed) (q : Replacement) → IsValue s v c t → IsReplacement s v bs q → IsValue s w d (record { tree = replaced q t.tree; sort = t.sort })
+pub image_value : (s : Table) (v w : TermsView) → IsTable s → (bs : List Bound) (images : CellImages) (c d : Value) (i : Image) → ((s : Table) (v : TermsView) (q : Replacement) → IsTable s → IsReplacement (both s v) bs q → ArePutFor (both s v) images q) → ((f : ℕ → Piece) (t : Tree) → ArePiecesOfLeaves v.pass images f → Knows v.pass c.term t → IsImageOfPiece w.pass i (put f t)) → d ≡ record { term = i.term; sort = c.sort; height = i.height; plain = i.plain } → c.plain ≡ true → (t : Typed) (q : Replacement) → IsValue (both s v) c t → IsReplacement (both s v) bs q → IsValue (both s w) d (record { tree = replaced q t.tree; sort = t.sort })
 image_value s v w table bs images c d i put_in image e p t q h k =
     let r = put_in s v q table k in
     let piece = put_term s table q r.pieces r.puts t.tree h.refers.tree h.refers.stands (h.plain p) in
@@ -303,13 +304,13 @@ image_value s v w table bs images c d i put_in image e p t q h k =
       plain = λ g. piece.plain (sym is.plain ∙ g);
     })
 
-pub image_places : (s : Table) (v w : TermsView) → IsTable s → (bs : List Bound) (images : CellImages) (c : Value) → ((s : Table) (v : TermsView) (q : Replacement) → IsTable s → IsReplacement s v bs q → ArePutFor s v images q) → ((f : ℕ → Piece) → ArePiecesOfLeaves v.pass images f → PlacesPiece v.pass w.pass f c.term) → c.plain ≡ true → (t : Typed) (q : Replacement) → IsValue s v c t → IsReplacement s v bs q → PlacesTerm s v.pass w.pass (replaced q t.tree)
+pub image_places : (s : Table) (v w : TermsView) → IsTable s → (bs : List Bound) (images : CellImages) (c : Value) → ((s : Table) (v : TermsView) (q : Replacement) → IsTable s → IsReplacement (both s v) bs q → ArePutFor (both s v) images q) → ((f : ℕ → Piece) → ArePiecesOfLeaves v.pass images f → PlacesPiece v.pass w.pass f c.term) → c.plain ≡ true → (t : Typed) (q : Replacement) → IsValue (both s v) c t → IsReplacement (both s v) bs q → PlacesTerm s v.pass w.pass (replaced q t.tree)
 image_places s v w table bs images c put_in places p t q h k =
     let r = put_in s v q table k in
     let piece = put_term s table q r.pieces r.puts t.tree h.refers.tree h.refers.stands (h.plain p) in
     record { tree = (put r.pieces h.refers.tree).tree; stands = piece.stands; placed = places r.pieces r.are h.refers.tree h.refers.known }
 
-pub image_lacks : (s : Table) (v w : TermsView) → IsTable s → (bs : List Bound) (images : CellImages) (c : Value) → ((s : Table) (v : TermsView) (q : Replacement) → IsTable s → IsReplacement s v bs q → ArePutFor s v images q) → ((f : ℕ → Piece) → ArePiecesOfLeaves v.pass images f → LacksRoomForPiece v.pass w.pass f c.term) → c.plain ≡ true → (t : Typed) (q : Replacement) → IsValue s v c t → IsReplacement s v bs q → LacksRoomFor s w.pass (replaced q t.tree)
+pub image_lacks : (s : Table) (v w : TermsView) → IsTable s → (bs : List Bound) (images : CellImages) (c : Value) → ((s : Table) (v : TermsView) (q : Replacement) → IsTable s → IsReplacement (both s v) bs q → ArePutFor (both s v) images q) → ((f : ℕ → Piece) → ArePiecesOfLeaves v.pass images f → LacksRoomForPiece v.pass w.pass f c.term) → c.plain ≡ true → (t : Typed) (q : Replacement) → IsValue (both s v) c t → IsReplacement (both s v) bs q → LacksRoomFor s w.pass (replaced q t.tree)
 image_lacks s v w table bs images c put_in lacks p t q h k =
     let r = put_in s v q table k in
     let piece = put_term s table q r.pieces r.puts t.tree h.refers.tree h.refers.stands (h.plain p) in

@@ -3,10 +3,12 @@ use Rattle.std.proofs.Common.{◌≡◌, ℕ, ◌+◌, ◌<◌, inl, inr, refl, 
 use Rattle.std.specs.HashMap.{get}
 use Rattle.std.proofs.lemmas.List.{take_more, length-append}
 use Rattle.std.proofs.lemmas.List.Elements.{Contains-append_left, Contains-push, Contains-push_cases}
+use Rattle.indexmap.proofs.SetLemmas.{AllZip-push}
 use Rattle.term_expansion.specs.Assigned.{term_of}
 use Rattle.term_expansion.specs.Expanding.{pairs_of, key_of, AreGiven, AreValuesGiven}
 use Rattle.term_expansion.specs.Needs.{value_of, Values, AreValuesOf}
 use Rattle.term_expansion.specs.declared.assignments.Assigned.{Assigned}
+use Rattle.term_expansion.proofs.SetLemmas.{none_in}
 
 -- one pair more
 pairs_of-push : (assigned : List Assigned) (leaves : List ℕ) (k : ℕ) → pairs_of assigned (leaves ++ k ∷ []) ≡ (pairs_of assigned leaves ++ k ∷ []) ++ term_of k assigned ∷ []
@@ -30,18 +32,6 @@ are-more more leaves ks rs [] (p ∷ ps) kept h = absurd h
 are-more more leaves ks rs (g ∷ gs) [] kept h = absurd h
 are-more more leaves ks rs (g ∷ gs) (p ∷ ps) kept h = ((kept g h.0.0, h.0.1), are-more more leaves ks rs gs ps kept h.1)
 
-are-push : (leaves ks rs gs ps : List ℕ) (k r : ℕ) → Contains leaves k → value_of k ks rs ≡ Some r → AreGiven leaves ks rs gs ps → AreGiven leaves ks rs (gs ++ k ∷ []) (ps ++ r ∷ [])
-are-push leaves ks rs [] [] k r here value h = ((here, value), tt)
-are-push leaves ks rs [] (p ∷ ps) k r here value h = absurd h
-are-push leaves ks rs (g ∷ gs) [] k r here value h = absurd h
-are-push leaves ks rs (g ∷ gs) (p ∷ ps) k r here value h = (h.0, are-push leaves ks rs gs ps k r here value h.1)
-
-none_in : (k : ℕ) → Contains {X = ℕ} [] k → ⊥
-none_in k h = let below = h.1 in absurd (omega arith)
-
-some_none : (r : ℕ) → Some r ≡ None → ⊥
-some_none r e = cc
-
 pub given-start : (ks rs gs ps : List ℕ) → gs ≡ [] → ps ≡ [] → AreValuesGiven [] ks rs gs ps
 given-start ks rs gs ps e f =
     subst (λ (xs : List ℕ). AreValuesGiven [] ks rs xs ps) (sym e)
@@ -50,8 +40,7 @@ given-start ks rs gs ps e f =
 
 pub given-found : (leaves ks rs gs ps : List ℕ) (k r : ℕ) → value_of k ks rs ≡ Some r → AreValuesGiven leaves ks rs gs ps → AreValuesGiven (leaves ++ k ∷ []) ks rs (gs ++ k ∷ []) (ps ++ r ∷ [])
 given-found leaves ks rs gs ps k r value h = record {
-  are = are-push (leaves ++ k ∷ []) ks rs gs ps k r (Contains-push leaves k) value
-      (are-more (leaves ++ k ∷ []) leaves ks rs gs ps (λ j c. Contains-append_left leaves (k ∷ []) j c) h.are);
+  are = AllZip-push _ gs ps k r (are-more (leaves ++ k ∷ []) leaves ks rs gs ps (λ j c. Contains-append_left leaves (k ∷ []) j c) h.are) (Contains-push leaves k, value);
   all = λ j i c v. elim (Contains-push_cases leaves k j c) [
     | inl before ↦ Contains-append_left gs (k ∷ []) j (h.all j i before v)
     | inr e ↦ subst (Contains (gs ++ k ∷ [])) e (Contains-push gs k)
@@ -63,7 +52,7 @@ given-missed leaves ks rs gs ps k value h = record {
   are = are-more (leaves ++ k ∷ []) leaves ks rs gs ps (λ j c. Contains-append_left leaves (k ∷ []) j c) h.are;
   all = λ j i c v. elim (Contains-push_cases leaves k j c) [
     | inl before ↦ h.all j i before v
-    | inr e ↦ absurd (some_none i (sym v ∙ ap (λ (n : ℕ). value_of n ks rs) (sym e) ∙ value))
+    | inr e ↦ absurd (let none = sym v ∙ ap (λ (n : ℕ). value_of n ks rs) (sym e) ∙ value in cc)
   ];
 }
 

@@ -1,11 +1,11 @@
 -- What terms need: what is put in for it alone says what they become, and is in what they become.
 use Rattle.std.proofs.Common.{◌≡◌, ◌≢◌, ℕ, ◌<◌, ◌⊎◌, inl, inr, zero, suc, refl, sym, ◌∙◌, ap, subst, arith, List, [], ◌∷◌, ◌++◌, map, length, get_or, Some, None, Option, Bool, true, false, cond, eqb, nat_eq, if◌then◌else◌, Contains}
+use Rattle.std.specs.List.{AllZip}
 use Rattle.std.specs.Cmp.Lexicographic.{pointwise}
 use Rattle.std.proofs.lemmas.Bool.Decides.{eqb_tells, Decides-eqb}
 use Rattle.std.proofs.lemmas.Slice.Eq.{slice_eq-Decides}
 use Rattle.pair_pool.specs.Trees.{Tree, leaf, cell}
 use Rattle.sym_table.specs.Leaf.{Leaf, operator}
-use Rattle.sym_table.specs.Leaf as Leaf
 use Rattle.sym_table.specs.Table.{Table, IsLeaf, IsTable}
 use Rattle.term_model.specs.Terms.{Var, var_eq, Term, numeral, variable, operation, call, let_in, Terms, no_terms, term, list_of, Bindings, no_bindings, binding}
 use Rattle.term_model.proofs.Tests.{var_eq_decides}
@@ -21,6 +21,8 @@ use Rattle.term_expansion.specs.Needs.{IsNeeded, IsNeededAmong, IsNeededFor, val
 use Rattle.rule_model.specs.Replacement.{Replacement, replaced_by, replaced, replaced_all, replaced_bindings}
 use Rattle.term_expansion.specs.declared.assignments.Assigned.{Assigned}
 use Rattle.term_expansion.proofs.Images.{leaf_variable, same_some}
+use Rattle.term_expansion.proofs.LeafLemmas.{one_leaf}
+use Rattle.term_expansion.specs.SymbolsAndTerms.{both}
 
 -- what is put in alike for all that a term needs
 mutual
@@ -123,12 +125,12 @@ argument-parts s q whole (call f ts) plain h =
     subst (HasPartTerms s whole) (arguments-replaced q ts) (application-parts s whole (function_leaf f) (replaced_all q ts) h.tree h.stands h.part)
 argument-parts s q whole (let_in bs u) plain h = absurd (plain tt)
 
-among-says : (s : Table) (v : TermsView) (assigned : List Assigned) (q : Replacement) (ts : Terms) → AreVariables s assigned → ((k : ℕ) (x : Var) → IsLeaf s k (variable_leaf x) → IsNeededAmong x ts → RefersTo s v (term_of k assigned) (replaced_by q x)) → SaysAll s v assigned q (list_of ts)
+among-says : (s : Table) (v : TermsView) (assigned : List Assigned) (q : Replacement) (ts : Terms) → AreVariables s assigned → ((k : ℕ) (x : Var) → IsLeaf s k (variable_leaf x) → IsNeededAmong x ts → RefersTo s v (term_of k assigned) (replaced_by q x)) → SaysAll (both s v) assigned q (list_of ts)
 among-says s v assigned q no_terms vars h = tt
 among-says s v assigned q (term t ts) vars h =
     (record { variables = vars; puts = λ k x g n. h k x g (inl n) }, among-says s v assigned q ts vars (λ k x g n. h k x g (inr n)))
 
-pub argument-says : (s : Table) (v : TermsView) (assigned : List Assigned) (q : Replacement) (t : Term) → (IsLet t → ⊥) → Says s v assigned q t → SaysAll s v assigned q (arguments_of t)
+pub argument-says : (s : Table) (v : TermsView) (assigned : List Assigned) (q : Replacement) (t : Term) → (IsLet t → ⊥) → Says (both s v) assigned q t → SaysAll (both s v) assigned q (arguments_of t)
 argument-says s v assigned q (numeral n) plain h = tt
 argument-says s v assigned q (variable x) plain h = tt
 argument-says s v assigned q (operation op ts) plain h = among-says s v assigned q ts h.variables h.puts
@@ -175,10 +177,6 @@ pairs-same a b r n ls ms e =
 -- leaves of variables
 pub one_variable : (s : Table) (j k : ℕ) (x y : Var) → IsLeaf s j (variable_leaf x) → IsLeaf s k (variable_leaf y) → j ≡ k → x ≡ y
 one_variable s j k x y g h e = let g2 : IsLeaf s k (variable_leaf x) = rw e at g in leaf_variable x y (same_some (sym g2 ∙ h))
-
-pub one_leaf : (s : Table) → IsTable s → (j k : ℕ) (x y : Var) → IsLeaf s j (variable_leaf x) → IsLeaf s k (variable_leaf y) → x ≡ y → j ≡ k
-one_leaf s table j k x y g h e =
-    table.apart j k (variable_leaf x) (variable_leaf y) g h (ap (λ (z : Var). Leaf.kind_of 0 (variable_leaf z)) e) (ap (λ (z : Var). Leaf.name_of (variable_leaf z)) e)
 
 -- the reference stands for what the let gives the variable
 pub record IsBoundValue (s : Table) (v : TermsView) (bs : Bindings) (x : Var) (r : ℕ) : Type 0 where
@@ -255,27 +253,19 @@ unbound-value s v table (j ∷ ks) (i ∷ rs) (binding z t bs) h k x g e =
         let u = rest f in
         record { put = λ q. skipped bs z x t q d ∙ u.put q; needs = inr (d, u.needs) }
 
--- The leaf is that of a variable that the body of the let needs, and the reference stands for the term t that the let
--- gives it.
-pub record IsGivenTerm (s : Table) (v : TermsView) (bs : Bindings) (u : Term) (k r : ℕ) (t : Term) : Type 0 where
+-- the leaf is that of a variable that the body of the let needs, and the let gives it the term t
+pub record IsGivenTerm (s : Table) (bs : Bindings) (u : Term) (k : ℕ) (t : Term) : Type 0 where
   pub variable : Var
   pub leaf : IsLeaf s k (variable_leaf variable)
   pub needed : IsNeeded variable u
-  pub refers : RefersTo s v r t
   pub put : (q : Replacement) → replaced_by (replaced_bindings q bs ++ q) variable ≡ replaced q t
   pub needs : (y : Var) → IsNeeded y t → IsNeededFor y bs variable
 
-abbrev pub AreGivenTerms : Table → TermsView → Bindings → Term → List ℕ → List ℕ → List Term → Type 0
-AreGivenTerms s v bs u [] [] [] = Unit {0}
-AreGivenTerms s v bs u [] [] (t ∷ ts) = ⊥
-AreGivenTerms s v bs u [] (r ∷ rs) ts = ⊥
-AreGivenTerms s v bs u (k ∷ ks) [] ts = ⊥
-AreGivenTerms s v bs u (k ∷ ks) (r ∷ rs) [] = ⊥
-AreGivenTerms s v bs u (k ∷ ks) (r ∷ rs) (t ∷ ts) = IsGivenTerm s v bs u k r t × AreGivenTerms s v bs u ks rs ts
-
+-- the references stand for the terms that the let gives the variables of the leaves
 pub record HasGivenTerms (s : Table) (v : TermsView) (bs : Bindings) (u : Term) (gs ps : List ℕ) : Type 0 where
   pub means : List Term
-  pub are : AreGivenTerms s v bs u gs ps means
+  pub are : AllZip (IsGivenTerm s bs u) gs means
+  pub refer : ReferToAll s v ps means
 
 -- each leaf that was found for the body is that of a variable that it needs
 pub leaves-needed : (s : Table) (leaves : List ℕ) (u : Term) → AddsLeaves s [] leaves (λ x. IsNeeded x u) → (k : ℕ) → Contains leaves k → (x : Var) × IsLeaf s k (variable_leaf x) × IsNeeded x u
@@ -285,7 +275,7 @@ leaves-needed s leaves u adds k c = elim (adds.only k c) [
 ]
 
 pub given-terms : (s : Table) (v : TermsView) → IsTable s → (ks rs : List ℕ) (bs : Bindings) (u : Term) → AreBindings s v ks rs bs → (leaves : List ℕ) → ((k : ℕ) → Contains leaves k → (x : Var) × IsLeaf s k (variable_leaf x) × IsNeeded x u) → (gs ps : List ℕ) → AreGiven leaves ks rs gs ps → HasGivenTerms s v bs u gs ps
-given-terms s v table ks rs bs u h leaves of [] [] are = record { means = []; are = tt }
+given-terms s v table ks rs bs u h leaves of [] [] are = record { means = []; are = tt; refer = tt }
 given-terms s v table ks rs bs u h leaves of [] (p ∷ ps) are = absurd are
 given-terms s v table ks rs bs u h leaves of (g ∷ gs) [] are = absurd are
 given-terms s v table ks rs bs u h leaves of (g ∷ gs) (p ∷ ps) are =
@@ -294,58 +284,45 @@ given-terms s v table ks rs bs u h leaves of (g ∷ gs) (p ∷ ps) are =
     let rest = given-terms s v table ks rs bs u h leaves of gs ps are.1 in
     record {
       means = b.means ∷ rest.means;
-      are = (record { variable = x.0; leaf = x.1; needed = x.2; refers = b.refers; put = b.put; needs = b.needs }, rest.are);
+      are = (record { variable = x.0; leaf = x.1; needed = x.2; put = b.put; needs = b.needs }, rest.are);
+      refer = (b.refers, rest.refer);
     }
 
-pub given-refer : (s : Table) (v : TermsView) (bs : Bindings) (u : Term) (gs ps : List ℕ) (ts : List Term) → AreGivenTerms s v bs u gs ps ts → ReferToAll s v ps ts
-given-refer s v bs u [] [] [] h = tt
-given-refer s v bs u [] [] (t ∷ ts) h = absurd h
-given-refer s v bs u [] (p ∷ ps) ts h = absurd h
-given-refer s v bs u (g ∷ gs) [] ts h = absurd h
-given-refer s v bs u (g ∷ gs) (p ∷ ps) [] h = absurd h
-given-refer s v bs u (g ∷ gs) (p ∷ ps) (t ∷ ts) h = (h.0.refers, given-refer s v bs u gs ps ts h.1)
-
-pub given-says : (s : Table) (v w : TermsView) (bs : Bindings) (u : Term) (gs ps : List ℕ) (ts : List Term) (assigned : List Assigned) (q : Replacement) → AreGivenTerms s v bs u gs ps ts → Says s w assigned q (let_in bs u) → SaysAll s w assigned q ts
-given-says s v w bs u [] [] [] assigned q h says = tt
-given-says s v w bs u [] [] (t ∷ ts) assigned q h says = absurd h
-given-says s v w bs u [] (p ∷ ps) ts assigned q h says = absurd h
-given-says s v w bs u (g ∷ gs) [] ts assigned q h says = absurd h
-given-says s v w bs u (g ∷ gs) (p ∷ ps) [] assigned q h says = absurd h
-given-says s v w bs u (g ∷ gs) (p ∷ ps) (t ∷ ts) assigned q h says =
+pub given-says : (s : Table) (w : TermsView) (bs : Bindings) (u : Term) (gs : List ℕ) (ts : List Term) (assigned : List Assigned) (q : Replacement) → AllZip (IsGivenTerm s bs u) gs ts → Says (both s w) assigned q (let_in bs u) → SaysAll (both s w) assigned q ts
+given-says s w bs u [] [] assigned q h says = tt
+given-says s w bs u [] (t ∷ ts) assigned q h says = absurd h
+given-says s w bs u (g ∷ gs) [] assigned q h says = absurd h
+given-says s w bs u (g ∷ gs) (t ∷ ts) assigned q h says =
     let a = h.0 in (
       record { variables = says.variables; puts = λ k y l n. says.puts k y l (a.variable, a.needed, a.needs y n) },
-      given-says s v w bs u gs ps ts assigned q h.1 says,
+      given-says s w bs u gs ts assigned q h.1 says,
     )
 
-pub given-parts : (s : Table) (v : TermsView) (bs : Bindings) (u : Term) (gs ps : List ℕ) (ts : List Term) (q : Replacement) (whole : Tree) → AreGivenTerms s v bs u gs ps ts → HasPart s whole (replaced q (let_in bs u)) → HasPartTerms s whole (map (replaced q) ts)
+pub given-parts : (s : Table) (bs : Bindings) (u : Term) (gs : List ℕ) (ts : List Term) (q : Replacement) (whole : Tree) → AllZip (IsGivenTerm s bs u) gs ts → HasPart s whole (replaced q (let_in bs u)) → HasPartTerms s whole (map (replaced q) ts)
 unfolding replaced
-given-parts s v bs u [] [] [] q whole h part = tt
-given-parts s v bs u [] [] (t ∷ ts) q whole h part = absurd h
-given-parts s v bs u [] (p ∷ ps) ts q whole h part = absurd h
-given-parts s v bs u (g ∷ gs) [] ts q whole h part = absurd h
-given-parts s v bs u (g ∷ gs) (p ∷ ps) [] q whole h part = absurd h
-given-parts s v bs u (g ∷ gs) (p ∷ ps) (t ∷ ts) q whole h part =
+given-parts s bs u [] [] q whole h part = tt
+given-parts s bs u [] (t ∷ ts) q whole h part = absurd h
+given-parts s bs u (g ∷ gs) [] q whole h part = absurd h
+given-parts s bs u (g ∷ gs) (t ∷ ts) q whole h part =
     let a = h.0 in (
       subst (HasPart s whole) (a.put q) (needed-part s u a.variable (replaced_bindings q bs ++ q) whole a.needed part),
-      given-parts s v bs u gs ps ts q whole h.1 part,
+      given-parts s bs u gs ts q whole h.1 part,
     )
 
 -- the body, with what the values became put in
-inside-variables : (s : Table) (v : TermsView) (bs : Bindings) (u : Term) (gs ps : List ℕ) (ts : List Term) (is : List ℕ) (assigned : List Assigned) → AreGivenTerms s v bs u gs ps ts → AreVariables s assigned → AreVariables s (assigned_all gs is assigned)
-inside-variables s v bs u [] ps ts is assigned h vars = vars
-inside-variables s v bs u (g ∷ gs) ps ts [] assigned h vars = vars
-inside-variables s v bs u (g ∷ gs) [] ts (i ∷ is) assigned h vars = absurd h
-inside-variables s v bs u (g ∷ gs) (p ∷ ps) [] (i ∷ is) assigned h vars = absurd h
-inside-variables s v bs u (g ∷ gs) (p ∷ ps) (t ∷ ts) (i ∷ is) assigned h vars =
-    ((h.0.variable, h.0.leaf), inside-variables s v bs u gs ps ts is assigned h.1 vars)
+inside-variables : (s : Table) (bs : Bindings) (u : Term) (gs : List ℕ) (ts : List Term) (is : List ℕ) (assigned : List Assigned) → AllZip (IsGivenTerm s bs u) gs ts → AreVariables s assigned → AreVariables s (assigned_all gs is assigned)
+inside-variables s bs u [] ts is assigned h vars = vars
+inside-variables s bs u (g ∷ gs) ts [] assigned h vars = vars
+inside-variables s bs u (g ∷ gs) [] (i ∷ is) assigned h vars = absurd h
+inside-variables s bs u (g ∷ gs) (t ∷ ts) (i ∷ is) assigned h vars =
+    ((h.0.variable, h.0.leaf), inside-variables s bs u gs ts is assigned h.1 vars)
 
-inside-puts : (s : Table) (v w : TermsView) (bs : Bindings) (u : Term) (gs ps : List ℕ) (ts : List Term) (is : List ℕ) (assigned : List Assigned) (q : Replacement) (k : ℕ) (x : Var) → IsLeaf s k (variable_leaf x) → AreGivenTerms s v bs u gs ps ts → ReferToAll s w is (map (replaced q) ts) → (¬ Contains gs k → RefersTo s w (term_of k assigned) (replaced_by (replaced_bindings q bs ++ q) x)) → RefersTo s w (term_of k (assigned_all gs is assigned)) (replaced_by (replaced_bindings q bs ++ q) x)
-inside-puts s v w bs u [] ps ts is assigned q k x l h refer rest = rest (λ c. let below = c.1 in absurd (omega arith))
-inside-puts s v w bs u (g ∷ gs) [] ts is assigned q k x l h refer rest = absurd h
-inside-puts s v w bs u (g ∷ gs) (p ∷ ps) [] is assigned q k x l h refer rest = absurd h
-inside-puts s v w bs u (g ∷ gs) (p ∷ ps) (t ∷ ts) [] assigned q k x l h refer rest = absurd refer
-inside-puts s v w bs u (g ∷ gs) (p ∷ ps) (t ∷ ts) (i ∷ is) assigned q k x l h refer rest =
-    go (eqb g k) (eqb_tells g k) (λ d. inside-puts s v w bs u gs ps ts is assigned q k x l h.1 refer.1 (λ n. rest (λ c. elim (contains-cases g gs k c) [ inl e ↦ d e | inr later ↦ n later ])))
+inside-puts : (s : Table) (w : TermsView) (bs : Bindings) (u : Term) (gs : List ℕ) (ts : List Term) (is : List ℕ) (assigned : List Assigned) (q : Replacement) (k : ℕ) (x : Var) → IsLeaf s k (variable_leaf x) → AllZip (IsGivenTerm s bs u) gs ts → ReferToAll s w is (map (replaced q) ts) → (¬ Contains gs k → RefersTo s w (term_of k assigned) (replaced_by (replaced_bindings q bs ++ q) x)) → RefersTo s w (term_of k (assigned_all gs is assigned)) (replaced_by (replaced_bindings q bs ++ q) x)
+inside-puts s w bs u [] ts is assigned q k x l h refer rest = rest (λ c. let below = c.1 in absurd (omega arith))
+inside-puts s w bs u (g ∷ gs) [] is assigned q k x l h refer rest = absurd h
+inside-puts s w bs u (g ∷ gs) (t ∷ ts) [] assigned q k x l h refer rest = absurd refer
+inside-puts s w bs u (g ∷ gs) (t ∷ ts) (i ∷ is) assigned q k x l h refer rest =
+    go (eqb g k) (eqb_tells g k) (λ d. inside-puts s w bs u gs ts is assigned q k x l h.1 refer.1 (λ n. rest (λ c. elim (contains-cases g gs k c) [ inl e ↦ d e | inr later ↦ n later ])))
   where
     go : (b : Bool) → ((b ≡ true) × (g ≡ k)) ⊎ ((b ≡ false) × (g ≢ k)) → (g ≢ k → RefersTo s w (term_of k (assigned_all gs is assigned)) (replaced_by (replaced_bindings q bs ++ q) x)) → RefersTo s w (cond b i (term_of k (assigned_all gs is assigned))) (replaced_by (replaced_bindings q bs ++ q) x)
     go true (inl both) later =
@@ -355,10 +332,10 @@ inside-puts s v w bs u (g ∷ gs) (p ∷ ps) (t ∷ ts) (i ∷ is) assigned q k 
     go false (inl both) later = absurd (true_false (sym both.0))
     go false (inr both) later = later both.1
 
-pub inside-says : (s : Table) (v w : TermsView) → IsTable s → ((r : ℕ) (t : Term) → RefersTo s v r t → RefersTo s w r t) → (ks rs : List ℕ) (bs : Bindings) (u : Term) → AreBindings s v ks rs bs → (leaves : List ℕ) → AddsLeaves s [] leaves (λ x. IsNeeded x u) → (gs ps : List ℕ) → AreValuesGiven leaves ks rs gs ps → (ts : List Term) → AreGivenTerms s v bs u gs ps ts → (is : List ℕ) (assigned : List Assigned) (q : Replacement) → Says s v assigned q (let_in bs u) → ReferToAll s w is (map (replaced q) ts) → Says s w (assigned_all gs is assigned) (replaced_bindings q bs ++ q) u
+pub inside-says : (s : Table) (v w : TermsView) → IsTable s → ((r : ℕ) (t : Term) → RefersTo s v r t → RefersTo s w r t) → (ks rs : List ℕ) (bs : Bindings) (u : Term) → AreBindings s v ks rs bs → (leaves : List ℕ) → AddsLeaves s [] leaves (λ x. IsNeeded x u) → (gs ps : List ℕ) → AreValuesGiven leaves ks rs gs ps → (ts : List Term) → AllZip (IsGivenTerm s bs u) gs ts → (is : List ℕ) (assigned : List Assigned) (q : Replacement) → Says (both s v) assigned q (let_in bs u) → ReferToAll s w is (map (replaced q) ts) → Says (both s w) (assigned_all gs is assigned) (replaced_bindings q bs ++ q) u
 inside-says s v w table grows ks rs bs u h leaves adds gs ps given ts are is assigned q says refer = record {
-  variables = inside-variables s v bs u gs ps ts is assigned are says.variables;
-  puts = λ k x l need. inside-puts s v w bs u gs ps ts is assigned q k x l are refer (λ none. outside k x l need none (value_of k ks rs) refl);
+  variables = inside-variables s bs u gs ts is assigned are says.variables;
+  puts = λ k x l need. inside-puts s w bs u gs ts is assigned q k x l are refer (λ none. outside k x l need none (value_of k ks rs) refl);
 }
   where
     has : (k : ℕ) (x : Var) → IsLeaf s k (variable_leaf x) → IsNeeded x u → Contains leaves k
@@ -381,18 +358,18 @@ refer-grow s v w grows [] (t ∷ ts) h = absurd h
 refer-grow s v w grows (r ∷ rs) [] h = absurd h
 refer-grow s v w grows (r ∷ rs) (t ∷ ts) h = (grows r t h.0, refer-grow s v w grows rs ts h.1)
 
-pub says-grow : (s : Table) (v w : TermsView) → ((r : ℕ) (t : Term) → RefersTo s v r t → RefersTo s w r t) → (assigned : List Assigned) (q : Replacement) (t : Term) → Says s v assigned q t → Says s w assigned q t
+pub says-grow : (s : Table) (v w : TermsView) → ((r : ℕ) (t : Term) → RefersTo s v r t → RefersTo s w r t) → (assigned : List Assigned) (q : Replacement) (t : Term) → Says (both s v) assigned q t → Says (both s w) assigned q t
 says-grow s v w grows assigned q t h = record {
   variables = h.variables;
   puts = λ k x l n. grows (term_of k assigned) (replaced_by q x) (h.puts k x l n);
 }
 
-pub needs-grow : (s : Table) (v w : TermsView) → ((r : ℕ) (t : Term) → RefersTo s v r t → RefersTo s w r t) → (needs : Needs) → AreNeeds s v needs → AreNeeds s w needs
+pub needs-grow : (s : Table) (v w : TermsView) → ((r : ℕ) (t : Term) → RefersTo s v r t → RefersTo s w r t) → (needs : Needs) → AreNeeds (both s v) needs → AreNeeds (both s w) needs
 needs-grow s v w grows needs h = record {
   each = λ r leaves e. let n = h.each r leaves e in record { means = n.means; refers = grows r n.means n.refers; are = n.are };
 }
 
-pub done-grow : (s : Table) (v w : TermsView) → ((r : ℕ) (t : Term) → RefersTo s v r t → RefersTo s w r t) → (done : Done) → AreDone s v done → AreDone s w done
+pub done-grow : (s : Table) (v w : TermsView) → ((r : ℕ) (t : Term) → RefersTo s v r t → RefersTo s w r t) → (done : Done) → AreDone (both s v) done → AreDone (both s w) done
 done-grow s v w grows done h = record {
   each = λ key i e. let b = h.each key i e in record {
     cell = b.cell;

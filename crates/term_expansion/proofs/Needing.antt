@@ -15,6 +15,7 @@ use Rattle.term_expansion.specs.Needs.{IsNeeded, IsNeededAmong, IsNeededFor, IsN
 use Rattle.term_expansion.proofs.LeafLemmas.{adds-same, adds-both, adds-none, added-leaves, swapped, one_variable, one_leaf, is_variable, one-adds, one-more}
 use Rattle.term_expansion.proofs.Images.{drop-at, same_some}
 use Rattle.term_expansion.proofs.SetLemmas.{none_in}
+use Rattle.term_expansion.specs.SymbolsAndTerms.{both}
 
 -- by the top of a term
 pub variable-needs : (s : Table) (k : ℕ) (x : Var) (ts : List Term) (t : Term) (a b : List ℕ) → IsLeaf s k (variable_leaf x) → AddsOne a b k → IsAppliedLeaf s k ts t → AddsLeaves s a b (λ y. IsNeeded y t)
@@ -44,15 +45,15 @@ application-needs s k (let_in bs u) a b never h adds = absurd h
 abbrev pub AreSame : Table → TermsView → Type 0
 AreSame s v = (p q : ℕ) (t u : Term) → RefersTo s v p t → RefersTo s v q u → (p ≡ q) ↔ (t ≡ u)
 
-pub needs-at : (s : Table) (v : TermsView) (r : ℕ) (leaves : List ℕ) (t : Term) → AreSame s v → HasNeeds s v r leaves → RefersTo s v r t → AddsLeaves s [] leaves (λ x. IsNeeded x t)
+pub needs-at : (s : Table) (v : TermsView) (r : ℕ) (leaves : List ℕ) (t : Term) → AreSame s v → HasNeeds (both s v) r leaves → RefersTo s v r t → AddsLeaves s [] leaves (λ x. IsNeeded x t)
 needs-at s v r leaves t one h refers =
     subst (λ (u : Term). AddsLeaves s [] leaves (λ x. IsNeeded x u)) ((one r r h.means t h.refers refers).0 refl) h.are
 
-pub needs-added : (s : Table) (v : TermsView) (r : ℕ) (leaves a b : List ℕ) (t : Term) → AreSame s v → HasNeeds s v r leaves → AddsUnbound leaves [] a b → RefersTo s v r t → AddsLeaves s a b (λ x. IsNeeded x t)
+pub needs-added : (s : Table) (v : TermsView) (r : ℕ) (leaves a b : List ℕ) (t : Term) → AreSame s v → HasNeeds (both s v) r leaves → AddsUnbound leaves [] a b → RefersTo s v r t → AddsLeaves s a b (λ x. IsNeeded x t)
 needs-added s v r leaves a b t one h adds refers = added-leaves s leaves a b _ (needs-at s v r leaves t one h refers) adds
 
 -- what is kept
-pub needs-found : (s : Table) (v : TermsView) (r : ℕ) (old found leaves : List ℕ) → old ≡ [] → leaves ≡ found → IsTerm s v r → ((t : Term) → RefersTo s v r t → AddsLeaves s old found (λ x. IsNeeded x t)) → HasNeeds s v r leaves
+pub needs-found : (s : Table) (v : TermsView) (r : ℕ) (old found leaves : List ℕ) → old ≡ [] → leaves ≡ found → IsTerm s v r → ((t : Term) → RefersTo s v r t → AddsLeaves s old found (λ x. IsNeeded x t)) → HasNeeds (both s v) r leaves
 needs-found s v r old found leaves none same h adds = record {
   means = h.means;
   refers = h.refers;
@@ -61,24 +62,24 @@ needs-found s v r old found leaves none same h adds = record {
       (subst (λ (ls : List ℕ). AddsLeaves s ls found (λ x. IsNeeded x h.means)) none (adds h.means h.refers));
 }
 
-pub needs-more : (s : Table) (v : TermsView) (old new : Needs) (r : ℕ) (leaves : Vec ℕ Global) → ((q : ℕ) → get nat_eq new q ≡ cond (eqb r q) (Some leaves) (get nat_eq old q)) → HasNeeds s v r leaves.items → AreNeeds s v old → AreNeeds s v new
+pub needs-more : (s : Table) (v : TermsView) (old new : Needs) (r : ℕ) (leaves : Vec ℕ Global) → ((q : ℕ) → get nat_eq new q ≡ cond (eqb r q) (Some leaves) (get nat_eq old q)) → HasNeeds (both s v) r leaves.items → AreNeeds (both s v) old → AreNeeds (both s v) new
 needs-more s v old new r leaves updates right h = record {
-  each = one-more (λ q ls. HasNeeds s v q ls.items) old new r leaves updates right h.each;
+  each = one-more (λ q ls. HasNeeds (both s v) q ls.items) old new r leaves updates right h.each;
 }
 
 -- how far a walk over a list has come, from its end
 pub record IsPassed (s : Table) (v now : TermsView) (list : List ℕ) (at : ℕ) (old found : List ℕ) (kept : Needs) : Type 0 where
   pub within : at ≤ length list
   pub same : now ≡ v
-  pub needs : AreNeeds s v kept
+  pub needs : AreNeeds (both s v) kept
   pub adds : (ts : List Term) → ReferToAll s v (drop at list) ts → AddsLeaves s old found (λ x. IsNeededInAny x ts)
 
 -- one term more
-pub passed-next : (s : Table) (v now after : TermsView) (list : List ℕ) (at item : ℕ) (old found found2 : List ℕ) (kept kept2 : Needs) → IsPassed s v now list at old found kept → 0 < at → item ≡ get_or list (at - 1) item → after ≡ now → ((t : Term) → RefersTo s now item t → AddsLeaves s found found2 (λ x. IsNeeded x t)) → AreNeeds s now kept2 → IsPassed s v after list (at - 1) old found2 kept2
+pub passed-next : (s : Table) (v now after : TermsView) (list : List ℕ) (at item : ℕ) (old found found2 : List ℕ) (kept kept2 : Needs) → IsPassed s v now list at old found kept → 0 < at → item ≡ get_or list (at - 1) item → after ≡ now → ((t : Term) → RefersTo s now item t → AddsLeaves s found found2 (λ x. IsNeeded x t)) → AreNeeds (both s now) kept2 → IsPassed s v after list (at - 1) old found2 kept2
 passed-next s v now after list at item old found found2 kept kept2 h above is same adds needs = record {
   within = let within = h.within in omega arith;
   same = same ∙ h.same;
-  needs = subst (λ z. AreNeeds s z kept2) h.same needs;
+  needs = subst (λ z. AreNeeds (both s z) kept2) h.same needs;
   adds = λ ts refer. more ts (subst (λ rs. ReferToAll s v rs ts) (drop-at list at item above h.within is) refer);
 }
   where
@@ -158,13 +159,13 @@ IsNeededThrough s ks bs x = (y : Var) × HasVariable s ks y × IsNeededFor x bs 
 -- how far a walk over the leaves that the body of a let needs has come
 pub record AreThrough (s : Table) (v now : TermsView) (variables values passed old found : List ℕ) (kept : Needs) : Type 0 where
   pub same : now ≡ v
-  pub needs : AreNeeds s v kept
+  pub needs : AreNeeds (both s v) kept
   pub adds : (bs : Bindings) → AreBindings s v variables values bs → AddsLeaves s old found (IsNeededThrough s passed bs)
 
-pub through-none : (s : Table) (v now : TermsView) (variables values old : List ℕ) (kept : Needs) → now ≡ v → AreNeeds s now kept → AreThrough s v now variables values [] old old kept
+pub through-none : (s : Table) (v now : TermsView) (variables values old : List ℕ) (kept : Needs) → now ≡ v → AreNeeds (both s now) kept → AreThrough s v now variables values [] old old kept
 through-none s v now variables values old kept e h = record {
   same = e;
-  needs = subst (λ z. AreNeeds s z kept) e h;
+  needs = subst (λ z. AreNeeds (both s z) kept) e h;
   adds = λ bs are. adds-none s old _ (λ x p. none_in p.1.0 p.1.2);
 }
 
@@ -184,10 +185,10 @@ through-more s passed old found found2 k bs y leaf before adds =
     back x (z, (j, is, c), p) =
         elim (Contains-push_cases passed k j c) [ inl old ↦ inl (z, (j, is, old), p) | inr same ↦ inr (last x z j is p (sym same)) ]
 
-pub through-next : (s : Table) (v now after : TermsView) (variables values passed more old found found2 : List ℕ) (kept kept2 : Needs) (k : ℕ) → AreThrough s v now variables values passed old found kept → more ≡ passed ++ k ∷ [] → (y : Var) × IsLeaf s k (variable_leaf y) → after ≡ now → ((bs : Bindings) (y : Var) → AreBindings s now variables values bs → IsLeaf s k (variable_leaf y) → AddsLeaves s found found2 (λ x. IsNeededFor x bs y)) → AreNeeds s now kept2 → AreThrough s v after variables values more old found2 kept2
+pub through-next : (s : Table) (v now after : TermsView) (variables values passed more old found found2 : List ℕ) (kept kept2 : Needs) (k : ℕ) → AreThrough s v now variables values passed old found kept → more ≡ passed ++ k ∷ [] → (y : Var) × IsLeaf s k (variable_leaf y) → after ≡ now → ((bs : Bindings) (y : Var) → AreBindings s now variables values bs → IsLeaf s k (variable_leaf y) → AddsLeaves s found found2 (λ x. IsNeededFor x bs y)) → AreNeeds (both s now) kept2 → AreThrough s v after variables values more old found2 kept2
 through-next s v now after variables values passed more old found found2 kept kept2 k h e (y, leaf) same adds needs = record {
   same = same ∙ h.same;
-  needs = subst (λ z. AreNeeds s z kept2) h.same needs;
+  needs = subst (λ z. AreNeeds (both s z) kept2) h.same needs;
   adds = λ bs are.
       subst (λ (ls : List ℕ). AddsLeaves s old found2 (IsNeededThrough s ls bs)) (sym e)
       (through-more s passed old found found2 k bs y leaf (h.adds bs are) (adds bs y (subst (λ z. AreBindings s z variables values bs) (sym h.same) are) leaf));
@@ -208,15 +209,15 @@ through-all s leaves old found bs u inside adds = adds-same s old found _ _ ther
     back x (y, n, p) = (y, inside.all y n, p)
 
 -- a leaf that a term needs is that of a variable
-pub needed-variable : (s : Table) (v : TermsView) (r : ℕ) (leaves list : List ℕ) (i : ℕ) → HasNeeds s v r leaves → list ≡ leaves → i < length list → (y : Var) × IsLeaf s (get_or list i 0) (variable_leaf y)
+pub needed-variable : (s : Table) (v : TermsView) (r : ℕ) (leaves list : List ℕ) (i : ℕ) → HasNeeds (both s v) r leaves → list ≡ leaves → i < length list → (y : Var) × IsLeaf s (get_or list i 0) (variable_leaf y)
 needed-variable s v r leaves list i h e l =
     let k = get_or list i 0 in
     let there : Contains leaves k = subst (λ (ls : List ℕ). Contains ls k) e (Contains-get_or list i 0 l) in
     elim (h.are.only k there) [ inl none ↦ absurd (none_in k none) | inr some ↦ (some.0, some.1) ]
 
 -- the same terms
-pub needs_moved : (s : Table) (v w : TermsView) (needs : Needs) → w ≡ v → AreNeeds s v needs → AreNeeds s w needs
-needs_moved s v w needs e h = subst (λ z. AreNeeds s z needs) (sym e) h
+pub needs_moved : (s : Table) (v w : TermsView) (needs : Needs) → w ≡ v → AreNeeds (both s v) needs → AreNeeds (both s w) needs
+needs_moved s v w needs e h = subst (λ z. AreNeeds (both s z) needs) (sym e) h
 
 pub values_moved : (m : Values) (ks js rs qs : List ℕ) → ks ≡ js → rs ≡ qs → AreValuesOf m ks rs → AreValuesOf m js qs
 values_moved m ks js rs qs e f h =

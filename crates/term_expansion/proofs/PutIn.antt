@@ -18,6 +18,7 @@ use Rattle.term_expansion.specs.declared.values.Bound.{Bound}
 use Rattle.term_expansion.specs.declared.values.Value.{Value}
 use Rattle.term_expansion.proofs.NeedLemmas.{part-refl}
 use Rattle.rule_model.proofs.Replacing.{AreLetFree, replaced-let_free}
+use Rattle.term_expansion.specs.SymbolsAndTerms.{both}
 
 -- some tree stands for the term, the arguments or each term of a replacement
 record HasTree (s : Table) (t : Term) : Type 0 where
@@ -86,13 +87,13 @@ mutual
   bindings_trees s (binding x t bs) (cell (leaf k) b) q p h = absurd p.0
   bindings_trees s (binding x t bs) (cell (cell a c) b) q p h = (replaced_tree s t c q p.0.1 h, bindings_trees s bs b q p.1 h)
 
-have_trees : (s : Table) (v : TermsView) (bs : List Bound) (q : Replacement) → IsReplacement s v bs q → HaveTrees s q
+have_trees : (s : Table) (v : TermsView) (bs : List Bound) (q : Replacement) → IsReplacement (both s v) bs q → HaveTrees s q
 have_trees s v [] [] h = tt
 have_trees s v [] (x ∷ q) h = absurd h
 have_trees s v (b ∷ bs) [] h = absurd h
 have_trees s v (b ∷ bs) (x ∷ q) h = (record { tree = h.0.value.refers.tree; stands = h.0.value.refers.stands }, have_trees s v bs q h.1)
 
-pub nothing_placed : (s : Table) (v w : TermsView) (bs : List Bound) (c : Value) → w ≡ v → (t : Typed) (q : Replacement) → IsValue s v c t → IsReplacement s v bs q → PlacesTerm s v.pass w.pass (replaced q t.tree)
+pub nothing_placed : (s : Table) (v w : TermsView) (bs : List Bound) (c : Value) → w ≡ v → (t : Typed) (q : Replacement) → IsValue (both s v) c t → IsReplacement (both s v) bs q → PlacesTerm s v.pass w.pass (replaced q t.tree)
 nothing_placed s v w bs c e t q h k =
     let r = replaced_tree s t.tree h.refers.tree q h.refers.stands (have_trees s v bs q k) in
     subst (λ (x : TermsView). PlacesTerm s v.pass x.pass (replaced q t.tree)) (sym e)
@@ -104,25 +105,25 @@ pub record IsWhole (s : Table) (u : Term) : Type 0 where
   pub stands : StandsFor s tree u
   pub part : HasPart s tree u
 
-pub whole_of : (s : Table) (v : TermsView) (bs : List Bound) (c : Value) (t : Typed) (q : Replacement) → IsValue s v c t → IsReplacement s v bs q → IsWhole s (replaced q t.tree)
+pub whole_of : (s : Table) (v : TermsView) (bs : List Bound) (c : Value) (t : Typed) (q : Replacement) → IsValue (both s v) c t → IsReplacement (both s v) bs q → IsWhole s (replaced q t.tree)
 whole_of s v bs c t q h k =
     let r = replaced_tree s t.tree h.refers.tree q h.refers.stands (have_trees s v bs q k) in
     record { tree = r.tree; stands = r.stands; part = record { tree = r.tree; stands = r.stands; part = part-refl r.tree } }
 
 -- what a replacement puts in, for what a term needs
-pub says_of : (s : Table) (v : TermsView) (a : List Assigned) (q : Replacement) (t : Term) → SaysWhole s v a q → Says s v a q t
+pub says_of : (s : Table) (v : TermsView) (a : List Assigned) (q : Replacement) (t : Term) → SaysWhole (both s v) a q → Says (both s v) a q t
 says_of s v a q t h = record { variables = h.variables; puts = λ k x leaf n. h.puts k x leaf }
 
-pub said_of : (s : Table) (v : TermsView) (a : List Assigned) (bs : List Bound) (c : Value) (t : Typed) (q : Replacement) → IsValue s v c t → SaysWhole s v a q → IsSaid s v a c.term
+pub said_of : (s : Table) (v : TermsView) (a : List Assigned) (bs : List Bound) (c : Value) (t : Typed) (q : Replacement) → IsValue (both s v) c t → SaysWhole (both s v) a q → IsSaid (both s v) a c.term
 said_of s v a bs c t q h k = record { means = t.tree; refers = h.refers; puts = q; says = says_of s v a q t.tree k }
 
-pub put_places : (s : Table) (v w x : TermsView) (a : List Assigned) (bs : List Bound) (c : Value) → x ≡ w → PlacesOne s v w a c.term → ((q : Replacement) → IsReplacement s v bs q → SaysWhole s v a q) → (t : Typed) (q : Replacement) → IsValue s v c t → IsReplacement s v bs q → PlacesTerm s v.pass x.pass (replaced q t.tree)
+pub put_places : (s : Table) (v w x : TermsView) (a : List Assigned) (bs : List Bound) (c : Value) → x ≡ w → PlacesOne (both s v) w a c.term → ((q : Replacement) → IsReplacement (both s v) bs q → SaysWhole (both s v) a q) → (t : Typed) (q : Replacement) → IsValue (both s v) c t → IsReplacement (both s v) bs q → PlacesTerm s v.pass x.pass (replaced q t.tree)
 put_places s v w x a bs c e places says t q h k =
     let whole = whole_of s v bs c t q h k in
     subst (λ (z : TermsView). PlacesTerm s v.pass z.pass (replaced q t.tree)) (sym e)
     (record { tree = whole.tree; stands = whole.stands; placed = places t.tree q whole.tree h.refers (says_of s v a q t.tree (says q k)) whole.part })
 
-pub put_lacks : (s : Table) (v w : TermsView) (a : List Assigned) (bs : List Bound) (c : Value) → FillsOne s v w a c.term → ((q : Replacement) → IsReplacement s v bs q → SaysWhole s v a q) → (t : Typed) (q : Replacement) → IsValue s v c t → IsReplacement s v bs q → LacksRoomFor s w.pass (replaced q t.tree)
+pub put_lacks : (s : Table) (v w : TermsView) (a : List Assigned) (bs : List Bound) (c : Value) → FillsOne (both s v) w a c.term → ((q : Replacement) → IsReplacement (both s v) bs q → SaysWhole (both s v) a q) → (t : Typed) (q : Replacement) → IsValue (both s v) c t → IsReplacement (both s v) bs q → LacksRoomFor s w.pass (replaced q t.tree)
 put_lacks s v w a bs c fills says t q h k =
     let whole = whole_of s v bs c t q h k in
     record { tree = whole.tree; stands = whole.stands; full = fills t.tree q whole.tree h.refers (says_of s v a q t.tree (says q k)) whole.part }
@@ -133,16 +134,16 @@ both_true true true e = (refl, refl)
 both_true true false e = absurd (cc)
 both_true false b e = absurd (cc)
 
-let_free : (s : Table) (v : TermsView) (bs : List Bound) (q : Replacement) → IsReplacement s v bs q → list_all (λ (b : Bound). b.value.plain) bs ≡ true → AreLetFree q
+let_free : (s : Table) (v : TermsView) (bs : List Bound) (q : Replacement) → IsReplacement (both s v) bs q → list_all (λ (b : Bound). b.value.plain) bs ≡ true → AreLetFree q
 let_free s v [] [] h e = tt
 let_free s v [] (x ∷ q) h e = absurd h
 let_free s v (b ∷ bs) [] h e = absurd h
 let_free s v (b ∷ bs) (x ∷ q) h e =
     let both = both_true b.value.plain (list_all (λ (b : Bound). b.value.plain) bs) e in (h.0.value.plain both.0, let_free s v bs q h.1 both.1)
 
-pub put_value : (s : Table) (v x y : TermsView) (bs : List Bound) (c d : Value) → y ≡ x → d.sort ≡ c.sort → d.plain ≡ list_all (λ (b : Bound). b.value.plain) bs → (t : Typed) (q : Replacement) → IsValue s v c t → IsReplacement s v bs q → RefersTo s x d.term (replaced q t.tree) → d.height ≡ height (replaced q t.tree) → IsValue s y d (record { tree = replaced q t.tree; sort = t.sort })
+pub put_value : (s : Table) (v x y : TermsView) (bs : List Bound) (c d : Value) → y ≡ x → d.sort ≡ c.sort → d.plain ≡ list_all (λ (b : Bound). b.value.plain) bs → (t : Typed) (q : Replacement) → IsValue (both s v) c t → IsReplacement (both s v) bs q → RefersTo s x d.term (replaced q t.tree) → d.height ≡ height (replaced q t.tree) → IsValue (both s y) d (record { tree = replaced q t.tree; sort = t.sort })
 put_value s v x y bs c d e sort plain t q h k refers high =
-    subst (λ (z : TermsView). IsValue s z d (record { tree = replaced q t.tree; sort = t.sort })) (sym e)
+    subst (λ (z : TermsView). IsValue (both s z) d (record { tree = replaced q t.tree; sort = t.sort })) (sym e)
     (record {
       refers = refers;
       sort = sort ∙ h.sort;

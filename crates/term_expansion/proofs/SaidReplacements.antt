@@ -15,7 +15,9 @@ use Rattle.rule_model.specs.Replacement.{Replacement, replaced_by}
 use Rattle.term_expansion.specs.Values.{IsReplacement}
 use Rattle.term_expansion.specs.declared.assignments.Assigned.{Assigned}
 use Rattle.term_expansion.specs.declared.values.Bound.{Bound}
-use Rattle.term_expansion.proofs.NeedLemmas.{one_variable, one_leaf}
+use Rattle.term_expansion.proofs.LeafLemmas.{one_leaf}
+use Rattle.term_expansion.proofs.NeedLemmas.{one_variable}
+use Rattle.term_expansion.specs.SymbolsAndTerms.{both}
 
 -- every pass knows a leaf
 pub leaf_known : (pass : PassView) (k : ℕ) → k < 2 ^ 30 → Knows pass k (leaf k)
@@ -28,9 +30,9 @@ itself_refers s v few k x l =
     let within = slice_get_within s.leaves k (variable_leaf x) l in
     record { tree = leaf k; known = leaf_known v.pass k (omega arith); stands = l }
 
-says-none : (s : Table) (v : TermsView) (assigned : List Assigned) (bs : List Bound) (q : Replacement) → length s.leaves ≤ 2 ^ 30 → assigned ≡ [] → bs ≡ [] → IsReplacement s v bs q → SaysWhole s v assigned q
+says-none : (s : Table) (v : TermsView) (assigned : List Assigned) (bs : List Bound) (q : Replacement) → length s.leaves ≤ 2 ^ 30 → assigned ≡ [] → bs ≡ [] → IsReplacement (both s v) bs q → SaysWhole (both s v) assigned q
 says-none s v assigned [] [] few none e h =
-    subst (λ (a : List Assigned). SaysWhole s v a []) (sym none) (record { variables = tt; puts = λ k x l. itself_refers s v few k x l })
+    subst (λ (a : List Assigned). SaysWhole (both s v) a []) (sym none) (record { variables = tt; puts = λ k x l. itself_refers s v few k x l })
 says-none s v assigned [] (x ∷ q) few none e h = absurd h
 says-none s v assigned (b ∷ bs) q few none e h = absurd cc
 
@@ -38,13 +40,13 @@ drop-whole : {X : Type 0} (xs : List X) → drop (length xs) xs ≡ []
 drop-whole [] = refl
 drop-whole (x ∷ xs) = drop-whole xs
 
-pub says-start : (s : Table) (v : TermsView) (assigned : List Assigned) (bs : List Bound) (q : Replacement) → length s.leaves ≤ 2 ^ 30 → assigned ≡ [] → IsReplacement s v (drop (length bs) bs) q → SaysWhole s v assigned q
+pub says-start : (s : Table) (v : TermsView) (assigned : List Assigned) (bs : List Bound) (q : Replacement) → length s.leaves ≤ 2 ^ 30 → assigned ≡ [] → IsReplacement (both s v) (drop (length bs) bs) q → SaysWhole (both s v) assigned q
 says-start s v assigned bs q few none h = says-none s v assigned (drop (length bs) bs) q few none (drop-whole bs) h
 
 true_false : ◌≡◌ {A = Bool} true false → ⊥
 true_false e = cc
 
-says-one : (s : Table) (v : TermsView) → IsTable s → (assigned : List Assigned) (q : Replacement) (a : Assigned) (x : Var) (t : Term) → IsLeaf s a.variable (variable_leaf x) → RefersTo s v a.term t → SaysWhole s v assigned q → SaysWhole s v (a ∷ assigned) ((x, t) ∷ q)
+says-one : (s : Table) (v : TermsView) → IsTable s → (assigned : List Assigned) (q : Replacement) (a : Assigned) (x : Var) (t : Term) → IsLeaf s a.variable (variable_leaf x) → RefersTo s v a.term t → SaysWhole (both s v) assigned q → SaysWhole (both s v) (a ∷ assigned) ((x, t) ∷ q)
 says-one s v table assigned q a x t here refers h = record {
   variables = ((x, here), h.variables);
   puts = λ k y l. go k y l (eqb a.variable k) (var_eq x y) refl (eqb_tells a.variable k);
@@ -59,8 +61,8 @@ says-one s v table assigned q a x t here refers h = record {
     go k y l false true d (inr both) = absurd (both.1 (one_leaf s table a.variable k x y here l ((var_eq_decides x y).0 d)))
     go k y l false false d tells = h.puts k y l
 
-pub says-next : (s : Table) (v : TermsView) → IsTable s → (assigned new : List Assigned) (b : Bound) (bs : List Bound) (outer : Option ℕ) → ((q : Replacement) → IsReplacement s v bs q → SaysWhole s v assigned q) → new ≡ record { variable = b.variable; term = b.value.term; outer = outer } ∷ assigned → (q : Replacement) → IsReplacement s v (b ∷ bs) q → SaysWhole s v new q
+pub says-next : (s : Table) (v : TermsView) → IsTable s → (assigned new : List Assigned) (b : Bound) (bs : List Bound) (outer : Option ℕ) → ((q : Replacement) → IsReplacement (both s v) bs q → SaysWhole (both s v) assigned q) → new ≡ record { variable = b.variable; term = b.value.term; outer = outer } ∷ assigned → (q : Replacement) → IsReplacement (both s v) (b ∷ bs) q → SaysWhole (both s v) new q
 says-next s v table assigned new b bs outer before e [] h = absurd h
 says-next s v table assigned new b bs outer before e (x ∷ q) h =
-    subst (λ (a : List Assigned). SaysWhole s v a (x ∷ q)) (sym e)
+    subst (λ (a : List Assigned). SaysWhole (both s v) a (x ∷ q)) (sym e)
     (says-one s v table assigned q (record { variable = b.variable; term = b.value.term; outer = outer }) x.0 x.1 h.0.leaf h.0.value.refers (before q h.1))

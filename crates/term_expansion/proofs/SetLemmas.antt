@@ -30,13 +30,6 @@ pub added-had : (leaves old new : List ℕ) → AddsUnbound leaves [] old new �
 added-had leaves old new h e k c =
     elim (h.only k c) [ inl before ↦ absurd (none_in k (subst (λ zs. Contains zs k) e before)) | inr is ↦ is.0 ]
 
-pub unbound-start : (leaves bound old : List ℕ) → leaves ≡ [] → AddsUnbound leaves bound old old
-unbound-start leaves bound old e = record {
-  kept = λ k h. h;
-  all = λ k h n. absurd (none_in k (subst (λ zs. Contains zs k) e h));
-  only = λ k h. inl h;
-}
-
 pub unbound-skip : (leaves more bound old new : List ℕ) (x : ℕ) → AddsUnbound leaves bound old new → Contains bound x → more ≡ leaves ++ x ∷ [] → AddsUnbound more bound old new
 unbound-skip leaves more bound old new x h is e = subst (λ zs. AddsUnbound zs bound old new) (sym e) (record { kept = h.kept; all = all; only = only })
   where

@@ -6,22 +6,22 @@ use Rattle.sym_table.specs.Table.{Table}
 use Rattle.term_model.specs.Terms.{Term}
 use Rattle.term_pool.specs.Building.{PlacesOnlyIn, IsFullIn}
 use Rattle.term_pool.specs.StandsFor.{StandsFor}
-use Rattle.term_pool.specs.Views.{TermsView}
 use Rattle.rule_model.specs.Replacement.{Replacement}
 use Rattle.problem_text.specs.TypedTerms.{Typed}
+use Rattle.term_expansion.specs.SymbolsAndTerms.{SymbolsAndTerms}
 use Rattle.term_expansion.specs.Values.{IsValue, IsReplacement}
 use Rattle.term_expansion.specs.declared.values.Bound.{Bound}
 use Rattle.term_expansion.specs.declared.values.Value.{Value}
 
--- by the table the list is some replacement
-pub record IsSomeReplacement (s : Table) (v : TermsView) (bs : List Bound) : Type 0 where
+-- the list is some replacement
+pub record IsSomeReplacement (w : SymbolsAndTerms) (bs : List Bound) : Type 0 where
   pub means : Replacement
-  pub is : IsReplacement s v bs means
+  pub is : IsReplacement w bs means
 
--- by the table the value is some term
-pub record IsSomeValue (s : Table) (v : TermsView) (c : Value) : Type 0 where
+-- the value is some term
+pub record IsSomeValue (w : SymbolsAndTerms) (c : Value) : Type 0 where
   pub means : Typed
-  pub is : IsValue s v c means
+  pub is : IsValue w c means
 
 -- what the new pass placed and the old one had not, are cells of the term
 pub record PlacesTerm (s : Table) (old new : PassView) (t : Term) : Type 0 where

@@ -1,5 +1,6 @@
 pub mod Heights
 pub mod Needs
+pub mod SymbolsAndTerms
 pub mod Values
 pub mod Expanding
 pub mod Images

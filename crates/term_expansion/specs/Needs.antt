@@ -4,10 +4,10 @@ use Rattle.std.specs.HashMap.{HashMap, get}
 use Rattle.std.specs.declared.alloc.Global.{Global}
 use Rattle.std.specs.declared.hash.BuildHasherDefault.{BuildHasherDefault}
 use Rattle.std.specs.declared.hash.FoldHasher.{FoldHasher}
-use Rattle.sym_table.specs.Table.{Table}
 use Rattle.term_model.specs.Terms.{Var, Term, numeral, variable, operation, call, let_in, Terms, no_terms, term, Bindings, no_bindings, binding}
-use Rattle.term_pool.specs.Views.{TermsView, RefersTo}
+use Rattle.term_pool.specs.Views.{RefersTo}
 use Rattle.term_expansion.specs.Free.{AddsLeaves}
+use Rattle.term_expansion.specs.SymbolsAndTerms.{SymbolsAndTerms}
 
 abbrev mutual
   pub IsNeeded : Var → Term → Type 0
@@ -48,10 +48,10 @@ AreValuesOf m ks rs = (k : ℕ) → get nat_eq m k ≡ value_of k ks rs
 abbrev pub Needs : Type 0
 Needs = HashMap ℕ (Vec ℕ Global) (BuildHasherDefault FoldHasher)
 
-pub record HasNeeds (s : Table) (v : TermsView) (r : ℕ) (leaves : List ℕ) : Type 0 where
+pub record HasNeeds (w : SymbolsAndTerms) (r : ℕ) (leaves : List ℕ) : Type 0 where
   pub means : Term
-  pub refers : RefersTo s v r means
-  pub are : AddsLeaves s [] leaves (λ x. IsNeeded x means)
+  pub refers : RefersTo w.symbols w.terms r means
+  pub are : AddsLeaves w.symbols [] leaves (λ x. IsNeeded x means)
 
-pub record AreNeeds (s : Table) (v : TermsView) (needs : Needs) : Type 0 where
-  pub each : (r : ℕ) (leaves : Vec ℕ Global) → get nat_eq needs r ≡ Some leaves → HasNeeds s v r leaves.items
+pub record AreNeeds (w : SymbolsAndTerms) (needs : Needs) : Type 0 where
+  pub each : (r : ℕ) (leaves : Vec ℕ Global) → get nat_eq needs r ≡ Some leaves → HasNeeds w r leaves.items

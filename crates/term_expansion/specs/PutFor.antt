@@ -5,9 +5,9 @@ use Rattle.sym_table.specs.Table.{Table, IsLeaf}
 use Rattle.term_model.specs.Terms.{Var, Term}
 use Rattle.term_pool.specs.Putting.{Piece, staying, CellImages, ArePiecesOfLeaves}
 use Rattle.term_pool.specs.StandsFor.{variable_leaf, StandsFor}
-use Rattle.term_pool.specs.Views.{TermsView}
 use Rattle.rule_model.specs.Replacement.{Replacement, replaced_by, HasNoLet}
 use Rattle.rule_model.specs.Heights.{height}
+use Rattle.term_expansion.specs.SymbolsAndTerms.{SymbolsAndTerms}
 
 -- the piece stands for the term
 pub record IsPieceOf (s : Table) (p : Piece) (t : Term) : Type 0 where
@@ -21,7 +21,7 @@ pub record PutsFor (s : Table) (q : Replacement) (f : ℕ → Piece) : Type 0 wh
   pub others : (k : ℕ) (l : Leaf) → IsLeaf s k l → ((x : Var) → l ≢ variable_leaf x) → f k ≡ staying k
 
 -- the images are what the replacement puts in
-pub record ArePutFor (s : Table) (v : TermsView) (images : CellImages) (q : Replacement) : Type 0 where
+pub record ArePutFor (w : SymbolsAndTerms) (images : CellImages) (q : Replacement) : Type 0 where
   pub pieces : ℕ → Piece
-  pub puts : PutsFor s q pieces
-  pub are : ArePiecesOfLeaves v.pass images pieces
+  pub puts : PutsFor w.symbols q pieces
+  pub are : ArePiecesOfLeaves w.terms.pass images pieces

@@ -14,6 +14,7 @@ ghost use Rattle.term_expansion.specs.Expanding.{IsSaid, AreSaid, ExpandsOne, Pl
 ghost use Rattle.term_expansion.specs.Heights.{IsAtMost};
 ghost use Rattle.term_expansion.specs.Needs.{AreNeeds, AreValuesOf};
 ghost use Rattle.term_expansion.specs.LetWork.{IsLetWork};
+ghost use Rattle.term_expansion.specs.SymbolsAndTerms.{both};
 
 use crate::assignments::{Assignments, assign, number_at, take_back, term_at};
 use crate::needs::{KnownNeeds, needs_of, values_by_leaves};
@@ -37,7 +38,7 @@ pub(crate) struct Expansion {
 impl Expansion {
     /// Nothing is found yet.
     pub(crate) fn new(alloc: Global, assignments: Assignments) -> Expansion
-        ensures expansion { (s : Table) (v : TermsView) → IsExpansion s v result }
+        ensures expansion { (s : Table) (v : TermsView) → IsExpansion (both s v) result }
         ensures assignments { result.assignments ≡ assignments }
     {
         Expansion {
@@ -105,13 +106,13 @@ fn let_work(
     r: Ref,
 ) -> Result<LetWork, Memory>
     requires is_let { (t : Term) → RefersTo symbols.now terms.old r t → IsLet t }
-    requires low { IsAtMost symbols.now terms.old most r }
-    requires needs { AreNeeds symbols.now terms.old needs.old.leaves }
-    ensures work { IfOk result (λ l. (t : Term) → RefersTo symbols.now terms.old r t → IsLetWork symbols.now terms.old l.body l.given.variables.items l.given.values.items t) }
-    ensures body_low { IfOk result (λ l. IsAtMost symbols.now terms.old (most - 1) l.body) }
-    ensures values_low { IfOk result (λ l. All (IsAtMost symbols.now terms.old (most - 1)) l.given.values.items) }
+    requires low { IsAtMost (both symbols.now terms.old) most r }
+    requires needs { AreNeeds (both symbols.now terms.old) needs.old.leaves }
+    ensures work { IfOk result (λ l. (t : Term) → RefersTo symbols.now terms.old r t → IsLetWork (both symbols.now terms.old) l.body l.given.variables.items l.given.values.items t) }
+    ensures body_low { IfOk result (λ l. IsAtMost (both symbols.now terms.old) (most - 1) l.body) }
+    ensures values_low { IfOk result (λ l. All (IsAtMost (both symbols.now terms.old) (most - 1)) l.given.values.items) }
     ensures one_each { IfOk result (λ l. length l.given.variables.items ≡ length l.given.values.items) }
-    ensures needs { OnOk result (AreNeeds symbols.now terms.old needs.new.leaves) }
+    ensures needs { OnOk result (AreNeeds (both symbols.now terms.old) needs.new.leaves) }
     ensures same { terms.new ≡ terms.old }
 {
     let _leaves = symbols.count();
@@ -135,14 +136,14 @@ pub(crate) fn expand(
     most: u64,
     r: Ref,
 ) -> Result<Ref, TermStop>
-    requires low { IsAtMost symbols.now terms.old most r }
-    requires said { IsSaid symbols.now terms.old expansion.old.assignments r }
-    requires expansion { IsExpansion symbols.now terms.old expansion.old }
-    ensures value { IfOk result (λ i. ExpandsOne symbols.now terms.old terms.new expansion.old.assignments r i) }
-    ensures placed { PlacesOne symbols.now terms.old terms.new expansion.old.assignments r }
-    ensures full { IfErr result (λ e. e ≡ TermStop.PoolFull → FillsOne symbols.now terms.old terms.new expansion.old.assignments r) }
+    requires low { IsAtMost (both symbols.now terms.old) most r }
+    requires said { IsSaid (both symbols.now terms.old) expansion.old.assignments r }
+    requires expansion { IsExpansion (both symbols.now terms.old) expansion.old }
+    ensures value { IfOk result (λ i. ExpandsOne (both symbols.now terms.old) terms.new expansion.old.assignments r i) }
+    ensures placed { PlacesOne (both symbols.now terms.old) terms.new expansion.old.assignments r }
+    ensures full { IfErr result (λ e. e ≡ TermStop.PoolFull → FillsOne (both symbols.now terms.old) terms.new expansion.old.assignments r) }
     ensures assignments { OnOk result (expansion.new.assignments ≡ expansion.old.assignments) }
-    ensures expansion { OnOk result (IsExpansion symbols.now terms.new expansion.new) }
+    ensures expansion { OnOk result (IsExpansion (both symbols.now terms.new) expansion.new) }
     ensures keeps { KeepsTerms terms.old terms.new }
 {
     let _leaves = symbols.count();
@@ -173,14 +174,14 @@ fn expand_anew(
     r: Ref,
 ) -> Result<Ref, TermStop>
     requires cell { 2 ^ 30 ≤ r }
-    requires low { IsAtMost symbols.now terms.old most r }
-    requires said { IsSaid symbols.now terms.old expansion.old.assignments r }
-    requires expansion { IsExpansion symbols.now terms.old expansion.old }
-    ensures value { IfOk result (λ i. ExpandsOne symbols.now terms.old terms.new expansion.old.assignments r i) }
-    ensures placed { PlacesOne symbols.now terms.old terms.new expansion.old.assignments r }
-    ensures full { IfErr result (λ e. e ≡ TermStop.PoolFull → FillsOne symbols.now terms.old terms.new expansion.old.assignments r) }
+    requires low { IsAtMost (both symbols.now terms.old) most r }
+    requires said { IsSaid (both symbols.now terms.old) expansion.old.assignments r }
+    requires expansion { IsExpansion (both symbols.now terms.old) expansion.old }
+    ensures value { IfOk result (λ i. ExpandsOne (both symbols.now terms.old) terms.new expansion.old.assignments r i) }
+    ensures placed { PlacesOne (both symbols.now terms.old) terms.new expansion.old.assignments r }
+    ensures full { IfErr result (λ e. e ≡ TermStop.PoolFull → FillsOne (both symbols.now terms.old) terms.new expansion.old.assignments r) }
     ensures assignments { OnOk result (expansion.new.assignments ≡ expansion.old.assignments) }
-    ensures expansion { OnOk result (IsExpansion symbols.now terms.new expansion.new) }
+    ensures expansion { OnOk result (IsExpansion (both symbols.now terms.new) expansion.new) }
     ensures keeps { KeepsTerms terms.old terms.new }
 {
     let _leaves = symbols.count();
@@ -202,14 +203,14 @@ fn expand_application(
 ) -> Result<Ref, TermStop>
     requires no_variable { (x : Var) → RefersTo symbols.now terms.old r (variable x) → ⊥ }
     requires head { (t : Term) → RefersTo symbols.now terms.old r t → IsAppliedLeaf symbols.now head (arguments_of t) t }
-    requires low { IsAtMost symbols.now terms.old most r }
-    requires said { IsSaid symbols.now terms.old expansion.old.assignments r }
-    requires expansion { IsExpansion symbols.now terms.old expansion.old }
-    ensures value { IfOk result (λ i. ExpandsOne symbols.now terms.old terms.new expansion.old.assignments r i) }
-    ensures placed { PlacesOne symbols.now terms.old terms.new expansion.old.assignments r }
-    ensures full { IfErr result (λ e. e ≡ TermStop.PoolFull → FillsOne symbols.now terms.old terms.new expansion.old.assignments r) }
+    requires low { IsAtMost (both symbols.now terms.old) most r }
+    requires said { IsSaid (both symbols.now terms.old) expansion.old.assignments r }
+    requires expansion { IsExpansion (both symbols.now terms.old) expansion.old }
+    ensures value { IfOk result (λ i. ExpandsOne (both symbols.now terms.old) terms.new expansion.old.assignments r i) }
+    ensures placed { PlacesOne (both symbols.now terms.old) terms.new expansion.old.assignments r }
+    ensures full { IfErr result (λ e. e ≡ TermStop.PoolFull → FillsOne (both symbols.now terms.old) terms.new expansion.old.assignments r) }
     ensures assignments { OnOk result (expansion.new.assignments ≡ expansion.old.assignments) }
-    ensures expansion { OnOk result (IsExpansion symbols.now terms.new expansion.new) }
+    ensures expansion { OnOk result (IsExpansion (both symbols.now terms.new) expansion.new) }
     ensures keeps { KeepsTerms terms.old terms.new }
 {
     let _leaves = symbols.count();
@@ -231,14 +232,14 @@ fn expand_let(
     r: Ref,
 ) -> Result<Ref, TermStop>
     requires is_let { (t : Term) → RefersTo symbols.now terms.old r t → IsLet t }
-    requires low { IsAtMost symbols.now terms.old most r }
-    requires said { IsSaid symbols.now terms.old expansion.old.assignments r }
-    requires expansion { IsExpansion symbols.now terms.old expansion.old }
-    ensures value { IfOk result (λ i. ExpandsOne symbols.now terms.old terms.new expansion.old.assignments r i) }
-    ensures placed { PlacesOne symbols.now terms.old terms.new expansion.old.assignments r }
-    ensures full { IfErr result (λ e. e ≡ TermStop.PoolFull → FillsOne symbols.now terms.old terms.new expansion.old.assignments r) }
+    requires low { IsAtMost (both symbols.now terms.old) most r }
+    requires said { IsSaid (both symbols.now terms.old) expansion.old.assignments r }
+    requires expansion { IsExpansion (both symbols.now terms.old) expansion.old }
+    ensures value { IfOk result (λ i. ExpandsOne (both symbols.now terms.old) terms.new expansion.old.assignments r i) }
+    ensures placed { PlacesOne (both symbols.now terms.old) terms.new expansion.old.assignments r }
+    ensures full { IfErr result (λ e. e ≡ TermStop.PoolFull → FillsOne (both symbols.now terms.old) terms.new expansion.old.assignments r) }
     ensures assignments { OnOk result (expansion.new.assignments ≡ expansion.old.assignments) }
-    ensures expansion { OnOk result (IsExpansion symbols.now terms.new expansion.new) }
+    ensures expansion { OnOk result (IsExpansion (both symbols.now terms.new) expansion.new) }
     ensures keeps { KeepsTerms terms.old terms.new }
 {
     let _leaves = symbols.count();
@@ -269,15 +270,15 @@ fn expand_all(
     most: u64,
     list: &[Ref],
 ) -> Result<Vec<Ref>, TermStop>
-    requires low { All (IsAtMost symbols.now terms.old most) list.now }
-    requires said { AreSaid symbols.now terms.old expansion.old.assignments list.now }
-    requires expansion { IsExpansion symbols.now terms.old expansion.old }
-    ensures value { IfOk result (λ all. ExpandsAll symbols.now terms.old terms.new expansion.old.assignments list.now all.items) }
-    ensures placed { PlacesAll symbols.now terms.old terms.new expansion.old.assignments list.now }
-    ensures full { IfErr result (λ e. e ≡ TermStop.PoolFull → FillsAll symbols.now terms.old terms.new expansion.old.assignments list.now) }
+    requires low { All (IsAtMost (both symbols.now terms.old) most) list.now }
+    requires said { AreSaid (both symbols.now terms.old) expansion.old.assignments list.now }
+    requires expansion { IsExpansion (both symbols.now terms.old) expansion.old }
+    ensures value { IfOk result (λ all. ExpandsAll (both symbols.now terms.old) terms.new expansion.old.assignments list.now all.items) }
+    ensures placed { PlacesAll (both symbols.now terms.old) terms.new expansion.old.assignments list.now }
+    ensures full { IfErr result (λ e. e ≡ TermStop.PoolFull → FillsAll (both symbols.now terms.old) terms.new expansion.old.assignments list.now) }
     ensures one_each { IfOk result (λ all. length all.items ≡ length list.now) }
     ensures assignments { OnOk result (expansion.new.assignments ≡ expansion.old.assignments) }
-    ensures expansion { OnOk result (IsExpansion symbols.now terms.new expansion.new) }
+    ensures expansion { OnOk result (IsExpansion (both symbols.now terms.new) expansion.new) }
     ensures keeps { KeepsTerms terms.old terms.new }
 {
     references_stay();

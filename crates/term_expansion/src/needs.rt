@@ -8,6 +8,7 @@ ghost use Rattle.term_pool.specs.Views.{TermsView, RefersTo, ReferToAll};
 ghost use Rattle.term_expansion.specs.Free.{AddsLeaves};
 ghost use Rattle.term_expansion.specs.Heights.{IsAtMost};
 ghost use Rattle.term_expansion.specs.Needs.{IsNeeded, IsNeededInAny, AreValuesOf, HasNeeds, AreNeeds};
+ghost use Rattle.term_expansion.specs.SymbolsAndTerms.{both};
 
 use crate::leaf_sets::{add, add_all};
 use crate::term_parts;
@@ -28,7 +29,7 @@ pub(crate) struct KnownNeeds {
 
 impl KnownNeeds {
     pub(crate) fn new(alloc: Global) -> KnownNeeds
-        ensures { (s : Table) (v : TermsView) → AreNeeds s v result.leaves }
+        ensures { (s : Table) (v : TermsView) → AreNeeds (both s v) result.leaves }
     {
         KnownNeeds {
             alloc,
@@ -59,7 +60,7 @@ pub(crate) fn values_by_leaves(
 /// Keeps what was found of a term, and answers it.
 fn note(needs: &mut KnownNeeds, r: Ref, found: &[u32]) -> Result<Vec<u32>, Memory>
     ensures leaves { IfOk result (λ leaves. leaves.items ≡ found.now) }
-    ensures noted { OnOk result ((s : Table) (v : TermsView) → HasNeeds s v r found.now → AreNeeds s v needs.old.leaves → AreNeeds s v needs.new.leaves) }
+    ensures noted { OnOk result ((s : Table) (v : TermsView) → HasNeeds (both s v) r found.now → AreNeeds (both s v) needs.old.leaves → AreNeeds (both s v) needs.new.leaves) }
 {
     let kept = Vec::from_slice(needs.alloc, found)?;
     let _ = needs.leaves.insert(r.number(), kept)?;
@@ -79,10 +80,10 @@ pub(crate) fn needs_of(
     most: u64,
     r: Ref,
 ) -> Result<Vec<u32>, Memory>
-    requires low { IsAtMost symbols.now terms.old most r }
-    requires needs { AreNeeds symbols.now terms.old needs.old.leaves }
-    ensures leaves { IfOk result (λ leaves. HasNeeds symbols.now terms.old r leaves.items) }
-    ensures needs { OnOk result (AreNeeds symbols.now terms.old needs.new.leaves) }
+    requires low { IsAtMost (both symbols.now terms.old) most r }
+    requires needs { AreNeeds (both symbols.now terms.old) needs.old.leaves }
+    ensures leaves { IfOk result (λ leaves. HasNeeds (both symbols.now terms.old) r leaves.items) }
+    ensures needs { OnOk result (AreNeeds (both symbols.now terms.old) needs.new.leaves) }
     ensures same { terms.new ≡ terms.old }
 {
     if let Some(leaves) = needs.leaves.get(&r.number()) {
@@ -104,10 +105,10 @@ fn needs_anew(
     r: Ref,
     found: &mut IndexSet<u32>,
 ) -> Result<(), Memory>
-    requires low { IsAtMost symbols.now terms.old most r }
-    requires needs { AreNeeds symbols.now terms.old needs.old.leaves }
+    requires low { IsAtMost (both symbols.now terms.old) most r }
+    requires needs { AreNeeds (both symbols.now terms.old) needs.old.leaves }
     ensures adds { OnOk result ((t : Term) → RefersTo symbols.now terms.old r t → AddsLeaves symbols.now found.old.keys found.new.keys (λ x. IsNeeded x t)) }
-    ensures needs { OnOk result (AreNeeds symbols.now terms.old needs.new.leaves) }
+    ensures needs { OnOk result (AreNeeds (both symbols.now terms.old) needs.new.leaves) }
     ensures same { terms.new ≡ terms.old }
 {
     let _leaves = symbols.count();
@@ -131,10 +132,10 @@ fn add_needs_of(
     r: Ref,
     found: &mut IndexSet<u32>,
 ) -> Result<(), Memory>
-    requires low { IsAtMost symbols.now terms.old most r }
-    requires needs { AreNeeds symbols.now terms.old needs.old.leaves }
+    requires low { IsAtMost (both symbols.now terms.old) most r }
+    requires needs { AreNeeds (both symbols.now terms.old) needs.old.leaves }
     ensures adds { OnOk result ((t : Term) → RefersTo symbols.now terms.old r t → AddsLeaves symbols.now found.old.keys found.new.keys (λ x. IsNeeded x t)) }
-    ensures needs { OnOk result (AreNeeds symbols.now terms.old needs.new.leaves) }
+    ensures needs { OnOk result (AreNeeds (both symbols.now terms.old) needs.new.leaves) }
     ensures same { terms.new ≡ terms.old }
 {
     let _leaves = symbols.count();
@@ -153,10 +154,10 @@ fn needs_of_all(
     list: &[Ref],
     found: &mut IndexSet<u32>,
 ) -> Result<(), Memory>
-    requires low { All (IsAtMost symbols.now terms.old most) list.now }
-    requires needs { AreNeeds symbols.now terms.old needs.old.leaves }
+    requires low { All (IsAtMost (both symbols.now terms.old) most) list.now }
+    requires needs { AreNeeds (both symbols.now terms.old) needs.old.leaves }
     ensures adds { OnOk result ((ts : List Term) → ReferToAll symbols.now terms.old list.now ts → AddsLeaves symbols.now found.old.keys found.new.keys (λ x. IsNeededInAny x ts)) }
-    ensures needs { OnOk result (AreNeeds symbols.now terms.old needs.new.leaves) }
+    ensures needs { OnOk result (AreNeeds (both symbols.now terms.old) needs.new.leaves) }
     ensures same { terms.new ≡ terms.old }
 {
     let mut at = list.len();
@@ -178,11 +179,11 @@ fn needs_of_let(
     r: Ref,
     found: &mut IndexSet<u32>,
 ) -> Result<(), Memory>
-    requires low { IsAtMost symbols.now terms.old most r }
+    requires low { IsAtMost (both symbols.now terms.old) most r }
     requires is_let { (t : Term) → RefersTo symbols.now terms.old r t → IsLet t }
-    requires needs { AreNeeds symbols.now terms.old needs.old.leaves }
+    requires needs { AreNeeds (both symbols.now terms.old) needs.old.leaves }
     ensures adds { OnOk result ((t : Term) → RefersTo symbols.now terms.old r t → AddsLeaves symbols.now found.old.keys found.new.keys (λ x. IsNeeded x t)) }
-    ensures needs { OnOk result (AreNeeds symbols.now terms.old needs.new.leaves) }
+    ensures needs { OnOk result (AreNeeds (both symbols.now terms.old) needs.new.leaves) }
     ensures same { terms.new ≡ terms.old }
 {
     let _leaves = symbols.count();

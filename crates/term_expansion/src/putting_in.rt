@@ -9,6 +9,7 @@ ghost use Rattle.term_expansion.specs.Images.{IsSomeReplacement, IsSomeValue, Pl
 ghost use Rattle.rule_model.specs.Replacement.{Replacement, replaced};
 ghost use Rattle.problem_text.specs.TypedTerms.{Typed};
 ghost use Rattle.term_expansion.specs.Values.{IsValue, IsReplacement};
+ghost use Rattle.term_expansion.specs.SymbolsAndTerms.{both};
 
 use crate::assignments::Assignments;
 use crate::expanding::{Expansion, expand};
@@ -41,14 +42,14 @@ pub fn put_in(
     replacement: &[Bound],
     what: Value,
 ) -> Result<Value, TermStop>
-    requires what { IsSomeValue symbols.now terms.old what }
+    requires what { IsSomeValue (both symbols.now terms.old) what }
     requires low { what.height ≤ 2000 }
-    requires replacement { IsSomeReplacement symbols.now terms.old replacement.now }
-    ensures value { (t : Typed) (q : Replacement) → IsValue symbols.now terms.old what t → IsReplacement symbols.now terms.old replacement.now q → IfOk result (λ c. IsValue symbols.now terms.new c (record { tree = replaced q t.tree; sort = t.sort })) }
+    requires replacement { IsSomeReplacement (both symbols.now terms.old) replacement.now }
+    ensures value { (t : Typed) (q : Replacement) → IsValue (both symbols.now terms.old) what t → IsReplacement (both symbols.now terms.old) replacement.now q → IfOk result (λ c. IsValue (both symbols.now terms.new) c (record { tree = replaced q t.tree; sort = t.sort })) }
 
     // It places only cells of its answer, and is refused for want of room for one.
-    ensures placed { (t : Typed) (q : Replacement) → IsValue symbols.now terms.old what t → IsReplacement symbols.now terms.old replacement.now q → PlacesTerm symbols.now terms.old.pass terms.new.pass (replaced q t.tree) }
-    ensures full { (t : Typed) (q : Replacement) → IsValue symbols.now terms.old what t → IsReplacement symbols.now terms.old replacement.now q → IfErr result (λ e. e ≡ TermStop.PoolFull → LacksRoomFor symbols.now terms.new.pass (replaced q t.tree)) }
+    ensures placed { (t : Typed) (q : Replacement) → IsValue (both symbols.now terms.old) what t → IsReplacement (both symbols.now terms.old) replacement.now q → PlacesTerm symbols.now terms.old.pass terms.new.pass (replaced q t.tree) }
+    ensures full { (t : Typed) (q : Replacement) → IsValue (both symbols.now terms.old) what t → IsReplacement (both symbols.now terms.old) replacement.now q → IfErr result (λ e. e ≡ TermStop.PoolFull → LacksRoomFor symbols.now terms.new.pass (replaced q t.tree)) }
     ensures keeps { KeepsTerms terms.old terms.new }
 {
     if what.plain {
@@ -60,8 +61,8 @@ pub fn put_in(
 /// An expansion that puts in what a replacement does, and has gone through nothing yet. Of two terms for one variable the
 /// first counts, so the list is gone through from its end.
 fn begin(alloc: Global, replacement: &[Bound]) -> Result<Expansion, Memory>
-    ensures expansion { IfOk result (λ e. (s : Table) (v : TermsView) → IsExpansion s v e) }
-    ensures says { IfOk result (λ e. (s : Table) (v : TermsView) (q : Replacement) → IsTable s → length s.leaves ≤ 2 ^ 30 → IsReplacement s v replacement.now q → SaysWhole s v e.assignments q) }
+    ensures expansion { IfOk result (λ e. (s : Table) (v : TermsView) → IsExpansion (both s v) e) }
+    ensures says { IfOk result (λ e. (s : Table) (v : TermsView) (q : Replacement) → IsTable s → length s.leaves ≤ 2 ^ 30 → IsReplacement (both s v) replacement.now q → SaysWhole (both s v) e.assignments q) }
 {
     let mut assignments = Assignments::new(alloc);
     let mut at = replacement.len();
@@ -81,11 +82,11 @@ fn put_in_expanded(
     replacement: &[Bound],
     what: Value,
 ) -> Result<Value, TermStop>
-    requires what { IsSomeValue symbols.now terms.old what }
-    requires replacement { IsSomeReplacement symbols.now terms.old replacement.now }
-    ensures value { (t : Typed) (q : Replacement) → IsValue symbols.now terms.old what t → IsReplacement symbols.now terms.old replacement.now q → IfOk result (λ c. IsValue symbols.now terms.new c (record { tree = replaced q t.tree; sort = t.sort })) }
-    ensures placed { (t : Typed) (q : Replacement) → IsValue symbols.now terms.old what t → IsReplacement symbols.now terms.old replacement.now q → PlacesTerm symbols.now terms.old.pass terms.new.pass (replaced q t.tree) }
-    ensures full { (t : Typed) (q : Replacement) → IsValue symbols.now terms.old what t → IsReplacement symbols.now terms.old replacement.now q → IfErr result (λ e. e ≡ TermStop.PoolFull → LacksRoomFor symbols.now terms.new.pass (replaced q t.tree)) }
+    requires what { IsSomeValue (both symbols.now terms.old) what }
+    requires replacement { IsSomeReplacement (both symbols.now terms.old) replacement.now }
+    ensures value { (t : Typed) (q : Replacement) → IsValue (both symbols.now terms.old) what t → IsReplacement (both symbols.now terms.old) replacement.now q → IfOk result (λ c. IsValue (both symbols.now terms.new) c (record { tree = replaced q t.tree; sort = t.sort })) }
+    ensures placed { (t : Typed) (q : Replacement) → IsValue (both symbols.now terms.old) what t → IsReplacement (both symbols.now terms.old) replacement.now q → PlacesTerm symbols.now terms.old.pass terms.new.pass (replaced q t.tree) }
+    ensures full { (t : Typed) (q : Replacement) → IsValue (both symbols.now terms.old) what t → IsReplacement (both symbols.now terms.old) replacement.now q → IfErr result (λ e. e ≡ TermStop.PoolFull → LacksRoomFor symbols.now terms.new.pass (replaced q t.tree)) }
     ensures keeps { KeepsTerms terms.old terms.new }
 {
     let _leaves = symbols.count();

@@ -10,6 +10,7 @@ ghost use Rattle.rule_model.specs.Replacement.{Replacement, replaced};
 ghost use Rattle.problem_text.specs.TypedTerms.{Typed};
 ghost use Rattle.term_expansion.specs.Values.{IsValue, IsReplacement};
 ghost use Rattle.term_pool.specs.declared.stop.TermStop.TheVariants as TermStop;
+ghost use Rattle.term_expansion.specs.SymbolsAndTerms.{both};
 
 use crate::values::{Bound, Value};
 use pair_pool::Memory;
@@ -32,7 +33,7 @@ fn put_image(images: &mut HashMap<u32, Image>, bound: &Bound) -> Result<(), Memo
 /// What a replacement puts in, by leaves. Of two values for one variable the first counts, so the list is gone through
 /// from its end.
 fn images_of(alloc: Global, replacement: &[Bound]) -> Result<HashMap<u32, Image>, Memory>
-    ensures { IfOk result (λ images. (s : Table) (v : TermsView) (q : Replacement) → IsTable s → IsReplacement s v replacement.now q → ArePutFor s v images q) }
+    ensures { IfOk result (λ images. (s : Table) (v : TermsView) (q : Replacement) → IsTable s → IsReplacement (both s v) replacement.now q → ArePutFor (both s v) images q) }
 {
     let mut images = HashMap::new(alloc);
     let mut at = replacement.len();
@@ -55,14 +56,14 @@ pub fn put_in_plain(
     replacement: &[Bound],
     what: Value,
 ) -> Result<Value, TermStop>
-    requires what { IsSomeValue symbols.now terms.old what }
+    requires what { IsSomeValue (both symbols.now terms.old) what }
     requires plain { what.plain ≡ true }
-    requires replacement { IsSomeReplacement symbols.now terms.old replacement.now }
-    ensures value { (t : Typed) (q : Replacement) → IsValue symbols.now terms.old what t → IsReplacement symbols.now terms.old replacement.now q → IfOk result (λ c. IsValue symbols.now terms.new c (record { tree = replaced q t.tree; sort = t.sort })) }
+    requires replacement { IsSomeReplacement (both symbols.now terms.old) replacement.now }
+    ensures value { (t : Typed) (q : Replacement) → IsValue (both symbols.now terms.old) what t → IsReplacement (both symbols.now terms.old) replacement.now q → IfOk result (λ c. IsValue (both symbols.now terms.new) c (record { tree = replaced q t.tree; sort = t.sort })) }
 
     // It places only cells of its answer, and is refused for want of room for one.
-    ensures placed { (t : Typed) (q : Replacement) → IsValue symbols.now terms.old what t → IsReplacement symbols.now terms.old replacement.now q → PlacesTerm symbols.now terms.old.pass terms.new.pass (replaced q t.tree) }
-    ensures full { (t : Typed) (q : Replacement) → IsValue symbols.now terms.old what t → IsReplacement symbols.now terms.old replacement.now q → IfErr result (λ e. e ≡ TermStop.PoolFull → LacksRoomFor symbols.now terms.new.pass (replaced q t.tree)) }
+    ensures placed { (t : Typed) (q : Replacement) → IsValue (both symbols.now terms.old) what t → IsReplacement (both symbols.now terms.old) replacement.now q → PlacesTerm symbols.now terms.old.pass terms.new.pass (replaced q t.tree) }
+    ensures full { (t : Typed) (q : Replacement) → IsValue (both symbols.now terms.old) what t → IsReplacement (both symbols.now terms.old) replacement.now q → IfErr result (λ e. e ≡ TermStop.PoolFull → LacksRoomFor symbols.now terms.new.pass (replaced q t.tree)) }
     ensures keeps { KeepsTerms terms.old terms.new }
 {
     let _leaves = symbols.count();

@@ -18,6 +18,7 @@ use Rattle.problem_text.specs.Scripts.{Macro}
 use Rattle.term_names.specs.Standing.{IsMacroOf, AreLeavesOf}
 use Rattle.term_names.specs.declared.entries.Macro as held
 use Rattle.term_expansion.proofs.Images.{replaced-none}
+use Rattle.term_expansion.specs.SymbolsAndTerms.{both}
 
 -- the leaf of a symbol is that of a term, which the symbol is by itself
 record IsAlone (s : Table) (k : ℕ) (m : Meaning) (o : Option Sort) : Type 0 where
@@ -38,7 +39,7 @@ alone s k m o (inr (op, here, is)) judged =
     subst (λ (n : Meaning). IsAlone s k n o) (sym is)
     (record { term = operation op no_terms; stands = here; high = refl; plain = tt; made = ap (option_map (λ u. record { tree = operation op no_terms; sort = u })) (sym sorted) })
 
-pub symbol_made : (s : Table) (v : TermsView) (k r : ℕ) (m : Meaning) (sort : Sort) → ((pass : PassView) → Knows pass r (leaf k)) → IsSymbolOf s k m → LeafMeets s k (λ l. Some sort ≡ applied_sort l []) → IsMade s v (meaning_applied m []) (Ok (Some (record { term = r; sort = sort; height = 1; plain = true })))
+pub symbol_made : (s : Table) (v : TermsView) (k r : ℕ) (m : Meaning) (sort : Sort) → ((pass : PassView) → Knows pass r (leaf k)) → IsSymbolOf s k m → LeafMeets s k (λ l. Some sort ≡ applied_sort l []) → IsMade (both s v) (meaning_applied m []) (Ok (Some (record { term = r; sort = sort; height = 1; plain = true })))
 symbol_made s v k r m sort known is judged =
     let a = alone s k m (Some sort) is judged in (
       record { tree = a.term; sort = sort },
@@ -69,17 +70,17 @@ takes_some d s [] xs e h below = absurd (omega arith)
 takes_some d s (k ∷ ks) [] e h below = absurd h
 takes_some d s (k ∷ ks) (x ∷ xs) e h below = rw e refl
 
-pub macro_made : (s : Table) (v : TermsView) (h : held.Macro) (m : Meaning) → length h.parameters.items ≡ 0 → IsMacroMeant s v (Some h) m → IsMade s v (meaning_applied m []) (Ok (Some h.body))
+pub macro_made : (s : Table) (v : TermsView) (h : held.Macro) (m : Meaning) → length h.parameters.items ≡ 0 → IsMacroMeant (both s v) (Some h) m → IsMade (both s v) (meaning_applied m []) (Ok (Some h.body))
 macro_made s v h m none (g, d, same, is, meant) = rw (meant, same_Some _ _ same) (made is)
   where
-    made : IsMacroOf s v g d → IsMade s v (meaning_applied (macro d) []) (Ok (Some g.body))
+    made : IsMacroOf (both s v) g d → IsMade (both s v) (meaning_applied (macro d) []) (Ok (Some g.body))
     made is = (
       record { tree = d.body; sort = d.target },
       body_alone d (no_parameters s g.parameters.items d.parameters is.parameters (ap (λ (x : held.Macro). length x.parameters.items) (sym (same_Some _ _ same)) ∙ none)) (is.body.plain is.plain),
       is.body,
     )
 
-pub macro_takes : (s : Table) (v : TermsView) (h : held.Macro) (m : Meaning) → 0 < length h.parameters.items → IsMacroMeant s v (Some h) m → meaning_applied m [] ≡ None
+pub macro_takes : (s : Table) (v : TermsView) (h : held.Macro) (m : Meaning) → 0 < length h.parameters.items → IsMacroMeant (both s v) (Some h) m → meaning_applied m [] ≡ None
 macro_takes s v h m some (g, d, same, is, meant) =
     let some2 : 0 < length g.parameters.items = subst (λ (x : held.Macro). 0 < length x.parameters.items) (same_Some _ _ same) some in
     ap (λ (n : Meaning). meaning_applied n []) meant ∙ takes_some d s g.parameters.items d.parameters refl is.parameters some2

@@ -1,5 +1,5 @@
 -- Symbols applied to values.
-use Rattle.std.proofs.Common.{◌≡◌, ℕ, ◌+◌, ◌<◌, inl, inr, List, [], ◌∷◌, length, length-drop, drop, map, Bool, true, false, ◌&&◌, Option, Some, None, option_map, Result, Ok, Err, All, refl, sym, ◌∙◌, ap, subst, arith, IsSomeAnd, slice_get}
+use Rattle.std.proofs.Common.{◌≡◌, ℕ, ◌+◌, ◌<◌, inl, inr, List, [], ◌∷◌, length, length-drop, drop, map, Bool, true, Option, Some, None, option_map, Result, Ok, Err, All, refl, sym, ◌∙◌, ap, subst, arith, IsSomeAnd, slice_get}
 use Rattle.std.specs.List.{list_all}
 use Rattle.std.proofs.lemmas.List.Elements.{All-cons, All-nil}
 use Rattle.std.proofs.lemmas.Option.{slice_get_within}
@@ -26,58 +26,46 @@ use Rattle.term_expansion.specs.Values.{AreValues}
 use Rattle.term_names.specs.declared.faults.ReadFault.{ReadFault}
 use Rattle.term_expansion.specs.declared.values.Value.{Value}
 use Rattle.term_names.proofs.MadeTerms.{made, full, unchanged}
+use Rattle.term_names.proofs.ScopeNames.{both_true}
 use Rattle.term_names.proofs.ValueLists.{references}
-
-both_true : (a b : Bool) → (a && b) ≡ true → (a ≡ true) × (b ≡ true)
-both_true true true e = (refl, refl)
-both_true true false e = absurd cc
-both_true false b e = absurd cc
+use Rattle.term_expansion.specs.SymbolsAndTerms.{both}
 
 module _ (s : Table) (v : TermsView) where
-  pub values-sorts : (cs : List Value) (ts : List Typed) → AreValues s v cs ts → map (λ c. c.sort) cs ≡ sorts_of ts
-  values-sorts [] [] h = refl
-  values-sorts [] (t ∷ ts) h = absurd h
-  values-sorts (c ∷ cs) [] h = absurd h
-  values-sorts (c ∷ cs) (t ∷ ts) h = let e = h.0.sort in let f = values-sorts cs ts h.1 in cc
-
-  pub values-known : (cs : List Value) (ts : List Typed) → AreValues s v cs ts → All (IsKnown v.pass) (references cs)
-  values-known [] ts h = All-nil (IsKnown v.pass)
-  values-known (c ∷ cs) [] h = absurd h
-  values-known (c ∷ cs) (t ∷ ts) h =
-      All-cons (IsKnown v.pass) c.term (references cs) (record { tree = h.0.refers.tree; stands = h.0.refers.known }) (values-known cs ts h.1)
-
-  values-refer : (cs : List Value) (ts : List Typed) → AreValues s v cs ts → ReferToAll s v (references cs) (map (λ t. t.tree) ts)
-  values-refer [] [] h = tt
-  values-refer [] (t ∷ ts) h = absurd h
-  values-refer (c ∷ cs) [] h = absurd h
-  values-refer (c ∷ cs) (t ∷ ts) h = (h.0.refers, values-refer cs ts h.1)
-
-  -- trees of the values that the pass knows
+  -- the values stand for the terms, and the pass knows trees of them
   record AreTreesOf (cs : List Value) (ts : List Typed) : Type 0 where
     all : List Tree
+    sorts : map (λ c. c.sort) cs ≡ sorts_of ts
+    each : All (IsKnown v.pass) (references cs)
     known : KnowsAll v.pass (references cs) all
     stand : StandForAll s all (map (λ t. t.tree) ts)
+    refer : ReferToAll s v (references cs) (map (λ t. t.tree) ts)
+    high : highest (trees ts) ≡ greatest_height cs
+    plain : list_all (λ c. c.plain) cs ≡ true → HaveNoLet (trees ts)
 
-  values-trees : (cs : List Value) (ts : List Typed) → AreValues s v cs ts → AreTreesOf cs ts
-  values-trees [] [] h = record { all = []; known = tt; stand = tt }
+  values-trees : (cs : List Value) (ts : List Typed) → AreValues (both s v) cs ts → AreTreesOf cs ts
+  unfolding height
+  values-trees [] [] h = record { all = []; sorts = refl; each = All-nil (IsKnown v.pass); known = tt; stand = tt; refer = tt; high = refl; plain = λ e. tt }
   values-trees [] (t ∷ ts) h = absurd h
   values-trees (c ∷ cs) [] h = absurd h
   values-trees (c ∷ cs) (t ∷ ts) h =
+      let is = h.0 in
       let rest = values-trees cs ts h.1 in
-      record { all = h.0.refers.tree ∷ rest.all; known = (h.0.refers.known, rest.known); stand = (h.0.refers.stands, rest.stand) }
+      record {
+        all = is.refers.tree ∷ rest.all;
+        sorts = let e = is.sort in let f = rest.sorts in cc;
+        each = All-cons (IsKnown v.pass) c.term (references cs) (record { tree = is.refers.tree; stands = is.refers.known }) rest.each;
+        known = (is.refers.known, rest.known);
+        stand = (is.refers.stands, rest.stand);
+        refer = (is.refers, rest.refer);
+        high = let e = is.high in let f = rest.high in omega arith;
+        plain = λ e. let parts = both_true c.plain (list_all (λ c. c.plain) cs) e in (is.plain parts.0, rest.plain parts.1);
+      }
 
-  values-highest : (cs : List Value) (ts : List Typed) → AreValues s v cs ts → highest (trees ts) ≡ greatest_height cs
-  unfolding height
-  values-highest [] [] h = refl
-  values-highest [] (t ∷ ts) h = absurd h
-  values-highest (c ∷ cs) [] h = absurd h
-  values-highest (c ∷ cs) (t ∷ ts) h = let high = h.0.high in let rest = values-highest cs ts h.1 in omega arith
+  pub values-sorts : (cs : List Value) (ts : List Typed) → AreValues (both s v) cs ts → map (λ c. c.sort) cs ≡ sorts_of ts
+  values-sorts cs ts h = (values-trees cs ts h).sorts
 
-  values-plain : (cs : List Value) (ts : List Typed) → AreValues s v cs ts → list_all (λ c. c.plain) cs ≡ true → HaveNoLet (trees ts)
-  values-plain cs [] h e = tt
-  values-plain [] (t ∷ ts) h e = absurd h
-  values-plain (c ∷ cs) (t ∷ ts) h e =
-      let parts = both_true c.plain (list_all (λ c. c.plain) cs) e in (h.0.plain parts.0, values-plain cs ts h.1 parts.1)
+  pub values-known : (cs : List Value) (ts : List Typed) → AreValues (both s v) cs ts → All (IsKnown v.pass) (references cs)
+  values-known cs ts h = (values-trees cs ts h).each
 
 list-terms : (ts : List Term) → list_of (terms_of ts) ≡ ts
 list-terms [] = refl
@@ -133,14 +121,14 @@ symbol-refused s k m ts (inr (op, here, e)) h =
     let given = at_leaf s k (leaf.operator op) (λ l. None ≡ applied_sort l (sorts_of ts)) here h in
     rw e (ap (λ o. option_map (λ z. record { tree = operation op (trees ts); sort = z }) o) (sym given))
 
-module _ (s : Table) (old : TermsView) (k : ℕ) (cs : List Value) (m : Meaning) (ts : List Typed) (symbol : IsSymbolOf s k m) (values : AreValues s old cs ts)
+module _ (s : Table) (old : TermsView) (k : ℕ) (cs : List Value) (m : Meaning) (ts : List Typed) (symbol : IsSymbolOf s k m) (values : AreValues (both s old) cs ts)
     (ss : List Sort) (given : ss ≡ map (λ c. c.sort) cs) (o : Option Sort) (meets : LeafMeets s k (λ l. o ≡ applied_sort l ss)) where
   meets-sorts : (w : Option Sort) → o ≡ w → LeafMeets s k (λ l. w ≡ applied_sort l (sorts_of ts))
   meets-sorts w e =
       subst (λ us. LeafMeets s k (λ l. w ≡ applied_sort l us)) (given ∙ values-sorts s old cs ts values)
       (subst (λ z. LeafMeets s k (λ l. z ≡ applied_sort l ss)) e meets)
 
-  pub not-applied : o ≡ None → Makes s old old (meaning_applied m ts) (Ok None)
+  pub not-applied : o ≡ None → Makes old (both s old) (meaning_applied m ts) (Ok None)
   not-applied e = unchanged s old (meaning_applied m ts) (Ok None) (symbol-refused s k m ts symbol (meets-sorts None e))
 
   module _ (new : TermsView) (sort : Sort) (some : o ≡ Some sort)
@@ -152,26 +140,26 @@ module _ (s : Table) (old : TermsView) (k : ℕ) (cs : List Value) (m : Meaning)
         → ((s : Table) (us : List Term) (t : Term) → ReferToAll s old (references cs) us → IsAppliedLeaf s k us t → RefersTo s new r t)
         → ((us : List Tree) → KnowsAll old.pass (references cs) us → Builds old.pass new.pass r (app_tree k us))
         → high ≡ 1 + greatest_height cs → plain ≡ list_all (λ c. c.plain) cs
-        → Makes s old new (meaning_applied m ts) (Ok (Some (record { term = r; sort = sort; height = high; plain = plain })))
+        → Makes old (both s new) (meaning_applied m ts) (Ok (Some (record { term = r; sort = sort; height = high; plain = plain })))
     application-made r high plain term built e f =
         let (t, same, is) = what in
         let known = values-trees s old cs ts values in
-        let highest_is = values-highest s old cs ts values in
+        let highest_is = known.high in
         let whole = is.is.high in
         rw is.expected
         (made s old new t (app_tree k known.all) (record { term = r; sort = sort; height = high; plain = plain })
         (law s k known.all (map (λ u. u.tree) ts) t.tree known.stand is.is.application) (built known.all known.known).placed
         (record {
-          refers = term s (map (λ u. u.tree) ts) t.tree (values-refer s old cs ts values) is.is.application;
+          refers = term s (map (λ u. u.tree) ts) t.tree known.refer is.is.application;
           sort = sym same;
           high = omega arith;
-          plain = λ g. is.is.plain (values-plain s old cs ts values (sym f ∙ g));
+          plain = λ g. is.is.plain (known.plain (sym f ∙ g));
         }))
 
     pub application-full : (result : Result (Option Value) ReadFault)
         → ((us : List Tree) → KnowsAll old.pass (references cs) us → LacksRoom old.pass new.pass (app_tree k us))
         → result ≡ Err ReadFault.PoolFull
-        → Makes s old new (meaning_applied m ts) result
+        → Makes old (both s new) (meaning_applied m ts) result
     application-full result lacks e =
         let (t, same, is) = what in
         let known = values-trees s old cs ts values in
@@ -181,14 +169,14 @@ module _ (s : Table) (old : TermsView) (k : ℕ) (cs : List Value) (m : Meaning)
         no_room.placed no_room.full e)
 
 -- A term takes no arguments.
-pub term-refused : (s : Table) (v : TermsView) (from : ℕ) (cs : List Value) (m : Meaning) (ts : List Typed) → from < length cs → AreValues s v (drop from cs) ts → (t : Typed) × (m ≡ value t) → Makes s v v (meaning_applied m ts) (Ok None)
+pub term-refused : (s : Table) (v : TermsView) (from : ℕ) (cs : List Value) (m : Meaning) (ts : List Typed) → from < length cs → AreValues (both s v) (drop from cs) ts → (t : Typed) × (m ≡ value t) → Makes v (both s v) (meaning_applied m ts) (Ok None)
 unfolding meaning_applied
 term-refused s v from cs m ts below h (t, e) = unchanged s v (meaning_applied m ts) (Ok None) (go (drop from cs) ts some h)
   where
     some : 0 < length (drop from cs)
     some = let count = length-drop {A = Value} from cs in omega arith
 
-    go : (cs : List Value) (ts : List Typed) → 0 < length cs → AreValues s v cs ts → meaning_applied m ts ≡ None
+    go : (cs : List Value) (ts : List Typed) → 0 < length cs → AreValues (both s v) cs ts → meaning_applied m ts ≡ None
     go [] ts n h = absurd (omega arith)
     go (c ∷ cs) [] n h = absurd h
     go (c ∷ cs) (u ∷ ts) n h = ap (λ k. meaning_applied k (u ∷ ts)) e

@@ -5,6 +5,7 @@ use Rattle.std.specs.Prelude.{bytes_eq}
 use Rattle.std.specs.List.{list_all, AllByRecursion}
 use Rattle.std.specs.Option.{option_map_or}
 use Rattle.std.proofs.lemmas.List.{get_or_default}
+use Rattle.indexmap.proofs.SetLemmas.{AllZip-push}
 use Rattle.sym_table.specs.Table.{Table, IsLeaf}
 use Rattle.term_model.proofs.Tests.{sort_eq_decides, var_eq_decides}
 use Rattle.term_model.specs.Terms.{Var, Term, sort_eq, var_eq}
@@ -19,7 +20,9 @@ use Rattle.term_names.specs.Scope.{Scoped}
 use Rattle.term_expansion.specs.Values.{PutsIn, IsReplacement}
 use Rattle.term_expansion.specs.declared.values.Bound as held
 use Rattle.problem_text.proofs.Outcomes.{all_at_end}
-use Rattle.term_names.proofs.ScopeNames.{AreFound, found_in_scope, variable_of_leaf, passes_each}
+use Rattle.term_names.proofs.ScopeNames.{AreFound, found_in_scope, same_variable, passes_each}
+use Rattle.term_expansion.specs.SymbolsAndTerms.{both}
+use Rattle.term_expansion.proofs.LeafLemmas.{one_variable}
 
 -- a variable that is bound stands for what the innermost variable of its name stands for
 innermost_stands : (bs : List Bound) (x : Var) (b : Bound) → innermost bs x.name ≡ Some b → b.variable ≡ x → replaced_by (replacement bs) x ≡ b.stands_for
@@ -34,20 +37,17 @@ innermost_stands (d ∷ bs) x b found same = go (bytes_eq d.variable.name x.name
         let h : var_eq d.variable x ≡ false = rw (e, f) refl in cc)
     go false u e f found rest = rest found same
 
-same_variable : (x y : Var) → x.name ≡ y.name → x.sort ≡ y.sort → x ≡ y
-same_variable x y e f = λ i. record { name = e i; sort = f i }
-
-moved : (s : Table) (v : TermsView) (b c : held.Bound) (y x : Var) (t u : Term) → b ≡ c → y ≡ x → u ≡ t → PutsIn s v b y t → PutsIn s v c x u
+moved : (s : Table) (v : TermsView) (b c : held.Bound) (y x : Var) (t u : Term) → b ≡ c → y ≡ x → u ≡ t → PutsIn (both s v) b y t → PutsIn (both s v) c x u
 moved s v b c y x t u e f g h =
-    subst (λ (z : held.Bound). PutsIn s v z x u) e
-    (subst (λ (z : Var). PutsIn s v b z u) f (subst (λ (z : Term). PutsIn s v b y z) (sym g) h))
+    subst (λ (z : held.Bound). PutsIn (both s v) z x u) e
+    (subst (λ (z : Var). PutsIn (both s v) b z u) f (subst (λ (z : Term). PutsIn (both s v) b y z) (sym g) h))
 
-pub bound_stands : (s : Table) (v : TermsView) (es : List Scoped) (bs : List Bound) → IsScope s v es bs → (name : List ℕ) (x : Var) → name ≡ x.name → is_bound bs x ≡ true → (c : held.Bound) → Some c ≡ option_map (λ e. e.bound) (find (λ e. bytes_eq e.name name) es) → PutsIn s v c x (replaced_by (replacement bs) x)
+pub bound_stands : (s : Table) (v : TermsView) (es : List Scoped) (bs : List Bound) → IsScope (both s v) es bs → (name : List ℕ) (x : Var) → name ≡ x.name → is_bound bs x ≡ true → (c : held.Bound) → Some c ≡ option_map (λ e. e.bound) (find (λ e. bytes_eq e.name name) es) → PutsIn (both s v) c x (replaced_by (replacement bs) x)
 bound_stands s v es bs h name x named bound c found =
     go (find (λ e. bytes_eq e.name x.name) es) (innermost bs x.name) refl (found_in_scope s v es bs h x.name) bound
     (found ∙ ap (λ n. option_map (λ e. e.bound) (find (λ e. bytes_eq e.name n) es)) named)
   where
-    go : (q : Option Scoped) (r : Option Bound) → innermost bs x.name ≡ r → AreFound s v x.name q r → option_map_or (λ b. sort_eq b.variable.sort x.sort) r false ≡ true → Some c ≡ option_map (λ e. e.bound) q → PutsIn s v c x (replaced_by (replacement bs) x)
+    go : (q : Option Scoped) (r : Option Bound) → innermost bs x.name ≡ r → AreFound s v x.name q r → option_map_or (λ b. sort_eq b.variable.sort x.sort) r false ≡ true → Some c ≡ option_map (λ e. e.bound) q → PutsIn (both s v) c x (replaced_by (replacement bs) x)
     go None r f a sorted g = absurd cc
     go (Some e) None f a sorted g = absurd a
     go (Some e) (Some b) f a sorted g =
@@ -83,11 +83,8 @@ has_last : (q : Replacement) (x : Var) (t : Term) → Has (q ++ (x, t) ∷ []) x
 has_last [] x t = inl refl
 has_last (b ∷ q) x t = inr (has_last q x t)
 
-puts_at_end : (s : Table) (v : TermsView) (bs : List held.Bound) (q : Replacement) (b : held.Bound) (x : Var) (t : Term) → IsReplacement s v bs q → PutsIn s v b x t → IsReplacement s v (bs ++ b ∷ []) (q ++ (x, t) ∷ [])
-puts_at_end s v [] [] b x t h p = (p, tt)
-puts_at_end s v [] (c ∷ q) b x t h p = absurd h
-puts_at_end s v (a ∷ bs) [] b x t h p = absurd h
-puts_at_end s v (a ∷ bs) (c ∷ q) b x t h p = (h.0, puts_at_end s v bs q b x t h.1 p)
+puts_at_end : (s : Table) (v : TermsView) (bs : List held.Bound) (q : Replacement) (b : held.Bound) (x : Var) (t : Term) → IsReplacement (both s v) bs q → PutsIn (both s v) b x t → IsReplacement (both s v) (bs ++ b ∷ []) (q ++ (x, t) ∷ [])
+puts_at_end s v bs q b x t h p = AllZip-push _ bs q b (x, t) h p
 
 same_for_all : (q r : Replacement) (x : Var) → AllByRecursion (λ b. b.1 ≡ replaced_by r b.0) q → Has q x → replaced_by q x ≡ replaced_by r x
 same_for_all [] r x h has = absurd has
@@ -101,29 +98,29 @@ same_for_all (b ∷ q) r x h has = go (var_eq b.0 x) refl has (same_for_all q r 
 -- the list puts in what they stand for in the scope for the variables of the leaves before place i
 pub record PutsBefore (s : Table) (v : TermsView) (list : List held.Bound) (scope : List Bound) (leaves : List ℕ) (i : ℕ) : Type 0 where
   pub means : Replacement
-  pub is : IsReplacement s v list means
+  pub is : IsReplacement (both s v) list means
   pub same : AllByRecursion (λ b. b.1 ≡ replaced_by (replacement scope) b.0) means
   pub has : (k : ℕ) → k < i → (x : Var) → IsLeaf s (get_or leaves k 0) (variable_leaf x) → Has means x
 
 pub puts_none : (s : Table) (v : TermsView) (scope : List Bound) (leaves : List ℕ) → PutsBefore s v [] scope leaves 0
 puts_none s v scope leaves = record { means = []; is = tt; same = tt; has = λ k below. absurd (omega arith) }
 
-puts_more_of : (s : Table) (v : TermsView) (list : List held.Bound) (scope : List Bound) (leaves : List ℕ) (i : ℕ) (b : held.Bound) (x : Var) → IsLeaf s (get_or leaves i 0) (variable_leaf x) → PutsIn s v b x (replaced_by (replacement scope) x) → PutsBefore s v list scope leaves i → PutsBefore s v (list ++ b ∷ []) scope leaves (i + 1)
+puts_more_of : (s : Table) (v : TermsView) (list : List held.Bound) (scope : List Bound) (leaves : List ℕ) (i : ℕ) (b : held.Bound) (x : Var) → IsLeaf s (get_or leaves i 0) (variable_leaf x) → PutsIn (both s v) b x (replaced_by (replacement scope) x) → PutsBefore s v list scope leaves i → PutsBefore s v (list ++ b ∷ []) scope leaves (i + 1)
 puts_more_of s v list scope leaves i b x here puts before = record {
   means = before.means ++ (x, replaced_by (replacement scope) x) ∷ [];
   is = puts_at_end s v list before.means b x (replaced_by (replacement scope) x) before.is puts;
   same = all_at_end (λ b. b.1 ≡ replaced_by (replacement scope) b.0) before.means (x, replaced_by (replacement scope) x) before.same refl;
   has = below_more _ _ (λ k below y there. has_before before.means ((x, replaced_by (replacement scope) x) ∷ []) y (before.has k below y there))
-      (λ y there. subst (λ (z : Var). Has (before.means ++ (x, replaced_by (replacement scope) x) ∷ []) z) (variable_of_leaf s (get_or leaves i 0) x y here there)
+      (λ y there. subst (λ (z : Var). Has (before.means ++ (x, replaced_by (replacement scope) x) ∷ []) z) (one_variable s (get_or leaves i 0) x y here there)
       (has_last before.means x (replaced_by (replacement scope) x)));
 }
 
-pub puts_one_more : (s : Table) (v : TermsView) (list : List held.Bound) (scope : List Bound) (leaves : List ℕ) (i : ℕ) (b : held.Bound) (xs : List Var) → AreFreeLeaves s leaves xs → list_all (is_bound scope) xs ≡ true → i < length leaves → ((x : Var) → IsLeaf s (get_or leaves i 0) (variable_leaf x) → is_bound scope x ≡ true → PutsIn s v b x (replaced_by (replacement scope) x)) → PutsBefore s v list scope leaves i → PutsBefore s v (list ++ b ∷ []) scope leaves (i + 1)
+pub puts_one_more : (s : Table) (v : TermsView) (list : List held.Bound) (scope : List Bound) (leaves : List ℕ) (i : ℕ) (b : held.Bound) (xs : List Var) → AreFreeLeaves s leaves xs → list_all (is_bound scope) xs ≡ true → i < length leaves → ((x : Var) → IsLeaf s (get_or leaves i 0) (variable_leaf x) → is_bound scope x ≡ true → PutsIn (both s v) b x (replaced_by (replacement scope) x)) → PutsBefore s v list scope leaves i → PutsBefore s v (list ++ b ∷ []) scope leaves (i + 1)
 puts_one_more s v list scope leaves i b xs free bound below puts before =
     let (x, here, there) = free.each (get_or leaves i 0) (i, below, get_or_default leaves i (get_or leaves i 0) 0 below) in
     puts_more_of s v list scope leaves i b x here (puts x here (passes_each (is_bound scope) xs bound x there)) before
 
-pub puts_all : (s : Table) (v : TermsView) (list : List held.Bound) (scope : List Bound) (leaves : List ℕ) (xs : List Var) (n : ℕ) → n ≡ length leaves → AreFreeLeaves s leaves xs → PutsBefore s v list scope leaves n → PutsInBound s v list scope xs
+pub puts_all : (s : Table) (v : TermsView) (list : List held.Bound) (scope : List Bound) (leaves : List ℕ) (xs : List Var) (n : ℕ) → n ≡ length leaves → AreFreeLeaves s leaves xs → PutsBefore s v list scope leaves n → PutsInBound (both s v) list scope xs
 puts_all s v list scope leaves xs n whole free before = record { means = before.means; is = before.is; same = each }
   where
     each : (x : Var) → Contains xs x → replaced_by before.means x ≡ replaced_by (replacement scope) x

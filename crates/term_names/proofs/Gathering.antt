@@ -24,12 +24,13 @@ use Rattle.term_expansion.proofs.Images.{drop-at}
 use Rattle.rule_model.proofs.Freedom.{free_variables-are}
 use Rattle.term_expansion.proofs.SetLemmas.{none_in}
 use Rattle.term_expansion.proofs.LeafLemmas.{added-leaves, adds-both, adds-same, has_more, is_variable, one-adds, one-more, one_leaf, one_variable, same_some, swapped}
+use Rattle.term_expansion.specs.SymbolsAndTerms.{both}
 
 -- what was gone through
-pub covers-kept : (s : Table) (v : TermsView) (seen a b : List ℕ) → ((k : ℕ) → Contains a k → Contains b k) → CoversFree s v seen a → CoversFree s v seen b
+pub covers-kept : (s : Table) (v : TermsView) (seen a b : List ℕ) → ((k : ℕ) → Contains a k → Contains b k) → CoversFree (both s v) seen a → CoversFree (both s v) seen b
 covers-kept s v seen a b kept h = record { each = λ r c t refers x free. has_more s a b x kept (h.each r c t refers x free) }
 
-pub covers-more : (s : Table) (v : TermsView) (seen new a found : List ℕ) (r : ℕ) → ((t : Term) → RefersTo s v r t → AddsLeaves s a found (λ x. IsFree x t)) → AddsOne seen new r → CoversFree s v seen found → CoversFree s v new found
+pub covers-more : (s : Table) (v : TermsView) (seen new a found : List ℕ) (r : ℕ) → ((t : Term) → RefersTo s v r t → AddsLeaves s a found (λ x. IsFree x t)) → AddsOne seen new r → CoversFree (both s v) seen found → CoversFree (both s v) new found
 covers-more s v seen new a found r adds one h = record { each = each }
   where
     here : (q : ℕ) → q ≡ r → (t : Term) → RefersTo s v q t → (x : Var) → IsFree x t → HasVariable s found x
@@ -39,7 +40,7 @@ covers-more s v seen new a found r adds one h = record { each = each }
     each q c t refers x free =
         elim (one.only q c) [ inl old ↦ h.each q old t refers x free | inr same ↦ here q same t refers x free ]
 
-pub covers-adds : (s : Table) (v : TermsView) (seen found : List ℕ) (r : ℕ) → CoversFree s v seen found → Contains seen r → (t : Term) → RefersTo s v r t → AddsLeaves s found found (λ x. IsFree x t)
+pub covers-adds : (s : Table) (v : TermsView) (seen found : List ℕ) (r : ℕ) → CoversFree (both s v) seen found → Contains seen r → (t : Term) → RefersTo s v r t → AddsLeaves s found found (λ x. IsFree x t)
 covers-adds s v seen found r h c t refers = record { kept = λ k i. i; all = λ x free. h.each r c t refers x free; only = λ k i. inl i }
 
 pub variable-adds : (s : Table) (k : ℕ) (x : Var) (ts : List Term) (t : Term) (a b : List ℕ) → IsLeaf s k (variable_leaf x) → AddsOne a b k → IsAppliedLeaf s k ts t → AddsLeaves s a b (λ y. IsFree y t)
@@ -73,7 +74,7 @@ let_of (operation op ts) h = absurd h
 let_of (call f ts) h = absurd h
 let_of (let_in bs u) h = (bs, u, refl)
 
-pub let_there : (s : Table) (v : TermsView) (most r : ℕ) → IsAtMost s v most r → ((t : Term) → RefersTo s v r t → IsLet t) → IsLetTerm v r
+pub let_there : (s : Table) (v : TermsView) (most r : ℕ) → IsAtMost (both s v) most r → ((t : Term) → RefersTo s v r t → IsLet t) → IsLetTerm v r
 let_there s v most r h is =
     let (bs, u, e) = let_of h.means (is h.means h.refers) in
     record { symbols = s; bindings = bs; body = u; refers = subst (λ (t : Term). RefersTo s v r t) e h.refers }
@@ -104,7 +105,7 @@ any-bound no_bindings x h = absurd h
 any-bound (binding y t bs) x (inl h) = inl h
 any-bound (binding y t bs) x (inr h) = inr (any-bound bs x h)
 
-pub let-adds : (s : Table) (v : TermsView) (r : ℕ) (ks rs : List ℕ) (body : ℕ) (a b c : List ℕ) → ArePartsOfLet s v r ks rs body → ((ts : List Term) → ReferToAll s v rs ts → AddsLeaves s a b (λ x. IsFreeInAny x ts)) → ((bs : Bindings) (u : Term) → AreLeavesOf s ks (variables_of bs) → RefersTo s v body u → AddsLeaves s b c (λ x. (¬ Binds bs x) × IsFree x u)) → (t : Term) → IsLet t → RefersTo s v r t → AddsLeaves s a c (λ x. IsFree x t)
+let-adds : (s : Table) (v : TermsView) (r : ℕ) (ks rs : List ℕ) (body : ℕ) (a b c : List ℕ) → ArePartsOfLet (both s v) r ks rs body → ((ts : List Term) → ReferToAll s v rs ts → AddsLeaves s a b (λ x. IsFreeInAny x ts)) → ((bs : Bindings) (u : Term) → AreLeavesOf s ks (variables_of bs) → RefersTo s v body u → AddsLeaves s b c (λ x. (¬ Binds bs x) × IsFree x u)) → (t : Term) → IsLet t → RefersTo s v r t → AddsLeaves s a c (λ x. IsFree x t)
 let-adds s v r ks rs body a b c parts first second (numeral n) is refers = absurd is
 let-adds s v r ks rs body a b c parts first second (variable x) is refers = absurd is
 let-adds s v r ks rs body a b c parts first second (operation op ts) is refers = absurd is
@@ -168,7 +169,7 @@ unbound-adds s table ks leaves a b bs u are free adds = record { kept = adds.kep
     only : (k : ℕ) → Contains b k → Contains a k ⊎ IsLeafOfSome s k (λ x. (¬ Binds bs x) × IsFree x u)
     only k c = elim (adds.only k c) [ inl old ↦ inl old | inr is ↦ inr (new k is.0 is.1) ]
 
-pub bodies-more : (s : Table) (v : TermsView) (old new : Bodies) (r : ℕ) (leaves : Vec ℕ Global) → ((q : ℕ) → get nat_eq new q ≡ cond (eqb r q) (Some leaves) (get nat_eq old q)) → ((t : Term) → RefersTo s v r t → AddsLeaves s [] leaves.items (λ x. IsFree x t)) → AreBodies s v old → AreBodies s v new
+pub bodies-more : (s : Table) (v : TermsView) (old new : Bodies) (r : ℕ) (leaves : Vec ℕ Global) → ((q : ℕ) → get nat_eq new q ≡ cond (eqb r q) (Some leaves) (get nat_eq old q)) → ((t : Term) → RefersTo s v r t → AddsLeaves s [] leaves.items (λ x. IsFree x t)) → AreBodies (both s v) old → AreBodies (both s v) new
 bodies-more s v old new r leaves updates right h = record {
   each = one-more (λ q ls. (t : Term) → RefersTo s v q t → AddsLeaves s [] ls.items (λ x. IsFree x t)) old new r leaves updates right h.each;
 }
@@ -190,7 +191,7 @@ free-leaves s leaves t h = record {
 }
 
 -- what is kept for a name holds of its term, whatever the term is reached by
-pub named-adds : (s : Table) (v : TermsView) (k : KnownView) (sc : Script) (name : List ℕ) (w : Which) (n : held.Named) (r : ℕ) (t : Term) → named_of k w ≡ Some n → IsNameMeant s v k sc name (Some (KnownEntry.Named w)) → ((p q : ℕ) (a b : Term) → RefersTo s v p a → RefersTo s v q b → (p ≡ q) ↔ (a ≡ b)) → n.value.term ≡ r → RefersTo s v r t → AddsLeaves s [] n.free.items (λ x. IsFree x t)
+pub named-adds : (s : Table) (v : TermsView) (k : KnownView) (sc : Script) (name : List ℕ) (w : Which) (n : held.Named) (r : ℕ) (t : Term) → named_of k w ≡ Some n → IsNameMeant (both s v) k sc name (Some (KnownEntry.Named w)) → ((p q : ℕ) (a b : Term) → RefersTo s v p a → RefersTo s v q b → (p ≡ q) ↔ (a ≡ b)) → n.value.term ≡ r → RefersTo s v r t → AddsLeaves s [] n.free.items (λ x. IsFree x t)
 named-adds s v k sc name w n r t there h one same refers =
     let held_is : n ≡ h.held = same_some (sym there ∙ h.there) in
     let leaves : AreFreeLeaves s n.free.items (free_variables h.meant.meant.tree) = rw held_is h.is.free in
@@ -202,17 +203,17 @@ named-adds s v k sc name w n r t there h one same refers =
 pub record IsPassed (s : Table) (v now : TermsView) (list : List ℕ) (at : ℕ) (old seen found : List ℕ) (kept : Bodies) : Type 0 where
   pub within : at ≤ length list
   pub same : now ≡ v
-  pub bodies : AreBodies s v kept
-  pub covers : CoversFree s v seen found
+  pub bodies : AreBodies (both s v) kept
+  pub covers : CoversFree (both s v) seen found
   pub adds : (ts : List Term) → ReferToAll s v (drop at list) ts → AddsLeaves s old found (λ x. IsFreeInAny x ts)
 
 -- one term more
-pub passed-more : (s : Table) (v now after : TermsView) (list : List ℕ) (at item : ℕ) (old seen found seen2 found2 : List ℕ) (kept kept2 : Bodies) → IsPassed s v now list at old seen found kept → 0 < at → item ≡ get_or list (at - 1) item → after ≡ now → ((t : Term) → RefersTo s now item t → AddsLeaves s found found2 (λ x. IsFree x t)) → CoversFree s now seen2 found2 → AreBodies s now kept2 → IsPassed s v after list (at - 1) old seen2 found2 kept2
+pub passed-more : (s : Table) (v now after : TermsView) (list : List ℕ) (at item : ℕ) (old seen found seen2 found2 : List ℕ) (kept kept2 : Bodies) → IsPassed s v now list at old seen found kept → 0 < at → item ≡ get_or list (at - 1) item → after ≡ now → ((t : Term) → RefersTo s now item t → AddsLeaves s found found2 (λ x. IsFree x t)) → CoversFree (both s now) seen2 found2 → AreBodies (both s now) kept2 → IsPassed s v after list (at - 1) old seen2 found2 kept2
 passed-more s v now after list at item old seen found seen2 found2 kept kept2 h above is same adds covers bodies = record {
   within = let within = h.within in omega arith;
   same = same ∙ h.same;
-  bodies = subst (λ z. AreBodies s z kept2) h.same bodies;
-  covers = subst (λ z. CoversFree s z seen2 found2) h.same covers;
+  bodies = subst (λ z. AreBodies (both s z) kept2) h.same bodies;
+  covers = subst (λ z. CoversFree (both s z) seen2 found2) h.same covers;
   adds = λ ts refer. more ts (subst (λ rs. ReferToAll s v rs ts) (drop-at list at item above h.within is) refer);
 }
   where
@@ -223,12 +224,12 @@ passed-more s v now after list at item old seen found seen2 found2 kept kept2 h 
         (adds-both s old found found2 (λ x. IsFreeInAny x ts) (λ x. IsFree x t) (h.adds ts refer.1) (adds t (subst (λ z. RefersTo s z item t) (sym h.same) refer.0)))
 
 -- the same terms, and the same list
-pub low_at : (s : Table) (v w : TermsView) (most : ℕ) (rs qs : List ℕ) → w ≡ v → qs ≡ rs → All (IsAtMost s v most) rs → All (IsAtMost s w most) qs
+pub low_at : (s : Table) (v w : TermsView) (most : ℕ) (rs qs : List ℕ) → w ≡ v → qs ≡ rs → All (IsAtMost (both s v) most) rs → All (IsAtMost (both s w) most) qs
 low_at s v w most rs qs e f h =
-    subst (λ z. All (IsAtMost s z most) qs) (sym e) (subst (λ zs. All (IsAtMost s v most) zs) (sym f) h)
+    subst (λ z. All (IsAtMost (both s z) most) qs) (sym e) (subst (λ zs. All (IsAtMost (both s v) most) zs) (sym f) h)
 
 -- a let whose body has these free leaves
-pub let-adds-unbound : (s : Table) (v : TermsView) (r : ℕ) (ks rs : List ℕ) (body : ℕ) (leaves a b c : List ℕ) → IsTable s → ArePartsOfLet s v r ks rs body → ((ts : List Term) → ReferToAll s v rs ts → AddsLeaves s a b (λ x. IsFreeInAny x ts)) → ((u : Term) → RefersTo s v body u → AddsLeaves s [] leaves (λ x. IsFree x u)) → AddsUnbound leaves ks b c → (t : Term) → IsLet t → RefersTo s v r t → AddsLeaves s a c (λ x. IsFree x t)
+pub let-adds-unbound : (s : Table) (v : TermsView) (r : ℕ) (ks rs : List ℕ) (body : ℕ) (leaves a b c : List ℕ) → IsTable s → ArePartsOfLet (both s v) r ks rs body → ((ts : List Term) → ReferToAll s v rs ts → AddsLeaves s a b (λ x. IsFreeInAny x ts)) → ((u : Term) → RefersTo s v body u → AddsLeaves s [] leaves (λ x. IsFree x u)) → AddsUnbound leaves ks b c → (t : Term) → IsLet t → RefersTo s v r t → AddsLeaves s a c (λ x. IsFree x t)
 let-adds-unbound s v r ks rs body leaves a b c table parts first kept adds =
     let-adds s v r ks rs body a b c parts first (λ bs u are there. unbound-adds s table ks leaves b c bs u are (kept u there) adds)
 

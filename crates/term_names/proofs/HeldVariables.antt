@@ -181,25 +181,6 @@ module _ (names : List (List ℕ)) (firsts : List ℕ) (held : List Held) (h : H
     ];
   }
 
-  pub IsLinked-pop : IsHeldLinked names firsts (h ∷ held) → IsHeldLinked names (set firsts h.name h.outer) held
-  IsLinked-pop l = record {
-    one_each = l.one_each ∙ sym (length-set firsts h.name h.outer);
-    outer = l.outer.2;
-    tops = λ j below. elim (eqb_tells h.name j) [
-      | inl a ↦
-          let one_each = l.one_each in
-          let within = l.outer.0 in
-          ap (λ i. get_or (set firsts h.name h.outer) i 0) (sym a.1)
-          ∙ get_or-set_same firsts h.name h.outer 0 (omega arith)
-          ∙ l.outer.1
-          ∙ ap (λ i. innermost_held i held) a.1
-      | inr a ↦
-          get_or-set_other firsts h.name j h.outer 0 (λ e. a.1 (sym e))
-          ∙ l.tops j below
-          ∙ ap (λ b. cond b (length held + 1) (innermost_held j held)) a.0
-    ];
-  }
-
 -- the place that is kept for a name
 module _ (names : List (List ℕ)) (firsts : List ℕ) (items : List Held) (k place : ℕ) (l : IsHeldLinked names firsts (reverse items)) (within : k < length names) (read : slice_get firsts k ≡ Some place) where
   pub place-innermost : place ≡ innermost_held k (reverse items)

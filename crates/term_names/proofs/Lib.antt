@@ -1,6 +1,7 @@
 pub mod ValueParts
 pub mod NameEntries
 pub mod PutEntries
+pub mod KnownEntries
 pub mod Positions
 pub mod HeldVariables
 pub mod Operators

@@ -24,6 +24,7 @@ use Rattle.term_expansion.specs.declared.values.Bound.{Bound}
 use Rattle.term_expansion.specs.declared.values.Value.{Value}
 use Rattle.term_names.proofs.AppliedSymbols.{values-sorts}
 use Rattle.term_names.proofs.MadeTerms.{places-cells, unchanged}
+use Rattle.term_expansion.specs.SymbolsAndTerms.{both}
 
 -- an item behind a place
 pub slice-drop : {X : Type 0} (xs : List X) (n i m : ℕ) (x : X) → m ≡ n + i → slice_get xs m ≡ Some x → slice_get (drop n xs) i ≡ Some x
@@ -39,7 +40,7 @@ bounds-next (k ∷ ks) [] i d c below h = absurd cc
 bounds-next (k ∷ ks) (a ∷ cs) zero d c below h = let same : a ≡ c = cc in ap (λ b. record { variable = k; value = b } ∷ []) same
 bounds-next (k ∷ ks) (a ∷ cs) (suc i) d c below h = ap (λ bs. record { variable = k; value = a } ∷ bs) (bounds-next ks cs i d c (omega arith) h)
 
-arguments-replace : (s : Table) (v : TermsView) (ks : List ℕ) (cs : List Value) (xs : List Var) (ts : List Typed) → AreLeavesOf s ks xs → AreValues s v cs ts → map (λ x. x.sort) xs ≡ sorts_of ts → IsReplacement s v (bounds_of ks cs) (zip xs (map (λ t. t.tree) ts))
+arguments-replace : (s : Table) (v : TermsView) (ks : List ℕ) (cs : List Value) (xs : List Var) (ts : List Typed) → AreLeavesOf s ks xs → AreValues (both s v) cs ts → map (λ x. x.sort) xs ≡ sorts_of ts → IsReplacement (both s v) (bounds_of ks cs) (zip xs (map (λ t. t.tree) ts))
 arguments-replace s v [] cs [] ts h g e = tt
 arguments-replace s v [] cs (x ∷ xs) ts h g e = absurd h
 arguments-replace s v (k ∷ ks) cs [] ts h g e = absurd h
@@ -63,13 +64,13 @@ macro-refused : (m : Macro) (ts : List Typed) → sorts_eq (map (λ x. x.sort) m
 unfolding meaning_applied
 macro-refused m ts e = ap (λ b. if b then Some (record { tree = expansion m ts; sort = m.target }) else None) e
 
-expansion-made : (s : Table) (old new : TermsView) (t : Typed) (c : Value) → PlacesTerm s old.pass new.pass t.tree → IsValue s new c t → Makes s old new (Some t) (Ok (Some c))
+expansion-made : (s : Table) (old new : TermsView) (t : Typed) (c : Value) → PlacesTerm s old.pass new.pass t.tree → IsValue (both s new) c t → Makes old (both s new) (Some t) (Ok (Some c))
 expansion-made s old new t c h is = record {
   answer = (t, refl, is);
   placed = places-cells s old.pass new.pass t h.tree h.stands h.placed;
 }
 
-expansion-refused : (s : Table) (old new : TermsView) (t : Typed) (e : ReadFault) → PlacesTerm s old.pass new.pass t.tree → (e ≡ ReadFault.PoolFull → LacksRoomFor s new.pass t.tree) → ((r : Refusal) → e ≡ ReadFault.Text r → ⊥) → Makes s old new (Some t) (Err e)
+expansion-refused : (s : Table) (old new : TermsView) (t : Typed) (e : ReadFault) → PlacesTerm s old.pass new.pass t.tree → (e ≡ ReadFault.PoolFull → LacksRoomFor s new.pass t.tree) → ((r : Refusal) → e ≡ ReadFault.Text r → ⊥) → Makes old (both s new) (Some t) (Err e)
 expansion-refused s old new t (ReadFault.Text r) h full text = absurd (text r refl)
 expansion-refused s old new t ReadFault.PoolFull h full text =
     let no_room = full refl in
@@ -87,7 +88,7 @@ leaves-lengths s ks xs h = sym (AllZip-long _ ks xs h)
 
 -- A macro whose parameters' sorts were compared with those of values: `first` and `second` are the sorts, and `fits` tells
 -- whether they are the same.
-module _ (s : Table) (v : TermsView) (h : held.Macro) (d : Macro) (cs : List Value) (ts : List Typed) (is : IsMacroOf s v h d) (values : AreValues s v cs ts)
+module _ (s : Table) (v : TermsView) (h : held.Macro) (d : Macro) (cs : List Value) (ts : List Typed) (is : IsMacroOf (both s v) h d) (values : AreValues (both s v) cs ts)
     (first second : List Sort) (own : first ≡ h.sorts.items) (given : second ≡ map (λ c. c.sort) cs) (fits : Bool) (tested : fits ≡ sorts_eq first second) where
   values-given : second ≡ sorts_of ts
   values-given = given ∙ values-sorts s v cs ts values
@@ -101,7 +102,7 @@ module _ (s : Table) (v : TermsView) (h : held.Macro) (d : Macro) (cs : List Val
   same-sorts : fits ≡ true → map (λ x. x.sort) d.parameters ≡ sorts_of ts
   same-sorts e = (sorts_eq_decides (map (λ x. x.sort) d.parameters) (sorts_of ts)).0 (same-test ∙ e)
 
-  pub sorts-differ : fits ≡ false → Makes s v v (meaning_applied (macro d) ts) (Ok None)
+  pub sorts-differ : fits ≡ false → Makes v (both s v) (meaning_applied (macro d) ts) (Ok None)
   sorts-differ e = unchanged s v (meaning_applied (macro d) ts) (Ok None) (macro-refused d ts (same-test ∙ e))
 
   pub one-each : fits ≡ true → length h.parameters.items ≡ length cs
@@ -113,29 +114,29 @@ module _ (s : Table) (v : TermsView) (h : held.Macro) (d : Macro) (cs : List Val
       let same = ap length (same-sorts e ∙ sym own_sorts) in
       omega arith
 
-  pub arguments-put : fits ≡ true → (bounds : List Bound) → bounds ≡ bounds_of h.parameters.items cs → IsReplacement s v bounds (zip d.parameters (map (λ t. t.tree) ts))
+  pub arguments-put : fits ≡ true → (bounds : List Bound) → bounds ≡ bounds_of h.parameters.items cs → IsReplacement (both s v) bounds (zip d.parameters (map (λ t. t.tree) ts))
   arguments-put e bounds put =
-      subst (λ bs. IsReplacement s v bs (zip d.parameters (map (λ t. t.tree) ts))) (sym put)
+      subst (λ bs. IsReplacement (both s v) bs (zip d.parameters (map (λ t. t.tree) ts))) (sym put)
       (arguments-replace s v h.parameters.items cs d.parameters ts is.parameters values (same-sorts e))
 
   module _ (fit : fits ≡ true) (new : TermsView) (bounds : List Bound) (put : bounds ≡ bounds_of h.parameters.items cs)
-      (places : (t : Typed) (q : Replacement) → IsValue s v h.body t → IsReplacement s v bounds q → PlacesTerm s v.pass new.pass (replaced q t.tree)) where
+      (places : (t : Typed) (q : Replacement) → IsValue (both s v) h.body t → IsReplacement (both s v) bounds q → PlacesTerm s v.pass new.pass (replaced q t.tree)) where
     abbrev body : Typed
     body = record { tree = d.body; sort = d.target }
 
     pub macro-made : (c : Value)
-        → ((t : Typed) (q : Replacement) → IsValue s v h.body t → IsReplacement s v bounds q → IsValue s new c (record { tree = replaced q t.tree; sort = t.sort }))
-        → Makes s v new (meaning_applied (macro d) ts) (Ok (Some c))
+        → ((t : Typed) (q : Replacement) → IsValue (both s v) h.body t → IsReplacement (both s v) bounds q → IsValue (both s new) c (record { tree = replaced q t.tree; sort = t.sort }))
+        → Makes v (both s new) (meaning_applied (macro d) ts) (Ok (Some c))
     macro-made c made =
         let q = zip d.parameters (map (λ t. t.tree) ts) in
         rw (macro-applied d ts (same-test ∙ fit))
         (expansion-made s v new (record { tree = expansion d ts; sort = d.target }) c (places body q is.body (arguments-put fit bounds put)) (made body q is.body (arguments-put fit bounds put)))
 
     pub macro-not-made : (result : Result (Option Value) ReadFault) (e : ReadFault)
-        → ((t : Typed) (q : Replacement) → IsValue s v h.body t → IsReplacement s v bounds q → e ≡ ReadFault.PoolFull → LacksRoomFor s new.pass (replaced q t.tree))
+        → ((t : Typed) (q : Replacement) → IsValue (both s v) h.body t → IsReplacement (both s v) bounds q → e ≡ ReadFault.PoolFull → LacksRoomFor s new.pass (replaced q t.tree))
         → ((r : Refusal) → e ≡ ReadFault.Text r → ⊥)
         → result ≡ Err e
-        → Makes s v new (meaning_applied (macro d) ts) result
+        → Makes v (both s new) (meaning_applied (macro d) ts) result
     macro-not-made result e full text same =
         let q = zip d.parameters (map (λ t. t.tree) ts) in
         rw (macro-applied d ts (same-test ∙ fit), same)

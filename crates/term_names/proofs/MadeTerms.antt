@@ -12,6 +12,7 @@ use Rattle.problem_text.specs.TypedTerms.{Typed}
 use Rattle.term_expansion.specs.Values.{IsValue}
 use Rattle.term_names.specs.declared.faults.ReadFault.{ReadFault}
 use Rattle.term_expansion.specs.declared.values.Value.{Value}
+use Rattle.term_expansion.specs.SymbolsAndTerms.{both}
 
 -- only cells of the term's tree were placed
 pub places-cells : (s : Table) (old new : PassView) (t : Typed) (tree : Tree) → StandsFor s tree t.tree → PlacesOnlyIn old new tree → PlacesCellsOf s old new (IsExpected (Some t))
@@ -21,25 +22,21 @@ places-cells s old new t tree stands only r a b p = go (only r a b p)
     go (inl q) = inl q
     go (inr q) = inr (record { whole = t.tree; wanted = (t, refl, refl); tree = tree; stands = stands; cell = q })
 
-pub made : (s : Table) (old new : TermsView) (t : Typed) (tree : Tree) (c : Value) → StandsFor s tree t.tree → PlacesOnlyIn old.pass new.pass tree → IsValue s new c t → Makes s old new (Some t) (Ok (Some c))
+pub made : (s : Table) (old new : TermsView) (t : Typed) (tree : Tree) (c : Value) → StandsFor s tree t.tree → PlacesOnlyIn old.pass new.pass tree → IsValue (both s new) c t → Makes old (both s new) (Some t) (Ok (Some c))
 made s old new t tree c stands only is = record {
   answer = (t, refl, is);
   placed = places-cells s old.pass new.pass t tree stands only;
 }
 
-pub full : (s : Table) (old new : TermsView) (t : Typed) (tree : Tree) (result : Result (Option Value) ReadFault) → StandsFor s tree t.tree → PlacesOnlyIn old.pass new.pass tree → IsFullIn new.pass tree → result ≡ Err ReadFault.PoolFull → Makes s old new (Some t) result
+pub full : (s : Table) (old new : TermsView) (t : Typed) (tree : Tree) (result : Result (Option Value) ReadFault) → StandsFor s tree t.tree → PlacesOnlyIn old.pass new.pass tree → IsFullIn new.pass tree → result ≡ Err ReadFault.PoolFull → Makes old (both s new) (Some t) result
 full s old new t tree result stands only no_room e =
     rw e (record {
       answer = record { whole = t.tree; wanted = (t, refl, refl); tree = tree; stands = stands; full = no_room };
       placed = places-cells s old.pass new.pass t tree stands only;
     })
 
-pub out_of_memory : (s : Table) (old new : TermsView) (t : Typed) (tree : Tree) (result : Result (Option Value) ReadFault) → StandsFor s tree t.tree → PlacesOnlyIn old.pass new.pass tree → result ≡ Err ReadFault.Memory → Makes s old new (Some t) result
-out_of_memory s old new t tree result stands only e =
-    rw e (record { answer = tt; placed = places-cells s old.pass new.pass t tree stands only })
-
 -- nothing was made
-pub unchanged : (s : Table) (v : TermsView) (o : Option Typed) (result : Result (Option Value) ReadFault) → IsMade s v o result → Makes s v v o result
+pub unchanged : (s : Table) (v : TermsView) (o : Option Typed) (result : Result (Option Value) ReadFault) → IsMade (both s v) o result → Makes v (both s v) o result
 unchanged s v o result h = record { answer = h; placed = λ r a b p. inl p }
 
 -- a fault that is handed on

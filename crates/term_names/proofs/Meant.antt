@@ -29,6 +29,7 @@ use Rattle.term_names.specs.declared.names.Which.{Which}
 use Rattle.term_names.specs.declared.looking_up.Found.{Found}
 use Rattle.term_expansion.specs.declared.values.Bound as holds
 use Rattle.term_names.proofs.ScopeNames.{AreFound, found_in_scope}
+use Rattle.term_expansion.specs.SymbolsAndTerms.{SymbolsAndTerms, both}
 
 -- the entry of a name
 without_named : (p : Place) (sc : Script) (name : List ℕ) → named_in_script sc name ≡ None → meaning_of_entry p sc name ≡ option_map macro (macro_in sc name)
@@ -58,12 +59,12 @@ outside_nothing : (p : Place) (sc : Script) (name : List ℕ) → meaning_of_ent
 outside_nothing p sc name none no_function no_operator = outside_by_operator p sc name none no_function ∙ ap (option_map operator) no_operator
 
 -- the leaves that the code has are those of the named term that the name has
-leaves_of_named : (s : Table) (v : TermsView) (n m : held.Named) (d : Named) → n ≡ m → IsNamedOf s v m d → AreFreeLeaves s n.free.items (free_variables d.meant.tree)
+leaves_of_named : (s : Table) (v : TermsView) (n m : held.Named) (d : Named) → n ≡ m → IsNamedOf (both s v) m d → AreFreeLeaves s n.free.items (free_variables d.meant.tree)
 leaves_of_named s v n m d e h = rw e h.free
 
 -- what an entry is found to be is what its name means outside
 module _ (s : Table) (v : TermsView) (k : KnownView) (sc : Script) (p : Place) (name : List ℕ) where
-  pub function_outside : (n : ℕ) → IsNameMeant s v k sc name (Some (KnownEntry.Function n)) → IsFoundMeaning s v k p (Found.Symbol n) (meaning_outside p sc name)
+  pub function_outside : (n : ℕ) → IsNameMeant (both s v) k sc name (Some (KnownEntry.Function n)) → IsFoundMeaning (both s v) k p (Found.Symbol n) (meaning_outside p sc name)
   function_outside n h = (
     function h.function.meant,
     outside_by_symbol p sc name (without_entry p sc name h.no_entry)
@@ -71,18 +72,18 @@ module _ (s : Table) (v : TermsView) (k : KnownView) (sc : Script) (p : Place) (
     inl (h.function.meant, h.function.here, refl),
   )
 
-  pub reserved_outside : operator_named name ≡ None → IsNameMeant s v k sc name (Some KnownEntry.Reserved) → meaning_outside p sc name ≡ None
+  pub reserved_outside : operator_named name ≡ None → IsNameMeant (both s v) k sc name (Some KnownEntry.Reserved) → meaning_outside p sc name ≡ None
   reserved_outside no_operator h =
       outside_nothing p sc name (without_entry p sc name h.no_entry) h.no_function.script no_operator
 
-  pub macro_outside : (w : Which) → IsNameMeant s v k sc name (Some (KnownEntry.Macro w)) → IsFoundMeaning s v k p (Found.Macro w) (meaning_outside p sc name)
+  pub macro_outside : (w : Which) → IsNameMeant (both s v) k sc name (Some (KnownEntry.Macro w)) → IsFoundMeaning (both s v) k p (Found.Macro w) (meaning_outside p sc name)
   macro_outside w h = (
     macro h.meant,
     outside_by_entry p sc name (macro h.meant) (without_named p sc name h.no_named ∙ ap (option_map macro) h.found),
     (h.held, h.meant, h.there, h.is, refl),
   )
 
-  pub bound_outside : (w : Which) (n : held.Named) → named_of k w ≡ Some n → IsNameMeant s v k sc name (Some (KnownEntry.Named w)) → ((xs : List Var) → AreFreeLeaves s n.free.items xs → true ≡ list_all (is_bound p.scope) xs) → IsFoundMeaning s v k p (Found.Named w) (meaning_outside p sc name)
+  pub bound_outside : (w : Which) (n : held.Named) → named_of k w ≡ Some n → IsNameMeant (both s v) k sc name (Some (KnownEntry.Named w)) → ((xs : List Var) → AreFreeLeaves s n.free.items xs → true ≡ list_all (is_bound p.scope) xs) → IsFoundMeaning (both s v) k p (Found.Named w) (meaning_outside p sc name)
   bound_outside w n there h bound =
       let is = bound (free_variables h.meant.meant.tree) (leaves_of_named s v n h.held h.meant (same_Some _ _ (sym there ∙ h.there)) h.is) in (
         value (term_used p h.meant.meant),
@@ -90,16 +91,16 @@ module _ (s : Table) (v : TermsView) (k : KnownView) (sc : Script) (p : Place) (
         (h.held, h.meant, h.there, h.is, refl, sym is),
       )
 
-  pub unbound_outside : (w : Which) (n : held.Named) → named_of k w ≡ Some n → operator_named name ≡ None → IsNameMeant s v k sc name (Some (KnownEntry.Named w)) → ((xs : List Var) → AreFreeLeaves s n.free.items xs → false ≡ list_all (is_bound p.scope) xs) → meaning_outside p sc name ≡ None
+  pub unbound_outside : (w : Which) (n : held.Named) → named_of k w ≡ Some n → operator_named name ≡ None → IsNameMeant (both s v) k sc name (Some (KnownEntry.Named w)) → ((xs : List Var) → AreFreeLeaves s n.free.items xs → false ≡ list_all (is_bound p.scope) xs) → meaning_outside p sc name ≡ None
   unbound_outside w n there no_operator h bound =
       let is = bound (free_variables h.meant.meant.tree) (leaves_of_named s v n h.held h.meant (same_Some _ _ (sym there ∙ h.there)) h.is) in
       outside_nothing p sc name (with_named p sc name h.meant false h.found is ∙ ap (option_map macro) h.no_macro) h.no_function.script no_operator
 
-  pub free_outside : operator_named name ≡ None → IsNameMeant s v k sc name None → meaning_outside p sc name ≡ None
+  pub free_outside : operator_named name ≡ None → IsNameMeant (both s v) k sc name None → meaning_outside p sc name ≡ None
   free_outside no_operator h = outside_nothing p sc name (without_entry p sc name h.0) h.1.no_function.script no_operator
 
   -- an operator's name has nothing else
-  pub operator_outside : (op : Op) (n : ℕ) → HasNoEntry sc name → IsNoFunction s sc name → operator_named name ≡ Some op → IsLeaf s n (leaf.operator op) → IsFoundMeaning s v k p (Found.Symbol n) (meaning_outside p sc name)
+  pub operator_outside : (op : Op) (n : ℕ) → HasNoEntry sc name → IsNoFunction s sc name → operator_named name ≡ Some op → IsLeaf s n (leaf.operator op) → IsFoundMeaning (both s v) k p (Found.Symbol n) (meaning_outside p sc name)
   operator_outside op n no_entry no_function named here = (
     operator op,
     outside_by_operator p sc name (without_entry p sc name no_entry) no_function.script ∙ ap (option_map operator) named,
@@ -125,11 +126,11 @@ meant_outside : (p : Place) (sc : Script) (name : List ℕ) → innermost p.scop
 meant_outside p sc name e =
     meaning_parts p sc name ∙ ap (λ o. option_or (option_map meaning_of_bound o) (meaning_outside p sc name)) e
 
-pub variable_found : (s : Table) (v : TermsView) (k : KnownView) (es : List Scoped) (p : Place) (sc : Script) (name : List ℕ) (c : holds.Bound) → IsScope s v es p.scope → Some c ≡ option_map (λ e. e.bound) (find (λ e. bytes_eq e.name name) es) → IsFoundMeaning s v k p (Found.Term c.value) (meaning_of p sc name)
+pub variable_found : (s : Table) (v : TermsView) (k : KnownView) (es : List Scoped) (p : Place) (sc : Script) (name : List ℕ) (c : holds.Bound) → IsScope (both s v) es p.scope → Some c ≡ option_map (λ e. e.bound) (find (λ e. bytes_eq e.name name) es) → IsFoundMeaning (both s v) k p (Found.Term c.value) (meaning_of p sc name)
 variable_found s v k es p sc name c h e =
     go (find (λ e. bytes_eq e.name name) es) (innermost p.scope name) refl (found_in_scope s v es p.scope h name) e
   where
-    go : (q : Option Scoped) (r : Option Bound) → innermost p.scope name ≡ r → AreFound s v name q r → Some c ≡ option_map (λ e. e.bound) q → IsFoundMeaning s v k p (Found.Term c.value) (meaning_of p sc name)
+    go : (q : Option Scoped) (r : Option Bound) → innermost p.scope name ≡ r → AreFound s v name q r → Some c ≡ option_map (λ e. e.bound) q → IsFoundMeaning (both s v) k p (Found.Term c.value) (meaning_of p sc name)
     go None r f a e = absurd cc
     go (Some d) None f a e = absurd a
     go (Some d) (Some b) f a e =
@@ -139,7 +140,7 @@ variable_found s v k es p sc name c h e =
           rw (← same) a.1.value,
         )
 
-none_innermost : (s : Table) (v : TermsView) (es : List Scoped) (bs : List Bound) (name : List ℕ) → IsScope s v es bs → None ≡ option_map (λ (e : Scoped). e.bound) (find (λ e. bytes_eq e.name name) es) → innermost bs name ≡ None
+none_innermost : (s : Table) (v : TermsView) (es : List Scoped) (bs : List Bound) (name : List ℕ) → IsScope (both s v) es bs → None ≡ option_map (λ (e : Scoped). e.bound) (find (λ e. bytes_eq e.name name) es) → innermost bs name ≡ None
 none_innermost s v es bs name h e = go (find (λ e. bytes_eq e.name name) es) (innermost bs name) (found_in_scope s v es bs h name) e
   where
     go : (q : Option Scoped) (r : Option Bound) → AreFound s v name q r → None ≡ option_map (λ (e : Scoped). e.bound) q → r ≡ None
@@ -148,9 +149,9 @@ none_innermost s v es bs name h e = go (find (λ e. bytes_eq e.name name) es) (i
     go (Some d) r a e = absurd cc
 
 -- where no variable has the name, it means what it means outside
-pub found_outside : (s : Table) (v : TermsView) (k : KnownView) (es : List Scoped) (p : Place) (sc : Script) (name : List ℕ) (f : Found) → IsScope s v es p.scope → None ≡ bound_of es name → IsFoundMeaning s v k p f (meaning_outside p sc name) → IsFoundMeaning s v k p f (meaning_of p sc name)
+pub found_outside : (s : Table) (v : TermsView) (k : KnownView) (es : List Scoped) (p : Place) (sc : Script) (name : List ℕ) (f : Found) → IsScope (both s v) es p.scope → None ≡ bound_of es name → IsFoundMeaning (both s v) k p f (meaning_outside p sc name) → IsFoundMeaning (both s v) k p f (meaning_of p sc name)
 found_outside s v k es p sc name f h e found =
-    subst (λ (o : Option Meaning). IsFoundMeaning s v k p f o) (sym (meant_outside p sc name (none_innermost s v es p.scope name h e))) found
+    subst (λ (o : Option Meaning). IsFoundMeaning (both s v) k p f o) (sym (meant_outside p sc name (none_innermost s v es p.scope name h e))) found
 
 -- the variable and the entry of what a name means
 pub meant_variable : (n : NamesView) (name : List ℕ) (c : holds.Bound) → Some (Meant.Variable c) ≡ meant_of n name → Some c ≡ bound_of n.scope name
@@ -178,6 +179,6 @@ meant_nothing n name = go (bound_of n.scope name) (known_entry n.known name)
     go (Some a) b e = cc
 
 -- the head that a macro is
-pub macro_head : (s : Table) (v : TermsView) (k : KnownView) (p : Place) (m : Meaning) (w : Which) → IsFoundMeaning s v k p (Found.Macro w) (Some m) → (h : Head) × (Some (Head.Macro w) ≡ Some h) × HeadMeans s v k h m
-macro_head s v k p m w (n, same, meant) =
-    (Head.Macro w, refl, subst (λ (x : Meaning). IsMacroMeant s v (macro_of k w) x) (sym (same_Some _ _ same)) meant)
+pub macro_head : (w : SymbolsAndTerms) (k : KnownView) (p : Place) (m : Meaning) (n : Which) → IsFoundMeaning w k p (Found.Macro n) (Some m) → (h : Head) × (Some (Head.Macro n) ≡ Some h) × HeadMeans w k h m
+macro_head w k p m n (found, same, meant) =
+    (Head.Macro n, refl, subst (λ (x : Meaning). IsMacroMeant w (macro_of k n) x) (sym (same_Some _ _ same)) meant)

@@ -22,38 +22,39 @@ use Rattle.term_expansion.specs.declared.values.Bound as holds
 use Rattle.term_expansion.specs.declared.values.Value.{Value}
 use Rattle.problem_text.proofs.Agreement.{replaced_agrees}
 use Rattle.rule_model.proofs.Freedom.{free_variables-are}
+use Rattle.term_expansion.specs.SymbolsAndTerms.{both}
 
 pub applied_value : (m : Meaning) (t : Typed) → m ≡ value t → meaning_applied m [] ≡ Some t
 unfolding meaning_applied
 applied_value m t e = rw e refl
 
 -- nothing is placed where nothing is done
-pub answers : (s : Table) (v : TermsView) (o : Option Typed) (r : Result (Option Value) ReadFault) → IsMade s v o r → Makes s v v o r
+pub answers : (s : Table) (v : TermsView) (o : Option Typed) (r : Result (Option Value) ReadFault) → IsMade (both s v) o r → Makes v (both s v) o r
 answers s v o r h = record { answer = h; placed = λ q a b g. inl g }
 
 -- where lets stay the named term stays as it is
-pub named_stays : (s : Table) (v : TermsView) (p : Place) (n : held.Named) (m : Meaning) → p.settings.replaces_lets ≡ false → IsNamedMeant s v p (Some n) m → IsMade s v (meaning_applied m []) (Ok (Some n.value))
+pub named_stays : (s : Table) (v : TermsView) (p : Place) (n : held.Named) (m : Meaning) → p.settings.replaces_lets ≡ false → IsNamedMeant (both s v) p (Some n) m → IsMade (both s v) (meaning_applied m []) (Ok (Some n.value))
 named_stays s v p n m lets (h, d, same, is, meant, bound) = (
   d.meant,
   applied_value m (term_used p d.meant) meant
       ∙ ap (λ b. Some (if b then record { tree = replaced (replacement p.scope) d.meant.tree; sort = d.meant.sort } else d.meant)) lets,
-  subst (λ (c : held.Named). IsValue s v c.value d.meant) (sym (same_Some _ _ same)) is.value,
+  subst (λ (c : held.Named). IsValue (both s v) c.value d.meant) (sym (same_Some _ _ same)) is.value,
 )
 
 -- the bounds that were gathered say what is put in for the free variables
 abbrev pub PutsInFree : Table → TermsView → held.Named → List holds.Bound → Place → Type 0
 PutsInFree s v n list p =
-    (xs : List Var) → AreFreeLeaves s n.free.items xs → list_all (is_bound p.scope) xs ≡ true → PutsInBound s v list p.scope xs
+    (xs : List Var) → AreFreeLeaves s n.free.items xs → list_all (is_bound p.scope) xs ≡ true → PutsInBound (both s v) list p.scope xs
 
 -- what a term with these bounds put in stands for, and is expected to
 pub record IsPutIn (s : Table) (v : TermsView) (c : Value) (list : List holds.Bound) (o : Option Typed) : Type 0 where
   pub term : Typed
   pub means : Replacement
-  pub is_value : IsValue s v c term
-  pub is : IsReplacement s v list means
+  pub is_value : IsValue (both s v) c term
+  pub is : IsReplacement (both s v) list means
   pub made : o ≡ Some (record { tree = replaced means term.tree; sort = term.sort })
 
-pub named_put_in : (s : Table) (v : TermsView) (p : Place) (n : held.Named) (m : Meaning) (list : List holds.Bound) → p.settings.replaces_lets ≡ true → IsNamedMeant s v p (Some n) m → PutsInFree s v n list p → IsPutIn s v n.value list (meaning_applied m [])
+pub named_put_in : (s : Table) (v : TermsView) (p : Place) (n : held.Named) (m : Meaning) (list : List holds.Bound) → p.settings.replaces_lets ≡ true → IsNamedMeant (both s v) p (Some n) m → PutsInFree s v n list p → IsPutIn s v n.value list (meaning_applied m [])
 named_put_in s v p n m list lets (h, d, same, is, meant, bound) puts =
     let free = subst (λ (c : held.Named). AreFreeLeaves s c.free.items (free_variables d.meant.tree)) (sym (same_Some _ _ same)) is.free in
     let put = puts (free_variables d.meant.tree) free bound in
@@ -61,7 +62,7 @@ named_put_in s v p n m list lets (h, d, same, is, meant, bound) puts =
     record {
       term = d.meant;
       means = put.means;
-      is_value = subst (λ (c : held.Named). IsValue s v c.value d.meant) (sym (same_Some _ _ same)) is.value;
+      is_value = subst (λ (c : held.Named). IsValue (both s v) c.value d.meant) (sym (same_Some _ _ same)) is.value;
       is = put.is;
       made =
           applied_value m (term_used p d.meant) meant
@@ -69,7 +70,7 @@ named_put_in s v p n m list lets (h, d, same, is, meant, bound) puts =
           ∙ ap (λ t. Some (record { tree = t; sort = d.meant.sort })) (sym agrees);
     }
 
-pub some_replacement : (s : Table) (v : TermsView) (c : Value) (list : List holds.Bound) (o : Option Typed) → IsPutIn s v c list o → IsSomeReplacement s v list
+pub some_replacement : (s : Table) (v : TermsView) (c : Value) (list : List holds.Bound) (o : Option Typed) → IsPutIn s v c list o → IsSomeReplacement (both s v) list
 some_replacement s v c list o h = record { means = h.means; is = h.is }
 
 -- the cells of the term that is expected
@@ -80,14 +81,14 @@ places_expected s old new t h q a b there =
       | inr part ↦ inr (record { whole = t.tree; wanted = (t, refl, refl); tree = h.tree; stands = h.stands; cell = part })
     ]
 
-pub put_value : (s : Table) (v w : TermsView) (t : Typed) (c : Value) → IsValue s w c t → PlacesTerm s v.pass w.pass t.tree → Makes s v w (Some t) (Ok (Some c))
+pub put_value : (s : Table) (v w : TermsView) (t : Typed) (c : Value) → IsValue (both s w) c t → PlacesTerm s v.pass w.pass t.tree → Makes v (both s w) (Some t) (Ok (Some c))
 put_value s v w t c h places = record { answer = (t, refl, h); placed = places_expected s v.pass w.pass t places }
 
-fault_is : (s : Table) (w : TermsView) (t : Typed) (e : ReadFault) → (e ≡ ReadFault.PoolFull → LacksRoomFor s w.pass t.tree) → ((r : Refusal) → e ≡ ReadFault.Text r → ⊥) → IsMade s w (Some t) (Err e)
+fault_is : (s : Table) (w : TermsView) (t : Typed) (e : ReadFault) → (e ≡ ReadFault.PoolFull → LacksRoomFor s w.pass t.tree) → ((r : Refusal) → e ≡ ReadFault.Text r → ⊥) → IsMade (both s w) (Some t) (Err e)
 fault_is s w t (ReadFault.Text r) full text = absurd (text r refl)
 fault_is s w t ReadFault.PoolFull full text =
     let lacks = full refl in record { whole = t.tree; wanted = (t, refl, refl); tree = lacks.tree; stands = lacks.stands; full = lacks.full }
 fault_is s w t ReadFault.Memory full text = tt
 
-pub put_fault : (s : Table) (v w : TermsView) (t : Typed) (e : ReadFault) → (e ≡ ReadFault.PoolFull → LacksRoomFor s w.pass t.tree) → ((r : Refusal) → e ≡ ReadFault.Text r → ⊥) → PlacesTerm s v.pass w.pass t.tree → Makes s v w (Some t) (Err e)
+pub put_fault : (s : Table) (v w : TermsView) (t : Typed) (e : ReadFault) → (e ≡ ReadFault.PoolFull → LacksRoomFor s w.pass t.tree) → ((r : Refusal) → e ≡ ReadFault.Text r → ⊥) → PlacesTerm s v.pass w.pass t.tree → Makes v (both s w) (Some t) (Err e)
 put_fault s v w t e full text places = record { answer = fault_is s w t e full text; placed = places_expected s v.pass w.pass t places }

@@ -12,6 +12,7 @@ use Rattle.term_names.specs.Standing.{HasNoEntry, IsNoFunction, IsNameMeant, IsS
 use Rattle.problem_text.specs.Scripts.{Script}
 use Rattle.problem_text.specs.Words.{is_among, is_built_in, operators, operator_named}
 use Rattle.term_names.specs.declared.names.KnownEntry.{KnownEntry}
+use Rattle.term_expansion.specs.SymbolsAndTerms.{both}
 
 or_true : (a b : Bool) → b ≡ true → (a || b) ≡ true
 or_true true b h = refl
@@ -35,7 +36,7 @@ operator_is_built_in name op e =
     ∙ ap (λ b. b || is_among (drop 17 built_in_words) name) (symbol_among operators name op e)
 
 -- a name that is not taken has no entry, and no function has it
-untaken : (s : Table) (v : TermsView) (k : KnownView) (sc : Script) (name : List ℕ) (o : Option KnownEntry) → IsNameMeant s v k sc name o → is_among sc.taken name ≡ false
+untaken : (s : Table) (v : TermsView) (k : KnownView) (sc : Script) (name : List ℕ) (o : Option KnownEntry) → IsNameMeant (both s v) k sc name o → is_among sc.taken name ≡ false
     → HasNoEntry sc name × IsNoFunction s sc name
 untaken s v k sc name None (none, f) free = (none, f.no_function)
 untaken s v k sc name (Some (KnownEntry.Function n)) f free = absurd (let taken = f.function.taken in cc)
@@ -43,6 +44,6 @@ untaken s v k sc name (Some KnownEntry.Reserved) r free = absurd (let taken = r.
 untaken s v k sc name (Some (KnownEntry.Macro w)) m free = absurd (let taken = m.taken in cc)
 untaken s v k sc name (Some (KnownEntry.Named w)) n free = absurd (let taken = n.taken in cc)
 
-pub operator_is_alone : (s : Table) (v : TermsView) (k : KnownView) (sc : Script) (name : List ℕ) (op : Op) → IsScript s v k sc → operator_named name ≡ Some op → HasNoEntry sc name × IsNoFunction s sc name
+pub operator_is_alone : (s : Table) (v : TermsView) (k : KnownView) (sc : Script) (name : List ℕ) (op : Op) → IsScript (both s v) k sc → operator_named name ≡ Some op → HasNoEntry sc name × IsNoFunction s sc name
 operator_is_alone s v k sc name op is named =
     untaken s v k sc name (known_entry k name) (is.names name) (is.built_in name (operator_is_built_in name op named))

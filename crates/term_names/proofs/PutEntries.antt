@@ -1,14 +1,12 @@
 -- Names that get numbers and entries, and what stays.
-use Rattle.std.proofs.Common.{◌≡◌, inl, inr, ℕ, zero, suc, ◌≤◌, ◌<◌, ◌+◌, Bool, true, false, cond, List, [], ◌∷◌, ◌++◌, length, reverse, set, slice_get, Option, Some, None, option_map, IsSome, refl, sym, ◌∙◌, ap, subst, arith}
-use Rattle.std.specs.Str.{bytes_eq}
+use Rattle.std.proofs.Common.{◌≡◌, inl, inr, ℕ, zero, suc, ◌≤◌, ◌<◌, ◌+◌, List, [], ◌∷◌, ◌++◌, length, reverse, set, slice_get, Option, Some, option_map, IsSome, refl, sym, ◌∙◌, ap, subst, arith}
 use Rattle.std.specs.Option.{option_or}
 use Rattle.std.proofs.lemmas.List.{length_push, length-reverse, reverse-append}
 use Rattle.std.proofs.lemmas.Option.{slice_get_within, get_or_from_slice_get}
-use Rattle.std.proofs.lemmas.Slice.Eq.{bytes_eq-Decides}
-use Rattle.term_names.specs.Entries.{EntriesView, lookup, Puts, IsThere}
+use Rattle.term_names.specs.Entries.{lookup, Puts, IsThere}
 use Rattle.term_names.specs.EntryTables.{entries_view, AreThere, IsInStep}
 use Rattle.term_names.specs.Held.{scoped, AreHeld, IsHeldLinked}
-use Rattle.term_names.specs.Known.{KnownView, known_entry, own_entry, base_entry, IsKnownThere, AreDisjoint}
+use Rattle.term_names.specs.Known.{KnownView, own_entry, base_entry, IsKnownThere}
 use Rattle.term_names.specs.NameNumbers.{IsNumbered}
 use Rattle.term_names.specs.Scope.{Scoped, bound_of}
 use Rattle.term_names.specs.NameTable.{NameTableView, GetsNumber, GetsEntry, entries_of}
@@ -73,41 +71,19 @@ module _ (old new : NameTableView) (name : List ℕ) (entry : Entry) (k : ℕ) (
     numbers = AreTableNumbers-more given _ _ more_put step.numbers;
   }
 
--- a name that is put is none of the entries that a reader starts from
-pub disjoint_put : (base : EntriesView) (old new : List (List ℕ × Entry)) (name : List ℕ) (entry : Entry) → Puts old name entry new → lookup base.names name ≡ None
-    → ((other : List ℕ) → IsSome (lookup base.names other) → lookup old other ≡ None) → (other : List ℕ) → IsSome (lookup base.names other) → lookup new other ≡ None
-disjoint_put base old new name entry puts free apart other some = puts other ∙ go (bytes_eq other name) refl
-  where
-    go : (b : Bool) → bytes_eq other name ≡ b → cond b (Some entry) (lookup old other) ≡ None
-    go true d =
-        let same = (bytes_eq-Decides other name).0 d in
-        let none : lookup base.names other ≡ None = ap (lookup base.names) same ∙ free in
-        absurd (let some' = subst IsSome none some in cc)
-    go false d = apart other some
-
--- a name that is not known is none of theirs
-pub unknown_base : (k : KnownView) (name : List ℕ) → known_entry k name ≡ None → lookup k.base.names name ≡ None
-unknown_base k name e = go (lookup k.own.names name) (lookup k.base.names name) e
-  where
-    go : (a b : Option Entry) → option_or (option_map own_entry a) (option_map base_entry b) ≡ None → b ≡ None
-    go None None e = refl
-    go None (Some x) e = cc
-    go (Some x) b e = cc
-
--- nor is one of the reader's own
-pub own_only : (k : KnownView) (name : List ℕ) (entry : Entry) → AreDisjoint k → lookup k.own.names name ≡ Some entry → lookup k.base.names name ≡ None
-own_only k name entry apart e = go (lookup k.base.names name) refl
-  where
-    go : (o : Option Entry) → lookup k.base.names name ≡ o → o ≡ None
-    go None f = refl
-    go (Some x) f = let none = apart name (subst IsSome (sym f) refl) in cc
-
 -- what is an entry of its own is there
 pub own_there : (k : KnownView) (e : Entry) → IsThere k.own e → IsKnownThere k (own_entry e)
 own_there k (Function leaf) h = tt
 own_there k Reserved h = tt
 own_there k (Macro n) h = is_there k.own.macros n h
 own_there k (Named n) h = is_there k.own.named n h
+
+-- and what is one of those that a reader starts from
+pub base_there : (k : KnownView) (e : Entry) → IsThere k.base e → IsKnownThere k (base_entry e)
+base_there k (Function leaf) h = tt
+base_there k Reserved h = tt
+base_there k (Macro n) h = is_there k.base.macros n h
+base_there k (Named n) h = is_there k.base.named n h
 
 -- a variable is put in scope
 module _ (old numbered new : NameTableView) (name : List ℕ) (k n outer : ℕ) (bound : Bound) (items more : List Held)

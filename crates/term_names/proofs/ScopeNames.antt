@@ -1,13 +1,11 @@
 -- The innermost variables of names, in the code and by the definition.
 use Rattle.std.proofs.Common.{◌≡◌, ◌≢◌, ℕ, ◌<◌, ◌⊎◌, inl, inr, zero, suc, List, [], ◌∷◌, length, get_or, Bool, true, false, ◌&&◌, cond, nat_eq, find, Option, Some, None, option_map, Contains, ap, subst, refl, sym, ◌∙◌, arith}
-use Rattle.std.proofs.lemmas.Option.{same_Some}
 use Rattle.std.specs.Prelude.{bytes_eq}
 use Rattle.std.specs.List.{list_all}
 use Rattle.std.specs.Option.{option_map_or}
 use Rattle.std.proofs.lemmas.Bool.Decides.{eqb_tells}
 use Rattle.std.proofs.lemmas.List.{get_or_default}
 use Rattle.std.proofs.lemmas.Slice.Eq.{bytes_eq-Decides}
-use Rattle.sym_table.specs.Leaf as leaf
 use Rattle.sym_table.specs.Table.{Table, IsTable, IsLeaf}
 use Rattle.term_model.proofs.Tests.{sort_eq_decides}
 use Rattle.term_model.specs.Terms.{Var, sort_eq}
@@ -19,36 +17,20 @@ use Rattle.problem_text.specs.Names.{Bound, innermost, is_bound}
 use Rattle.term_names.specs.Scope.{Scoped}
 use Rattle.term_expansion.specs.Values.{PutsIn}
 use Rattle.term_expansion.specs.declared.values.Bound as held
+use Rattle.term_expansion.specs.SymbolsAndTerms.{both}
+use Rattle.term_expansion.proofs.LeafLemmas.{one_leaf, one_variable}
 
-same_variable : (x y : Var) → x.name ≡ y.name → x.sort ≡ y.sort → x ≡ y
+pub same_variable : (x y : Var) → x.name ≡ y.name → x.sort ≡ y.sort → x ≡ y
 same_variable x y e f = λ i. record { name = e i; sort = f i }
-
--- one leaf has one variable, and one variable one leaf
-variables_of_leaves : (x y : Var) → variable_leaf x ≡ variable_leaf y → x ≡ y
-variables_of_leaves x y e = same_variable x y (names e) (sorts e)
-  where
-    names : variable_leaf x ≡ variable_leaf y → x.name ≡ y.name
-    names e = cc
-
-    sorts : variable_leaf x ≡ variable_leaf y → x.sort ≡ y.sort
-    sorts e = cc
-
-pub variable_of_leaf : (s : Table) (k : ℕ) (x y : Var) → IsLeaf s k (variable_leaf x) → IsLeaf s k (variable_leaf y) → x ≡ y
-variable_of_leaf s k x y g h = variables_of_leaves x y (same_Some _ _ (sym g ∙ h))
-
-leaf_of_variable : (s : Table) → IsTable s → (j k : ℕ) (x y : Var) → IsLeaf s j (variable_leaf x) → IsLeaf s k (variable_leaf y) → x ≡ y → j ≡ k
-leaf_of_variable s table j k x y g h e =
-    table.apart j k (variable_leaf x) (variable_leaf y) g h (ap (λ (z : Var). leaf.kind_of 0 (variable_leaf z)) e)
-    (ap (λ (z : Var). leaf.name_of (variable_leaf z)) e)
 
 -- what is found in the code is what is found by the definition
 abbrev pub AreFound : Table → TermsView → List ℕ → Option Scoped → Option Bound → Type 0
 AreFound s v name None None = Unit {0}
 AreFound s v name None (Some b) = ⊥
 AreFound s v name (Some e) None = ⊥
-AreFound s v name (Some e) (Some b) = (b.variable.name ≡ name) × PutsIn s v e.bound b.variable b.stands_for
+AreFound s v name (Some e) (Some b) = (b.variable.name ≡ name) × PutsIn (both s v) e.bound b.variable b.stands_for
 
-pub found_in_scope : (s : Table) (v : TermsView) (es : List Scoped) (bs : List Bound) → IsScope s v es bs → (name : List ℕ) → AreFound s v name (find (λ e. bytes_eq e.name name) es) (innermost bs name)
+pub found_in_scope : (s : Table) (v : TermsView) (es : List Scoped) (bs : List Bound) → IsScope (both s v) es bs → (name : List ℕ) → AreFound s v name (find (λ e. bytes_eq e.name name) es) (innermost bs name)
 found_in_scope s v [] [] h name = tt
 found_in_scope s v [] (b ∷ bs) h name = absurd h
 found_in_scope s v (e ∷ es) [] h name = absurd h
@@ -65,7 +47,7 @@ found_in_scope s v (e ∷ es) (b ∷ bs) h name =
 abbrev pub has_leaf : ℕ → Option held.Bound → Bool
 has_leaf k o = option_map_or (λ b. nat_eq b.variable k) o false
 
-pub leaf_is_bound : (s : Table) → IsTable s → (v : TermsView) (es : List Scoped) (bs : List Bound) → IsScope s v es bs → (k : ℕ) (x : Var) → IsLeaf s k (variable_leaf x) → (name : List ℕ) → name ≡ x.name → (o : Option held.Bound) → o ≡ option_map (λ e. e.bound) (find (λ e. bytes_eq e.name name) es) → has_leaf k o ≡ is_bound bs x
+pub leaf_is_bound : (s : Table) → IsTable s → (v : TermsView) (es : List Scoped) (bs : List Bound) → IsScope (both s v) es bs → (k : ℕ) (x : Var) → IsLeaf s k (variable_leaf x) → (name : List ℕ) → name ≡ x.name → (o : Option held.Bound) → o ≡ option_map (λ e. e.bound) (find (λ e. bytes_eq e.name name) es) → has_leaf k o ≡ is_bound bs x
 leaf_is_bound s table v es bs h k x here name named o e =
     ap (has_leaf k) (e ∙ ap (λ n. option_map (λ e. e.bound) (find (λ e. bytes_eq e.name n) es)) named) ∙ go (find (λ e. bytes_eq e.name x.name) es) (innermost bs x.name) (found_in_scope s v es bs h x.name)
   where
@@ -75,12 +57,12 @@ leaf_is_bound s table v es bs h k x here name named o e =
     same b y named there true false (inr differ) sorted = absurd (let z = differ.0 in cc)
     same b y named there true false (inl agree) sorted =
         let there2 : IsLeaf s k (variable_leaf y) = subst (λ (j : ℕ). IsLeaf s j (variable_leaf y)) agree.1 there in
-        let equal : y.sort ≡ x.sort = ap (λ z. z.sort) (variable_of_leaf s k y x there2 here) in
+        let equal : y.sort ≡ x.sort = ap (λ z. z.sort) (one_variable s k y x there2 here) in
         absurd (let z = (sort_eq_decides y.sort x.sort).1 equal in cc)
     same b y named there false true (inl agree) sorted = absurd (let z = agree.0 in cc)
     same b y named there false true (inr differ) sorted =
         let equal : y.sort ≡ x.sort = (sort_eq_decides y.sort x.sort).0 sorted in
-        absurd (differ.1 (leaf_of_variable s table b.variable k y x there here (same_variable y x named equal)))
+        absurd (differ.1 (one_leaf s table b.variable k y x there here (same_variable y x named equal)))
 
     go : (p : Option Scoped) (q : Option Bound) → AreFound s v x.name p q → has_leaf k (option_map (λ e. e.bound) p) ≡ option_map_or (λ b. sort_eq b.variable.sort x.sort) q false
     go None None f = refl
@@ -98,7 +80,7 @@ passes_all P (x ∷ xs) h =
     both : (a b : Bool) → a ≡ true → b ≡ true → (a && b) ≡ true
     both a b e f = rw (e, f)
 
-both_true : (a b : Bool) → (a && b) ≡ true → (a ≡ true) × (b ≡ true)
+pub both_true : (a b : Bool) → (a && b) ≡ true → (a ≡ true) × (b ≡ true)
 both_true true true e = (refl, refl)
 both_true true false e = absurd cc
 both_true false b e = absurd cc

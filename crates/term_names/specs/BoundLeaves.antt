@@ -12,13 +12,14 @@ use Rattle.rule_model.specs.Replacement.{Replacement, replaced_by}
 use Rattle.term_names.specs.Scope.{Scoped}
 use Rattle.term_expansion.specs.Values.{IsReplacement}
 use Rattle.term_expansion.specs.declared.values.Bound as held
+use Rattle.term_expansion.specs.SymbolsAndTerms.{both, SymbolsAndTerms}
 
 -- the leaf is that of a variable that is bound in this scope
 pub record IsBoundLeaf (s : Table) (scope : List Scoped) (leaf : ℕ) : Type 0 where
   pub view : TermsView
   pub means : List Bound
   pub variable : Var
-  pub in_scope : IsScope s view scope means
+  pub in_scope : IsScope (both s view) scope means
   pub leaf_of : IsLeaf s leaf (variable_leaf variable)
   pub bound : is_bound means variable ≡ true
 
@@ -27,12 +28,12 @@ pub record AreBoundLeaves (s : Table) (scope : List Scoped) (leaves : List ℕ) 
   pub view : TermsView
   pub means : List Bound
   pub variables : List Var
-  pub in_scope : IsScope s view scope means
+  pub in_scope : IsScope (both s view) scope means
   pub leaves_of : AreFreeLeaves s leaves variables
   pub bound : list_all (is_bound means) variables ≡ true
 
 -- the list puts in for these variables what they stand for in the scope
-pub record PutsInBound (s : Table) (v : TermsView) (list : List held.Bound) (scope : List Bound) (xs : List Var) : Type 0 where
+pub record PutsInBound (w : SymbolsAndTerms) (list : List held.Bound) (scope : List Bound) (xs : List Var) : Type 0 where
   pub means : Replacement
-  pub is : IsReplacement s v list means
+  pub is : IsReplacement w list means
   pub same : (x : Var) → Contains xs x → replaced_by means x ≡ replaced_by (replacement scope) x

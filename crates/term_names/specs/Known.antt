@@ -1,5 +1,5 @@
 -- Public. Two lots of entries: those of a problem, and those of a reader of terms.
-use Rattle.std.specs.Prelude.{◌≡◌, ℕ, List, if◌then◌else◌, bytes_eq, Option, Some, None, slice_get, option_map, IsSome}
+use Rattle.std.specs.Prelude.{◌≡◌, ℕ, List, if◌then◌else◌, bytes_eq, Option, Some, slice_get, option_map, IsSome}
 use Rattle.std.specs.Borrow.{Bor}
 use Rattle.std.specs.Option.{option_or, option_map_or}
 use Rattle.term_names.specs.declared.entries.Entry.{Entry}
@@ -53,7 +53,3 @@ IsKnownThere k (KnownEntry.Function leaf) = Unit {0}
 IsKnownThere k KnownEntry.Reserved = Unit {0}
 IsKnownThere k (KnownEntry.Macro which) = IsSome (macro_of k which)
 IsKnownThere k (KnownEntry.Named which) = IsSome (named_of k which)
-
--- a name of the first is none of the second
-abbrev pub AreDisjoint : KnownView → Type 0
-AreDisjoint k = (name : List ℕ) → IsSome (lookup k.base.names name) → lookup k.own.names name ≡ None

@@ -11,6 +11,7 @@ use Rattle.problem_text.specs.TypedTerms.{Typed}
 use Rattle.term_expansion.specs.Values.{IsValue}
 use Rattle.term_names.specs.declared.faults.ReadFault.{ReadFault}
 use Rattle.term_expansion.specs.declared.values.Value.{Value}
+use Rattle.term_expansion.specs.SymbolsAndTerms.{SymbolsAndTerms}
 
 -- the references a and b are the parts of a cell of a term that is wanted
 pub record IsWantedCell (s : Table) (pass : PassView) (IsWanted : Term → Type 0) (a b : ℕ) : Type 0 where
@@ -37,13 +38,14 @@ abbrev pub IsExpected : Option Typed → Term → Type 0
 IsExpected o t = (d : Typed) × (o ≡ Some d) × (d.tree ≡ t)
 
 -- The answer is the term that is expected, or none where none is.
-abbrev pub IsMade : Table → TermsView → Option Typed → Result (Option Value) ReadFault → Type 0
-IsMade s v o (Ok None) = o ≡ None
-IsMade s v o (Ok (Some c)) = (t : Typed) × (o ≡ Some t) × IsValue s v c t
-IsMade s v o (Err (ReadFault.Text r)) = ⊥
-IsMade s v o (Err ReadFault.PoolFull) = LacksCellOf s v.pass (IsExpected o)
-IsMade s v o (Err ReadFault.Memory) = Unit {0}
+abbrev pub IsMade : SymbolsAndTerms → Option Typed → Result (Option Value) ReadFault → Type 0
+IsMade w o (Ok None) = o ≡ None
+IsMade w o (Ok (Some c)) = (t : Typed) × (o ≡ Some t) × IsValue w c t
+IsMade w o (Err (ReadFault.Text r)) = ⊥
+IsMade w o (Err ReadFault.PoolFull) = LacksCellOf w.symbols w.terms.pass (IsExpected o)
+IsMade w o (Err ReadFault.Memory) = Unit {0}
 
-pub record Makes (s : Table) (old new : TermsView) (o : Option Typed) (result : Result (Option Value) ReadFault) : Type 0 where
-  pub answer : IsMade s new o result
-  pub placed : PlacesCellsOf s old.pass new.pass (IsExpected o)
+-- and what was placed since are cells of that term
+pub record Makes (before : TermsView) (w : SymbolsAndTerms) (o : Option Typed) (result : Result (Option Value) ReadFault) : Type 0 where
+  pub answer : IsMade w o result
+  pub placed : PlacesCellsOf w.symbols before.pass w.terms.pass (IsExpected o)

@@ -2,8 +2,9 @@
 use Rattle.std.specs.Prelude.{ℕ, List, find, bytes_eq, Option, option_map}
 use Rattle.std.specs.Option.{option_or}
 use Rattle.term_expansion.specs.declared.values.Bound.{Bound}
-use Rattle.term_names.specs.Known.{KnownView, known_entry, own_entry, IsKnownThere}
-use Rattle.term_names.specs.Entries.{lookup}
+use Rattle.term_names.specs.Known.{KnownView, base_of, known_entry, own_entry, IsKnownThere}
+use Rattle.term_names.specs.Entries.{EntriesView, lookup}
+use Rattle.term_names.specs.declared.settings.ReadSettings.{ReadSettings}
 use Rattle.term_names.specs.declared.names.Meant.{Meant}
 
 pub record Scoped : Type 0 where
@@ -23,9 +24,21 @@ pub record NamesView : Type 0 where
 abbrev pub meant_of : NamesView → List ℕ → Option Meant
 meant_of n name = option_or (option_map Meant.Variable (bound_of n.scope name)) (option_map Meant.Entry (known_entry n.known name))
 
--- what it means by what a reader has itself
-abbrev pub own_meant_of : NamesView → List ℕ → Option Meant
-own_meant_of n name = option_or (option_map Meant.Variable (bound_of n.scope name)) (option_map (λ e. Meant.Entry (own_entry e)) (lookup n.known.own.names name))
+-- what a reader has itself: its own entries, and the variables in scope
+pub record OwnNames : Type 0 where
+  pub own : EntriesView
+  pub scope : List Scoped
+
+-- with the entries that it starts from
+abbrev pub names_in : ReadSettings → OwnNames → NamesView
+names_in e n = record { known = record { base = base_of e.base; own = n.own }; scope = n.scope }
+
+abbrev pub known_in : ReadSettings → OwnNames → KnownView
+known_in e n = (names_in e n).known
+
+-- what a name means by what a reader has itself
+abbrev pub own_meant_of : OwnNames → List ℕ → Option Meant
+own_meant_of n name = option_or (option_map Meant.Variable (bound_of n.scope name)) (option_map (λ e. Meant.Entry (own_entry e)) (lookup n.own.names name))
 
 -- what is meant is there
 abbrev pub IsMeantThere : NamesView → Meant → Type 0

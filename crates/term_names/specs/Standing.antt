@@ -4,7 +4,7 @@ use Rattle.std.specs.List.{AllZip}
 use Rattle.sym_table.specs.Table.{Table, IsLeaf, IsFunctionName, Keeps}
 use Rattle.term_model.specs.Terms.{Var, Fun}
 use Rattle.term_pool.specs.StandsFor.{variable_leaf, function_leaf}
-use Rattle.term_pool.specs.Views.{TermsView}
+use Rattle.term_pool.specs.Views.{KeepsTerms}
 use Rattle.term_expansion.specs.Free.{AreFreeLeaves}
 use Rattle.problem_text.specs.Limits.{most_height}
 use Rattle.term_names.specs.Known.{KnownView, known_entry, macro_of, named_of}
@@ -15,6 +15,7 @@ use Rattle.problem_text.specs.Words.{is_among, is_built_in}
 use Rattle.term_names.specs.declared.entries.Macro as macro
 use Rattle.term_names.specs.declared.entries.Named as named
 use Rattle.term_names.specs.declared.names.KnownEntry.{KnownEntry}
+use Rattle.term_expansion.specs.SymbolsAndTerms.{SymbolsAndTerms}
 
 -- the named term, the macro and the declared function of a name
 abbrev pub named_in_script : Script → List ℕ → Option Named
@@ -30,17 +31,17 @@ function_in sc name = find (λ f. bytes_eq f.name name) sc.functions
 abbrev pub AreLeavesOf : Table → List ℕ → List Var → Type 0
 AreLeavesOf s ks xs = AllZip (λ k x. IsLeaf s k (variable_leaf x)) ks xs
 
-pub record IsMacroOf (s : Table) (v : TermsView) (m : macro.Macro) (d : Macro) : Type 0 where
-  pub parameters : AreLeavesOf s m.parameters.items d.parameters
+pub record IsMacroOf (w : SymbolsAndTerms) (m : macro.Macro) (d : Macro) : Type 0 where
+  pub parameters : AreLeavesOf w.symbols m.parameters.items d.parameters
   pub sorts : m.sorts.items ≡ map (λ x. x.sort) d.parameters
   pub target : m.target ≡ d.target
-  pub body : IsValue s v m.body (record { tree = d.body; sort = d.target })
+  pub body : IsValue w m.body (record { tree = d.body; sort = d.target })
   pub plain : m.body.plain ≡ true
 
-pub record IsNamedOf (s : Table) (v : TermsView) (n : named.Named) (d : Named) : Type 0 where
-  pub value : IsValue s v n.value d.meant
+pub record IsNamedOf (w : SymbolsAndTerms) (n : named.Named) (d : Named) : Type 0 where
+  pub value : IsValue w n.value d.meant
   pub low : n.value.height ≤ most_height
-  pub free : AreFreeLeaves s n.free.items (free_variables d.meant.tree)
+  pub free : AreFreeLeaves w.symbols n.free.items (free_variables d.meant.tree)
 
 -- the function of a name, by its leaf
 pub record IsFunctionAt (s : Table) (sc : Script) (name : List ℕ) (leaf : ℕ) : Type 0 where
@@ -73,43 +74,48 @@ pub record IsReservedName (s : Table) (sc : Script) (name : List ℕ) : Type 0 w
   pub no_function : IsNoFunction s sc name
   pub taken : is_among sc.taken name ≡ true
 
-pub record IsMacroName (s : Table) (v : TermsView) (sc : Script) (name : List ℕ) (m : Option macro.Macro) : Type 0 where
+pub record IsMacroName (w : SymbolsAndTerms) (sc : Script) (name : List ℕ) (m : Option macro.Macro) : Type 0 where
   pub held : macro.Macro
   pub meant : Macro
   pub there : m ≡ Some held
   pub found : macro_in sc name ≡ Some meant
-  pub is : IsMacroOf s v held meant
+  pub is : IsMacroOf w held meant
   pub no_named : named_in_script sc name ≡ None
-  pub no_function : IsNoFunction s sc name
+  pub no_function : IsNoFunction w.symbols sc name
   pub taken : is_among sc.taken name ≡ true
 
-pub record IsNamedName (s : Table) (v : TermsView) (sc : Script) (name : List ℕ) (n : Option named.Named) : Type 0 where
+pub record IsNamedName (w : SymbolsAndTerms) (sc : Script) (name : List ℕ) (n : Option named.Named) : Type 0 where
   pub held : named.Named
   pub meant : Named
   pub there : n ≡ Some held
   pub found : named_in_script sc name ≡ Some meant
-  pub is : IsNamedOf s v held meant
+  pub is : IsNamedOf w held meant
   pub no_macro : macro_in sc name ≡ None
-  pub no_function : IsNoFunction s sc name
+  pub no_function : IsNoFunction w.symbols sc name
   pub taken : is_among sc.taken name ≡ true
 
 -- what a name is that of, by the entries and by the script
-abbrev pub IsNameMeant : Table → TermsView → KnownView → Script → List ℕ → Option KnownEntry → Type 0
-IsNameMeant s v k sc name None = HasNoEntry sc name × IsFreeName s sc name
-IsNameMeant s v k sc name (Some (KnownEntry.Function leaf)) = IsDeclaredName s sc name leaf
-IsNameMeant s v k sc name (Some KnownEntry.Reserved) = IsReservedName s sc name
-IsNameMeant s v k sc name (Some (KnownEntry.Macro w)) = IsMacroName s v sc name (macro_of k w)
-IsNameMeant s v k sc name (Some (KnownEntry.Named w)) = IsNamedName s v sc name (named_of k w)
+abbrev pub IsNameMeant : SymbolsAndTerms → KnownView → Script → List ℕ → Option KnownEntry → Type 0
+IsNameMeant w k sc name None = HasNoEntry sc name × IsFreeName w.symbols sc name
+IsNameMeant w k sc name (Some (KnownEntry.Function leaf)) = IsDeclaredName w.symbols sc name leaf
+IsNameMeant w k sc name (Some KnownEntry.Reserved) = IsReservedName w.symbols sc name
+IsNameMeant w k sc name (Some (KnownEntry.Macro which)) = IsMacroName w sc name (macro_of k which)
+IsNameMeant w k sc name (Some (KnownEntry.Named which)) = IsNamedName w sc name (named_of k which)
 
 -- The table, the pool and the entries stand for what the script declares and names. No function, macro or named term has
 -- a built-in word for its name.
-pub record IsScript (s : Table) (v : TermsView) (k : KnownView) (sc : Script) : Type 0 where
-  pub sorts : s.sorts ≡ sc.sorts
+pub record IsScript (w : SymbolsAndTerms) (k : KnownView) (sc : Script) : Type 0 where
+  pub sorts : w.symbols.sorts ≡ sc.sorts
   pub built_in : (name : List ℕ) → is_built_in name ≡ true → is_among sc.taken name ≡ false
-  pub names : (name : List ℕ) → IsNameMeant s v k sc name (known_entry k name)
+  pub names : (name : List ℕ) → IsNameMeant w k sc name (known_entry k name)
 
 -- Only numerals and variables are added to the table.
 pub record AddsNoSymbols (old new : Table) : Type 0 where
   pub keeps : Keeps old new
   pub sorts : new.sorts ≡ old.sorts
   pub functions : (k : ℕ) (f : Fun) → IsLeaf new k (function_leaf f) → IsLeaf old k (function_leaf f)
+
+-- What stood for something still does, and no symbol was declared.
+pub record GrowByTerms (old new : SymbolsAndTerms) : Type 0 where
+  pub symbols : AddsNoSymbols old.symbols new.symbols
+  pub terms : KeepsTerms old.terms new.terms

@@ -6,11 +6,13 @@ ghost use Rattle.term_names.specs.Applying.{bounds_of};
 ghost use Rattle.term_names.specs.Heads.{HeadMeans, IsSymbolOf};
 ghost use Rattle.term_names.specs.InScope.{AreLow};
 ghost use Rattle.term_names.specs.Making.{Makes};
+ghost use Rattle.term_names.specs.Scope.{known_in};
 ghost use Rattle.problem_text.specs.Names.{Meaning, macro, meaning_applied};
 ghost use Rattle.problem_text.specs.Scripts as spec;
 ghost use Rattle.problem_text.specs.TypedTerms.{Typed};
 ghost use Rattle.term_names.specs.Standing.{IsMacroOf};
 ghost use Rattle.term_expansion.specs.Values.{AreValues};
+ghost use Rattle.term_expansion.specs.SymbolsAndTerms.{both};
 
 use crate::entries::Macro;
 use crate::faults::ReadFault;
@@ -38,19 +40,20 @@ pub fn apply(
 ) -> Result<Option<Value>, ReadFault>
     requires some { from < length values.now }
     requires low { AreLow values.now }
-    requires head { (m : Meaning) × (ts : List Typed) × HeadMeans tables.now.symbols.now terms.old tables.now.names.now.known head m × AreValues tables.now.symbols.now terms.old (drop from values.now) ts }
-    ensures makes { (m : Meaning) (ts : List Typed) → HeadMeans tables.now.symbols.now terms.old tables.now.names.now.known head m → AreValues tables.now.symbols.now terms.old (drop from values.now) ts → Makes tables.now.symbols.now terms.old terms.new (meaning_applied m ts) result }
+    requires head { (m : Meaning) × (ts : List Typed) × HeadMeans (both tables.now.symbols.now terms.old) (known_in tables.now.settings.now tables.now.names.now) head m × AreValues (both tables.now.symbols.now terms.old) (drop from values.now) ts }
+    ensures makes { (m : Meaning) (ts : List Typed) → HeadMeans (both tables.now.symbols.now terms.old) (known_in tables.now.settings.now tables.now.names.now) head m → AreValues (both tables.now.symbols.now terms.old) (drop from values.now) ts → Makes terms.old (both tables.now.symbols.now terms.new) (meaning_applied m ts) result }
     ensures keeps { KeepsTerms terms.old terms.new }
 {
     let NameTables {
-        alloc,
+        settings,
         symbols,
         names,
     } = *tables;
     match head {
         Head::Symbol(leaf) => apply_symbol(symbols, terms, leaf, values, from),
         Head::Macro(which) => {
-            apply_macro(alloc, symbols, terms, names.macro_at(which), values, from)
+            let defined = names.macro_at(settings, which);
+            apply_macro(settings.alloc, symbols, terms, defined, values, from)
         }
         Head::Fixed => Ok(None),
     }
@@ -66,8 +69,8 @@ fn apply_symbol(
 ) -> Result<Option<Value>, ReadFault>
     requires some { from < length values.now }
     requires low { AreLow values.now }
-    requires symbol { (m : Meaning) × (ts : List Typed) × IsSymbolOf symbols.now leaf m × AreValues symbols.now terms.old (drop from values.now) ts }
-    ensures makes { (m : Meaning) (ts : List Typed) → IsSymbolOf symbols.now leaf m → AreValues symbols.now terms.old (drop from values.now) ts → Makes symbols.now terms.old terms.new (meaning_applied m ts) result }
+    requires symbol { (m : Meaning) × (ts : List Typed) × IsSymbolOf symbols.now leaf m × AreValues (both symbols.now terms.old) (drop from values.now) ts }
+    ensures makes { (m : Meaning) (ts : List Typed) → IsSymbolOf symbols.now leaf m → AreValues (both symbols.now terms.old) (drop from values.now) ts → Makes terms.old (both symbols.now terms.new) (meaning_applied m ts) result }
     ensures keeps { KeepsTerms terms.old terms.new }
 {
     let _leaves = symbols.count();
@@ -96,8 +99,8 @@ fn apply_macro(
     from: usize,
 ) -> Result<Option<Value>, ReadFault>
     requires some { from < length values.now }
-    requires defined { (d : spec.Macro) × (ts : List Typed) × IsMacroOf symbols.now terms.old defined.now d × AreValues symbols.now terms.old (drop from values.now) ts }
-    ensures makes { (d : spec.Macro) (ts : List Typed) → IsMacroOf symbols.now terms.old defined.now d → AreValues symbols.now terms.old (drop from values.now) ts → Makes symbols.now terms.old terms.new (meaning_applied (macro d) ts) result }
+    requires defined { (d : spec.Macro) × (ts : List Typed) × IsMacroOf (both symbols.now terms.old) defined.now d × AreValues (both symbols.now terms.old) (drop from values.now) ts }
+    ensures makes { (d : spec.Macro) (ts : List Typed) → IsMacroOf (both symbols.now terms.old) defined.now d → AreValues (both symbols.now terms.old) (drop from values.now) ts → Makes terms.old (both symbols.now terms.new) (meaning_applied (macro d) ts) result }
     ensures keeps { KeepsTerms terms.old terms.new }
 {
     if !are_equal(&defined.sorts, values.sorts_from(from)) {

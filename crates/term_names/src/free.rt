@@ -19,15 +19,16 @@ ghost use Rattle.term_expansion.specs.Images.{IsSomeValue};
 ghost use Rattle.rule_model.specs.Replacement.{free_variables};
 ghost use Rattle.problem_text.specs.TypedTerms.{Typed};
 ghost use Rattle.problem_text.specs.Scripts.{Script};
+ghost use Rattle.term_names.specs.Scope.{known_in};
 ghost use Rattle.term_names.specs.Standing.{IsScript};
 ghost use Rattle.term_expansion.specs.Values.{IsValue};
+ghost use Rattle.term_expansion.specs.SymbolsAndTerms.{both};
 
-use crate::names::{KnownEntry, NameTables, Names};
+use crate::names::{KnownEntry, NameTables};
 use indexmap::IndexSet;
 use pair_pool::{Memory, Ref};
 use std::alloc::Global;
 use std::collections::HashMap;
-use sym_table::Symbols;
 use term_expansion::laws::parts_are_lower;
 use term_expansion::leaf_sets::{add, add_all, add_unbound, has};
 use term_expansion::term_parts::is_variable;
@@ -66,7 +67,7 @@ struct LetParts {
 /// The parts of a let.
 fn let_parts(alloc: Global, terms: &mut Terms<'_>, r: Ref) -> Result<LetParts, Memory>
     requires { IsLetTerm terms.old r }
-    ensures parts { IfOk result (λ p. (s : Table) → ArePartsOfLet s terms.old r p.variables.items p.values.items p.body) }
+    ensures parts { IfOk result (λ p. (s : Table) → ArePartsOfLet (both s terms.old) r p.variables.items p.values.items p.body) }
     ensures same { terms.new ≡ terms.old }
 {
     let mut variables = Vec::new(alloc);
@@ -81,22 +82,22 @@ fn let_parts(alloc: Global, terms: &mut Terms<'_>, r: Ref) -> Result<LetParts, M
 }
 
 /// The leaves of the free variables of a term, where it was named before.
-fn leaves_of_named<'b>(
-    symbols: &Symbols,
-    terms: &Terms<'_>,
-    names: &'b Names<'_>,
-    r: Ref,
-) -> Option<&'b [u32]>
-    requires { (sc : Script) × IsScript symbols.now terms.now names.now.known sc }
-    ensures { IfSome result (λ leaves. (t : Term) → RefersTo symbols.now terms.now r t → AddsLeaves symbols.now [] leaves.now (λ x. IsFree x t)) }
+fn leaves_of_named<'b>(tables: &NameTables<'b, '_>, terms: &Terms<'_>, r: Ref) -> Option<&'b [u32]>
+    requires { (sc : Script) × IsScript (both tables.now.symbols.now terms.now) (known_in tables.now.settings.now tables.now.names.now) sc }
+    ensures { IfSome result (λ leaves. (t : Term) → RefersTo tables.now.symbols.now terms.now r t → AddsLeaves tables.now.symbols.now [] leaves.now (λ x. IsFree x t)) }
 {
+    let NameTables {
+        settings,
+        symbols,
+        names,
+    } = *tables;
     let _leaves = symbols.count();
     terms.equal_exactly_where_terms_are();
-    let name = names.name_given(r)?;
-    let KnownEntry::Named(which) = names.entry(name)? else {
+    let name = names.name_given(settings, r)?;
+    let KnownEntry::Named(which) = names.entry(settings, name)? else {
         return None;
     };
-    let named = names.named_at(which);
+    let named = names.named_at(settings, which);
     if named.value.term == r {
         Some(&named.free)
     } else {
@@ -115,24 +116,24 @@ fn gather(
     most: u32,
 ) -> Result<(), Memory>
     requires table { IsTable tables.now.symbols.now }
-    requires low { IsAtMost tables.now.symbols.now terms.old most r }
-    requires bodies { AreBodies tables.now.symbols.now terms.old bodies.old }
-    requires covers { CoversFree tables.now.symbols.now terms.old region.old.seen.keys region.old.found.keys }
-    requires script { (sc : Script) × IsScript tables.now.symbols.now terms.old tables.now.names.now.known sc }
+    requires low { IsAtMost (both tables.now.symbols.now terms.old) most r }
+    requires bodies { AreBodies (both tables.now.symbols.now terms.old) bodies.old }
+    requires covers { CoversFree (both tables.now.symbols.now terms.old) region.old.seen.keys region.old.found.keys }
+    requires script { (sc : Script) × IsScript (both tables.now.symbols.now terms.old) (known_in tables.now.settings.now tables.now.names.now) sc }
     ensures adds { OnOk result ((t : Term) → RefersTo tables.now.symbols.now terms.old r t → AddsLeaves tables.now.symbols.now region.old.found.keys region.new.found.keys (λ x. IsFree x t)) }
-    ensures covers { OnOk result (CoversFree tables.now.symbols.now terms.old region.new.seen.keys region.new.found.keys) }
-    ensures bodies { OnOk result (AreBodies tables.now.symbols.now terms.old bodies.new) }
+    ensures covers { OnOk result (CoversFree (both tables.now.symbols.now terms.old) region.new.seen.keys region.new.found.keys) }
+    ensures bodies { OnOk result (AreBodies (both tables.now.symbols.now terms.old) bodies.new) }
     ensures same { terms.new ≡ terms.old }
 {
     let NameTables {
-        alloc,
+        settings,
         symbols,
-        names,
+        ..
     } = *tables;
     if has(&region.seen, r.number()) {
         return Ok(());
     }
-    if let Some(leaves) = leaves_of_named(symbols, terms, names, r) {
+    if let Some(leaves) = leaves_of_named(tables, terms, r) {
         add_all(leaves, &mut region.found)?;
         return add(&mut region.seen, r.number());
     }
@@ -144,7 +145,7 @@ fn gather(
         return add(&mut region.found, head);
     }
     parts_are_lower();
-    let list = arguments(alloc, terms, r)?;
+    let list = arguments(settings.alloc, terms, r)?;
     gather_all(tables, terms, bodies, region, &list, most - 1)?;
     add(&mut region.seen, r.number())
 }
@@ -160,13 +161,13 @@ fn gather_all(
     most: u32,
 ) -> Result<(), Memory>
     requires table { IsTable tables.now.symbols.now }
-    requires low { All (IsAtMost tables.now.symbols.now terms.old most) list.now }
-    requires bodies { AreBodies tables.now.symbols.now terms.old bodies.old }
-    requires covers { CoversFree tables.now.symbols.now terms.old region.old.seen.keys region.old.found.keys }
-    requires script { (sc : Script) × IsScript tables.now.symbols.now terms.old tables.now.names.now.known sc }
+    requires low { All (IsAtMost (both tables.now.symbols.now terms.old) most) list.now }
+    requires bodies { AreBodies (both tables.now.symbols.now terms.old) bodies.old }
+    requires covers { CoversFree (both tables.now.symbols.now terms.old) region.old.seen.keys region.old.found.keys }
+    requires script { (sc : Script) × IsScript (both tables.now.symbols.now terms.old) (known_in tables.now.settings.now tables.now.names.now) sc }
     ensures adds { OnOk result ((ts : List Term) → ReferToAll tables.now.symbols.now terms.old list.now ts → AddsLeaves tables.now.symbols.now region.old.found.keys region.new.found.keys (λ x. IsFreeInAny x ts)) }
-    ensures covers { OnOk result (CoversFree tables.now.symbols.now terms.old region.new.seen.keys region.new.found.keys) }
-    ensures bodies { OnOk result (AreBodies tables.now.symbols.now terms.old bodies.new) }
+    ensures covers { OnOk result (CoversFree (both tables.now.symbols.now terms.old) region.new.seen.keys region.new.found.keys) }
+    ensures bodies { OnOk result (AreBodies (both tables.now.symbols.now terms.old) bodies.new) }
     ensures same { terms.new ≡ terms.old }
 {
     let mut at = list.len();
@@ -188,20 +189,20 @@ fn gather_let(
     most: u32,
 ) -> Result<(), Memory>
     requires table { IsTable tables.now.symbols.now }
-    requires low { IsAtMost tables.now.symbols.now terms.old most r }
+    requires low { IsAtMost (both tables.now.symbols.now terms.old) most r }
     requires is_let { (t : Term) → RefersTo tables.now.symbols.now terms.old r t → IsLet t }
-    requires bodies { AreBodies tables.now.symbols.now terms.old bodies.old }
-    requires covers { CoversFree tables.now.symbols.now terms.old region.old.seen.keys region.old.found.keys }
-    requires script { (sc : Script) × IsScript tables.now.symbols.now terms.old tables.now.names.now.known sc }
+    requires bodies { AreBodies (both tables.now.symbols.now terms.old) bodies.old }
+    requires covers { CoversFree (both tables.now.symbols.now terms.old) region.old.seen.keys region.old.found.keys }
+    requires script { (sc : Script) × IsScript (both tables.now.symbols.now terms.old) (known_in tables.now.settings.now tables.now.names.now) sc }
     ensures adds { OnOk result ((t : Term) → RefersTo tables.now.symbols.now terms.old r t → AddsLeaves tables.now.symbols.now region.old.found.keys region.new.found.keys (λ x. IsFree x t)) }
-    ensures covers { OnOk result (CoversFree tables.now.symbols.now terms.old region.new.seen.keys region.new.found.keys) }
-    ensures bodies { OnOk result (AreBodies tables.now.symbols.now terms.old bodies.new) }
+    ensures covers { OnOk result (CoversFree (both tables.now.symbols.now terms.old) region.new.seen.keys region.new.found.keys) }
+    ensures bodies { OnOk result (AreBodies (both tables.now.symbols.now terms.old) bodies.new) }
     ensures same { terms.new ≡ terms.old }
 {
     if let Some(leaves) = bodies.get(&r.number()) {
         return add_all(leaves, &mut region.found);
     }
-    let alloc = tables.alloc;
+    let alloc = tables.settings.alloc;
     parts_are_lower();
     let parts = let_parts(alloc, terms, r)?;
     let values = &parts.values;
@@ -225,14 +226,14 @@ fn leaves_of(
     most: u32,
 ) -> Result<Vec<u32>, Memory>
     requires table { IsTable tables.now.symbols.now }
-    requires low { IsAtMost tables.now.symbols.now terms.old most r }
-    requires bodies { AreBodies tables.now.symbols.now terms.old bodies.old }
-    requires script { (sc : Script) × IsScript tables.now.symbols.now terms.old tables.now.names.now.known sc }
+    requires low { IsAtMost (both tables.now.symbols.now terms.old) most r }
+    requires bodies { AreBodies (both tables.now.symbols.now terms.old) bodies.old }
+    requires script { (sc : Script) × IsScript (both tables.now.symbols.now terms.old) (known_in tables.now.settings.now tables.now.names.now) sc }
     ensures leaves { IfOk result (λ leaves. (t : Term) → RefersTo tables.now.symbols.now terms.old r t → AddsLeaves tables.now.symbols.now [] leaves.items (λ x. IsFree x t)) }
-    ensures bodies { OnOk result (AreBodies tables.now.symbols.now terms.old bodies.new) }
+    ensures bodies { OnOk result (AreBodies (both tables.now.symbols.now terms.old) bodies.new) }
     ensures same { terms.new ≡ terms.old }
 {
-    let alloc = tables.alloc;
+    let alloc = tables.settings.alloc;
     let mut region = Region {
         seen: IndexSet::new(alloc),
         found: IndexSet::new(alloc),
@@ -248,28 +249,26 @@ fn leaves_of(
 /// were named before, whose leaves are kept, and takes memory for each that it meets there. Takes stack in proportion to
 /// the term's height. Where the table has no variable it does none of this. Refuses want of memory alone.
 pub fn free_leaves(
-    alloc: Global,
-    symbols: &Symbols,
+    tables: &NameTables<'_, '_>,
     terms: &mut Terms<'_>,
-    names: &Names<'_>,
     what: Value,
 ) -> Result<Vec<u32>, Memory>
-    requires what { IsSomeValue symbols.now terms.old what }
+    requires what { IsSomeValue (both tables.now.symbols.now terms.old) what }
     requires low { what.height ≤ 2000 }
-    requires script { (sc : Script) × IsScript symbols.now terms.old names.now.known sc }
-    ensures free { IfOk result (λ leaves. (t : Typed) → IsValue symbols.now terms.old what t → AreFreeLeaves symbols.now leaves.items (free_variables t.tree)) }
+    requires script { (sc : Script) × IsScript (both tables.now.symbols.now terms.old) (known_in tables.now.settings.now tables.now.names.now) sc }
+    ensures free { IfOk result (λ leaves. (t : Typed) → IsValue (both tables.now.symbols.now terms.old) what t → AreFreeLeaves tables.now.symbols.now leaves.items (free_variables t.tree)) }
     ensures keeps { KeepsTerms terms.old terms.new }
     ensures unchanged { IsUnchanged terms.old.pass terms.new.pass }
 {
+    let NameTables {
+        settings,
+        symbols,
+        ..
+    } = *tables;
     let _leaves = symbols.count();
     if !symbols.may_have_variables() {
-        return Ok(Vec::new(alloc));
+        return Ok(Vec::new(settings.alloc));
     }
-    let mut bodies = HashMap::new(alloc);
-    let tables = NameTables {
-        alloc,
-        symbols,
-        names,
-    };
-    leaves_of(&tables, terms, &mut bodies, what.term, MOST_HEIGHT)
+    let mut bodies = HashMap::new(settings.alloc);
+    leaves_of(tables, terms, &mut bodies, what.term, MOST_HEIGHT)
 }

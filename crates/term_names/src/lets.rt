@@ -11,6 +11,7 @@ ghost use Rattle.problem_text.specs.Names.{Bound, Place, itself, inside, let_ter
 ghost use Rattle.term_names.specs.Scope.{Scoped};
 ghost use Rattle.problem_text.specs.TypedTerms.{Typed};
 ghost use Rattle.term_expansion.specs.Values.{IsValue};
+ghost use Rattle.term_expansion.specs.SymbolsAndTerms.{both};
 
 use crate::faults::ReadFault;
 use crate::names::Names;
@@ -25,17 +26,17 @@ use term_pool::{Terms, trees_are_built_of_parts};
 /// the value at its place, from place `from` on, and otherwise for itself. Refuses want of memory alone.
 pub fn bind(
     symbols: &Symbols,
-    names: &mut Names<'_>,
+    names: &mut Names,
     leaves: &[u32],
     values: &Values,
     from: usize,
     replaces_lets: bool,
 ) -> Result<(), Memory>
     requires within { from ≤ length values.now }
-    requires bound { (v : TermsView) × (bs : List Bound) × AreValuesBound symbols.now v leaves.now (drop from values.now) bs }
-    ensures bound { (v : TermsView) (bs : List Bound) (p : Place) → AreValuesBound symbols.now v leaves.now (drop from values.now) bs → IsScope symbols.now v names.old.scope p.scope → p.settings.replaces_lets ≡ replaces_lets → OnOk result (IsScope symbols.now v names.new.scope (inside bs p).scope) }
+    requires bound { (v : TermsView) × (bs : List Bound) × AreValuesBound (both symbols.now v) leaves.now (drop from values.now) bs }
+    ensures bound { (v : TermsView) (bs : List Bound) (p : Place) → AreValuesBound (both symbols.now v) leaves.now (drop from values.now) bs → IsScope (both symbols.now v) names.old.scope p.scope → p.settings.replaces_lets ≡ replaces_lets → OnOk result (IsScope (both symbols.now v) names.new.scope (inside bs p).scope) }
     ensures inner { OnOk result ((inner : List Scoped) × (names.new.scope ≡ inner ++ names.old.scope) × (length inner ≡ length leaves.now)) }
-    ensures known { names.new.known ≡ names.old.known }
+    ensures own { names.new.own ≡ names.old.own }
 {
     let _values = values.len();
     let mut at = leaves.len();
@@ -56,15 +57,15 @@ pub fn bind(
 /// Refuses want of memory alone.
 fn bind_one(
     symbols: &Symbols,
-    names: &mut Names<'_>,
+    names: &mut Names,
     leaf: u32,
     value: Value,
     replaces_lets: bool,
 ) -> Result<(), Memory>
     requires variable { (x : Var) × IsLeaf symbols.now leaf (variable_leaf x) }
-    ensures bound { (v : TermsView) (b : Bound) (bs : List Bound) → IsLeaf symbols.now leaf (variable_leaf b.variable) → IsValue symbols.now v value (record { tree = b.stands_for; sort = b.variable.sort }) → IsScope symbols.now v names.old.scope bs → OnOk result (IsScope symbols.now v names.new.scope ((if replaces_lets then b else itself b.variable) ∷ bs)) }
+    ensures bound { (v : TermsView) (b : Bound) (bs : List Bound) → IsLeaf symbols.now leaf (variable_leaf b.variable) → IsValue (both symbols.now v) value (record { tree = b.stands_for; sort = b.variable.sort }) → IsScope (both symbols.now v) names.old.scope bs → OnOk result (IsScope (both symbols.now v) names.new.scope ((if replaces_lets then b else itself b.variable) ∷ bs)) }
     ensures inner { OnOk result ((e : Scoped) × (names.new.scope ≡ e ∷ names.old.scope)) }
-    ensures known { names.new.known ≡ names.old.known }
+    ensures own { names.new.own ≡ names.old.own }
 {
     let _leaves = symbols.count();
     let value = if replaces_lets {
@@ -82,7 +83,7 @@ fn bind_one(
 /// A variable of this sort as a term, by its leaf.
 pub fn as_itself(leaf: u32, sort: Sort) -> Value
     requires { leaf < 2 ^ 30 }
-    ensures { (s : Table) (v : TermsView) (x : Var) → IsLeaf s leaf (variable_leaf x) → sort ≡ x.sort → IsValue s v result (record { tree = variable x; sort = x.sort }) }
+    ensures { (s : Table) (v : TermsView) (x : Var) → IsLeaf s leaf (variable_leaf x) → sort ≡ x.sort → IsValue (both s v) result (record { tree = variable x; sort = x.sort }) }
 {
     Value {
         term: Ref::leaf(leaf),
@@ -93,10 +94,10 @@ pub fn as_itself(leaf: u32, sort: Sort) -> Value
 }
 
 /// Takes the innermost variables out of scope, this many.
-pub fn unbind(names: &mut Names<'_>, count: usize)
+pub fn unbind(names: &mut Names, count: usize)
     requires { count ≤ length names.old.scope }
     ensures scope { names.new.scope ≡ drop count names.old.scope }
-    ensures known { names.new.known ≡ names.old.known }
+    ensures own { names.new.own ≡ names.old.own }
 {
     let mut left = count;
     'variables: while left > 0 {
@@ -125,8 +126,8 @@ pub fn close(
     requires within { variables.now.from ≤ length variables.now.values.now }
     requires low { AreLow variables.now.values.now }
     requires body_low { body.height ≤ most_height }
-    requires bound { (bs : List Bound) × (t : Typed) × AreValuesBound symbols.now terms.old variables.now.leaves.now (drop variables.now.from variables.now.values.now) bs × IsValue symbols.now terms.old body t }
-    ensures makes { (p : Place) (bs : List Bound) (t : Typed) → AreValuesBound symbols.now terms.old variables.now.leaves.now (drop variables.now.from variables.now.values.now) bs → IsValue symbols.now terms.old body t → p.settings.replaces_lets ≡ replaces_lets → Makes symbols.now terms.old terms.new (Some (let_term p bs t)) result }
+    requires bound { (bs : List Bound) × (t : Typed) × AreValuesBound (both symbols.now terms.old) variables.now.leaves.now (drop variables.now.from variables.now.values.now) bs × IsValue (both symbols.now terms.old) body t }
+    ensures makes { (p : Place) (bs : List Bound) (t : Typed) → AreValuesBound (both symbols.now terms.old) variables.now.leaves.now (drop variables.now.from variables.now.values.now) bs → IsValue (both symbols.now terms.old) body t → p.settings.replaces_lets ≡ replaces_lets → Makes terms.old (both symbols.now terms.new) (Some (let_term p bs t)) result }
     ensures keeps { KeepsTerms terms.old terms.new }
 {
     if replaces_lets {

@@ -1,8 +1,8 @@
 //! What names mean where they stand in a term, and the terms that are made of what they mean.
 //!
 //! - `name_table`: one table from name to number, with what each name means now. `entries`: the functions, macros and named
-//!   terms of a problem. `names`: those that a reader of terms starts from, its own, and the variables in scope. `words`: the
-//!   operators' names.
+//!   terms of a problem. `names`: those that a reader of terms starts from, its own, and the variables in scope. `settings`:
+//!   what never changes while terms are read. `words`: the operators' names.
 //! - `looking_up`: what a name is found to be; `using`: a symbol alone; `heads`, `applying`: a symbol applied to terms;
 //!   `lets`: variables of lets, and lets made; `stacks`: the terms that were read and not yet used.
 //! - `free`: the free variables of a term. `faults`: why a text is not read.
@@ -20,6 +20,7 @@ pub mod lets;
 pub mod looking_up;
 mod name_table;
 pub mod names;
+pub mod settings;
 pub mod stacks;
 pub mod using;
 pub mod words;

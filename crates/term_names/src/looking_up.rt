@@ -8,6 +8,7 @@ ghost use Rattle.term_pool.specs.Views.{TermsView};
 ghost use Rattle.term_names.specs.Heads.{HeadMeans};
 ghost use Rattle.term_expansion.specs.Free.{AreFreeLeaves};
 ghost use Rattle.term_names.specs.InScope.{IsScope};
+ghost use Rattle.term_names.specs.Scope.{known_in};
 ghost use Rattle.term_names.specs.Known.{KnownView, IsKnownThere, known_entry};
 ghost use Rattle.term_names.specs.LookingUp.{IsFoundMeaning};
 ghost use Rattle.term_names.specs.Lookups.{meaning_outside};
@@ -16,9 +17,10 @@ ghost use Rattle.problem_text.specs.Scripts.{Script};
 ghost use Rattle.problem_text.specs.Words.{operator_named};
 ghost use Rattle.term_names.specs.Standing.{IsScript};
 ghost use Rattle.term_names.specs.declared.heads.Head as head;
+ghost use Rattle.term_expansion.specs.SymbolsAndTerms.{SymbolsAndTerms, both};
 
 use crate::heads::Head;
-use crate::names::{KnownEntry, Meant, Names, Which};
+use crate::names::{KnownEntry, Meant, NameTables, Names, Which};
 use crate::words::operator_of;
 use sym_table::Symbols;
 use term_expansion::values::Value;
@@ -44,37 +46,43 @@ pub enum Found {
 /// look-up, which says all that a name may mean, and for a named term one for each of its free variables.
 // A part of its callers, which ask it for each symbol of a text.
 #[inline(always)]
-pub fn find(symbols: &Symbols, names: &Names<'_>, name: &[u8]) -> Found
-    ensures { (v : TermsView) (sc : Script) (p : Place) → IsScript symbols.now v names.now.known sc → IsScope symbols.now v names.now.scope p.scope → IsFoundMeaning symbols.now v names.now.known p result (meaning_of p sc name.now) }
+pub fn find(tables: &NameTables<'_, '_>, name: &[u8]) -> Found
+    ensures { (v : TermsView) (sc : Script) (p : Place) → IsScript (both tables.now.symbols.now v) (known_in tables.now.settings.now tables.now.names.now) sc → IsScope (both tables.now.symbols.now v) tables.now.names.now.scope p.scope → IsFoundMeaning (both tables.now.symbols.now v) (known_in tables.now.settings.now tables.now.names.now) p result (meaning_of p sc name.now) }
 {
+    let NameTables {
+        settings,
+        symbols,
+        names,
+    } = *tables;
     if let Some(op) = operator_of(name) {
         return match names.variable(name) {
             Some(bound) => Found::Term(bound.value),
             None => Found::Symbol(symbols.operator(op)),
         };
     }
-    let Some(meant) = names.find(name) else {
+    let Some(meant) = names.find(settings, name) else {
         return Found::Unknown;
     };
     match meant {
         Meant::Variable(bound) => Found::Term(bound.value),
-        Meant::Entry(entry) => found_of(symbols, names, entry),
+        Meant::Entry(entry) => found_of(tables, entry),
     }
 }
 
 /// What a name of this entry is found to be, where no variable in scope has it.
 // A part of `find` too.
 #[inline(always)]
-fn found_of(symbols: &Symbols, names: &Names<'_>, entry: KnownEntry) -> Found
-    requires there { IsKnownThere names.now.known entry }
-    ensures { (v : TermsView) (sc : Script) (p : Place) (name : List ℕ) → IsScript symbols.now v names.now.known sc → IsScope symbols.now v names.now.scope p.scope → known_entry names.now.known name ≡ Some entry → operator_named name ≡ None → IsFoundMeaning symbols.now v names.now.known p result (meaning_outside p sc name) }
+fn found_of(tables: &NameTables<'_, '_>, entry: KnownEntry) -> Found
+    requires there { IsKnownThere (known_in tables.now.settings.now tables.now.names.now) entry }
+    ensures { (v : TermsView) (sc : Script) (p : Place) (name : List ℕ) → IsScript (both tables.now.symbols.now v) (known_in tables.now.settings.now tables.now.names.now) sc → IsScope (both tables.now.symbols.now v) tables.now.names.now.scope p.scope → known_entry (known_in tables.now.settings.now tables.now.names.now) name ≡ Some entry → operator_named name ≡ None → IsFoundMeaning (both tables.now.symbols.now v) (known_in tables.now.settings.now tables.now.names.now) p result (meaning_outside p sc name) }
 {
     match entry {
         KnownEntry::Function(leaf) => Found::Symbol(leaf),
         KnownEntry::Reserved => Found::Unknown,
         KnownEntry::Macro(which) => Found::Macro(which),
         KnownEntry::Named(which) => {
-            if are_bound(symbols, names, &names.named_at(which).free) {
+            let named = tables.names.named_at(tables.settings, which);
+            if are_bound(tables.symbols, tables.names, &named.free) {
                 Found::Named(which)
             } else {
                 Found::Unknown
@@ -84,8 +92,8 @@ fn found_of(symbols: &Symbols, names: &Names<'_>, entry: KnownEntry) -> Found
 }
 
 /// Whether all these variables are bound here, told by the leaves of a named term.
-fn are_bound(symbols: &Symbols, names: &Names<'_>, leaves: &[u32]) -> bool
-    ensures { (v : TermsView) (p : Place) (xs : List Var) → IsScope symbols.now v names.now.scope p.scope → AreFreeLeaves symbols.now leaves.now xs → result ≡ list_all (is_bound p.scope) xs }
+fn are_bound(symbols: &Symbols, names: &Names, leaves: &[u32]) -> bool
+    ensures { (v : TermsView) (p : Place) (xs : List Var) → IsScope (both symbols.now v) names.now.scope p.scope → AreFreeLeaves symbols.now leaves.now xs → result ≡ list_all (is_bound p.scope) xs }
 {
     'leaves: for leaf in leaves {
         if !is_bound_here(symbols, names, *leaf) {
@@ -96,8 +104,8 @@ fn are_bound(symbols: &Symbols, names: &Names<'_>, leaves: &[u32]) -> bool
 }
 
 /// Whether the innermost variable of the leaf's name is this very variable. A leaf that is not there has none.
-fn is_bound_here(symbols: &Symbols, names: &Names<'_>, leaf: u32) -> bool
-    ensures { (v : TermsView) (p : Place) (x : Var) → IsScope symbols.now v names.now.scope p.scope → IsLeaf symbols.now leaf (variable_leaf x) → result ≡ is_bound p.scope x }
+fn is_bound_here(symbols: &Symbols, names: &Names, leaf: u32) -> bool
+    ensures { (v : TermsView) (p : Place) (x : Var) → IsScope (both symbols.now v) names.now.scope p.scope → IsLeaf symbols.now leaf (variable_leaf x) → result ≡ is_bound p.scope x }
 {
     if leaf >= symbols.count() {
         return false;
@@ -110,8 +118,8 @@ fn is_bound_here(symbols: &Symbols, names: &Names<'_>, leaf: u32) -> bool
 
 /// What is found, as the head of an application. A term takes no arguments.
 pub fn head_of(found: Found) -> Option<Head>
-    ensures means { (s : Table) (v : TermsView) (k : KnownView) (p : Place) (m : Meaning) → IsFoundMeaning s v k p found (Some m) → (h : head.Head) × (result ≡ Some h) × HeadMeans s v k h m }
-    ensures unknown { (s : Table) (v : TermsView) (k : KnownView) (p : Place) → IsFoundMeaning s v k p found None → result ≡ None }
+    ensures means { (w : SymbolsAndTerms) (k : KnownView) (p : Place) (m : Meaning) → IsFoundMeaning w k p found (Some m) → (h : head.Head) × (result ≡ Some h) × HeadMeans w k h m }
+    ensures unknown { (w : SymbolsAndTerms) (k : KnownView) (p : Place) → IsFoundMeaning w k p found None → result ≡ None }
 {
     match found {
         Found::Term(_) | Found::Named(_) => Some(Head::Fixed),

@@ -1,18 +1,18 @@
 //! What a reader of terms knows of names: the entries of a problem, which it does not change, its own, and the variables in
 //! scope.
-ghost use Rattle.std.specs.Prelude.{◌≡◌, ℕ, ◌<◌, ◌++◌, [], ◌∷◌, List, length, reverse, position, bytes_eq, Some, None, OnOk, OnErr, IfSome, IsSome};
+ghost use Rattle.std.specs.Prelude.{◌≡◌, ℕ, ◌<◌, ◌++◌, [], ◌∷◌, List, length, reverse, position, bytes_eq, Some, OnOk, OnErr, IfSome, IsSome};
 ghost use Rattle.name_set.specs.Names.{StandOnce};
-ghost use Rattle.term_names.specs.Entries.{lookup, no_entries, Puts};
+ghost use Rattle.term_names.specs.Entries.{no_entries, Puts};
 ghost use Rattle.term_names.specs.Held.{IsHeldLinked, scoped};
 ghost use Rattle.term_names.specs.Known as spec;
-ghost use Rattle.term_names.specs.Known.{base_of, known_entry, PutsKnown, IsKnownThere, macro_of, named_of, AreDisjoint};
-ghost use Rattle.term_names.specs.Scope.{Scoped, bound_of, meant_of, own_meant_of, IsMeantThere};
+ghost use Rattle.term_names.specs.Known.{known_entry, IsKnownThere, macro_of, named_of};
+ghost use Rattle.term_names.specs.Scope.{Scoped, bound_of, known_in, names_in, meant_of, own_meant_of, IsMeantThere};
 ghost use Rattle.term_names.specs.declared.entries.Entry.TheVariants as Entry;
-ghost use Rattle.term_names.specs.declared.names.KnownEntry.TheVariants as KnownEntry;
-ghost use Rattle.term_names.specs.declared.names.Which.TheVariants as Which;
+ghost use Rattle.term_names.specs.declared.settings.ReadSettings.{ReadSettings};
 
 use crate::entries::{Entries, Entry, Macro, Meanings, Named, name_given};
 use crate::name_table::NameTable;
+use crate::settings::ReadSettings;
 use pair_pool::Ref;
 use std::alloc::Global;
 use std::collections::HashMap;
@@ -57,56 +57,51 @@ pub(crate) struct Held {
     outer: usize,
 }
 
-/// The entries that a reader starts from, where it starts from any, those that it makes, and the variables in scope. The two
-/// lots of entries have no name in common. Contracts see them, and the variables with the innermost first.
+/// The entries that a reader makes, and the variables in scope. Contracts see them, the innermost variable first; with the
+/// entries that a reader starts from, its settings are asked besides.
 ///
 /// All names that a reader meets first stand in one table, by which a name is looked for once, whatever it means. So
 /// look-ups, new variables and new entries take the time of one hash, however many there are; a name that the reader does
 /// not have takes another one where it starts from entries.
 #[derive(Drop)]
-pub struct Names<'a> {
-    base: Option<&'a Entries>,
+pub struct Names {
     own: Meanings,
     held: Vec<Held>,
 }
 
-/// The tables that say what names mean, and where memory for what is made of them is taken.
+/// The tables that say what names mean, and the settings of the reading.
 #[derive(Clone, Copy)]
 pub struct NameTables<'n, 'a> {
-    pub alloc: Global,
+    pub settings: &'n ReadSettings<'a>,
     pub symbols: &'n Symbols,
-    pub names: &'n Names<'a>,
+    pub names: &'n Names,
 }
 
-impl<'a> Model for Names<'a> {
+impl Model for Names {
     ghost use Rattle.std.specs.Prelude.{reverse};
     ghost use Rattle.term_names.specs.EntryTables.{entries_view, IsInStep};
     ghost use Rattle.term_names.specs.Held.{scoped, IsHeldLinked};
-    ghost use Rattle.term_names.specs.Known.{base_of, AreDisjoint};
-    ghost use Rattle.term_names.specs.Scope.{NamesView};
+    ghost use Rattle.term_names.specs.Scope.{OwnNames};
 
-    ghost Value = { NamesView };
+    ghost Value = { OwnNames };
 
     ghost view = { λ n. record {
-      known = record { base = base_of n.base; own = entries_view n.own.table n.own.macros.items n.own.named.items };
+      own = entries_view n.own.table n.own.macros.items n.own.named.items;
       scope = scoped n.own.table.names (reverse n.held.items);
     } };
 
     ghost invariant = { λ n.
         IsInStep n.own.table n.own.macros.items n.own.named.items n.own.given.entries
-        × IsHeldLinked n.own.table.names n.own.table.innermost (reverse n.held.items)
-        × AreDisjoint (record { base = base_of n.base; own = entries_view n.own.table n.own.macros.items n.own.named.items }) };
+        × IsHeldLinked n.own.table.names n.own.table.innermost (reverse n.held.items) };
 }
 
-impl<'a> Names<'a> {
+impl Names {
     /// No entries of its own yet, and no variable in scope.
-    pub fn new(alloc: Global, base: Option<&'a Entries>) -> Names<'a>
-        ensures base { result.known.base ≡ base_of base.entry }
-        ensures own { result.known.own ≡ no_entries }
+    pub fn new(alloc: Global) -> Names
+        ensures own { result.own ≡ no_entries }
         ensures scope { result.scope ≡ [] }
     {
         Names {
-            base,
             own: Meanings {
                 table: NameTable::new(alloc),
                 macros: Vec::new(alloc),
@@ -119,7 +114,7 @@ impl<'a> Names<'a> {
 
     /// The entries of its own.
     pub fn into_own(self) -> Entries
-        ensures { result ≡ self.entry.known.own }
+        ensures { result ≡ self.own }
     {
         Entries { all: self.own }
     }
@@ -127,14 +122,14 @@ impl<'a> Names<'a> {
     /// What the name means now: the innermost variable of that name, or else its entry.
     // A part of its callers, which ask it for each symbol of a text.
     #[inline(always)]
-    pub fn find(&self, name: &[u8]) -> Option<Meant>
-        ensures meant { result ≡ meant_of self.now name.now }
-        ensures there { IfSome result (IsMeantThere self.now) }
+    pub fn find(&self, settings: &ReadSettings<'_>, name: &[u8]) -> Option<Meant>
+        ensures meant { result ≡ meant_of (names_in settings.now self.now) name.now }
+        ensures there { IfSome result (IsMeantThere (names_in settings.now self.now)) }
     {
         if let Some(meant) = self.own_meant(name) {
             return Some(meant);
         }
-        let entry = self.base?.find(name)?;
+        let entry = settings.base?.find(name)?;
         Some(Meant::Entry(base_entry(entry)))
     }
 
@@ -142,7 +137,7 @@ impl<'a> Names<'a> {
     #[inline(always)]
     fn own_meant(&self, name: &[u8]) -> Option<Meant>
         ensures meant { result ≡ own_meant_of self.now name.now }
-        ensures there { IfSome result (IsMeantThere self.now) }
+        ensures there { (e : ReadSettings) → IfSome result (IsMeantThere (names_in e self.now)) }
     {
         let number = self.own.table.find(name)?;
         if let Some(bound) = held_at(&self.own.table, &self.held, number) {
@@ -154,15 +149,14 @@ impl<'a> Names<'a> {
 
     /// What the name is that of, but for variables.
     #[inline(always)]
-    pub fn entry(&self, name: &[u8]) -> Option<KnownEntry>
-        ensures entry { result ≡ known_entry self.now.known name.now }
-        ensures there { IfSome result (IsKnownThere self.now.known) }
-        ensures disjoint { AreDisjoint self.now.known }
+    pub fn entry(&self, settings: &ReadSettings<'_>, name: &[u8]) -> Option<KnownEntry>
+        ensures entry { result ≡ known_entry (known_in settings.now self.now) name.now }
+        ensures there { IfSome result (IsKnownThere (known_in settings.now self.now)) }
     {
         if let Some(entry) = self.own.table.entry_named(name) {
             return Some(own_entry(entry));
         }
-        let entry = self.base?.find(name)?;
+        let entry = settings.base?.find(name)?;
         Some(base_entry(entry))
     }
 
@@ -202,19 +196,17 @@ impl<'a> Names<'a> {
     pub fn pop(&mut self)
         requires { 0 < length self.old.scope }
         ensures scope { (e : Scoped) × (self.old.scope ≡ e ∷ self.new.scope) }
-        ensures known { self.new.known ≡ self.old.known }
+        ensures own { self.new.own ≡ self.old.own }
     {
         let held = self.held.pop().unwrap();
         self.own.table.set_innermost(held.name, held.outer);
     }
 
-    /// Gives a function, by its leaf, a name that has no entry. After a refusal nothing has changed.
+    /// Gives a name to a function, by its leaf. After a refusal nothing has changed.
     pub fn declare(&mut self, name: &[u8], leaf: u32) -> Result<(), Memory>
-        requires { known_entry self.old.known name.now ≡ None }
-        ensures entry { OnOk result (PutsKnown self.old.known name.now (KnownEntry.Function leaf) self.new.known) }
-        ensures macros { self.new.known.own.macros ≡ self.old.known.own.macros }
-        ensures named { self.new.known.own.named ≡ self.old.known.own.named }
-        ensures base { self.new.known.base ≡ self.old.known.base }
+        ensures names { OnOk result (Puts self.old.own.names name.now (Entry.Function leaf) self.new.own.names) }
+        ensures macros { self.new.own.macros ≡ self.old.own.macros }
+        ensures named { self.new.own.named ≡ self.old.own.named }
         ensures scope { self.new.scope ≡ self.old.scope }
         ensures refused { OnErr result (self.new ≡ self.old) }
     {
@@ -222,14 +214,11 @@ impl<'a> Names<'a> {
         Ok(())
     }
 
-    /// Takes a name that has no entry for a macro whose body is to be read. After a refusal nothing has changed.
+    /// Takes a name for a macro whose body is to be read. After a refusal nothing has changed.
     pub fn reserve(&mut self, name: &[u8]) -> Result<(), Memory>
-        requires { known_entry self.old.known name.now ≡ None }
-        ensures entry { OnOk result (PutsKnown self.old.known name.now KnownEntry.Reserved self.new.known) }
-        ensures names { OnOk result (Puts self.old.known.own.names name.now Entry.Reserved self.new.known.own.names) }
-        ensures macros { self.new.known.own.macros ≡ self.old.known.own.macros }
-        ensures named { self.new.known.own.named ≡ self.old.known.own.named }
-        ensures base { self.new.known.base ≡ self.old.known.base }
+        ensures names { OnOk result (Puts self.old.own.names name.now Entry.Reserved self.new.own.names) }
+        ensures macros { self.new.own.macros ≡ self.old.own.macros }
+        ensures named { self.new.own.named ≡ self.old.own.named }
         ensures scope { self.new.scope ≡ self.old.scope }
         ensures refused { OnErr result (self.new ≡ self.old) }
     {
@@ -237,7 +226,7 @@ impl<'a> Names<'a> {
         Ok(())
     }
 
-    /// Defines the macro of a name that it has reserved. After a refusal nothing has changed.
+    /// Defines the macro of a name. After a refusal nothing has changed.
     pub fn define(
         &mut self,
         name: &[u8],
@@ -246,12 +235,9 @@ impl<'a> Names<'a> {
         target: Sort,
         body: Value,
     ) -> Result<(), Memory>
-        requires { lookup self.old.known.own.names name.now ≡ Some Entry.Reserved }
-        ensures entry { OnOk result (PutsKnown self.old.known name.now (KnownEntry.Macro (Which.Own (length self.old.known.own.macros))) self.new.known) }
-        ensures names { OnOk result (Puts self.old.known.own.names name.now (Entry.Macro (length self.old.known.own.macros)) self.new.known.own.names) }
-        ensures macros { OnOk result (self.new.known.own.macros ≡ self.old.known.own.macros ++ record { parameters = parameters; sorts = sorts; target = target; body = body } ∷ []) }
-        ensures named { self.new.known.own.named ≡ self.old.known.own.named }
-        ensures base { self.new.known.base ≡ self.old.known.base }
+        ensures names { OnOk result (Puts self.old.own.names name.now (Entry.Macro (length self.old.own.macros)) self.new.own.names) }
+        ensures macros { OnOk result (self.new.own.macros ≡ self.old.own.macros ++ record { parameters = parameters; sorts = sorts; target = target; body = body } ∷ []) }
+        ensures named { self.new.own.named ≡ self.old.own.named }
         ensures scope { self.new.scope ≡ self.old.scope }
         ensures refused { OnErr result (self.new ≡ self.old) }
     {
@@ -268,14 +254,11 @@ impl<'a> Names<'a> {
         Ok(())
     }
 
-    /// Gives a term a name that has no entry. After a refusal nothing has changed.
+    /// Gives a term a name. After a refusal nothing has changed.
     pub fn give_name(&mut self, name: &[u8], value: Value, free: Vec<u32>) -> Result<(), Memory>
-        requires { known_entry self.old.known name.now ≡ None }
-        ensures entry { OnOk result (PutsKnown self.old.known name.now (KnownEntry.Named (Which.Own (length self.old.known.own.named))) self.new.known) }
-        ensures names { OnOk result (Puts self.old.known.own.names name.now (Entry.Named (length self.old.known.own.named)) self.new.known.own.names) }
-        ensures named { OnOk result (self.new.known.own.named ≡ self.old.known.own.named ++ record { value = value; free = free } ∷ []) }
-        ensures macros { self.new.known.own.macros ≡ self.old.known.own.macros }
-        ensures base { self.new.known.base ≡ self.old.known.base }
+        ensures names { OnOk result (Puts self.old.own.names name.now (Entry.Named (length self.old.own.named)) self.new.own.names) }
+        ensures named { OnOk result (self.new.own.named ≡ self.old.own.named ++ record { value = value; free = free } ∷ []) }
+        ensures macros { self.new.own.macros ≡ self.old.own.macros }
         ensures scope { self.new.scope ≡ self.old.scope }
         ensures refused { OnErr result (self.new ≡ self.old) }
     {
@@ -290,31 +273,31 @@ impl<'a> Names<'a> {
     }
 
     /// A name that was given to the term, if any was.
-    pub fn name_given(&self, term: Ref) -> Option<&[u8]> {
+    pub fn name_given<'n>(&'n self, settings: &'n ReadSettings<'_>, term: Ref) -> Option<&'n [u8]> {
         if let Some(name) = name_given(&self.own, term) {
             return Some(name);
         }
-        self.base?.name_given(term)
+        settings.base?.name_given(term)
     }
 
     /// The macro of this number.
-    pub fn macro_at(&self, which: Which) -> &Macro
-        requires { IsSome (macro_of self.now.known which) }
-        ensures { macro_of self.now.known which ≡ Some result.now }
+    pub fn macro_at<'n>(&'n self, settings: &'n ReadSettings<'_>, which: Which) -> &'n Macro
+        requires { IsSome (macro_of (known_in settings.now self.now) which) }
+        ensures { macro_of (known_in settings.now self.now) which ≡ Some result.now }
     {
         match which {
-            Which::Base(number) => self.base.unwrap().macro_at(number),
+            Which::Base(number) => settings.base.unwrap().macro_at(number),
             Which::Own(number) => &self.own.macros[number],
         }
     }
 
     /// The named term of this number.
-    pub fn named_at(&self, which: Which) -> &Named
-        requires { IsSome (named_of self.now.known which) }
-        ensures { named_of self.now.known which ≡ Some result.now }
+    pub fn named_at<'n>(&'n self, settings: &'n ReadSettings<'_>, which: Which) -> &'n Named
+        requires { IsSome (named_of (known_in settings.now self.now) which) }
+        ensures { named_of (known_in settings.now self.now) which ≡ Some result.now }
     {
         match which {
-            Which::Base(number) => self.base.unwrap().named_at(number),
+            Which::Base(number) => settings.base.unwrap().named_at(number),
             Which::Own(number) => &self.own.named[number],
         }
     }

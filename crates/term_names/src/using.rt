@@ -9,11 +9,13 @@ ghost use Rattle.term_names.specs.BoundLeaves.{IsBoundLeaf, AreBoundLeaves, Puts
 ghost use Rattle.term_names.specs.Heads.{IsSymbolOf, IsMacroMeant};
 ghost use Rattle.term_expansion.specs.Free.{AreFreeLeaves};
 ghost use Rattle.term_names.specs.InScope.{IsScope};
+ghost use Rattle.term_names.specs.Scope.{known_in};
 ghost use Rattle.term_names.specs.LookingUp.{IsFoundMeaning, IsNamedMeant};
 ghost use Rattle.term_names.specs.Making.{Makes, IsMade};
 ghost use Rattle.problem_text.specs.Names.{Place, Meaning, meaning_applied, is_bound, replacement};
 ghost use Rattle.rule_model.specs.Replacement.{replaced_by};
 ghost use Rattle.term_expansion.specs.Values.{PutsIn};
+ghost use Rattle.term_expansion.specs.SymbolsAndTerms.{both};
 
 use crate::entries::{Macro, Named};
 use crate::faults::ReadFault;
@@ -35,25 +37,24 @@ use term_pool::Terms;
 pub fn use_alone(
     tables: &NameTables<'_, '_>,
     terms: &mut Terms<'_>,
-    replaces_lets: bool,
     found: Found,
 ) -> Result<Option<Value>, ReadFault>
-    requires found { (p : Place) × (m : Meaning) × IsScope tables.now.symbols.now terms.old tables.now.names.now.scope p.scope × (p.settings.replaces_lets ≡ replaces_lets) × IsFoundMeaning tables.now.symbols.now terms.old tables.now.names.now.known p found (Some m) }
-    ensures makes { (p : Place) (m : Meaning) → IsScope tables.now.symbols.now terms.old tables.now.names.now.scope p.scope → p.settings.replaces_lets ≡ replaces_lets → IsFoundMeaning tables.now.symbols.now terms.old tables.now.names.now.known p found (Some m) → Makes tables.now.symbols.now terms.old terms.new (meaning_applied m []) result }
+    requires found { (p : Place) × (m : Meaning) × IsScope (both tables.now.symbols.now terms.old) tables.now.names.now.scope p.scope × (p.settings.replaces_lets ≡ tables.now.settings.now.replaces_lets) × IsFoundMeaning (both tables.now.symbols.now terms.old) (known_in tables.now.settings.now tables.now.names.now) p found (Some m) }
+    ensures makes { (p : Place) (m : Meaning) → IsScope (both tables.now.symbols.now terms.old) tables.now.names.now.scope p.scope → p.settings.replaces_lets ≡ tables.now.settings.now.replaces_lets → IsFoundMeaning (both tables.now.symbols.now terms.old) (known_in tables.now.settings.now tables.now.names.now) p found (Some m) → Makes terms.old (both tables.now.symbols.now terms.new) (meaning_applied m []) result }
     ensures keeps { KeepsTerms terms.old terms.new }
 {
     let NameTables {
-        alloc,
+        settings,
         symbols,
         names,
     } = *tables;
     match found {
         Found::Term(value) => Ok(Some(value)),
         Found::Named(which) => {
-            let named = names.named_at(which);
-            use_named(alloc, symbols, terms, names, replaces_lets, named)
+            let named = names.named_at(settings, which);
+            use_named(tables, terms, named)
         }
-        Found::Macro(which) => Ok(macro_alone(names.macro_at(which))),
+        Found::Macro(which) => Ok(macro_alone(names.macro_at(settings, which))),
         Found::Symbol(leaf) => Ok(symbol_alone(symbols, leaf)),
         Found::Unknown => Ok(None),
     }
@@ -61,7 +62,7 @@ pub fn use_alone(
 
 /// The body of a macro that has no parameters.
 fn macro_alone(defined: &Macro) -> Option<Value>
-    ensures { (s : Table) (v : TermsView) (m : Meaning) → IsMacroMeant s v (Some defined.now) m → IsMade s v (meaning_applied m []) (Ok result) }
+    ensures { (s : Table) (v : TermsView) (m : Meaning) → IsMacroMeant (both s v) (Some defined.now) m → IsMade (both s v) (meaning_applied m []) (Ok result) }
 {
     if defined.parameters.is_empty() {
         Some(defined.body)
@@ -73,7 +74,7 @@ fn macro_alone(defined: &Macro) -> Option<Value>
 /// The term that an operator or a declared function is by itself, where it takes no arguments.
 fn symbol_alone(symbols: &Symbols, leaf: u32) -> Option<Value>
     requires { (m : Meaning) × IsSymbolOf symbols.now leaf m }
-    ensures { (v : TermsView) (m : Meaning) → IsSymbolOf symbols.now leaf m → IsMade symbols.now v (meaning_applied m []) (Ok result) }
+    ensures { (v : TermsView) (m : Meaning) → IsSymbolOf symbols.now leaf m → IsMade (both symbols.now v) (meaning_applied m []) (Ok result) }
 {
     let _leaves = symbols.count();
     let sort = check_app(symbols, leaf, &[])?;
@@ -88,20 +89,23 @@ fn symbol_alone(symbols: &Symbols, leaf: u32) -> Option<Value>
 /// What a named term stands for where these variables are in scope. Where lets are replaced, its free variables stand
 /// for what they are bound to.
 fn use_named(
-    alloc: Global,
-    symbols: &Symbols,
+    tables: &NameTables<'_, '_>,
     terms: &mut Terms<'_>,
-    names: &Names<'_>,
-    replaces_lets: bool,
     named: &Named,
 ) -> Result<Option<Value>, ReadFault>
-    requires named { (p : Place) × (m : Meaning) × IsScope symbols.now terms.old names.now.scope p.scope × (p.settings.replaces_lets ≡ replaces_lets) × IsNamedMeant symbols.now terms.old p (Some named.now) m }
-    ensures makes { (p : Place) (m : Meaning) → IsScope symbols.now terms.old names.now.scope p.scope → p.settings.replaces_lets ≡ replaces_lets → IsNamedMeant symbols.now terms.old p (Some named.now) m → Makes symbols.now terms.old terms.new (meaning_applied m []) result }
+    requires named { (p : Place) × (m : Meaning) × IsScope (both tables.now.symbols.now terms.old) tables.now.names.now.scope p.scope × (p.settings.replaces_lets ≡ tables.now.settings.now.replaces_lets) × IsNamedMeant (both tables.now.symbols.now terms.old) p (Some named.now) m }
+    ensures makes { (p : Place) (m : Meaning) → IsScope (both tables.now.symbols.now terms.old) tables.now.names.now.scope p.scope → p.settings.replaces_lets ≡ tables.now.settings.now.replaces_lets → IsNamedMeant (both tables.now.symbols.now terms.old) p (Some named.now) m → Makes terms.old (both tables.now.symbols.now terms.new) (meaning_applied m []) result }
     ensures keeps { KeepsTerms terms.old terms.new }
 {
-    if !replaces_lets {
+    let NameTables {
+        settings,
+        symbols,
+        names,
+    } = *tables;
+    if !settings.replaces_lets {
         return Ok(Some(named.value));
     }
+    let alloc = settings.alloc;
     let bounds = bounds_of(alloc, symbols, names, &named.free)?;
     let value = put_in(alloc, symbols, terms, &bounds, named.value)?;
     Ok(Some(value))
@@ -111,11 +115,11 @@ fn use_named(
 fn bounds_of(
     alloc: Global,
     symbols: &Symbols,
-    names: &Names<'_>,
+    names: &Names,
     leaves: &[u32],
 ) -> Result<Vec<Bound>, Memory>
     requires { AreBoundLeaves symbols.now names.now.scope leaves.now }
-    ensures { IfOk result (λ bounds. (v : TermsView) (p : Place) (xs : List Var) → IsScope symbols.now v names.now.scope p.scope → AreFreeLeaves symbols.now leaves.now xs → list_all (is_bound p.scope) xs ≡ true → PutsInBound symbols.now v bounds.items p.scope xs) }
+    ensures { IfOk result (λ bounds. (v : TermsView) (p : Place) (xs : List Var) → IsScope (both symbols.now v) names.now.scope p.scope → AreFreeLeaves symbols.now leaves.now xs → list_all (is_bound p.scope) xs ≡ true → PutsInBound (both symbols.now v) bounds.items p.scope xs) }
 {
     let mut bounds = Vec::new(alloc);
     'leaves: for leaf in leaves {
@@ -125,9 +129,9 @@ fn bounds_of(
 }
 
 /// What the variable of this leaf stands for here.
-fn bound_here(symbols: &Symbols, names: &Names<'_>, leaf: u32) -> Bound
+fn bound_here(symbols: &Symbols, names: &Names, leaf: u32) -> Bound
     requires { IsBoundLeaf symbols.now names.now.scope leaf }
-    ensures { (v : TermsView) (p : Place) (x : Var) → IsScope symbols.now v names.now.scope p.scope → IsLeaf symbols.now leaf (variable_leaf x) → is_bound p.scope x ≡ true → PutsIn symbols.now v result x (replaced_by (replacement p.scope) x) }
+    ensures { (v : TermsView) (p : Place) (x : Var) → IsScope (both symbols.now v) names.now.scope p.scope → IsLeaf symbols.now leaf (variable_leaf x) → is_bound p.scope x ≡ true → PutsIn (both symbols.now v) result x (replaced_by (replacement p.scope) x) }
 {
     names.variable(symbols.name(leaf)).unwrap()
 }

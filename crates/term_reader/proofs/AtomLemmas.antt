@@ -8,21 +8,19 @@ use Rattle.sexpr.specs.declared.causes.Refusal.{Refusal}
 use Rattle.sym_table.specs.Leaf as Leaf
 use Rattle.sym_table.specs.Table.{Table, IsLeaf, FindsOrAdds}
 use Rattle.term_model.specs.declared.symbols.Sort.{Sort}
-use Rattle.term_model.specs.Terms.{Term}
 use Rattle.term_pool.specs.Views.{TermsView}
-use Rattle.term_reader.specs.Entering.{IsNumber, is_none_found, IsHeadFound, IsReadAlone, ReadsAlone}
+use Rattle.term_reader.specs.Entering.{IsNumber, is_none_found, IsHeadFound, IsReadAlone}
 use Rattle.text_items.specs.ItemShapes.{Name}
 use Rattle.problem_text.specs.Forms.{symbol}
 use Rattle.term_names.specs.Heads.{HeadMeans}
 use Rattle.rule_model.specs.Heights.{height}
 use Rattle.term_names.specs.Known.{KnownView}
 use Rattle.term_names.specs.LookingUp.{IsFoundMeaning}
-use Rattle.term_names.specs.Making.{PlacesCellsOf, IsExpected, IsMade, Makes}
+use Rattle.term_names.specs.Making.{IsMade, Makes}
 use Rattle.problem_text.specs.Limits.{most_height}
 use Rattle.problem_text.specs.Names.{Place, Meaning, meaning_of, meaning_applied}
-use Rattle.term_reader.specs.Reading.{IsReadTerm}
+use Rattle.term_reader.specs.Reading.{terms_read, ComesTo}
 use Rattle.problem_text.specs.TypedTerms.{Typed}
-use Rattle.problem_text.specs.Outcomes.{Outcome}
 use Rattle.problem_text.specs.Scripts.{Script}
 use Rattle.term_reader.specs.Settling.{SettlesTerm}
 use Rattle.problem_text.specs.Terms.{settled, term_from}
@@ -30,12 +28,14 @@ use Rattle.term_names.specs.declared.faults.ReadFault.{ReadFault}
 use Rattle.term_names.specs.declared.heads.Head.{Head}
 use Rattle.term_names.specs.declared.looking_up.Found.{Found}
 use Rattle.term_expansion.specs.declared.values.Value.{Value}
-use Rattle.term_reader.proofs.StillRead.{settled_is_read}
+use Rattle.term_reader.proofs.Coming.{refuses, same_outcome}
 use Rattle.term_reader.proofs.Resuming.{known_symbol, unknown_symbol}
-use Rattle.term_reader.proofs.Staying.{places_none, places_more, lacks_more}
+use Rattle.term_reader.proofs.Settled.{made_settles, made_fails}
+use Rattle.term_expansion.specs.SymbolsAndTerms.{both}
 
 -- a numeral
-pub number_is : (s : Table) (r k : ℕ) (m n : ℤ) → r ≡ k → m ≡ n → IsLeaf s k (Leaf.numeral m) → ((pass : PassView) → Knows pass r (leaf k)) → IsNumber s (record { term = r; sort = Sort.Int; height = 1; plain = true }) n
+pub number_is : (s : Table) (r k : ℕ) (m n : ℤ) → r ≡ k → m ≡ n → IsLeaf s k (Leaf.numeral m) → ((pass : PassView) → Knows pass r (leaf k))
+    → IsNumber s (record { term = r; sort = Sort.Int; height = 1; plain = true }) n
 unfolding height
 number_is s r k m n same e here known = record {
   is =
@@ -54,14 +54,16 @@ number_low old new k l (inl (here, same)) room = omega (arith, slice_get_within 
 number_low old new k l (inr (lacks, last, more)) room = omega arith
 
 -- what is found has a meaning, unless nothing is
-pub found_means : (s : Table) (v : TermsView) (k : KnownView) (p : Place) (found : Found) (o : Option Meaning) → is_none_found found ≡ false → IsFoundMeaning s v k p found o → (m : Meaning) × (o ≡ Some m)
+pub found_means : (s : Table) (v : TermsView) (k : KnownView) (p : Place) (found : Found) (o : Option Meaning) → is_none_found found ≡ false
+    → IsFoundMeaning (both s v) k p found o → (m : Meaning) × (o ≡ Some m)
 found_means s v k p (Found.Term c) o e (t, is, rest) = (_, is)
 found_means s v k p (Found.Named w) o e (m, is, rest) = (m, is)
 found_means s v k p (Found.Macro w) o e (m, is, rest) = (m, is)
 found_means s v k p (Found.Symbol n) o e (m, is, rest) = (m, is)
 found_means s v k p Found.Unknown o e h = absurd cc
 
-pub none_means : (s : Table) (v : TermsView) (k : KnownView) (p : Place) (found : Found) (o : Option Meaning) → is_none_found found ≡ true → IsFoundMeaning s v k p found o → o ≡ None
+pub none_means : (s : Table) (v : TermsView) (k : KnownView) (p : Place) (found : Found) (o : Option Meaning) → is_none_found found ≡ true
+    → IsFoundMeaning (both s v) k p found o → o ≡ None
 none_means s v k p (Found.Term c) o e h = absurd cc
 none_means s v k p (Found.Named w) o e h = absurd cc
 none_means s v k p (Found.Macro w) o e h = absurd cc
@@ -69,59 +71,42 @@ none_means s v k p (Found.Symbol n) o e h = absurd cc
 none_means s v k p Found.Unknown o e h = h
 
 -- what is applied, where something is found
-pub head_found : (s : Table) (v : TermsView) (k : KnownView) (p : Place) (found : Found) (o : Option Meaning) (head : Option Head) → is_none_found found ≡ false → IsFoundMeaning s v k p found o
-    → ((m : Meaning) → IsFoundMeaning s v k p found (Some m) → (h : Head) × (head ≡ Some h) × HeadMeans s v k h m) → IsHeadFound s v k head o
+pub head_found : (s : Table) (v : TermsView) (k : KnownView) (p : Place) (found : Found) (o : Option Meaning) (head : Option Head)
+    → is_none_found found ≡ false → IsFoundMeaning (both s v) k p found o
+    → ((m : Meaning) → IsFoundMeaning (both s v) k p found (Some m) → (h : Head) × (head ≡ Some h) × HeadMeans (both s v) k h m)
+    → IsHeadFound (both s v) k head o
 head_found s v k p found o head known is applies =
     let (m, e) = found_means s v k p found o known is in
-    let (h, same, of) = applies m (subst (IsFoundMeaning s v k p found) e is) in
-    subst (λ a. IsHeadFound s v k a o) (sym same) (m, e, of)
-
--- a term that is expected is read, whether it is settled or too high
-expected_read : (place : ℕ) (o : Option Typed) (sc : Script) (t : Term) → IsExpected o t → IsReadTerm (settled (Some most_height) place o sc) t
-expected_read place o sc t (d, is, same) =
-    subst (λ (e : Option Typed). IsReadTerm (settled (Some most_height) place e sc) t) (sym is)
-    (subst (λ (u : Term). IsReadTerm (settled (Some most_height) place (Some d) sc) u) same (settled_is_read [] (Some most_height) place d sc))
-
-settled_alone : (s : Table) (v : TermsView) (place : ℕ) (o : Option Typed) (sc : Script) (result : Result Value ReadFault) → SettlesTerm s v place o sc result → IsReadAlone s v (settled (Some most_height) place o sc) sc result
-settled_alone s v place o sc (Ok c) (t, is, comes, value, low) = (t, comes, value, low)
-settled_alone s v place o sc (Err (ReadFault.Text r)) h = h
-settled_alone s v place o sc (Err ReadFault.PoolFull) h = absurd h
-settled_alone s v place o sc (Err ReadFault.Memory) h = absurd h
-
-made_fault : (s : Table) (v : TermsView) (place : ℕ) (o : Option Typed) (sc : Script) (f : ReadFault) → IsMade s v o (Err f) → IsReadAlone s v (settled (Some most_height) place o sc) sc (Err f)
-made_fault s v place o sc (ReadFault.Text r) h = absurd h
-made_fault s v place o sc ReadFault.PoolFull h = lacks_more s v.pass (IsExpected o) (IsReadTerm (settled (Some most_height) place o sc)) (expected_read place o sc) h
-made_fault s v place o sc ReadFault.Memory h = tt
+    let (h, same, of) = applies m (subst (IsFoundMeaning (both s v) k p found) e is) in
+    subst (λ a. IsHeadFound (both s v) k a o) (sym same) (m, e, of)
 
 -- a symbol of this meaning stands alone
-module _ (s : Table) (old new : TermsView) (x : Name) (p : Place) (sc : Script) (m : Meaning) (known : meaning_of p sc x.name ≡ Some m) (limited : p.settings.limit ≡ Some most_height) where
-  as_settled : (result : Result Value ReadFault) → IsReadAlone s new (settled (Some most_height) x.place (meaning_applied m []) sc) sc result → PlacesCellsOf s old.pass new.pass (IsExpected (meaning_applied m [])) → ReadsAlone s old new (term_from (symbol x) p sc) sc result
-  as_settled result answer placed =
-      subst (λ (o : Outcome Script Typed). ReadsAlone s old new o sc result) (sym (known_symbol x m p sc known ∙ ap (λ (limit : Option ℕ). settled limit x.place (meaning_applied m []) sc) limited))
-      (record {
-        answer = answer;
-        placed = places_more s old.pass new.pass (IsExpected (meaning_applied m [])) (IsReadTerm (settled (Some most_height) x.place (meaning_applied m []) sc)) (expected_read x.place (meaning_applied m []) sc) placed;
-      })
+module _ (s : Table) (old new : TermsView) (x : Name) (p : Place) (sc : Script) (m : Meaning) (known : meaning_of p sc x.name ≡ Some m)
+    (limited : p.settings.limit ≡ Some most_height) where
+  is_settled : term_from (symbol x) p sc ≡ settled (Some most_height) x.place (meaning_applied m []) sc
+  is_settled = known_symbol x m p sc known ∙ ap (λ (limit : Option ℕ). settled limit x.place (meaning_applied m []) sc) limited
 
-  pub symbol_settles : (place : ℕ) (made : Option Value) (result : Result Value ReadFault) → place ≡ x.place → Makes s old new (meaning_applied m []) (Ok made)
-      → ((o : Option Typed) → IsMade s new o (Ok made) → SettlesTerm s new place o sc result) → ReadsAlone s old new (term_from (symbol x) p sc) sc result
+  pub symbol_settles : (place : ℕ) (made : Option Value) (result : Result Value ReadFault) → place ≡ x.place
+      → Makes old (both s new) (meaning_applied m []) (Ok made)
+      → ((o : Option Typed) → IsMade (both s new) o (Ok made) → SettlesTerm (both s new) place o sc result)
+      → ComesTo terms_read old (both s new) (IsReadAlone (both s new) sc) (term_from (symbol x) p sc) result
   symbol_settles place made result same makes settles =
-      as_settled result
-      (settled_alone s new x.place (meaning_applied m []) sc result (subst (λ (n : ℕ). SettlesTerm s new n (meaning_applied m []) sc result) same (settles (meaning_applied m []) makes.answer))) makes.placed
+      same_outcome is_settled
+      (made_settles s old new x.place (meaning_applied m []) sc made result makes
+      (λ is. subst (λ (n : ℕ). SettlesTerm (both s new) n (meaning_applied m []) sc result) same (settles (meaning_applied m []) is)))
 
-  pub symbol_fails : (f : ReadFault) → Makes s old new (meaning_applied m []) (Err f) → ReadsAlone s old new (term_from (symbol x) p sc) sc (Err f)
-  symbol_fails f makes = as_settled (Err f) (made_fault s new x.place (meaning_applied m []) sc f makes.answer) makes.placed
+  pub symbol_fails : (f : ReadFault) → Makes old (both s new) (meaning_applied m []) (Err f)
+      → ComesTo terms_read old (both s new) (IsReadAlone (both s new) sc) (term_from (symbol x) p sc) (Err f)
+  symbol_fails f makes = same_outcome is_settled (made_fails s old new x.place (meaning_applied m []) sc _ f makes)
 
-pub symbol_unknown : (s : Table) (v : TermsView) (x : Name) (p : Place) (sc : Script) (r : Refusal) (place : ℕ) → meaning_of p sc x.name ≡ None → r ≡ record { cause = UnknownName; at = place } → place ≡ x.place
-    → ReadsAlone s v v (term_from (symbol x) p sc) sc (Err (ReadFault.Text r))
+pub symbol_unknown : (s : Table) (v : TermsView) (x : Name) (p : Place) (sc : Script) (r : Refusal) (place : ℕ) → meaning_of p sc x.name ≡ None
+    → r ≡ record { cause = UnknownName; at = place } → place ≡ x.place
+    → ComesTo terms_read v (both s v) (IsReadAlone (both s v) sc) (term_from (symbol x) p sc) (Err (ReadFault.Text r))
 symbol_unknown s v x p sc r place none is same =
-    subst (λ (o : Outcome Script Typed). ReadsAlone s v v o sc (Err (ReadFault.Text r))) (sym (unknown_symbol x p sc none))
-    (record {
-      answer = sym (ap Err (is ∙ ap (λ n. record { cause = UnknownName; at = n }) same));
-      placed = places_none s v.pass v.pass _ refl;
-    })
+    same_outcome (unknown_symbol x p sc none) (refuses refl (sym (ap Err (is ∙ ap (λ n. record { cause = UnknownName; at = n }) same))))
 
 -- what is found by the name of a symbol
-pub found_named : (s : Table) (v : TermsView) (k : KnownView) (p : Place) (sc : Script) (x : Name) (found : Found) (name : List ℕ) → name ≡ x.name → IsFoundMeaning s v k p found (meaning_of p sc name)
-    → IsFoundMeaning s v k p found (meaning_of p sc x.name)
-found_named s v k p sc x found name same is = subst (λ (n : List ℕ). IsFoundMeaning s v k p found (meaning_of p sc n)) same is
+pub found_named : (s : Table) (v : TermsView) (k : KnownView) (p : Place) (sc : Script) (x : Name) (found : Found) (name : List ℕ) → name ≡ x.name
+    → IsFoundMeaning (both s v) k p found (meaning_of p sc name)
+    → IsFoundMeaning (both s v) k p found (meaning_of p sc x.name)
+found_named s v k p sc x found name same is = subst (λ (n : List ℕ). IsFoundMeaning (both s v) k p found (meaning_of p sc n)) same is

@@ -1,7 +1,6 @@
 -- How the reading of a term goes on from its top.
 use Rattle.std.proofs.Common.{◌≡◌, ◌≢◌, ℕ, ℤ, ◌+◌, ◌≤◌, ◌<◌, arith, refl, sym, ap, ◌∙◌, subst, List, [], ◌∷◌, length, take, drop, Option, Some, None, Result, Ok, Err, IfOk, IfErr}
 use Rattle.std.proofs.Math.Seq.{take-length, drop-length}
-use Rattle.pair_pool.specs.Views.{PassView}
 use Rattle.sexpr.specs.declared.causes.Cause.TheVariants.{UnknownName, Repeated}
 use Rattle.sexpr.specs.declared.causes.Refusal.{Refusal}
 use Rattle.sexpr.specs.Items.{place_of}
@@ -9,346 +8,309 @@ use Rattle.sym_table.specs.Table.{Table}
 use Rattle.term_model.specs.declared.symbols.Sort.{Sort}
 use Rattle.term_model.specs.Terms.{Term, numeral}
 use Rattle.term_pool.specs.Views.{TermsView, KeepsTerms}
-use Rattle.term_reader.specs.Entering.{HasTop, IsNumber, IsHeadFound, ReadsAlone}
-use Rattle.term_reader.specs.Leaving.{with_open}
+use Rattle.term_reader.specs.Entering.{HasTop, IsNumber, IsHeadFound, IsReadAlone}
+use Rattle.term_reader.specs.Leaving.{with_open, Spends}
+use Rattle.term_reader.specs.Credits.{credit}
 use Rattle.problem_text.specs.Forms.{Form, number, symbol, application, let_form, annotated, Forms, form, LetBinds, bind}
 use Rattle.term_reader.specs.Frames.{WholeReading, AreFrames}
 use Rattle.rule_model.specs.Heights.{height}
 use Rattle.problem_text.specs.Limits.{most_height}
-use Rattle.term_names.specs.Known.{KnownView, known_entry}
 use Rattle.text_items.specs.Stepping.{name_in, IsSymbolAt}
 use Rattle.term_reader.specs.Layers.{form_at, forms_at, AreBinds, names_at, AreTermAttributes}
-use Rattle.term_reader.specs.ShapeFaults.{IsLayer}
-use Rattle.term_names.specs.Making.{PlacesCellsOf}
 use Rattle.problem_text.specs.Names.{Place, meaning_of}
-use Rattle.term_reader.specs.Reading.{IsReadTerm, EndsWith}
+use Rattle.term_reader.specs.Reading.{terms_read, ComesTo}
 use Rattle.term_reader.specs.Turns.{ReaderStands, IsAt, Goes}
 use Rattle.term_reader.specs.Resuming.{Waiting, arguments, bindings, naming, resumed}
 use Rattle.problem_text.specs.TypedTerms.{Typed}
 use Rattle.problem_text.specs.Outcomes.{Outcome, done}
 use Rattle.problem_text.specs.Scripts.{Script, with_term, with_let_name}
 use Rattle.term_reader.specs.Shapes.{IsFirstRepeat}
-use Rattle.term_names.specs.Standing.{HasNoEntry, IsFunctionAt, IsNoFunction, IsNameMeant, AddsNoSymbols}
+use Rattle.term_names.specs.Standing.{AddsNoSymbols, GrowByTerms}
 use Rattle.problem_text.specs.Terms.{settled, term_from}
 use Rattle.term_names.specs.InScope.{AreValuesBound}
-use Rattle.term_expansion.specs.Values.{IsValue, AreValues}
+use Rattle.term_expansion.specs.Values.{AreValues}
 use Rattle.term_names.specs.declared.faults.ReadFault.{ReadFault}
 use Rattle.term_reader.specs.declared.frames.Frame.{Frame}
 use Rattle.term_names.specs.declared.heads.Head.{Head}
-use Rattle.term_names.specs.declared.names.KnownEntry.{KnownEntry}
 use Rattle.term_reader.specs.declared.layers.Layer.{Layer}
 use Rattle.text_items.specs.ItemsAt.{ItemsView, end_at, item_at}
+use Rattle.term_reader.specs.ReadingViews.{ReadingView, reader_in}
+use Rattle.term_names.specs.declared.settings.ReadSettings.{ReadSettings}
 use Rattle.term_reader.specs.declared.reader.Reader.{Reader}
 use Rattle.term_reader.specs.declared.reader.Turn.{Turn}
 use Rattle.term_expansion.specs.declared.values.Value.{Value}
 use Rattle.term_reader.proofs.FormSteps.{forms_more, range_on, binds_more}
-use Rattle.term_reader.proofs.StillRead.{by_resumed}
 use Rattle.term_reader.proofs.RepeatLemmas.{repeat_here, repeat_on}
 use Rattle.term_reader.proofs.Limited.{limit_so}
-use Rattle.term_reader.proofs.Resuming.{refused_whole, first_argument, unknown_head, first_binding, first_binding_refused, annotation_begins}
-use Rattle.term_reader.proofs.Staying.{adds_none, keeps_none, frames_stay, stands_stays, places_none, places_more, lacks_more}
+use Rattle.term_reader.proofs.Resuming.{first_argument, unknown_head, first_binding, first_binding_refused, annotation_begins}
+use Rattle.term_reader.proofs.Coming.{IsPartOf, answers, answers_whole, fails, refuses, no_memory}
+use Rattle.term_reader.proofs.MoreRead.{with_read, same_script}
+use Rattle.term_reader.proofs.Settled.{part_resumed, nothing_made}
+use Rattle.term_reader.proofs.Staying.{adds_none, keeps_none, frames_stay, stands_stays}
+use Rattle.term_expansion.specs.SymbolsAndTerms.{both}
 
--- A script with other terms and other names of lets is known as before.
-abbrev alike : Script → List Term → List (List ℕ) → Script
-alike sc terms names = record sc { terms = terms; let_names = names }
-
-module _ (s : Table) (v : TermsView) (sc : Script) (terms : List Term) (names : List (List ℕ)) where
-  no_entry_alike : (name : List ℕ) → HasNoEntry sc name → HasNoEntry (alike sc terms names) name
-  no_entry_alike name h = record { no_named = h.no_named; no_macro = h.no_macro }
-
-  no_function_alike : (name : List ℕ) → IsNoFunction s sc name → IsNoFunction s (alike sc terms names) name
-  no_function_alike name h = record { table = h.table; script = h.script }
-
-  function_alike : (name : List ℕ) (n : ℕ) → IsFunctionAt s sc name n → IsFunctionAt s (alike sc terms names) name n
-  function_alike name n h = record { meant = h.meant; here = h.here; same_name = h.same_name; found = h.found; taken = h.taken }
-
-  meant_alike : (k : KnownView) (name : List ℕ) (o : Option KnownEntry) → IsNameMeant s v k sc name o → IsNameMeant s v k (alike sc terms names) name o
-  meant_alike k name None (none, h) = (no_entry_alike name none, record { no_function = no_function_alike name h.no_function; free = h.free })
-  meant_alike k name (Some (KnownEntry.Function n)) h = record { no_entry = no_entry_alike name h.no_entry; function = function_alike name n h.function }
-  meant_alike k name (Some KnownEntry.Reserved) h =
-      record { no_entry = no_entry_alike name h.no_entry; no_function = no_function_alike name h.no_function; taken = h.taken }
-  meant_alike k name (Some (KnownEntry.Macro w)) h = record {
-    held = h.held;
-    meant = h.meant;
-    there = h.there;
-    found = h.found;
-    is = h.is;
-    no_named = h.no_named;
-    no_function = no_function_alike name h.no_function;
-    taken = h.taken;
-  }
-  meant_alike k name (Some (KnownEntry.Named w)) h = record {
-    held = h.held;
-    meant = h.meant;
-    there = h.there;
-    found = h.found;
-    is = h.is;
-    no_macro = h.no_macro;
-    no_function = no_function_alike name h.no_function;
-    taken = h.taken;
-  }
-
-  pub stands_alike : (r : Reader) (p : Place) → ReaderStands s v r sc p → ReaderStands s v r (alike sc terms names) p
-  stands_alike r p h = record {
-    script = record { sorts = h.script.sorts; built_in = h.script.built_in; names = λ name. meant_alike r.names.known name (known_entry r.names.known name) (h.script.names name) };
-    scope = h.scope;
-    settings = h.settings;
-    low = h.low;
-  }
+-- other terms that were read and other names of lets change nothing of what the tables stand for
+stands_alike : (s : Table) (v : TermsView) (r : ReadingView) (sc : Script) (terms : List Term) (names : List (List ℕ)) (p : Place)
+    → ReaderStands (both s v) r sc p
+    → ReaderStands (both s v) r (with_read terms names sc) p
+stands_alike s v r sc terms names p h =
+    record { script = same_script s v r.names.known terms names sc h.script; scope = h.scope; settings = h.settings; low = h.low }
 
 -- one form more that is open changes nothing of what the tables stand for
-stands_opened : (s : Table) (v : TermsView) (r : Reader) (f : Frame) (sc : Script) (p : Place) → ReaderStands s v r sc p → ReaderStands s v (with_open r f) sc p
+stands_opened : (s : Table) (v : TermsView) (r : ReadingView) (f : Frame) (sc : Script) (p : Place) → ReaderStands (both s v) r sc p
+    → ReaderStands (both s v) (with_open r f) sc p
 stands_opened s v r f sc p h = record { script = h.script; scope = h.scope; settings = h.settings; low = h.low }
 
--- a fault is that of the whole, and a term that is read is read by the end
-module _ (s : Table) (pass : PassView) (ws : List Waiting) (o whole : Outcome Script Typed) (comes : resumed ws o ≡ whole) where
-  read_by_end : (t : Term) → IsReadTerm o t → IsReadTerm whole t
-  read_by_end t h = subst (λ (q : Outcome Script Typed). IsReadTerm q t) comes (by_resumed t ws o h)
+-- the node that is read next is further on, and within the text
+pub record IsFurther (items : ItemsView) (k next : ℕ) : Type 0 where
+  pub later : k < next
+  pub within : next < length items.nodes
 
-  ends_whole : (f : ReadFault) → EndsWith s pass o.result (IsReadTerm o) f → EndsWith s pass whole.result (IsReadTerm whole) f
-  ends_whole (ReadFault.Text r) h =
-      ap (λ (q : Outcome Script Typed). q.result)
-      (sym comes ∙ ap (λ (e : Result Typed Refusal). resumed ws (record { result = e; state = o.state })) h ∙ refused_whole ws r o.state)
-  ends_whole ReadFault.PoolFull h = lacks_more s pass (IsReadTerm o) (IsReadTerm whole) read_by_end h
-  ends_whole ReadFault.Memory h = tt
-
-module _ (items : ItemsView) (g : WholeReading) (s : Table) (v : TermsView) (r : Reader) (k : ℕ) where
+module _ (items : ItemsView) (g : WholeReading) (s : Table) (v : TermsView) (r : ReadingView) (k : ℕ) where
   abbrev Top : Layer → Type 0
-  Top layer = HasTop items g s v r k layer
+  Top layer = HasTop items g (both s v) r k layer
 
-  abbrev comes_of : IsAt items g s v r k → Outcome Script Typed
+  abbrev comes_of : IsAt items g (both s v) r k → Outcome Script Typed
   comes_of a = term_from (form_at items k) a.place a.script
-
-  -- the top of the term's form, as it is told of each item
-  pub top_of : (layer : Layer) → IsLayer items k layer (form_at items k) → IsAt items g s v r k → Top layer
-  top_of layer told a = record { at = a; top = told }
 
   -- where the item at a node begins
   abbrev IsStart : ℕ → ℕ → Type 0
   IsStart j place = place ≡ place_of (item_at items j)
 
-  pub memory_goes : (z : Table) (q : Reader) → Goes items g z v v q (Err ReadFault.Memory)
-  memory_goes z q = record { step = tt; placed = places_none z v.pass v.pass (IsReadTerm g.whole) refl }
+  -- the term is a part of the whole
+  part : (a : IsAt items g (both s v) r k) → IsPartOf terms_read (comes_of a) g.whole
+  part a = part_resumed a.waiting (comes_of a) g.whole a.comes
 
-  -- the term's own fault
-  fault_goes : (w : TermsView) (q : Reader) (f : ReadFault) (a : IsAt items g s v r k) → EndsWith s w.pass (comes_of a).result (IsReadTerm (comes_of a)) f
-      → PlacesCellsOf s v.pass w.pass (IsReadTerm (comes_of a)) → Goes items g s v w q (Err f)
-  fault_goes w q f a ends placed = record {
-    step = ends_whole s w.pass a.waiting (comes_of a) g.whole a.comes f ends;
-    placed = places_more s v.pass w.pass (IsReadTerm (comes_of a)) (IsReadTerm g.whole) (read_by_end s w.pass a.waiting (comes_of a) g.whole a.comes) placed;
-  }
+  refusal_goes : (q : ReadingView) (refusal : Refusal) (a : IsAt items g (both s v) r k) → (comes_of a).result ≡ Err refusal
+      → Goes items g v (both s v) q (Err (ReadFault.Text refusal))
+  refusal_goes q refusal a e = refuses refl ((part a).faults refusal e)
 
-  refusal_goes : (q : Reader) (refusal : Refusal) (a : IsAt items g s v r k) → (comes_of a).result ≡ Err refusal → Goes items g s v v q (Err (ReadFault.Text refusal))
-  refusal_goes q refusal a e = fault_goes v q (ReadFault.Text refusal) a e (places_none s v.pass v.pass (IsReadTerm (comes_of a)) refl)
-
-  pub faulty_goes : (refusal : Refusal) → Top (Layer.Faulty refusal) → Goes items g s v v r (Err (ReadFault.Text refusal))
+  pub faulty_goes : (refusal : Refusal) → Top (Layer.Faulty refusal) → Goes items g v (both s v) r (Err (ReadFault.Text refusal))
   unfolding term_from
   faulty_goes refusal h = refusal_goes r refusal h.at (ap (λ (f : Form). (term_from f h.at.place h.at.script).result) h.top)
 
   -- a term of one node is read
-  value_goes : (z : Table) (w : TermsView) (c : Value) (t : Typed) (a : IsAt items g s v r k) → AddsNoSymbols s z → KeepsTerms v w → end_at items k ≡ k + 1
-      → comes_of a ≡ done t (with_term t.tree a.script) → IsValue z w c t → c.height ≤ most_height → PlacesCellsOf z v.pass w.pass (IsReadTerm (comes_of a))
-      → Goes items g z v w r (Ok (Turn.Use c (k + 1)))
-  value_goes z w c t a adds keeps alone e is low placed = record {
-    step = record {
-      script = with_term t.tree a.script;
-      place = a.place;
-      term = t;
-      waiting = a.waiting;
-      stands = stands_stays s z v w adds keeps r (with_term t.tree a.script) a.place (stands_alike s v a.script _ _ r a.place a.stands);
-      is = is;
-      low = low;
-      frames =
-          subst (λ (n : ℕ). AreFrames items g z w r.names.known r.frames r.values r.leaves.items r.names.scope a.place n a.waiting) alone
-          (frames_stay s z v w adds.keeps keeps items g r.names.known r.names.known (λ which. refl) r.frames r.values r.leaves.items r.names.scope a.place (end_at items k) a.waiting a.frames);
-      comes = ap (resumed a.waiting) (sym e) ∙ a.comes;
-    };
-    placed = places_more z v.pass w.pass (IsReadTerm (comes_of a)) (IsReadTerm g.whole) (read_by_end z w.pass a.waiting (comes_of a) g.whole a.comes) placed;
-  }
+  value_goes : (z : Table) (w : TermsView) (c : Value) (a : IsAt items g (both s v) r k) → GrowByTerms (both s v) (both z w) → end_at items k ≡ k + 1
+      → ComesTo terms_read v (both z w) (IsReadAlone (both z w) a.script) (comes_of a) (Ok c) → Goes items g v (both z w) r (Ok (Turn.Use c (k + 1)))
+  value_goes z w c a grow alone read =
+      let t = read.answer.value in
+      answers_whole g.whole (part a) read
+      (record {
+        script = read.answer.state;
+        place = a.place;
+        term = t;
+        waiting = a.waiting;
+        stands = subst (λ (sc : Script). ReaderStands (both z w) r sc a.place) (sym read.answer.after.same)
+            (stands_stays s z v w grow.symbols grow.terms r (with_term t.tree a.script) a.place (stands_alike s v r a.script _ _ a.place a.stands));
+        is = read.answer.after.is;
+        low = read.answer.after.low;
+        frames =
+            subst (λ (n : ℕ). AreFrames items g (both z w) r.names.known r.frames r.values r.leaves.items r.names.scope a.place n a.waiting) alone
+            (frames_stay s z v w grow.symbols.keeps grow.terms items g r.names.known r.names.known (λ which. refl) r.frames r.values r.leaves.items
+            r.names.scope a.place (end_at items k) a.waiting a.frames);
+        comes = ap (resumed a.waiting) (sym read.answer.is) ∙ a.comes;
+      })
 
-  number_comes : (place n : ℕ) (p : Place) (sc : Script) → p.settings.limit ≡ Some most_height → term_from (number place n) p sc ≡ done (record { tree = numeral n; sort = Sort.Int }) (with_term (numeral n) sc)
+  number_comes : (place n : ℕ) (p : Place) (sc : Script) → p.settings.limit ≡ Some most_height
+      → term_from (number place n) p sc ≡ done (record { tree = numeral n; sort = Sort.Int }) (with_term (numeral n) sc)
   unfolding term_from height
   number_comes place n p sc limited = ap (λ (limit : Option ℕ). settled limit place (Some (record { tree = numeral n; sort = Sort.Int })) sc) limited
 
-  pub number_goes : (z : Table) (c : Value) (n : ℤ) → Top (Layer.Number n) → AddsNoSymbols s z → IsNumber z c n → Goes items g z v v r (Ok (Turn.Use c (k + 1)))
+  pub number_goes : (z : Table) (c : Value) (n : ℤ) → Top (Layer.Number n) → AddsNoSymbols s z → IsNumber z c n
+      → Goes items g v (both z v) r (Ok (Turn.Use c (k + 1)))
   number_goes z c n h adds is =
       let (m, e, same, alone) = h.top in
-      value_goes z v c (record { tree = numeral m; sort = Sort.Int }) h.at adds (keeps_none v) alone
-      (ap (λ (f : Form). term_from f h.at.place h.at.script) e ∙ number_comes (place_of (item_at items k)) m h.at.place h.at.script (limit_so h.at.place.settings r.replaces_lets h.at.stands.settings)) (is.is v m same) is.low
-      (places_none z v.pass v.pass (IsReadTerm (comes_of h.at)) refl)
+      value_goes z v c h.at (record { symbols = adds; terms = keeps_none v }) alone
+      (answers (record { tree = numeral m; sort = Sort.Int }) (with_term (numeral m) h.at.script) refl
+      (ap (λ (f : Form). term_from f h.at.place h.at.script) e
+      ∙ number_comes (place_of (item_at items k)) m h.at.place h.at.script (limit_so h.at.place.settings r.replaces_lets h.at.stands.settings))
+      (record { same = refl; is = is.is v m same; low = is.low }))
 
   -- what a call says that reads a symbol alone
   abbrev IsSymbolRead : TermsView → Result Value ReadFault → Type 0
-  IsSymbolRead w result = (sc : Script) (p : Place) → ReaderStands s v r sc p → ReadsAlone s v w (term_from (symbol (name_in items k)) p sc) sc result
+  IsSymbolRead w result =
+      (sc : Script) (p : Place) → ReaderStands (both s v) r sc p → ComesTo terms_read v (both s w) (IsReadAlone (both s w) sc)
+      (term_from (symbol (name_in items k)) p sc) result
 
-  symbol_read : (w : TermsView) (result : Result Value ReadFault) (h : Top Layer.Symbol) → IsSymbolRead w result → ReadsAlone s v w (comes_of h.at) h.at.script result
+  symbol_read : (w : TermsView) (result : Result Value ReadFault) (h : Top Layer.Symbol) → IsSymbolRead w result
+      → ComesTo terms_read v (both s w) (IsReadAlone (both s w) h.at.script) (comes_of h.at) result
   symbol_read w result h reads =
       let (e, named, alone) = h.top in
-      subst (λ (f : Form). ReadsAlone s v w (term_from f h.at.place h.at.script) h.at.script result) (sym e) (reads h.at.script h.at.place h.at.stands)
+      subst (λ (f : Form). ComesTo terms_read v (both s w) (IsReadAlone (both s w) h.at.script) (term_from f h.at.place h.at.script) result) (sym e)
+      (reads h.at.script h.at.place h.at.stands)
 
-  pub symbol_goes : (w : TermsView) (c : Value) → Top Layer.Symbol → KeepsTerms v w → IsSymbolRead w (Ok c) → Goes items g s v w r (Ok (Turn.Use c (k + 1)))
+  pub symbol_goes : (w : TermsView) (c : Value) → Top Layer.Symbol → KeepsTerms v w → IsSymbolRead w (Ok c)
+      → Goes items g v (both s w) r (Ok (Turn.Use c (k + 1)))
   symbol_goes w c h keeps reads =
       let (e, named, alone) = h.top in
-      let read = symbol_read w (Ok c) h reads in
-      let (t, comes, is, low) = read.answer in
-      value_goes s w c t h.at (adds_none s) keeps alone comes is low read.placed
+      value_goes s w c h.at (record { symbols = adds_none s; terms = keeps }) alone (symbol_read w (Ok c) h reads)
 
-  pub symbol_fails_goes : (w : TermsView) (f : ReadFault) → Top Layer.Symbol → IsSymbolRead w (Err f) → Goes items g s v w r (Err f)
-  symbol_fails_goes w f h reads = let read = symbol_read w (Err f) h reads in fault_goes w r f h.at read.answer read.placed
+  pub symbol_fails_goes : (w : TermsView) (f : ReadFault) → Top Layer.Symbol → IsSymbolRead w (Err f) → Goes items g v (both s w) r (Err f)
+  symbol_fails_goes w f h reads = fails g.whole (part h.at) (symbol_read w (Err f) h reads)
 
   -- the frames with one more
-  all_values : (fs : List Frame) (ls : List ℕ) (p : Place) (m n : ℕ) (ws : List Waiting) → m ≡ n → AreFrames items g s v r.names.known fs r.values ls r.names.scope p m ws
-      → AreFrames items g s v r.names.known fs (take (length r.values) r.values) ls r.names.scope p n ws
+  all_values : (fs : List Frame) (ls : List ℕ) (p : Place) (m n : ℕ) (ws : List Waiting) → m ≡ n
+      → AreFrames items g (both s v) r.names.known fs r.values ls r.names.scope p m ws
+      → AreFrames items g (both s v) r.names.known fs (take (length r.values) r.values) ls r.names.scope p n ws
   all_values fs ls p m n ws e h =
-      subst (λ (values : List Value). AreFrames items g s v r.names.known fs values ls r.names.scope p n ws) (sym (take-length r.values))
-      (subst (λ (j : ℕ). AreFrames items g s v r.names.known fs r.values ls r.names.scope p j ws) e h)
+      subst (λ (values : List Value). AreFrames items g (both s v) r.names.known fs values ls r.names.scope p n ws) (sym (take-length r.values))
+      (subst (λ (j : ℕ). AreFrames items g (both s v) r.names.known fs r.values ls r.names.scope p j ws) e h)
 
   -- an argument is read, or the first one
   pub application_goes : (head first end place : ℕ) (applied : Head) → Top (Layer.Application head first end) → IsStart k place
-      → ((w : TermsView) (sc : Script) (p : Place) → ReaderStands s w r sc p → IsHeadFound s w r.names.known (Some applied) (meaning_of p sc (name_in items head).name))
-      → Goes items g s v v (with_open r (Frame.Arguments (record { place = place; head = applied; from = length r.values; end = end }))) (Ok (Turn.Read first))
+      → ((w : TermsView) (sc : Script) (p : Place) → ReaderStands (both s w) r sc p → IsHeadFound (both s w) r.names.known (Some applied) (meaning_of p sc (name_in items head).name))
+      → Goes items g v (both s v) (with_open r (Frame.Arguments (record { place = place; head = applied; from = length r.values; end = end })))
+      (Ok (Turn.Read first))
   application_goes head first end place applied h starts found =
       let a = h.at in
       let (e, named, range, less, same_end, later) = h.top in
       let (m, known, applies) = found v a.script a.place a.stands in
-      record {
-        step = record {
-          script = a.script;
-          place = a.place;
-          waiting = arguments place m [] (forms_at items (end_at items first) end) a.place ∷ a.waiting;
-          stands = stands_opened s v r _ a.script a.place a.stands;
-          inside = let h = range.inside in omega arith;
-          frames = (
-            m,
-            [],
-            a.waiting,
-            refl,
-            record {
-              applies = applies;
-              within = omega arith;
-              read_values = subst (λ (values : List Value). AreValues s v values []) (sym (drop-length r.values)) tt;
-              left_here = range_on items first end range less;
-            },
-            all_values r.frames r.leaves.items a.place (end_at items k) end a.waiting (sym same_end) a.frames,
-          );
-          comes =
-              sym (first_argument a.waiting place (name_in items head) m (form_at items first) (forms_at items (end_at items first) end) a.place a.script known)
-              ∙ ap (λ (n : ℕ). resumed a.waiting (term_from (application n (name_in items head) (form (form_at items first) (forms_at items (end_at items first) end))) a.place a.script)) starts
-              ∙ ap (λ (fs : Forms). resumed a.waiting (term_from (application (place_of (item_at items k)) (name_in items head) fs) a.place a.script)) (sym (forms_more items first end range less))
-              ∙ ap (λ (q : Form). resumed a.waiting (term_from q a.place a.script)) (sym e) ∙ a.comes;
-        };
-        placed = places_none s v.pass v.pass (IsReadTerm g.whole) refl;
-      }
+      nothing_made items g s v _ _ (record {
+        script = a.script;
+        place = a.place;
+        waiting = arguments place m [] (forms_at items (end_at items first) end) a.place ∷ a.waiting;
+        stands = stands_opened s v r _ a.script a.place a.stands;
+        inside = let h = range.inside in omega arith;
+        frames = (
+          m,
+          [],
+          a.waiting,
+          refl,
+          record {
+            applies = applies;
+            within = omega arith;
+            read_values = subst (λ (values : List Value). AreValues (both s v) values []) (sym (drop-length r.values)) tt;
+            left_here = range_on items first end range less;
+          },
+          all_values r.frames r.leaves.items a.place (end_at items k) end a.waiting (sym same_end) a.frames,
+        );
+        comes =
+            sym (first_argument a.waiting place (name_in items head) m (form_at items first) (forms_at items (end_at items first) end) a.place a.script known)
+            ∙ ap (λ (n : ℕ). resumed a.waiting
+            (term_from (application n (name_in items head) (form (form_at items first) (forms_at items (end_at items first) end))) a.place a.script)) starts
+            ∙ ap (λ (fs : Forms). resumed a.waiting (term_from (application (place_of (item_at items k)) (name_in items head) fs) a.place a.script))
+            (sym (forms_more items first end range less))
+            ∙ ap (λ (q : Form). resumed a.waiting (term_from q a.place a.script)) (sym e) ∙ a.comes;
+      })
 
-  pub application_unknown : (head first end place : ℕ) (refusal : Refusal) → Top (Layer.Application head first end) → IsStart head place → refusal ≡ record { cause = UnknownName; at = place }
-      → ((w : TermsView) (sc : Script) (p : Place) → ReaderStands s w r sc p → IsHeadFound s w r.names.known None (meaning_of p sc (name_in items head).name))
-      → Goes items g s v v r (Err (ReadFault.Text refusal))
+  pub application_unknown : (head first end place : ℕ) (refusal : Refusal) → Top (Layer.Application head first end) → IsStart head place
+      → refusal ≡ record { cause = UnknownName; at = place }
+      → ((w : TermsView) (sc : Script) (p : Place) → ReaderStands (both s w) r sc p → IsHeadFound (both s w) r.names.known None (meaning_of p sc (name_in items head).name))
+      → Goes items g v (both s v) r (Err (ReadFault.Text refusal))
   application_unknown head first end place refusal h starts is found =
       let a = h.at in
       let (e, named, range, less, same_end, later) = h.top in
       let none = found v a.script a.place a.stands in
-      let same : refusal ≡ record { cause = UnknownName; at = (name_in items head).place } = is ∙ ap (λ (n : ℕ). record { cause = UnknownName; at = n }) starts in
+      let same : refusal ≡ record { cause = UnknownName; at = (name_in items head).place } = is ∙ ap (λ (n : ℕ). record { cause = UnknownName; at = n })
+      starts in
       refusal_goes r refusal a
-      (ap (λ (q : Form). (term_from q a.place a.script).result) e ∙ ap (λ (o : Outcome Script Typed). o.result) (unknown_head (place_of (item_at items k)) (name_in items head) (forms_at items first end) a.place a.script none) ∙ ap Err (sym same))
+      (ap (λ (q : Form). (term_from q a.place a.script).result) e ∙ ap (λ (o : Outcome Script Typed). o.result)
+      (unknown_head (place_of (item_at items k)) (name_in items head) (forms_at items first end) a.place a.script none) ∙ ap Err (sym same))
 
   -- the term of a let's first binding is read, or its variable may not be bound
-  pub let_goes : (first body repeat place from leaf : ℕ) → Top (Layer.Let first body) → IsStart k place → from ≡ length r.values → leaf ≡ length r.leaves.items → repeat ≢ first
+  pub let_goes : (first body repeat place from leaf : ℕ) → Top (Layer.Let first body) → IsStart k place → from ≡ length r.values
+      → leaf ≡ length r.leaves.items → repeat ≢ first
       → ((bs : LetBinds) → AreBinds items first bs body → IsFirstRepeat items first [] bs repeat body)
-      → Goes items g s v v (with_open r (Frame.Bindings (record { place = place; from = from; leaves = leaf; name = first + 1; repeat = repeat; body = body }))) (Ok (Turn.Read (first + 2)))
+      → Goes items g v (both s v)
+      (with_open r (Frame.Bindings (record { place = place; from = from; leaves = leaf; name = first + 1; repeat = repeat; body = body })))
+      (Ok (Turn.Read (first + 2)))
   let_goes first body repeat place from leaf h starts from_is leaf_is differs repeats =
       let a = h.at in
       let (bs, e, are, some, body_here, body_ends, later) = h.top in
       let b = binds_more items first bs body are (λ same. absurd (omega arith)) in
-      let (free, further) = repeat_on items first [] (name_in items (first + 1)) (form_at items (first + 2)) b.others repeat body (subst (λ (q : LetBinds). IsFirstRepeat items first [] q repeat body) b.split (repeats bs are)) (λ same. differs (sym same)) in
-      record {
-        step = record {
-          script = with_let_name (name_in items (first + 1)).name a.script;
-          place = a.place;
-          waiting = bindings place [] (name_in items (first + 1)) [] b.others (form_at items body) a.place ∷ a.waiting;
-          stands = stands_opened s v r _ (with_let_name (name_in items (first + 1)).name a.script) a.place (stands_alike s v a.script _ _ r a.place a.stands);
-          inside = b.inside;
-          frames = (
-            [],
-            [],
-            b.others,
-            a.waiting,
-            refl,
-            record {
-              within = omega arith;
-              leaves_within = omega arith;
-              read_bound =
-                  subst (λ (values : List Value). AreValuesBound s v (drop leaf r.leaves.items) values []) (sym (ap (λ (n : ℕ). drop n r.values) from_is ∙ drop-length r.values))
-                  (subst (λ (ks : List ℕ). AreValuesBound s v ks [] []) (sym (ap (λ (n : ℕ). drop n r.leaves.items) leaf_is ∙ drop-length r.leaves.items)) tt);
-              variable = b.named;
-              left_here = b.there;
-              first_faulty = further;
-              body_here = body_here;
-            },
-            subst (λ (values : List Value). AreFrames items g s v r.names.known r.frames values (take leaf r.leaves.items) r.names.scope a.place (end_at items body) a.waiting)
-                (sym (ap (λ (n : ℕ). take n r.values) from_is ∙ take-length r.values))
-                (subst (λ (ks : List ℕ). AreFrames items g s v r.names.known r.frames r.values ks r.names.scope a.place (end_at items body) a.waiting)
-                (sym (ap (λ (n : ℕ). take n r.leaves.items) leaf_is ∙ take-length r.leaves.items))
-                (subst (λ (n : ℕ). AreFrames items g s v r.names.known r.frames r.values r.leaves.items r.names.scope a.place n a.waiting) (sym body_ends) a.frames)),
-          );
-          comes =
-              sym (first_binding a.waiting place (name_in items (first + 1)) (form_at items (first + 2)) b.others (form_at items body) a.place a.script free)
-              ∙ ap (λ (n : ℕ). resumed a.waiting (term_from (let_form n (bind (name_in items (first + 1)) (form_at items (first + 2)) b.others) (form_at items body)) a.place a.script)) starts
-              ∙ ap (λ (q : LetBinds). resumed a.waiting (term_from (let_form (place_of (item_at items k)) q (form_at items body)) a.place a.script)) (sym b.split)
-              ∙ ap (λ (q : Form). resumed a.waiting (term_from q a.place a.script)) (sym e) ∙ a.comes;
-        };
-        placed = places_none s v.pass v.pass (IsReadTerm g.whole) refl;
-      }
+      let (free, further) = repeat_on items first [] (name_in items (first + 1)) (form_at items (first + 2)) b.others repeat body
+      (subst (λ (q : LetBinds). IsFirstRepeat items first [] q repeat body) b.split (repeats bs are)) (λ same. differs (sym same)) in
+      nothing_made items g s v _ _ (record {
+        script = with_let_name (name_in items (first + 1)).name a.script;
+        place = a.place;
+        waiting = bindings place [] (name_in items (first + 1)) [] b.others (form_at items body) a.place ∷ a.waiting;
+        stands = stands_opened s v r _ (with_let_name (name_in items (first + 1)).name a.script) a.place (stands_alike s v r a.script _ _ a.place a.stands);
+        inside = b.inside;
+        frames = (
+          [],
+          [],
+          b.others,
+          a.waiting,
+          refl,
+          record {
+            within = omega arith;
+            leaves_within = omega arith;
+            read_bound =
+                subst (λ (values : List Value). AreValuesBound (both s v) (drop leaf r.leaves.items) values [])
+                (sym (ap (λ (n : ℕ). drop n r.values) from_is ∙ drop-length r.values))
+                (subst (λ (ks : List ℕ). AreValuesBound (both s v) ks [] [])
+                (sym (ap (λ (n : ℕ). drop n r.leaves.items) leaf_is ∙ drop-length r.leaves.items)) (record { leaves = tt; values = tt }));
+            variable = b.named;
+            left_here = b.there;
+            first_faulty = further;
+            body_here = body_here;
+          },
+          subst (λ (values : List Value). AreFrames items g (both s v) r.names.known r.frames values (take leaf r.leaves.items) r.names.scope a.place
+              (end_at items body) a.waiting)
+              (sym (ap (λ (n : ℕ). take n r.values) from_is ∙ take-length r.values))
+              (subst (λ (ks : List ℕ). AreFrames items g (both s v) r.names.known r.frames r.values ks r.names.scope a.place (end_at items body) a.waiting)
+              (sym (ap (λ (n : ℕ). take n r.leaves.items) leaf_is ∙ take-length r.leaves.items))
+              (subst (λ (n : ℕ). AreFrames items g (both s v) r.names.known r.frames r.values r.leaves.items r.names.scope a.place n a.waiting)
+              (sym body_ends) a.frames)),
+        );
+        comes =
+            sym (first_binding a.waiting place (name_in items (first + 1)) (form_at items (first + 2)) b.others (form_at items body) a.place a.script free)
+            ∙ ap (λ (n : ℕ). resumed a.waiting
+            (term_from (let_form n (bind (name_in items (first + 1)) (form_at items (first + 2)) b.others) (form_at items body)) a.place a.script)) starts
+            ∙ ap (λ (q : LetBinds). resumed a.waiting (term_from (let_form (place_of (item_at items k)) q (form_at items body)) a.place a.script)) (sym b.split)
+            ∙ ap (λ (q : Form). resumed a.waiting (term_from q a.place a.script)) (sym e) ∙ a.comes;
+      })
 
-  pub let_repeated : (first body repeat place : ℕ) (refusal : Refusal) → Top (Layer.Let first body) → IsStart (first + 1) place → refusal ≡ record { cause = Repeated; at = place } → repeat ≡ first
-      → ((bs : LetBinds) → AreBinds items first bs body → IsFirstRepeat items first [] bs repeat body) → Goes items g s v v r (Err (ReadFault.Text refusal))
+  pub let_repeated : (first body repeat place : ℕ) (refusal : Refusal) → Top (Layer.Let first body) → IsStart (first + 1) place
+      → refusal ≡ record { cause = Repeated; at = place } → repeat ≡ first
+      → ((bs : LetBinds) → AreBinds items first bs body → IsFirstRepeat items first [] bs repeat body)
+      → Goes items g v (both s v) r (Err (ReadFault.Text refusal))
   let_repeated first body repeat place refusal h starts is here repeats =
       let a = h.at in
       let (bs, e, are, some, body_here, body_ends, later) = h.top in
       let b = binds_more items first bs body are (λ same. absurd (omega arith)) in
-      let bound : AreBinds items first (bind (name_in items (first + 1)) (form_at items (first + 2)) b.others) body = (b.named, refl, b.inside, refl, b.there) in
-      let taken = repeat_here items first [] (name_in items (first + 1)) (form_at items (first + 2)) b.others body bound (subst (λ (n : ℕ). IsFirstRepeat items first [] (bind (name_in items (first + 1)) (form_at items (first + 2)) b.others) n body) here (repeats (bind (name_in items (first + 1)) (form_at items (first + 2)) b.others) bound)) in
+      let bound : AreBinds items first (bind (name_in items (first + 1)) (form_at items (first + 2)) b.others) body = (b.named, refl, b.inside, refl, b.there)
+      in
+      let taken = repeat_here items first [] (name_in items (first + 1)) (form_at items (first + 2)) b.others body bound
+      (subst (λ (n : ℕ). IsFirstRepeat items first [] (bind (name_in items (first + 1)) (form_at items (first + 2)) b.others) n body) here
+      (repeats (bind (name_in items (first + 1)) (form_at items (first + 2)) b.others) bound)) in
       let same : refusal ≡ record { cause = Repeated; at = (name_in items (first + 1)).place } =
       is ∙ ap (λ (n : ℕ). record { cause = Repeated; at = n }) starts in
       refusal_goes r refusal a
       (ap (λ (q : Form). (term_from q a.place a.script).result) e
       ∙ ap (λ (q : LetBinds). (term_from (let_form (place_of (item_at items k)) q (form_at items body)) a.place a.script).result) b.split
-      ∙ ap (λ (o : Outcome Script Typed). o.result) (first_binding_refused [] (place_of (item_at items k)) (name_in items (first + 1)) (form_at items (first + 2)) b.others (form_at items body) a.place a.script taken) ∙ ap Err (sym same))
+      ∙ ap (λ (o : Outcome Script Typed). o.result) (first_binding_refused [] (place_of (item_at items k)) (name_in items (first + 1))
+      (form_at items (first + 2)) b.others (form_at items body) a.place a.script taken) ∙ ap Err (sym same))
 
   -- the term of an annotation is read
-  pub annotation_goes : (t first end : ℕ) → Top (Layer.Annotated t first end) → Goes items g s v v (with_open r (Frame.Names end)) (Ok (Turn.Read t))
+  pub annotation_goes : (t first end : ℕ) → Top (Layer.Annotated t first end) → Goes items g v (both s v) (with_open r (Frame.Names end)) (Ok (Turn.Read t))
   annotation_goes t first end h =
       let a = h.at in
       let (e, here, ends, attributes, same_end, later) = h.top in
-      record {
-        step = record {
-          script = a.script;
-          place = a.place;
-          waiting = naming (names_at items (end_at items t) end) ∷ a.waiting;
-          stands = stands_opened s v r _ a.script a.place a.stands;
-          inside = here;
-          frames = (
-            a.waiting,
-            refl,
-            subst (λ (n : ℕ). AreTermAttributes items n end) (sym ends) attributes,
-            subst (λ (n : ℕ). AreFrames items g s v r.names.known r.frames r.values r.leaves.items r.names.scope a.place n a.waiting) (sym same_end) a.frames,
-          );
-          comes = sym (annotation_begins a.waiting (place_of (item_at items k)) (form_at items t) (names_at items (end_at items t) end) a.place a.script)
-              ∙ ap (λ (n : ℕ). resumed a.waiting (term_from (annotated (place_of (item_at items k)) (form_at items t) (names_at items n end)) a.place a.script)) ends ∙ ap (λ (q : Form). resumed a.waiting (term_from q a.place a.script)) (sym e) ∙ a.comes;
-        };
-        placed = places_none s v.pass v.pass (IsReadTerm g.whole) refl;
-      }
+      nothing_made items g s v _ _ (record {
+        script = a.script;
+        place = a.place;
+        waiting = naming (names_at items (end_at items t) end) ∷ a.waiting;
+        stands = stands_opened s v r _ a.script a.place a.stands;
+        inside = here;
+        frames = (
+          a.waiting,
+          refl,
+          subst (λ (n : ℕ). AreTermAttributes items n end) (sym ends) attributes,
+          subst (λ (n : ℕ). AreFrames items g (both s v) r.names.known r.frames r.values r.leaves.items r.names.scope a.place n a.waiting)
+              (sym same_end) a.frames,
+        );
+        comes = sym (annotation_begins a.waiting (place_of (item_at items k)) (form_at items t) (names_at items (end_at items t) end) a.place a.script)
+            ∙ ap (λ (n : ℕ). resumed a.waiting (term_from (annotated (place_of (item_at items k)) (form_at items t) (names_at items n end)) a.place a.script))
+            ends ∙ ap (λ (q : Form). resumed a.waiting (term_from q a.place a.script)) (sym e) ∙ a.comes;
+      })
 
-  -- the node that is read next is further on, and within the text
-  pub record IsFurther (next : ℕ) : Type 0 where
-    pub later : k < next
-    pub within : next < length items.nodes
-
-  pub application_further : (head first end : ℕ) → Top (Layer.Application head first end) → IsFurther first
+  pub application_further : (head first end : ℕ) → Top (Layer.Application head first end) → IsFurther items k first
   application_further head first end h =
       let (e, named, range, less, same_end, later) = h.top in
       record { later = later; within = (let h = range.inside in omega arith) }
 
-  pub let_further : (first body : ℕ) → Top (Layer.Let first body) → IsFurther first × IsFurther (first + 2)
+  pub let_further : (first body : ℕ) → Top (Layer.Let first body) → IsFurther items k first × IsFurther items k (first + 2)
   let_further first body h =
       let (bs, e, are, some, body_here, body_ends, later) = h.top in
       let b = binds_more items first bs body are (λ same. absurd (omega arith)) in
@@ -362,27 +324,35 @@ module _ (items : ItemsView) (g : WholeReading) (s : Table) (v : TermsView) (r :
       let b = binds_more items first bs body are (λ same. absurd (omega arith)) in
       b.named
 
-  pub annotation_further : (t first end : ℕ) → Top (Layer.Annotated t first end) → IsFurther t
+  pub annotation_further : (t first end : ℕ) → Top (Layer.Annotated t first end) → IsFurther items k t
   annotation_further t first end h =
       let (e, here, ends, attributes, same_end, later) = h.top in
       record { later = later; within = here }
 
-  pub node_within : IsAt items g s v r k → k < length items.nodes
-  node_within a = a.inside
-
--- what comes of opening a form, at what it answers
-module _ (r new : Reader) (frame : Frame) (next : ℕ) (result : Result Turn ReadFault) (is : IfOk result (λ (t : Turn). (t ≡ Turn.Read next) × (new ≡ with_open r frame))) where
-  pub at_opened : (P : Reader → Turn → Type 0) → P (with_open r frame) (Turn.Read next) → IfOk result (λ (t : Turn). P new t)
+-- what comes of opening a form
+module _ (e : ReadSettings) (r new : Reader) (frame : Frame) (next : ℕ) (result : Result Turn ReadFault)
+    (is : IfOk result (λ (t : Turn). (t ≡ Turn.Read next) × (new ≡ record r { frames = frame ∷ r.frames }))) where
+  at_opened : (P : ReadingView → Turn → Type 0) → P (with_open (reader_in e r) frame) (Turn.Read next) → IfOk result (λ (t : Turn). P (reader_in e new) t)
   at_opened P h = go result is
     where
-      go : (a : Result Turn ReadFault) → IfOk a (λ (t : Turn). (t ≡ Turn.Read next) × (new ≡ with_open r frame)) → IfOk a (λ (t : Turn). P new t)
-      go (Ok t) (e, same) = subst (λ (q : Reader). P q t) (sym same) (subst (P (with_open r frame)) (sym e) h)
-      go (Err f) e = tt
+      go : (a : Result Turn ReadFault) → IfOk a (λ (t : Turn). (t ≡ Turn.Read next) × (new ≡ record r { frames = frame ∷ r.frames }))
+          → IfOk a (λ (t : Turn). P (reader_in e new) t)
+      go (Ok t) (same_turn, same) = subst (λ (q : Reader). P (reader_in e q) t) (sym same) (subst (P (with_open (reader_in e r) frame)) (sym same_turn) h)
+      go (Err f) h = tt
 
   pub opened_goes : (items : ItemsView) (g : WholeReading) (s : Table) (v : TermsView) → IfErr result (λ (f : ReadFault). f ≡ ReadFault.Memory)
-      → Goes items g s v v (with_open r frame) (Ok (Turn.Read next)) → Goes items g s v v new result
-  opened_goes items g s v fault h = go result is fault
+      → Goes items g v (both s v) (with_open (reader_in e r) frame) (Ok (Turn.Read next)) → Goes items g v (both s v) (reader_in e new) result
+  opened_goes items g s v fault h = go result (at_opened (λ (q : ReadingView) (t : Turn). Goes items g v (both s v) q (Ok t)) h) fault
     where
-      go : (a : Result Turn ReadFault) → IfOk a (λ (t : Turn). (t ≡ Turn.Read next) × (new ≡ with_open r frame)) → IfErr a (λ (f : ReadFault). f ≡ ReadFault.Memory) → Goes items g s v v new a
-      go (Ok t) (e, same) none = subst (λ (q : Reader). Goes items g s v v q (Ok t)) (sym same) (subst (λ (u : Turn). Goes items g s v v (with_open r frame) (Ok u)) (sym e) h)
-      go (Err f) e same = subst (λ (u : ReadFault). Goes items g s v v new (Err u)) (sym same) (memory_goes items g s v r next s new)
+      go : (a : Result Turn ReadFault) → IfOk a (λ (t : Turn). Goes items g v (both s v) (reader_in e new) (Ok t))
+          → IfErr a (λ (f : ReadFault). f ≡ ReadFault.Memory) → Goes items g v (both s v) (reader_in e new) a
+      go (Ok t) h none = h
+      go (Err f) h same = subst (λ (u : ReadFault). Goes items g v (both s v) (reader_in e new) (Err u)) (sym same) (no_memory refl)
+
+  pub opened_spends : (items : ItemsView) (s : Table) (k : ℕ) → IsFurther items k next → k + credit (frame ∷ r.frames) ≤ next + credit r.frames
+      → IfOk result (λ (t : Turn). Spends items s (reader_in e r) (Turn.Read k) s (reader_in e new) t)
+  opened_spends items s k further less =
+      let later = further.later in
+      let within = further.within in
+      at_opened (λ (q : ReadingView) (t : Turn). Spends items s (reader_in e r) (Turn.Read k) s q t)
+      (record { inside = omega arith; few = omega arith; progress = omega arith })

@@ -22,6 +22,7 @@ use Rattle.term_names.specs.declared.names.KnownEntry.{KnownEntry}
 use Rattle.term_names.specs.declared.names.Which.{Which}
 use Rattle.term_names.specs.declared.names.Which.TheVariants.{Base, Own}
 use Rattle.term_names.proofs.HeldVariables.{slice_get-last}
+use Rattle.term_expansion.specs.SymbolsAndTerms.{both}
 
 -- what entries say after one more named term
 pub record Names (old new : KnownView) (name : List ℕ) (held : named.Named) : Type 0 where
@@ -40,7 +41,8 @@ pub macros_kept : (old new : KnownView) → new.own.macros ≡ old.own.macros �
 macros_kept old new macros base (Base n) = ap (λ (e : EntriesView). slice_get e.macros n) base
 macros_kept old new macros base (Own n) = ap (λ (ms : List macro.Macro). slice_get ms n) macros
 
-named_kept : (old new : KnownView) (name : List ℕ) (held h : named.Named) (w : Which) → Names old new name held → named_of old w ≡ Some h → named_of new w ≡ Some h
+named_kept : (old new : KnownView) (name : List ℕ) (held h : named.Named) (w : Which) → Names old new name held → named_of old w ≡ Some h
+    → named_of new w ≡ Some h
 named_kept old new name held h (Base n) names e = ap (λ (e : EntriesView). slice_get e.named n) names.base ∙ e
 named_kept old new name held h (Own n) names e = ap (λ (ns : List named.Named). slice_get ns n) names.named ∙ slice_get-before old.own.named held n h e
 
@@ -99,7 +101,7 @@ no_word_taken sc name untaken words other built =
     differs : (b : Bool) → bytes_eq other name ≡ b → b ≡ false
     differs false e = refl
     differs true e =
-        absurd (clash (is_built_in name) (is_among sc.taken name) untaken (subst (λ (n : List ℕ). is_built_in n ≡ true) ((bytes_eq-Decides other name).0 e) built))
+        absurd (clash (is_built_in name) _ untaken (subst (λ (n : List ℕ). is_built_in n ≡ true) ((bytes_eq-Decides other name).0 e) built))
 
 taken_now : (sc : Script) (d : Named) → is_among (with_named d sc).taken d.name ≡ true
 taken_now sc d =
@@ -112,7 +114,8 @@ taken_now sc d =
     last false = refl
 
 module _ (s : Table) (v : TermsView) (old new : KnownView) (sc : Script) (d : Named) (held : named.Named) (names : Names old new d.name held) where
-  meant_before : (other : List ℕ) → bytes_eq other d.name ≡ false → (e : Option KnownEntry) → IsNameMeant s v old sc other e → IsNameMeant s v new (with_named d sc) other e
+  meant_before : (other : List ℕ) → bytes_eq other d.name ≡ false → (e : Option KnownEntry) → IsNameMeant (both s v) old sc other e
+      → IsNameMeant (both s v) new (with_named d sc) other e
   meant_before other differs None (none, f) = (
     record { no_named = named_before sc d other differs ∙ none.no_named; no_macro = none.no_macro },
     record { no_function = record { table = f.no_function.table; script = f.no_function.script }; free = taken_before sc d other differs ∙ f.free },
@@ -153,7 +156,8 @@ module _ (s : Table) (v : TermsView) (old new : KnownView) (sc : Script) (d : Na
     taken = taken_before sc d other differs ∙ n.taken;
   }
 
-  meant_now : IsNamedOf s v held d → HasNoEntry sc d.name → IsNoFunction s sc d.name → IsNameMeant s v new (with_named d sc) d.name (Some (KnownEntry.Named (Own (length old.own.named))))
+  meant_now : IsNamedOf (both s v) held d → HasNoEntry sc d.name → IsNoFunction s sc d.name
+      → IsNameMeant (both s v) new (with_named d sc) d.name (Some (KnownEntry.Named (Own (length old.own.named))))
   meant_now is none no_function = record {
     held = held;
     meant = d;
@@ -165,30 +169,33 @@ module _ (s : Table) (v : TermsView) (old new : KnownView) (sc : Script) (d : Na
     taken = taken_now sc d;
   }
 
-  named_script : IsScript s v old sc → is_taken sc d.name ≡ false → known_entry old d.name ≡ None → IsNamedOf s v held d → IsScript s v new (with_named d sc)
+  named_script : IsScript (both s v) old sc → is_taken sc d.name ≡ false → known_entry old d.name ≡ None → IsNamedOf (both s v) held d
+      → IsScript (both s v) new (with_named d sc)
   named_script is untaken none held_is = record {
     sorts = is.sorts;
     built_in = no_word_taken sc d.name untaken is.built_in;
-    names = λ other. subst (IsNameMeant s v new (with_named d sc) other) (sym (names.entry other)) (go other (bytes_eq other d.name) refl);
+    names = λ other. subst (IsNameMeant (both s v) new (with_named d sc) other) (sym (names.entry other)) (go other (bytes_eq other d.name) refl);
   }
     where
       entry : KnownEntry
       entry = KnownEntry.Named (Own (length old.own.named))
 
-      here : HasNoEntry sc d.name × IsFreeName s sc d.name → IsNameMeant s v new (with_named d sc) d.name (Some entry)
+      here : HasNoEntry sc d.name × IsFreeName s sc d.name → IsNameMeant (both s v) new (with_named d sc) d.name (Some entry)
       here (nothing, f) = meant_now held_is nothing f.no_function
 
-      go : (other : List ℕ) (b : Bool) → bytes_eq other d.name ≡ b → IsNameMeant s v new (with_named d sc) other (cond b (Some entry) (known_entry old other))
+      go : (other : List ℕ) (b : Bool) → bytes_eq other d.name ≡ b
+          → IsNameMeant (both s v) new (with_named d sc) other (cond b (Some entry) (known_entry old other))
       go other false e = meant_before other e (known_entry old other) (is.names other)
       go other true e =
-          subst (λ (n : List ℕ). IsNameMeant s v new (with_named d sc) n (Some entry)) (sym ((bytes_eq-Decides other d.name).0 e))
-          (here (subst (IsNameMeant s v old sc d.name) none (is.names d.name)))
+          subst (λ (n : List ℕ). IsNameMeant (both s v) new (with_named d sc) n (Some entry)) (sym ((bytes_eq-Decides other d.name).0 e))
+          (here (subst (IsNameMeant (both s v) old sc d.name) none (is.names d.name)))
 
 -- a name has an entry exactly where it is among those that are taken
-pub entry_where_taken : (s : Table) (v : TermsView) (k : KnownView) (sc : Script) (name : List ℕ) → IsScript s v k sc → is_some (known_entry k name) ≡ is_among sc.taken name
+pub entry_where_taken : (s : Table) (v : TermsView) (k : KnownView) (sc : Script) (name : List ℕ) → IsScript (both s v) k sc
+    → is_some (known_entry k name) ≡ is_among sc.taken name
 entry_where_taken s v k sc name is = go (known_entry k name) (is.names name)
   where
-    go : (e : Option KnownEntry) → IsNameMeant s v k sc name e → is_some e ≡ is_among sc.taken name
+    go : (e : Option KnownEntry) → IsNameMeant (both s v) k sc name e → is_some e ≡ is_among sc.taken name
     go None (none, f) = sym f.free
     go (Some (KnownEntry.Function n)) f = sym f.function.taken
     go (Some KnownEntry.Reserved) r = sym r.taken
@@ -196,7 +203,8 @@ entry_where_taken s v k sc name is = go (known_entry k name) (is.names name)
     go (Some (KnownEntry.Named w)) n = sym n.taken
 
 -- a name that is not taken has no entry
-pub no_entry : (s : Table) (v : TermsView) (k : KnownView) (sc : Script) (name : List ℕ) → IsScript s v k sc → is_taken sc name ≡ false → known_entry k name ≡ None
+pub no_entry : (s : Table) (v : TermsView) (k : KnownView) (sc : Script) (name : List ℕ) → IsScript (both s v) k sc → is_taken sc name ≡ false
+    → known_entry k name ≡ None
 no_entry s v k sc name is untaken =
     go (known_entry k name) (entry_where_taken s v k sc name is ∙ either_false (is_built_in name) (is_among sc.taken name) untaken)
   where
@@ -208,13 +216,18 @@ no_entry s v k sc name is untaken =
 abbrev pub one_name : Typed → Name → Script → (Script → Outcome Script Typed) → Bool → Outcome Script Typed
 one_name t x sc next taken = if taken then refuse Repeated x.place sc else next (with_named (record { name = x.name; meant = t }) sc)
 
-pub name_refused : (t : Typed) (x : Name) (sc : Script) (r : Refusal) → is_taken sc x.name ≡ true → r ≡ record { cause = Repeated; at = x.place } → (with_names t (x ∷ []) sc).result ≡ Err r
+pub name_refused : (t : Typed) (x : Name) (sc : Script) (r : Refusal) → is_taken sc x.name ≡ true → r ≡ record { cause = Repeated; at = x.place }
+    → (with_names t (x ∷ []) sc).result ≡ Err r
 name_refused t x sc r taken e = ap (λ b. (one_name t x sc (λ after. done t after) b).result) taken ∙ ap Err (sym e)
 
-pub name_given : (s : Table) (v : TermsView) (old new : KnownView) (sc : Script) (name : List ℕ) (x : Name) (t : Typed) (held : named.Named) → name ≡ x.name → Names old new name held
-    → IsScript s v old sc → is_taken sc x.name ≡ false → IsNamedOf s v held (record { name = x.name; meant = t })
-    → (after : Script) × (with_names t (x ∷ []) sc ≡ done t after) × IsScript s v new after
+pub name_given : (s : Table) (v : TermsView) (old new : KnownView) (sc : Script) (name : List ℕ) (x : Name) (t : Typed) (held : named.Named) → name ≡ x.name
+    → Names old new name held
+    → IsScript (both s v) old sc → is_taken sc x.name ≡ false → IsNamedOf (both s v) held (record { name = x.name; meant = t })
+    → (after : Script) × (with_names t (x ∷ []) sc ≡ done t after) × IsScript (both s v) new after
 name_given s v old new sc name x t held same names is untaken held_is =
     let d : Named = record { name = x.name; meant = t } in
-    let put : Names old new x.name held = subst (λ (n : List ℕ). Names old new n held) same names in
-    (with_named d sc, ap (one_name t x sc (λ after. done t after)) untaken, named_script s v old new sc d held put is untaken (no_entry s v old sc x.name is untaken) held_is)
+    let put : Names old new x.name held = subst (λ (n : List ℕ). Names old new n held) same names in (
+      with_named d sc,
+      ap (one_name t x sc (λ after. done t after)) untaken,
+      named_script s v old new sc d held put is untaken (no_entry s v old sc x.name is untaken) held_is,
+    )

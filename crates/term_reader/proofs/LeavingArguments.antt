@@ -6,41 +6,41 @@ use Rattle.sym_table.specs.Table.{Table}
 use Rattle.term_pool.specs.Views.{TermsView, KeepsTerms}
 use Rattle.problem_text.specs.Forms.{Forms, no_forms}
 use Rattle.term_names.specs.Heads.{HeadMeans}
-use Rattle.term_reader.specs.Frames.{WholeReading, AreFrames}
+use Rattle.term_reader.specs.Frames.{WholeReading}
 use Rattle.term_reader.specs.Layers.{form_at, forms_at}
 use Rattle.term_reader.specs.Leaving.{with_open, Spends, Leaves}
 use Rattle.term_reader.specs.OpenApplications.{wants_more}
 use Rattle.term_names.specs.InScope.{AreLow}
-use Rattle.term_names.specs.Making.{IsMade, Makes}
+use Rattle.term_names.specs.Making.{Makes}
 use Rattle.problem_text.specs.Names.{Meaning, meaning_applied}
 use Rattle.term_reader.specs.Turns.{HasRead, IsAt, Goes}
 use Rattle.term_reader.specs.Resuming.{Waiting, arguments, resumed}
 use Rattle.problem_text.specs.TypedTerms.{Typed}
 use Rattle.problem_text.specs.Outcomes.{done}
-use Rattle.problem_text.specs.Scripts.{Script}
 use Rattle.problem_text.specs.Terms.{settled}
-use Rattle.term_reader.specs.Settling.{SettlesTerm}
-use Rattle.term_expansion.specs.Values.{AreValues}
+use Rattle.term_expansion.specs.Values.{IsValue, AreValues}
 use Rattle.term_names.specs.declared.faults.ReadFault.{ReadFault}
 use Rattle.term_reader.specs.declared.frames.Frame.{Frame}
 use Rattle.term_reader.specs.declared.frames.OpenArguments.{OpenArguments}
 use Rattle.text_items.specs.ItemsAt.{ItemsView, end_at}
-use Rattle.term_reader.specs.declared.reader.Reader.{Reader}
+use Rattle.term_reader.specs.ReadingViews.{ReadingView}
 use Rattle.term_reader.specs.declared.reader.Turn.{Turn}
 use Rattle.term_expansion.specs.declared.values.Value.{Value}
 use Rattle.term_reader.proofs.FormSteps.{forms_done, forms_more, range_on}
 use Rattle.term_reader.proofs.InnermostForm.{around, same_reader}
 use Rattle.term_reader.proofs.Limited.{limit_so}
-use Rattle.term_reader.proofs.MoreRead.{low_below, values_pushed}
+use Rattle.term_reader.proofs.MoreRead.{low_below, zip_pushed}
 use Rattle.problem_text.proofs.Outcomes.{all_at_end}
 use Rattle.term_reader.proofs.Resuming.{next_argument_read, last_argument_read}
-use Rattle.term_reader.proofs.Settled.{IsWhole, Closes, unmade_ends, unsettled_ends, settled_goes_on, nothing_made}
+use Rattle.term_reader.proofs.Settled.{Settles, IsWhole, Closes, unmade_ends, unsettled_ends, settled_goes_on, nothing_made}
 use Rattle.term_reader.proofs.Staying.{table_keeps_none, adds_none, script_stays, scope_stays, frames_stay}
+use Rattle.term_expansion.specs.SymbolsAndTerms.{both}
 
-abbrev pub pushed : Reader → Value → List Value
+abbrev pub pushed : ReadingView → Value → List Value
 pushed r c = r.values ++ c ∷ []
 
-module _ (items : ItemsView) (g : WholeReading) (s : Table) (v : TermsView) (r : Reader) (c : Value) (n : ℕ) (opened : OpenArguments) (h : HasRead items g s v (with_open r (Frame.Arguments opened)) c n) where
+module _ (items : ItemsView) (g : WholeReading) (s : Table) (v : TermsView) (r : ReadingView) (c : Value) (n : ℕ) (opened : OpenArguments)
+    (h : HasRead items g (both s v) (with_open r (Frame.Arguments opened)) c n) where
   -- the frames around it stay, over what is left of the stack
   take_pushed : take opened.from (pushed r c) ≡ take opened.from r.values
   take_pushed = let (m, read, rest, is, here, outer) = h.frames in take-append-le opened.from r.values (c ∷ []) here.within
@@ -49,19 +49,26 @@ module _ (items : ItemsView) (g : WholeReading) (s : Table) (v : TermsView) (r :
   low_pushed = all_at_end _ r.values c h.stands.low h.low
 
   -- what is applied to the arguments
-  pub applied_here : (m : Meaning) × (ts : List Typed) × HeadMeans s v r.names.known opened.head m × AreValues s v (drop opened.from (pushed r c)) ts
+  pub applied_here : (m : Meaning) × (ts : List Typed) × HeadMeans (both s v) r.names.known opened.head m
+      × AreValues (both s v) (drop opened.from (pushed r c)) ts
   applied_here =
       let (m, read, rest, is, here, outer) = h.frames in
-      (m, read ++ h.term ∷ [], here.applies, values_pushed s v opened.from r.values read c h.term here.within here.read_values h.is)
+      (m, read ++ h.term ∷ [], here.applies, zip_pushed (IsValue (both s v)) opened.from r.values read c h.term here.within here.read_values h.is)
 
   pub arguments_bounds : n ≤ length items.nodes → (n ≤ opened.end) × (opened.end ≤ length items.nodes)
   arguments_bounds inside =
       let (m, read, rest, is, here, outer) = h.frames in
       (here.left_here.before, here.left_here.inside)
 
+  -- what is made of the arguments, which are these values from place `from` on
+  abbrev pub Applied : TermsView → List Value → Result (Option Value) ReadFault → Type 0
+  Applied w values made =
+      (m : Meaning) (ts : List Typed) → HeadMeans (both s v) r.names.known opened.head m → AreValues (both s v) (drop opened.from values) ts
+      → Makes v (both s w) (meaning_applied m ts) made
+
   -- it was the last one
   arguments_whole : n ≡ opened.end → (w : TermsView) (made : Result (Option Value) ReadFault)
-      → ((m : Meaning) (ts : List Typed) → HeadMeans s v r.names.known opened.head m → AreValues s v (drop opened.from (pushed r c)) ts → Makes s v w (meaning_applied m ts) made)
+      → Applied w (pushed r c) made
       → IsWhole g s v w opened.place made
   arguments_whole last w made makes =
       let (m, read, rest, is, here, outer) = h.frames in
@@ -70,15 +77,16 @@ module _ (items : ItemsView) (g : WholeReading) (s : Table) (v : TermsView) (r :
         script = h.script;
         expected = meaning_applied m (read ++ h.term ∷ []);
         waiting = rest;
-        comes = ap (λ (limit : Option ℕ). resumed rest (settled limit opened.place (meaning_applied m (read ++ h.term ∷ [])) h.script)) (sym (limit_so h.place.settings r.replaces_lets h.stands.settings))
+        comes = ap (λ (limit : Option ℕ). resumed rest (settled limit opened.place (meaning_applied m (read ++ h.term ∷ [])) h.script))
+            (sym (limit_so h.place.settings r.replaces_lets h.stands.settings))
             ∙ sym (last_argument_read rest opened.place m read h.term h.place h.script)
             ∙ ap (λ (fs : Forms). resumed (arguments opened.place m read fs h.place ∷ rest) (done h.term h.script)) (sym none)
             ∙ ap (λ (ws : List Waiting). resumed ws (done h.term h.script)) (sym is) ∙ h.comes;
-        makes = makes m (read ++ h.term ∷ []) here.applies (values_pushed s v opened.from r.values read c h.term here.within here.read_values h.is);
+        makes = makes m _ here.applies (zip_pushed (IsValue (both s v)) opened.from r.values read c h.term here.within here.read_values h.is);
       }
 
   arguments_close : n ≡ opened.end → (w : TermsView) → KeepsTerms v w → (made : Result (Option Value) ReadFault)
-      → ((m : Meaning) (ts : List Typed) → HeadMeans s v r.names.known opened.head m → AreValues s v (drop opened.from (pushed r c)) ts → Makes s v w (meaning_applied m ts) made)
+      → Applied w (pushed r c) made
       → Closes items g s v w (record r { values = take opened.from (pushed r c) }) opened.place opened.end made
   unfolding arguments_whole
   arguments_close last w keeps made makes =
@@ -92,12 +100,11 @@ module _ (items : ItemsView) (g : WholeReading) (s : Table) (v : TermsView) (r :
           settings = h.stands.settings;
           low = low_below opened.from (pushed r c) low_pushed;
         };
-        frames = frames_stay s s v w (table_keeps_none s) keeps items g r.names.known r.names.known (λ _. refl) r.frames (take opened.from (pushed r c)) r.leaves.items r.names.scope h.place opened.end rest
-            (subst (λ values. AreFrames items g s v r.names.known r.frames values r.leaves.items r.names.scope h.place opened.end rest) (sym take_pushed) outer);
+        frames = frames_stay s s v w (table_keeps_none s) keeps items g r.names.known r.names.known (λ _. refl) r.frames _ _ _ _ _ _ (rw take_pushed outer);
       }
 
   -- the next one is read
-  pub arguments_go_on : n ≢ opened.end → IsAt items g s v (record r { values = pushed r c; frames = Frame.Arguments opened ∷ r.frames }) n
+  pub arguments_go_on : n ≢ opened.end → IsAt items g (both s v) (record r { values = pushed r c; frames = Frame.Arguments opened ∷ r.frames }) n
   arguments_go_on more =
       let (m, read, rest, is, here, outer) = h.frames in
       let before = here.left_here.before in
@@ -117,13 +124,14 @@ module _ (items : ItemsView) (g : WholeReading) (s : Table) (v : TermsView) (r :
           record {
             applies = here.applies;
             within = pushed_within here.within;
-            read_values = values_pushed s v opened.from r.values read c h.term here.within here.read_values h.is;
+            read_values = zip_pushed (IsValue (both s v)) opened.from r.values read c h.term here.within here.read_values h.is;
             left_here = range_on items n opened.end here.left_here less;
           },
-          subst (λ values. AreFrames items g s v r.names.known r.frames values r.leaves.items r.names.scope h.place opened.end rest) (sym take_pushed) outer,
+          rw take_pushed outer,
         );
         comes = sym (next_argument_read rest opened.place m read h.term (form_at items n) left h.place h.script)
-            ∙ ap (λ (fs : Forms). resumed (arguments opened.place m read fs h.place ∷ rest) (done h.term h.script)) (sym (forms_more items n opened.end here.left_here less))
+            ∙ ap (λ (fs : Forms). resumed (arguments opened.place m read fs h.place ∷ rest) (done h.term h.script))
+            (sym (forms_more items n opened.end here.left_here less))
             ∙ ap (λ (ws : List Waiting). resumed ws (done h.term h.script)) (sym is) ∙ h.comes;
       }
     where
@@ -138,43 +146,45 @@ module _ (items : ItemsView) (g : WholeReading) (s : Table) (v : TermsView) (r :
       record { inside = e.1; few = omega (arith, last); progress = omega (arith, last) }
 
   -- What is done, by the stacks as the code has them.
-  pub arguments_fault : n ≡ opened.end → (w : TermsView) → (values : List Value) → values ≡ pushed r c → (fault : ReadFault)
-      → ((m : Meaning) (ts : List Typed) → HeadMeans s v r.names.known opened.head m → AreValues s v (drop opened.from values) ts → Makes s v w (meaning_applied m ts) (Err fault)) → (q : Reader)
-      → Leaves items g s v (with_open r (Frame.Arguments opened)) c n s w q (Err fault)
+  pub arguments_fault : n ≡ opened.end → (w : TermsView) → (values : List Value) → values ≡ pushed r c → (fault : ReadFault) → Applied w values (Err fault)
+      → (q : ReadingView)
+      → Leaves items g (both s v) (with_open r (Frame.Arguments opened)) c n (both s w) q (Err fault)
   arguments_fault last w values are fault makes q = record {
     goes = unmade_ends items g s v w opened.place fault q (arguments_whole last w (Err fault) (rw are at makes));
     spends = λ _. tt;
   }
 
   pub arguments_refused : n ≡ opened.end → (w : TermsView) → (values : List Value) → values ≡ pushed r c → (made : Option Value)
-      → ((m : Meaning) (ts : List Typed) → HeadMeans s v r.names.known opened.head m → AreValues s v (drop opened.from values) ts → Makes s v w (meaning_applied m ts) (Ok made)) → (fault : ReadFault)
-      → ((s : Table) (v : TermsView) (o : Option Typed) (sc : Script) → IsMade s v o (Ok made) → SettlesTerm s v opened.place o sc (Err fault)) → (q : Reader)
-      → Leaves items g s v (with_open r (Frame.Arguments opened)) c n s w q (Err fault)
+      → Applied w values (Ok made) → (fault : ReadFault)
+      → Settles opened.place made (Err fault) → (q : ReadingView)
+      → Leaves items g (both s v) (with_open r (Frame.Arguments opened)) c n (both s w) q (Err fault)
   arguments_refused last w values are made makes fault settles q = record {
     goes = unsettled_ends items g s v w opened.place made fault q (arguments_whole last w (Ok made) (rw are at makes)) settles;
     spends = λ _. tt;
   }
 
   pub arguments_settled : n ≡ opened.end → (w : TermsView) → KeepsTerms v w → (values : List Value) → values ≡ pushed r c → (made : Option Value)
-      → ((m : Meaning) (ts : List Typed) → HeadMeans s v r.names.known opened.head m → AreValues s v (drop opened.from values) ts → Makes s v w (meaning_applied m ts) (Ok made)) → (t : Value)
-      → ((s : Table) (v : TermsView) (o : Option Typed) (sc : Script) → IsMade s v o (Ok made) → SettlesTerm s v opened.place o sc (Ok t)) → (kept : List Value) → kept ≡ take opened.from values
-      → Leaves items g s v (with_open r (Frame.Arguments opened)) c n s w (record r { values = kept }) (Ok (Turn.Use t opened.end))
+      → Applied w values (Ok made) → (t : Value)
+      → Settles opened.place made (Ok t) → (kept : List Value) → kept ≡ take opened.from values
+      → Leaves items g (both s v) (with_open r (Frame.Arguments opened)) c n (both s w) (record r { values = kept }) (Ok (Turn.Use t opened.end))
   arguments_settled last w keeps values are made makes t settles kept take_is = record {
-    goes = subst (λ (vs : List Value). Goes items g s v w (record r { values = vs }) (Ok (Turn.Use t opened.end))) (sym (take_is ∙ ap (take opened.from) are))
+    goes = subst (λ (vs : List Value). Goes items g v (both s w) (record r { values = vs }) (Ok (Turn.Use t opened.end)))
+        (sym (take_is ∙ ap (take opened.from) are))
         (settled_goes_on items g s v w opened.place _ opened.end made t (arguments_close last w keeps (Ok made) (rw are at makes)) settles);
     spends = arguments_closed_spend last t kept;
   }
 
 -- The next argument is read, and the form stays where it is.
-module _ (items : ItemsView) (g : WholeReading) (s : Table) (v : TermsView) (r : Reader) (c : Value) (n : ℕ) (values : List Value) (are : values ≡ pushed r c) where
-  pub argument_goes_on : (frames : List Frame) → r.frames ≡ frames → wants_more frames n ≡ true → HasRead items g s v r c n
-      → Goes items g s v v (record r { values = values }) (Ok (Turn.Read n))
+module _ (items : ItemsView) (g : WholeReading) (s : Table) (v : TermsView) (r : ReadingView) (c : Value) (n : ℕ) (values : List Value)
+    (are : values ≡ pushed r c) where
+  pub argument_goes_on : (frames : List Frame) → r.frames ≡ frames → wants_more frames n ≡ true → HasRead items g (both s v) r c n
+      → Goes items g v (both s v) (record r { values = values }) (Ok (Turn.Read n))
   argument_goes_on (Frame.Arguments opened ∷ frames) is more h =
-      let same = same_reader items s v r c n (Frame.Arguments opened) frames is in
+      let same = same_reader {r = r} is in
       nothing_made items g s v _ (Ok (Turn.Read n))
-      (subst (λ (x : Reader). IsAt items g s v (record x { values = values }) n) (sym same)
+      (subst (λ (x : ReadingView). IsAt items g (both s v) (record x { values = values }) n) (sym same)
       (rw are
-      (arguments_go_on items g s v (around r frames) c n opened (subst (λ (x : Reader). HasRead items g s v x c n) same h)
+      (arguments_go_on items g s v (around r frames) c n opened (subst (λ (x : ReadingView). HasRead items g (both s v) x c n) same h)
       (eqb-false n opened.end (not-true _ more)))))
   argument_goes_on [] is more h = absurd (false≢true more)
   argument_goes_on (Frame.Bindings opened ∷ frames) is more h = absurd (false≢true more)

@@ -9,6 +9,7 @@ pub mod RepeatLemmas
 pub mod GivenNames
 pub mod NamesLeft
 pub mod Staying
+pub mod Coming
 pub mod AtomLemmas
 pub mod EnteringTerms
 pub mod ReadingTurns

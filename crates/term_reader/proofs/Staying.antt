@@ -4,30 +4,28 @@ use Rattle.std.proofs.Common.{◌≡◌, ◌≢◌, ◌⊎◌, inl, inr, ℕ, �
 use Rattle.std.specs.List.{AllZip}
 use Rattle.std.proofs.lemmas.List.{length-append}
 use Rattle.pair_pool.specs.Trees.{Tree, leaf, cell}
-use Rattle.pair_pool.specs.Views.{PassView, IsPlaced, IsFullFor}
+use Rattle.pair_pool.specs.Views.{PassView, IsPlaced}
 use Rattle.sym_table.specs.Leaf.{Leaf, nil, let_head, operator, function}
 use Rattle.sym_table.specs.Table.{Table, IsLeaf, IsFunctionNamed, FindsOrAdds, Keeps}
 use Rattle.term_model.specs.Terms.{Var, Fun, Term, Terms, Bindings, numeral, variable, operation, call, let_in, no_terms, term, no_bindings, binding}
-use Rattle.term_pool.specs.Building.{IsCellIn, IsFullIn, PlacesOnlyIn}
+use Rattle.term_pool.specs.Building.{IsCellIn}
 use Rattle.term_pool.specs.StandsFor.{variable_leaf, function_leaf, IsLeafOf, StandsFor, StandsForApplication, StandsForList, StandsForBindings}
 use Rattle.term_pool.specs.Views.{TermsView, RefersTo, KeepsPass, KeepsTerms}
 use Rattle.problem_text.specs.Forms.{LetBinds}
 use Rattle.term_names.specs.Heads.{IsSymbolOf, IsMacroMeant, HeadMeans}
 use Rattle.term_reader.specs.Frames.{HasArgumentsSoFar, HasBindings, HasBody, WholeReading, AreFrames}
 use Rattle.term_expansion.specs.Free.{AreFreeLeaves}
-use Rattle.term_expansion.specs.Images.{PlacesTerm, LacksRoomFor}
 use Rattle.term_names.specs.InScope.{IsScoped, IsScope, AreValuesBound}
 use Rattle.term_names.specs.Known.{KnownView, known_entry, macro_of}
 use Rattle.term_names.specs.Making.{IsWantedCell, PlacesCellsOf, LacksCellOf}
 use Rattle.problem_text.specs.Names.{Bound, Place, Meaning}
 use Rattle.term_reader.specs.Turns.{ReaderStands}
-use Rattle.rule_model.specs.Replacement.{Replacement}
 use Rattle.term_reader.specs.Resuming.{Waiting}
 use Rattle.term_names.specs.Scope.{Scoped}
 use Rattle.problem_text.specs.TypedTerms.{Typed}
 use Rattle.problem_text.specs.Scripts.{Macro, Named, Script}
-use Rattle.term_names.specs.Standing.{AreLeavesOf, IsMacroOf, IsNamedOf, IsFunctionAt, IsNoFunction, IsFreeName, IsNameMeant, IsScript, AddsNoSymbols}
-use Rattle.term_expansion.specs.Values.{IsValue, AreValues, PutsIn, IsReplacement}
+use Rattle.term_names.specs.Standing.{AreLeavesOf, IsMacroOf, IsNamedOf, IsFunctionAt, IsNoFunction, IsFreeName, IsNameMeant, IsScript, AddsNoSymbols, GrowByTerms}
+use Rattle.term_expansion.specs.Values.{IsValue, AreValues, PutsIn}
 use Rattle.term_names.specs.declared.entries.Macro as held_macro
 use Rattle.term_names.specs.declared.entries.Named as held_named
 use Rattle.term_reader.specs.declared.frames.Frame.{Frame}
@@ -35,9 +33,10 @@ use Rattle.term_names.specs.declared.heads.Head.{Head}
 use Rattle.term_names.specs.declared.names.KnownEntry.{KnownEntry}
 use Rattle.term_names.specs.declared.names.Which.{Which}
 use Rattle.text_items.specs.ItemsAt.{ItemsView, end_at}
-use Rattle.term_reader.specs.declared.reader.Reader.{Reader}
+use Rattle.term_reader.specs.ReadingViews.{ReadingView}
 use Rattle.term_expansion.specs.declared.values.Bound as bound
 use Rattle.term_expansion.specs.declared.values.Value.{Value}
+use Rattle.term_expansion.specs.SymbolsAndTerms.{SymbolsAndTerms, both, Grow}
 
 -- what holds of the items of two lists, place by place, holds where it says more
 pub zip_weaken : {A B : Type 0} (R S : A → B → Type 0) → ((x : A) (y : B) → R x y → S x y) → (xs : List A) (ys : List B) → AllZip R xs ys → AllZip S xs ys
@@ -76,7 +75,8 @@ old_or_last (x ∷ ls) m (suc k) l e = old_or_last ls m k l e
 -- a leaf that is no function, found or added
 pub adds_leaf : (old new : Table) (k : ℕ) (l : Leaf) → FindsOrAdds old new k l → Keeps old new → ((f : Fun) → l ≢ function_leaf f) → AddsNoSymbols old new
 adds_leaf old new k l (inl h) keeps never = rw h.1 (adds_none old)
-adds_leaf old new k l (inr h) keeps never = record { keeps = keeps; sorts = ap (λ (t : Table). t.sorts) h.2; functions = λ j f e. go j f (old_or_last old.leaves l j (function_leaf f) (rw (ap (λ (t : Table). t.leaves) h.2) at e)) }
+adds_leaf old new k l (inr h) keeps never =
+    record { keeps = keeps; sorts = ap (λ (t : Table). t.sorts) h.2; functions = λ j f e. go j f (old_or_last old.leaves l j (function_leaf f) (rw (ap (λ (t : Table). t.leaves) h.2) at e)) }
   where
     go : (j : ℕ) (f : Fun) → IsLeaf old j (function_leaf f) ⊎ (l ≡ function_leaf f) → IsLeaf old j (function_leaf f)
     go j f (inl e) = e
@@ -113,6 +113,24 @@ keeps_none v = record { pool = refl; pass = pass_keeps_none v.pass }
 pub keeps_then : (v w x : TermsView) → KeepsTerms v w → KeepsTerms w x → KeepsTerms v x
 keeps_then v w x h g = record { pool = g.pool ∙ h.pool; pass = pass_keeps_then v.pass w.pass x.pass h.pass g.pass }
 
+pub kept_none : (w : SymbolsAndTerms) → Grow w w
+kept_none w = record { symbols = table_keeps_none w.symbols; terms = keeps_none w.terms }
+
+pub kept_then : (u v w : SymbolsAndTerms) → Grow u v → Grow v w → Grow u w
+kept_then u v w h g = record {
+  symbols = table_keeps_then u.symbols v.symbols w.symbols h.symbols g.symbols;
+  terms = keeps_then u.terms v.terms w.terms h.terms g.terms;
+}
+
+pub grow_none : (w : SymbolsAndTerms) → GrowByTerms w w
+grow_none w = record { symbols = adds_none w.symbols; terms = keeps_none w.terms }
+
+pub grow_then : (u v w : SymbolsAndTerms) → GrowByTerms u v → GrowByTerms v w → GrowByTerms u w
+grow_then u v w h g = record {
+  symbols = adds_then u.symbols v.symbols w.symbols h.symbols g.symbols;
+  terms = keeps_then u.terms v.terms w.terms h.terms g.terms;
+}
+
 -- what a tree stands for
 module _ (s z : Table) (keeps : Keeps s z) where
   leaf_of_stays : (l : Leaf) (a : Tree) → IsLeafOf s a l → IsLeafOf z a l
@@ -147,10 +165,7 @@ module _ (s z : Table) (keeps : Keeps s z) where
     bindings_stay (binding x t bs) (cell (cell a c) b) h = ((leaf_of_stays (variable_leaf x) a h.0.0, tree_stays t c h.0.1), bindings_stay bs b h.1)
 
   pub leaves_stay : (ks : List ℕ) (xs : List Var) → AreLeavesOf s ks xs → AreLeavesOf z ks xs
-  leaves_stay [] [] h = h
-  leaves_stay [] (x ∷ xs) h = absurd h
-  leaves_stay (k ∷ ks) [] h = absurd h
-  leaves_stay (k ∷ ks) (x ∷ xs) h = (keeps.leaves k (variable_leaf x) h.0, leaves_stay ks xs h.1)
+  leaves_stay = zip_weaken _ _ (λ k x h. keeps.leaves k (variable_leaf x) h)
 
   pub free_leaves_stay : (ks : List ℕ) (xs : List Var) → AreFreeLeaves s ks xs → AreFreeLeaves z ks xs
   free_leaves_stay ks xs h = record {
@@ -171,37 +186,25 @@ module _ (s z : Table) (v w : TermsView) (keeps : Keeps s z) (terms : KeepsTerms
     stands = tree_stays s z keeps t h.tree h.stands;
   }
 
-  pub value_stays : (c : Value) (t : Typed) → IsValue s v c t → IsValue z w c t
+  pub value_stays : (c : Value) (t : Typed) → IsValue (both s v) c t → IsValue (both z w) c t
   value_stays c t h = record { refers = refers_stays c.term t.tree h.refers; sort = h.sort; high = h.high; plain = h.plain }
 
-  pub values_stay : (cs : List Value) (ts : List Typed) → AreValues s v cs ts → AreValues z w cs ts
-  values_stay [] [] h = h
-  values_stay [] (t ∷ ts) h = absurd h
-  values_stay (c ∷ cs) [] h = absurd h
-  values_stay (c ∷ cs) (t ∷ ts) h = (value_stays c t h.0, values_stay cs ts h.1)
+  pub values_stay : (cs : List Value) (ts : List Typed) → AreValues (both s v) cs ts → AreValues (both z w) cs ts
+  values_stay = zip_weaken (IsValue (both s v)) (IsValue (both z w)) value_stays
 
-  pub puts_in_stays : (b : bound.Bound) (x : Var) (t : Term) → PutsIn s v b x t → PutsIn z w b x t
+  pub puts_in_stays : (b : bound.Bound) (x : Var) (t : Term) → PutsIn (both s v) b x t → PutsIn (both z w) b x t
   puts_in_stays b x t h = record { leaf = keeps.leaves b.variable (variable_leaf x) h.leaf; value = value_stays b.value _ h.value }
 
-  pub replacement_stays : (bs : List bound.Bound) (q : Replacement) → IsReplacement s v bs q → IsReplacement z w bs q
-  replacement_stays [] [] h = h
-  replacement_stays [] (x ∷ q) h = absurd h
-  replacement_stays (b ∷ bs) [] h = absurd h
-  replacement_stays (b ∷ bs) (x ∷ q) h = (puts_in_stays b x.0 x.1 h.0, replacement_stays bs q h.1)
+  pub scope_stays : (es : List Scoped) (bs : List Bound) → IsScope (both s v) es bs → IsScope (both z w) es bs
+  scope_stays = zip_weaken (IsScoped (both s v)) (IsScoped (both z w)) (λ e b h. (h.0, puts_in_stays e.bound b.variable b.stands_for h.1))
 
-  pub scope_stays : (es : List Scoped) (bs : List Bound) → IsScope s v es bs → IsScope z w es bs
-  scope_stays = zip_weaken (IsScoped s v) (IsScoped z w) (λ e b h. (h.0, puts_in_stays e.bound b.variable b.stands_for h.1))
+  pub bound_stays : (ks : List ℕ) (cs : List Value) (bs : List Bound) → AreValuesBound (both s v) ks cs bs → AreValuesBound (both z w) ks cs bs
+  bound_stays ks cs bs h = record {
+    leaves = zip_weaken _ _ (λ k b e. keeps.leaves k (variable_leaf b.variable) e) ks bs h.leaves;
+    values = zip_weaken _ _ (λ c b e. value_stays c (record { tree = b.stands_for; sort = b.variable.sort }) e) cs bs h.values;
+  }
 
-  pub bound_stays : (ks : List ℕ) (cs : List Value) (bs : List Bound) → AreValuesBound s v ks cs bs → AreValuesBound z w ks cs bs
-  bound_stays [] [] [] h = h
-  bound_stays [] [] (b ∷ bs) h = absurd h
-  bound_stays [] (c ∷ cs) bs h = absurd h
-  bound_stays (k ∷ ks) [] bs h = absurd h
-  bound_stays (k ∷ ks) (c ∷ cs) [] h = absurd h
-  bound_stays (k ∷ ks) (c ∷ cs) (b ∷ bs) h =
-      (keeps.leaves k (variable_leaf b.variable) h.0, value_stays c _ h.1, bound_stays ks cs bs h.2)
-
-  pub macro_stays : (m : held_macro.Macro) (d : Macro) → IsMacroOf s v m d → IsMacroOf z w m d
+  pub macro_stays : (m : held_macro.Macro) (d : Macro) → IsMacroOf (both s v) m d → IsMacroOf (both z w) m d
   macro_stays m d h = record {
     parameters = leaves_stay s z keeps m.parameters.items d.parameters h.parameters;
     sorts = h.sorts;
@@ -210,24 +213,26 @@ module _ (s z : Table) (v w : TermsView) (keeps : Keeps s z) (terms : KeepsTerms
     plain = h.plain;
   }
 
-  pub named_stays : (n : held_named.Named) (d : Named) → IsNamedOf s v n d → IsNamedOf z w n d
+  pub named_stays : (n : held_named.Named) (d : Named) → IsNamedOf (both s v) n d → IsNamedOf (both z w) n d
   named_stays n d h = record {
     value = value_stays n.value d.meant h.value;
     low = h.low;
     free = free_leaves_stay s z keeps n.free.items _ h.free;
   }
 
-  pub macro_meant_stays : (o : Option held_macro.Macro) (m : Meaning) → IsMacroMeant s v o m → IsMacroMeant z w o m
+  pub macro_meant_stays : (o : Option held_macro.Macro) (m : Meaning) → IsMacroMeant (both s v) o m → IsMacroMeant (both z w) o m
   macro_meant_stays o m h = (h.0, h.1, h.2, macro_stays h.0 h.1 h.3, h.4)
 
-  pub head_stays : (k l : KnownView) → ((w : Which) → macro_of l w ≡ macro_of k w) → (head : Head) (m : Meaning) → HeadMeans s v k head m → HeadMeans z w l head m
+  pub head_stays : (k l : KnownView) → ((w : Which) → macro_of l w ≡ macro_of k w) → (head : Head) (m : Meaning) → HeadMeans (both s v) k head m
+      → HeadMeans (both z w) l head m
   head_stays k l same (Head.Symbol n) m h = symbol_stays s z keeps n m h
   head_stays k l same (Head.Macro n) m h = rw (same n) (macro_meant_stays (macro_of k n) m h)
   head_stays k l same Head.Fixed m h = h
 
   -- open forms
-  arguments_stay : (items : ItemsView) (k l : KnownView) → ((w : Which) → macro_of l w ≡ macro_of k w) → (head : Head) (from end n : ℕ) (values : List Value) (m : Meaning) (read : List Typed)
-      → HasArgumentsSoFar items s v k head from end n values m read → HasArgumentsSoFar items z w l head from end n values m read
+  arguments_stay : (items : ItemsView) (k l : KnownView) → ((w : Which) → macro_of l w ≡ macro_of k w)
+      → (head : Head) (from end n : ℕ) (values : List Value) (m : Meaning) (read : List Typed)
+      → HasArgumentsSoFar items (both s v) k head from end n values m read → HasArgumentsSoFar items (both z w) l head from end n values m read
   arguments_stay items k l same head from end n values m read h = record {
     applies = head_stays k l same head m h.applies;
     within = h.within;
@@ -235,8 +240,10 @@ module _ (s z : Table) (v w : TermsView) (keeps : Keeps s z) (terms : KeepsTerms
     left_here = h.left_here;
   }
 
-  bindings_stay_open : (items : ItemsView) (from first name repeat body n : ℕ) (values : List Value) (leaves : List ℕ) (read : List Bound) (earlier : List (List ℕ)) (left : LetBinds)
-      → HasBindings items s v from first name repeat body n values leaves read earlier left → HasBindings items z w from first name repeat body n values leaves read earlier left
+  bindings_stay_open : (items : ItemsView) (from first name repeat body n : ℕ) (values : List Value) (leaves : List ℕ) (read : List Bound)
+      (earlier : List (List ℕ)) (left : LetBinds)
+      → HasBindings items (both s v) from first name repeat body n values leaves read earlier left
+      → HasBindings items (both z w) from first name repeat body n values leaves read earlier left
   bindings_stay_open items from first name repeat body n values leaves read earlier left h = record {
     within = h.within;
     leaves_within = h.leaves_within;
@@ -247,8 +254,9 @@ module _ (s z : Table) (v w : TermsView) (keeps : Keeps s z) (terms : KeepsTerms
     body_here = h.body_here;
   }
 
-  body_stays : (from first : ℕ) (values : List Value) (leaves : List ℕ) (scope : List Scoped) (p : Place) (bs : List Bound) (around : List Scoped) (outer : Place)
-      → HasBody s v from first values leaves scope p bs around outer → HasBody z w from first values leaves scope p bs around outer
+  body_stays : (from first : ℕ) (values : List Value) (leaves : List ℕ) (scope : List Scoped) (p : Place) (bs : List Bound) (around : List Scoped)
+      (outer : Place)
+      → HasBody (both s v) from first values leaves scope p bs around outer → HasBody (both z w) from first values leaves scope p bs around outer
   body_stays from first values leaves scope p bs around outer h = record {
     within = h.within;
     leaves_within = h.leaves_within;
@@ -262,7 +270,7 @@ module _ (s z : Table) (v w : TermsView) (keeps : Keeps s z) (terms : KeepsTerms
 
   pub frames_stay : (items : ItemsView) (g : WholeReading) (k l : KnownView) → ((w : Which) → macro_of l w ≡ macro_of k w)
       → (fs : List Frame) (values : List Value) (leaves : List ℕ) (scope : List Scoped) (p : Place) (n : ℕ) (ws : List Waiting)
-      → AreFrames items g s v k fs values leaves scope p n ws → AreFrames items g z w l fs values leaves scope p n ws
+      → AreFrames items g (both s v) k fs values leaves scope p n ws → AreFrames items g (both z w) l fs values leaves scope p n ws
   frames_stay items g k l same [] values leaves scope p n ws h = h
   frames_stay items g k l same (Frame.Arguments opened ∷ fs) values leaves scope p n ws (m, read, rest, is, here, outer) = (
     m,
@@ -321,7 +329,8 @@ module _ (s z : Table) (v w : TermsView) (adds : AddsNoSymbols s z) (terms : Kee
   free_name_stays : (sc : Script) (name : List ℕ) → IsFreeName s sc name → IsFreeName z sc name
   free_name_stays sc name h = record { no_function = no_function_stays sc name h.no_function; free = h.free }
 
-  pub meant_stays : (k : KnownView) (sc : Script) (name : List ℕ) (o : Option KnownEntry) → IsNameMeant s v k sc name o → IsNameMeant z w k sc name o
+  pub meant_stays : (k : KnownView) (sc : Script) (name : List ℕ) (o : Option KnownEntry) → IsNameMeant (both s v) k sc name o
+      → IsNameMeant (both z w) k sc name o
   meant_stays k sc name None (none, h) = (none, free_name_stays sc name h)
   meant_stays k sc name (Some (KnownEntry.Function n)) h = record { no_entry = h.no_entry; function = function_at_stays sc name n h.function }
   meant_stays k sc name (Some KnownEntry.Reserved) h = record {
@@ -350,10 +359,11 @@ module _ (s z : Table) (v w : TermsView) (adds : AddsNoSymbols s z) (terms : Kee
     taken = h.taken;
   }
 
-  pub script_stays : (k : KnownView) (sc : Script) → IsScript s v k sc → IsScript z w k sc
-  script_stays k sc h = record { sorts = adds.sorts ∙ h.sorts; built_in = h.built_in; names = λ name. meant_stays k sc name (known_entry k name) (h.names name) }
+  pub script_stays : (k : KnownView) (sc : Script) → IsScript (both s v) k sc → IsScript (both z w) k sc
+  script_stays k sc h =
+      record { sorts = adds.sorts ∙ h.sorts; built_in = h.built_in; names = λ name. meant_stays k sc name (known_entry k name) (h.names name) }
 
-  pub stands_stays : (r : Reader) (sc : Script) (p : Place) → ReaderStands s v r sc p → ReaderStands z w r sc p
+  pub stands_stays : (r : ReadingView) (sc : Script) (p : Place) → ReaderStands (both s v) r sc p → ReaderStands (both z w) r sc p
   stands_stays r sc p h = record {
     script = script_stays r.names.known sc h.script;
     scope = scope_stays s z v w adds.keeps terms r.names.scope p.scope h.scope;
@@ -389,7 +399,8 @@ pub cell_more : (s : Table) (p : PassView) (P Q : Term → Type 0) → ((t : Ter
 cell_more s p P Q more a b h = record { whole = h.whole; wanted = more h.whole h.wanted; tree = h.tree; stands = h.stands; cell = h.cell }
 
 -- one call and then another
-pub places_then : (s z : Table) (a b c : PassView) (P : Term → Type 0) → Keeps s z → KeepsPass b c → PlacesCellsOf s a b P → PlacesCellsOf z b c P → PlacesCellsOf z a c P
+pub places_then : (s z : Table) (a b c : PassView) (P : Term → Type 0) → Keeps s z → KeepsPass b c → PlacesCellsOf s a b P → PlacesCellsOf z b c P
+    → PlacesCellsOf z a c P
 places_then s z a b c P table keeps h k r m n e = go (k r m n e)
   where
     earlier : IsPlaced a r m n ⊎ IsWantedCell s b P m n → IsPlaced a r m n ⊎ IsWantedCell z c P m n
@@ -407,41 +418,5 @@ places_more s a b P Q more h r m n e = go (h r m n e)
     go (inl x) = inl x
     go (inr y) = inr (cell_more s b P Q more m n y)
 
--- what lacks room lacks it later too
-pub full_stays : (p q : PassView) → KeepsPass p q → (a b : ℕ) → IsFullFor p a b → IsFullFor q a b
-full_stays p q keeps a b h place below =
-    let (c, d, seen, other) = h place (rw keeps.places at below) in (c, d, keeps.sees _ c d seen, other)
-
-pub lacks_stays : (s z : Table) (p q : PassView) (P : Term → Type 0) → Keeps s z → KeepsPass p q → LacksCellOf s p P → LacksCellOf z q P
-lacks_stays s z p q P table keeps h = record {
-  whole = h.whole;
-  wanted = h.wanted;
-  tree = h.tree;
-  stands = tree_stays s z table h.whole h.tree h.stands;
-  full = record {
-    first = h.full.first;
-    second = h.full.second;
-    wanted = cell_in_stays p q keeps h.full.first h.full.second h.tree h.full.wanted;
-    full = full_stays p q keeps h.full.first h.full.second h.full.full;
-  };
-}
-
 pub lacks_more : (s : Table) (p : PassView) (P Q : Term → Type 0) → ((t : Term) → P t → Q t) → LacksCellOf s p P → LacksCellOf s p Q
 lacks_more s p P Q more h = record { whole = h.whole; wanted = more h.whole h.wanted; tree = h.tree; stands = h.stands; full = h.full }
-
--- one tree, and the term that it stands for
-pub places_tree : (s : Table) (a b : PassView) (P : Term → Type 0) (t : Term) (tree : Tree) → P t → StandsFor s tree t → PlacesOnlyIn a b tree → PlacesCellsOf s a b P
-places_tree s a b P t tree wanted stands h r m n e = go (h r m n e)
-  where
-    go : IsPlaced a r m n ⊎ IsCellIn b m n tree → IsPlaced a r m n ⊎ IsWantedCell s b P m n
-    go (inl x) = inl x
-    go (inr y) = inr (record { whole = t; wanted = wanted; tree = tree; stands = stands; cell = y })
-
-pub lacks_tree : (s : Table) (p : PassView) (P : Term → Type 0) (t : Term) (tree : Tree) → P t → StandsFor s tree t → IsFullIn p tree → LacksCellOf s p P
-lacks_tree s p P t tree wanted stands full = record { whole = t; wanted = wanted; tree = tree; stands = stands; full = full }
-
-pub places_term : (s : Table) (a b : PassView) (P : Term → Type 0) (t : Term) → P t → PlacesTerm s a b t → PlacesCellsOf s a b P
-places_term s a b P t wanted h = places_tree s a b P t h.tree wanted h.stands h.placed
-
-pub lacks_term : (s : Table) (p : PassView) (P : Term → Type 0) (t : Term) → P t → LacksRoomFor s p t → LacksCellOf s p P
-lacks_term s p P t wanted h = lacks_tree s p P t h.tree wanted h.stands h.full

@@ -15,10 +15,12 @@ use Rattle.problem_text.proofs.Growing.{HasRead, Reads, reads_then, by_settled, 
 
 module _ (x : Term) where
   by_waiting : (w : Waiting) (t : Typed) (s : Script) → HasRead x s → Reads x (after w t s)
-  by_waiting (arguments place m read left p) t s h = reads_then x (terms_from left p s) _ (by_terms x left p s h).0 (λ ts last k. by_settled x p.settings.limit place (meaning_applied m (read ++ t ∷ ts)) last k)
+  by_waiting (arguments place m read left p) t s h =
+      reads_then x (terms_from left p s) _ (by_terms x left p s h).0
+      (λ ts last k. by_settled x p.settings.limit place (meaning_applied m (read ++ t ∷ ts)) last k)
   by_waiting (bindings place read n earlier left body p) t s h =
       reads_then x (bounds_from left (n.name ∷ earlier) p s) _ (by_bounds x left (n.name ∷ earlier) p s h).0
-      (λ bound last k. reads_then x (term_from body (inside (read ++ bound_to n t ∷ bound) p) last) _ (by_term x body (inside (read ++ bound_to n t ∷ bound) p) last k).0
+      (λ bound last k. reads_then x (term_from body (inside (read ++ bound_to n t ∷ bound) p) last) _ (by_term x body _ last k).0
       (λ u end l. by_settled x p.settings.limit place (Some (let_term p (read ++ bound_to n t ∷ bound) u)) end l))
   by_waiting (body_of place bound p) t s h = by_settled x p.settings.limit place (Some (let_term p bound t)) s h
   by_waiting (naming names) t s h = by_names x t names s h
@@ -28,7 +30,8 @@ module _ (x : Term) where
   by_resumed (w ∷ ws) o h = by_resumed ws (and_then o (after w)) (reads_then x o (after w) h (λ t s k. by_waiting w t s k)).0
 
 -- a term that is settled is read
-pub settled_is_read : (ws : List Waiting) (limit : Option ℕ) (place : ℕ) (t : Typed) (s : Script) → HasRead t.tree (resumed ws (settled limit place (Some t) s)).state
+pub settled_is_read : (ws : List Waiting) (limit : Option ℕ) (place : ℕ) (t : Typed) (s : Script)
+    → HasRead t.tree (resumed ws (settled limit place (Some t) s)).state
 settled_is_read ws limit place t s = by_resumed t.tree ws (settled limit place (Some t) s) (go (is_low limit (height t.tree)))
   where
     here : HasRead t.tree (with_term t.tree s)

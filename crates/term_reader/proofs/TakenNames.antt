@@ -12,7 +12,8 @@ use Rattle.std.specs.Prelude.{option_map}
 use Rattle.term_reader.proofs.GivenNames.{entry_where_taken}
 
 -- a name that a problem has an entry for is one that it takes, and no other
-pub taken_by_problem : (s : Table) (v : TermsView) (p : ProblemView) (sc : Script) → IsProblemOf s v p sc → (name : List ℕ) → is_some (lookup p.entries.names name) ≡ is_among sc.taken name
+pub taken_by_problem : (s : Table) (v : TermsView) (p : ProblemView) (sc : Script) → IsProblemOf s v p sc → (name : List ℕ)
+    → is_some (lookup p.entries.names name) ≡ is_among sc.taken name
 taken_by_problem s v p sc is name =
     go (lookup p.entries.names name) ∙ entry_where_taken s v (record { base = p.entries; own = no_entries }) sc name is.script
   where

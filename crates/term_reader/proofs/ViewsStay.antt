@@ -9,8 +9,9 @@ use Rattle.term_reader.specs.ProblemViews.{ProblemView, ReaderView, IsProblemOf,
 use Rattle.term_reader.specs.Reading.{IsReaderIdle}
 use Rattle.problem_text.specs.Scripts.{Script}
 use Rattle.term_names.specs.Standing.{AddsNoSymbols}
-use Rattle.term_reader.specs.declared.reader.Reader.{Reader}
+use Rattle.term_reader.specs.ReadingViews.{ReadingView}
 use Rattle.term_reader.proofs.Staying.{leaves_stay, refers_stays, scope_stays, script_stays}
+use Rattle.term_expansion.specs.SymbolsAndTerms.{both}
 
 module _ (s z : Table) (v w : TermsView) (adds : AddsNoSymbols s z) (terms : KeepsTerms v w) where
   refer_stays : (rs : List ℕ) (ts : List Term) → ReferToAll s v rs ts → ReferToAll z w rs ts
@@ -19,7 +20,7 @@ module _ (s z : Table) (v w : TermsView) (adds : AddsNoSymbols s z) (terms : Kee
   refer_stays (r ∷ rs) [] h = absurd h
   refer_stays (r ∷ rs) (t ∷ ts) h = (refers_stays s z v w adds.keeps terms r t h.0, refer_stays rs ts h.1)
 
-  idle_stays : (r : Reader) (sc : Script) (p : Place) → IsReaderIdle s v r sc p → IsReaderIdle z w r sc p
+  idle_stays : (r : ReadingView) (sc : Script) (p : Place) → IsReaderIdle (both s v) r sc p → IsReaderIdle (both z w) r sc p
   idle_stays r sc p h = record {
     script = script_stays s z v w adds terms r.names.known sc h.script;
     scope = scope_stays s z v w adds.keeps terms r.names.scope p.scope h.scope;

@@ -3,7 +3,6 @@ use Rattle.std.specs.Prelude.{◌+◌, ℕ, List, [], ◌∷◌, ◌*◌, ◌-�
 use Rattle.term_reader.specs.declared.frames.Frame.{Frame}
 use Rattle.sym_table.specs.Table.{Table}
 use Rattle.text_items.specs.declared.nodes.Node.{Node}
-use Rattle.term_reader.specs.declared.reader.Reader.{Reader}
 use Rattle.term_reader.specs.declared.reader.Turn.{Turn}
 
 -- how many leaves the table may still get for an open form
@@ -19,10 +18,10 @@ node_of (Turn.Use c n) = n
 
 -- At most so many leaves will be in the table when the term is read: each leaf that is added has a node of its own, and an
 -- open let the nodes of its brackets besides.
-abbrev pub bound_of : Table → List Node → Reader → ℕ → ℕ
-bound_of s nodes r k = length s.leaves + (length nodes - k) + credit r.frames
+abbrev pub bound_of : Table → List Node → List Frame → ℕ → ℕ
+bound_of s nodes frames k = length s.leaves + (length nodes - k) + credit frames
 
 -- what is left to be done, by a count that each turn lowers
-abbrev pub effort : List Node → Reader → Turn → ℕ
-effort nodes r (Turn.Read k) = 3 * (length nodes - k) + 2 * length r.frames
-effort nodes r (Turn.Use c n) = 3 * (length nodes - n) + 2 * length r.frames + 1
+abbrev pub effort : List Node → List Frame → Turn → ℕ
+effort nodes frames (Turn.Read k) = 3 * (length nodes - k) + 2 * length frames
+effort nodes frames (Turn.Use c n) = 3 * (length nodes - n) + 2 * length frames + 1

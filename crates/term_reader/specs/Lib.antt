@@ -4,6 +4,7 @@ pub mod Shapes
 pub mod Resuming
 pub mod Frames
 pub mod Credits
+pub mod ReadingViews
 pub mod Reading
 pub mod Turns
 pub mod Settling

@@ -1,7 +1,10 @@
 //! Numerals and symbols where they stand in a term.
 ghost use Rattle.std.specs.Prelude.{◌≡◌, ◌≤◌, ◌<◌, ◌^◌, ◌+◌, pos, ◌≤ℤ◌, length, IfOk, IfErr, OnErr};
 ghost use Rattle.term_pool.specs.Views.{TermsView, KeepsTerms};
-ghost use Rattle.term_reader.specs.Entering.{IsNumber, is_none_found, IsHeadFound, ReadsAlone};
+ghost use Rattle.term_reader.specs.Entering.{IsNumber, is_none_found, IsHeadFound, IsReadAlone};
+ghost use Rattle.term_reader.specs.Reading.{terms_read, ComesTo};
+ghost use Rattle.term_reader.specs.ReadingViews.{reader_in};
+ghost use Rattle.term_names.specs.Scope.{known_in};
 ghost use Rattle.problem_text.specs.Forms.{symbol};
 ghost use Rattle.text_items.specs.Stepping.{name_in, IsSymbolAt};
 ghost use Rattle.problem_text.specs.Names.{Place, meaning_of};
@@ -10,6 +13,7 @@ ghost use Rattle.problem_text.specs.Scripts.{Script};
 ghost use Rattle.term_names.specs.Standing.{AddsNoSymbols};
 ghost use Rattle.problem_text.specs.Terms.{term_from};
 ghost use Rattle.term_names.specs.declared.faults.ReadFault.TheVariants as fault;
+ghost use Rattle.term_expansion.specs.SymbolsAndTerms.{both};
 
 use crate::reader::Reader;
 use crate::settling::settle;
@@ -22,6 +26,7 @@ use term_names::faults::ReadFault;
 use term_names::heads::Head;
 use term_names::looking_up::{Found, find, head_of};
 use term_names::names::NameTables;
+use term_names::settings::ReadSettings;
 use term_names::using::use_alone;
 use term_pool::Terms;
 use text_items::nodes::ItemText;
@@ -49,42 +54,49 @@ pub(crate) fn number_value(symbols: &mut Symbols, n: i128) -> Result<Value, Read
 
 /// The term that the symbol at node `k` is, which stands alone.
 pub(crate) fn symbol_value(
+    settings: &ReadSettings<'_>,
     items: &ItemText<'_, '_>,
     symbols: &Symbols,
     terms: &mut Terms<'_>,
-    reader: &Reader<'_>,
+    reader: &Reader,
     k: usize,
 ) -> Result<Value, ReadFault>
     requires name { IsSymbolAt items.now k }
-    requires reader { (sc : Script) × (p : Place) × ReaderStands symbols.now terms.old reader.now sc p }
-    ensures reads { (sc : Script) (p : Place) → ReaderStands symbols.now terms.old reader.now sc p → ReadsAlone symbols.now terms.old terms.new (term_from (symbol (name_in items.now k)) p sc) sc result }
+    requires reader { (sc : Script) × (p : Place) × ReaderStands (both symbols.now terms.old) (reader_in settings.now reader.now) sc p }
+    ensures reads { (sc : Script) (p : Place) → ReaderStands (both symbols.now terms.old) (reader_in settings.now reader.now) sc p → ComesTo terms_read terms.old (both symbols.now terms.new) (IsReadAlone (both symbols.now terms.new) sc) (term_from (symbol (name_in items.now k)) p sc) result }
     ensures keeps { KeepsTerms terms.old terms.new }
 {
     let place = place_at(items, k);
-    let found = find(symbols, &reader.names, name_of(items, k));
-    if is_unknown(&found) {
-        return Err(ReadFault::Text(refused(Cause::UnknownName, place)));
-    }
     let tables = NameTables {
-        alloc: reader.alloc,
+        settings,
         symbols,
         names: &reader.names,
     };
-    let made = use_alone(&tables, terms, reader.replaces_lets, found)?;
+    let found = find(&tables, name_of(items, k));
+    if is_unknown(&found) {
+        return Err(ReadFault::Text(refused(Cause::UnknownName, place)));
+    }
+    let made = use_alone(&tables, terms, found)?;
     settle(place, made)
 }
 
 /// What is applied where the symbol at node `k` is the head of an application, and None where its name is unknown.
 pub(crate) fn head_at(
+    settings: &ReadSettings<'_>,
     items: &ItemText<'_, '_>,
     symbols: &Symbols,
-    reader: &Reader<'_>,
+    reader: &Reader,
     k: usize,
 ) -> Option<Head>
     requires { IsSymbolAt items.now k }
-    ensures { (v : TermsView) (sc : Script) (p : Place) → ReaderStands symbols.now v reader.now sc p → IsHeadFound symbols.now v reader.now.names.known result (meaning_of p sc (name_in items.now k).name) }
+    ensures { (v : TermsView) (sc : Script) (p : Place) → ReaderStands (both symbols.now v) (reader_in settings.now reader.now) sc p → IsHeadFound (both symbols.now v) (known_in settings.now reader.now.names) result (meaning_of p sc (name_in items.now k).name) }
 {
-    let found = find(symbols, &reader.names, name_of(items, k));
+    let tables = NameTables {
+        settings,
+        symbols,
+        names: &reader.names,
+    };
+    let found = find(&tables, name_of(items, k));
     if is_unknown(&found) {
         return None;
     }

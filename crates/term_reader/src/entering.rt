@@ -1,17 +1,18 @@
 //! Reading a term from its top.
-ghost use Rattle.std.specs.Prelude.{◌≡◌, ◌≤◌, ◌<◌, ◌^◌, ◌+◌, length, IfOk, IfErr, OnErr};
+ghost use Rattle.std.specs.Prelude.{◌≡◌, ◌≤◌, ◌<◌, ◌^◌, ◌+◌, ◌∷◌, length, IfOk, IfErr, OnErr};
 ghost use Rattle.sym_table.specs.Table.{Table};
-ghost use Rattle.term_pool.specs.Views.{TermsView, KeepsTerms};
+ghost use Rattle.term_pool.specs.Views.{TermsView};
 ghost use Rattle.text_items.specs.Stepping.{AreInside};
 ghost use Rattle.term_reader.specs.Entering.{HasTop};
-ghost use Rattle.term_reader.specs.Leaving.{with_open};
+ghost use Rattle.term_reader.specs.ReadingViews.{reader_in};
 ghost use Rattle.term_reader.specs.Frames.{WholeReading};
 ghost use Rattle.term_reader.specs.Turns.{IsAt, Goes};
 ghost use Rattle.term_reader.specs.Credits.{node_of, bound_of, effort};
-ghost use Rattle.term_names.specs.Standing.{AddsNoSymbols};
+ghost use Rattle.term_names.specs.Standing.{GrowByTerms};
 ghost use Rattle.term_names.specs.declared.faults.ReadFault.TheVariants as fault;
 ghost use Rattle.term_reader.specs.declared.layers.Layer.TheVariants as top;
 ghost use Rattle.term_reader.specs.declared.reader.Turn.TheVariants as turn;
+ghost use Rattle.term_expansion.specs.SymbolsAndTerms.{both};
 
 use crate::atoms::{head_at, number_value, symbol_value};
 use crate::frames::{Frame, OpenArguments, OpenBindings};
@@ -21,6 +22,7 @@ use crate::repeats::first_repeat;
 use sexpr::Cause;
 use sym_table::Symbols;
 use term_names::faults::ReadFault;
+use term_names::settings::ReadSettings;
 use term_pool::Terms;
 use text_items::nodes::ItemText;
 use text_items::refusals::refused;
@@ -28,24 +30,22 @@ use text_items::shapes::place_at;
 
 /// Reads the term at node `k`.
 pub(crate) fn enter(
+    settings: &ReadSettings<'_>,
     items: &ItemText<'_, '_>,
     symbols: &mut Symbols,
     terms: &mut Terms<'_>,
-    reader: &mut Reader<'_>,
+    reader: &mut Reader,
     k: usize,
 ) -> Result<Turn, ReadFault>
-    requires at { (g : WholeReading) × IsAt items.now g symbols.old terms.old reader.old k }
+    requires at { (g : WholeReading) × IsAt items.now g (both symbols.old terms.old) (reader_in settings.now reader.old) k }
     requires inside { AreInside items.now }
-    requires room { bound_of symbols.old items.now.nodes reader.old k ≤ 2 ^ 30 }
-    ensures goes { (g : WholeReading) → IsAt items.now g symbols.old terms.old reader.old k → Goes items.now g symbols.new terms.old terms.new reader.new result }
-    ensures symbols { AddsNoSymbols symbols.old symbols.new }
+    requires room { bound_of symbols.old items.now.nodes reader.old.frames k ≤ 2 ^ 30 }
+    ensures goes { (g : WholeReading) → IsAt items.now g (both symbols.old terms.old) (reader_in settings.now reader.old) k → Goes items.now g terms.old (both symbols.new terms.new) (reader_in settings.now reader.new) result }
     ensures inside { IfOk result (λ t. node_of t ≤ length items.now.nodes) }
-    ensures few { IfOk result (λ t. bound_of symbols.new items.now.nodes reader.new (node_of t) ≤ bound_of symbols.old items.now.nodes reader.old k) }
-    ensures few_at_all { OnErr result (length symbols.new.leaves ≤ bound_of symbols.old items.now.nodes reader.old k) }
-    ensures progress { IfOk result (λ t. effort items.now.nodes reader.new t < effort items.now.nodes reader.old (turn.Read k)) }
-    ensures replaces { reader.new.replaces_lets ≡ reader.old.replaces_lets }
-    ensures base { reader.new.names.known.base ≡ reader.old.names.known.base }
-    ensures keeps { KeepsTerms terms.old terms.new }
+    ensures few { IfOk result (λ t. bound_of symbols.new items.now.nodes reader.new.frames (node_of t) ≤ bound_of symbols.old items.now.nodes reader.old.frames k) }
+    ensures few_at_all { OnErr result (length symbols.new.leaves ≤ bound_of symbols.old items.now.nodes reader.old.frames k) }
+    ensures progress { IfOk result (λ t. effort items.now.nodes reader.new.frames t < effort items.now.nodes reader.old.frames (turn.Read k)) }
+    ensures grow { GrowByTerms (both symbols.old terms.old) (both symbols.new terms.new) }
 {
     // A place in the list of nodes, or behind it, is a number that fits.
     let _count = items.count();
@@ -53,14 +53,14 @@ pub(crate) fn enter(
         Layer::Faulty(refusal) => Err(ReadFault::Text(refusal)),
         Layer::Number(n) => Ok(Turn::Use(number_value(symbols, n)?, k + 1)),
         Layer::Symbol => {
-            let value = symbol_value(items, symbols, terms, reader, k)?;
+            let value = symbol_value(settings, items, symbols, terms, reader, k)?;
             Ok(Turn::Use(value, k + 1))
         }
         Layer::Application { head, first, end } => {
             let parts = ApplicationParts { head, first, end };
-            enter_application(items, symbols, reader, k, &parts)
+            enter_application(settings, items, symbols, reader, k, &parts)
         }
-        Layer::Let { first, body } => enter_let(items, reader, k, first, body),
+        Layer::Let { first, body } => enter_let(settings, items, reader, k, first, body),
         Layer::Annotated { term, end, .. } => open_form(reader, Frame::Names { end }, term),
     }
 }
@@ -76,22 +76,21 @@ struct ApplicationParts {
 /// Reads the first argument of the application at node `k`, which has these parts. An unknown head is the first fault, whatever
 /// the arguments are.
 fn enter_application(
+    settings: &ReadSettings<'_>,
     items: &ItemText<'_, '_>,
     symbols: &Symbols,
-    reader: &mut Reader<'_>,
+    reader: &mut Reader,
     k: usize,
     parts: &ApplicationParts,
 ) -> Result<Turn, ReadFault>
-    requires { (v : TermsView) × (g : WholeReading) × HasTop items.now g symbols.now v reader.old k (top.Application parts.now.head parts.now.first parts.now.end) }
-    ensures goes { (v : TermsView) (g : WholeReading) → HasTop items.now g symbols.now v reader.old k (top.Application parts.now.head parts.now.first parts.now.end) → Goes items.now g symbols.now v v reader.new result }
+    requires { (v : TermsView) × (g : WholeReading) × HasTop items.now g (both symbols.now v) (reader_in settings.now reader.old) k (top.Application parts.now.head parts.now.first parts.now.end) }
+    ensures goes { (v : TermsView) (g : WholeReading) → HasTop items.now g (both symbols.now v) (reader_in settings.now reader.old) k (top.Application parts.now.head parts.now.first parts.now.end) → Goes items.now g v (both symbols.now v) (reader_in settings.now reader.new) result }
     ensures inside { IfOk result (λ t. node_of t ≤ length items.now.nodes) }
-    ensures few { IfOk result (λ t. bound_of symbols.now items.now.nodes reader.new (node_of t) ≤ bound_of symbols.now items.now.nodes reader.old k) }
-    ensures progress { IfOk result (λ t. effort items.now.nodes reader.new t < effort items.now.nodes reader.old (turn.Read k)) }
-    ensures replaces { reader.new.replaces_lets ≡ reader.old.replaces_lets }
-    ensures base { reader.new.names.known.base ≡ reader.old.names.known.base }
+    ensures few { IfOk result (λ t. bound_of symbols.now items.now.nodes reader.new.frames (node_of t) ≤ bound_of symbols.now items.now.nodes reader.old.frames k) }
+    ensures progress { IfOk result (λ t. effort items.now.nodes reader.new.frames t < effort items.now.nodes reader.old.frames (turn.Read k)) }
 {
     let ApplicationParts { head, first, end } = *parts;
-    let Some(applied) = head_at(items, symbols, reader, head) else {
+    let Some(applied) = head_at(settings, items, symbols, reader, head) else {
         return Err(ReadFault::Text(refused(Cause::UnknownName, place_at(items, head))));
     };
     let form = OpenArguments {
@@ -106,23 +105,22 @@ fn enter_application(
 /// Reads the term of the first binding of the let at node `k`, whose pairs stand from `first` to before `body`, where the
 /// variable of that binding may be bound.
 fn enter_let(
+    settings: &ReadSettings<'_>,
     items: &ItemText<'_, '_>,
-    reader: &mut Reader<'_>,
+    reader: &mut Reader,
     k: usize,
     first: usize,
     body: usize,
 ) -> Result<Turn, ReadFault>
-    requires { (s : Table) × (v : TermsView) × (g : WholeReading) × HasTop items.now g s v reader.old k (top.Let first body) }
-    ensures goes { (s : Table) (v : TermsView) (g : WholeReading) → HasTop items.now g s v reader.old k (top.Let first body) → Goes items.now g s v v reader.new result }
+    requires { (s : Table) × (v : TermsView) × (g : WholeReading) × HasTop items.now g (both s v) (reader_in settings.now reader.old) k (top.Let first body) }
+    ensures goes { (s : Table) (v : TermsView) (g : WholeReading) → HasTop items.now g (both s v) (reader_in settings.now reader.old) k (top.Let first body) → Goes items.now g v (both s v) (reader_in settings.now reader.new) result }
     ensures inside { IfOk result (λ t. node_of t ≤ length items.now.nodes) }
-    ensures few { (s : Table) → IfOk result (λ t. bound_of s items.now.nodes reader.new (node_of t) ≤ bound_of s items.now.nodes reader.old k) }
-    ensures progress { IfOk result (λ t. effort items.now.nodes reader.new t < effort items.now.nodes reader.old (turn.Read k)) }
-    ensures replaces { reader.new.replaces_lets ≡ reader.old.replaces_lets }
-    ensures base { reader.new.names.known.base ≡ reader.old.names.known.base }
+    ensures few { (s : Table) → IfOk result (λ t. bound_of s items.now.nodes reader.new.frames (node_of t) ≤ bound_of s items.now.nodes reader.old.frames k) }
+    ensures progress { IfOk result (λ t. effort items.now.nodes reader.new.frames t < effort items.now.nodes reader.old.frames (turn.Read k)) }
 {
     // A place in the list of nodes, or behind it, is a number that fits.
     let _count = items.count();
-    let repeat = first_repeat(reader.alloc, items, first, body)?;
+    let repeat = first_repeat(settings.alloc, items, first, body)?;
     if repeat == first {
         return Err(ReadFault::Text(refused(Cause::Repeated, place_at(items, first + 1))));
     }
@@ -138,11 +136,9 @@ fn enter_let(
 }
 
 /// Opens a form, and then reads the term at node `next`. Refused for want of memory alone.
-fn open_form(reader: &mut Reader<'_>, frame: Frame, next: usize) -> Result<Turn, ReadFault>
-    ensures opened { IfOk result (λ t. (t ≡ turn.Read next) × (reader.new ≡ with_open reader.old frame)) }
+fn open_form(reader: &mut Reader, frame: Frame, next: usize) -> Result<Turn, ReadFault>
+    ensures opened { IfOk result (λ t. (t ≡ turn.Read next) × (reader.new ≡ record reader.old { frames = frame ∷ reader.old.frames })) }
     ensures fault { IfErr result (λ f. f ≡ fault.Memory) }
-    ensures replaces { reader.new.replaces_lets ≡ reader.old.replaces_lets }
-    ensures base { reader.new.names.known.base ≡ reader.old.names.known.base }
 {
     reader.frames.push(frame)?;
     Ok(Turn::Read(next))

@@ -9,12 +9,14 @@ ghost use Rattle.term_reader.specs.Leaving.{with_open, Leaves};
 ghost use Rattle.term_reader.specs.Turns.{HasRead};
 ghost use Rattle.term_reader.specs.Credits.{bound_of};
 ghost use Rattle.term_names.specs.Standing.{AddsNoSymbols};
+ghost use Rattle.term_reader.specs.ReadingViews.{reader_in};
 ghost use Rattle.term_names.specs.declared.faults.ReadFault.TheVariants as ReadFault;
 ghost use Rattle.term_reader.specs.declared.frames.Frame.TheVariants as frame;
 ghost use Rattle.text_items.specs.ItemsAt.{ItemsView};
+ghost use Rattle.term_expansion.specs.SymbolsAndTerms.{both};
 
 use crate::frames::{Frame, OpenBindings, OpenBody};
-use crate::reader::{Reader, Turn};
+use crate::reader::{Reader, TermRead, Turn};
 use crate::settling::settle;
 use sexpr::Cause;
 use sym_table::Symbols;
@@ -22,6 +24,7 @@ use term_expansion::values::Value;
 use term_model::Sort;
 use term_names::faults::ReadFault;
 use term_names::lets::{LetVariables, bind, close, unbind};
+use term_names::settings::ReadSettings;
 use term_pool::Terms;
 use text_items::nodes::ItemText;
 use text_items::refusals::refused;
@@ -30,22 +33,21 @@ use text_items::shapes::{name_of, place_at};
 /// The term of a binding was read: the term of the next one is read, where its variable may be bound, or, where none is
 /// left, the body.
 pub(crate) fn leave_binding(
+    settings: &ReadSettings<'_>,
     items: &ItemText<'_, '_>,
     symbols: &mut Symbols,
-    reader: &mut Reader<'_>,
-    value: Value,
-    n: usize,
+    reader: &mut Reader,
+    read: TermRead,
     form: &OpenBindings,
 ) -> Result<Turn, ReadFault>
-    requires read { (v : TermsView) × (g : WholeReading) × HasRead items.now g symbols.old v (with_open reader.old (frame.Bindings form.now)) value n }
-    requires inside { n ≤ length items.now.nodes }
-    requires room { bound_of symbols.old items.now.nodes (with_open reader.old (frame.Bindings form.now)) n ≤ 2 ^ 30 }
-    ensures leaves { (v : TermsView) (g : WholeReading) → HasRead items.now g symbols.old v (with_open reader.old (frame.Bindings form.now)) value n → Leaves items.now g symbols.old v (with_open reader.old (frame.Bindings form.now)) value n symbols.new v reader.new result }
+    requires read { (v : TermsView) × (g : WholeReading) × HasRead items.now g (both symbols.old v) (with_open (reader_in settings.now reader.old) (frame.Bindings form.now)) read.value read.next }
+    requires inside { read.next ≤ length items.now.nodes }
+    requires room { bound_of symbols.old items.now.nodes (frame.Bindings form.now ∷ reader.old.frames) read.next ≤ 2 ^ 30 }
+    ensures leaves { (v : TermsView) (g : WholeReading) → HasRead items.now g (both symbols.old v) (with_open (reader_in settings.now reader.old) (frame.Bindings form.now)) read.value read.next → Leaves items.now g (both symbols.old v) (with_open (reader_in settings.now reader.old) (frame.Bindings form.now)) read.value read.next (both symbols.new v) (reader_in settings.now reader.new) result }
     ensures symbols { AddsNoSymbols symbols.old symbols.new }
     ensures one_more { length symbols.new.leaves ≤ length symbols.old.leaves + 1 }
-    ensures replaces { reader.new.replaces_lets ≡ reader.old.replaces_lets }
-    ensures base { reader.new.names.known.base ≡ reader.old.names.known.base }
 {
+    let TermRead { value, next: n } = read;
     let OpenBindings {
         place,
         from,
@@ -65,7 +67,7 @@ pub(crate) fn leave_binding(
             &reader.leaves[leaves..],
             &reader.values,
             from,
-            reader.replaces_lets,
+            settings.replaces_lets,
         )?;
         reader.frames.push(Frame::Body(OpenBody {
             place,
@@ -110,19 +112,18 @@ fn add_variable(
 
 /// The body of a let was read, which is whole with it.
 pub(crate) fn leave_body(
+    settings: &ReadSettings<'_>,
     symbols: &Symbols,
     terms: &mut Terms<'_>,
-    reader: &mut Reader<'_>,
-    value: Value,
-    n: usize,
+    reader: &mut Reader,
+    read: TermRead,
     form: &OpenBody,
 ) -> Result<Turn, ReadFault>
-    requires read { (items : ItemsView) × (g : WholeReading) × HasRead items g symbols.now terms.old (with_open reader.old (frame.Body form.now)) value n }
-    ensures leaves { (items : ItemsView) (g : WholeReading) → HasRead items g symbols.now terms.old (with_open reader.old (frame.Body form.now)) value n → Leaves items g symbols.now terms.old (with_open reader.old (frame.Body form.now)) value n symbols.now terms.new reader.new result }
-    ensures replaces { reader.new.replaces_lets ≡ reader.old.replaces_lets }
-    ensures base { reader.new.names.known.base ≡ reader.old.names.known.base }
+    requires read { (items : ItemsView) × (g : WholeReading) × HasRead items g (both symbols.now terms.old) (with_open (reader_in settings.now reader.old) (frame.Body form.now)) read.value read.next }
+    ensures leaves { (items : ItemsView) (g : WholeReading) → HasRead items g (both symbols.now terms.old) (with_open (reader_in settings.now reader.old) (frame.Body form.now)) read.value read.next → Leaves items g (both symbols.now terms.old) (with_open (reader_in settings.now reader.old) (frame.Body form.now)) read.value read.next (both symbols.now terms.new) (reader_in settings.now reader.new) result }
     ensures keeps { KeepsTerms terms.old terms.new }
 {
+    let TermRead { value, next } = read;
     let OpenBody {
         place,
         from,
@@ -133,10 +134,10 @@ pub(crate) fn leave_body(
         values: &reader.values,
         from,
     };
-    let made = close(symbols, terms, &variables, value, reader.replaces_lets)?;
+    let made = close(symbols, terms, &variables, value, settings.replaces_lets)?;
     unbind(&mut reader.names, reader.leaves.len() - leaves);
     reader.values.truncate(from);
     reader.leaves.truncate(leaves);
     let term = settle(place, made)?;
-    Ok(Turn::Use(term, n))
+    Ok(Turn::Use(term, next))
 }

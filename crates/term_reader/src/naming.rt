@@ -10,20 +10,22 @@ ghost use Rattle.term_reader.specs.Layers.{names_at, AreTermAttributes};
 ghost use Rattle.term_reader.specs.Naming.{GivesNames, IsFreeIn};
 ghost use Rattle.problem_text.specs.TypedTerms.{Typed};
 ghost use Rattle.problem_text.specs.Scripts.{Script};
+ghost use Rattle.term_names.specs.Scope.{known_in};
 ghost use Rattle.term_names.specs.Standing.{IsScript};
 ghost use Rattle.problem_text.specs.Terms.{with_names};
 ghost use Rattle.term_expansion.specs.Values.{IsValue};
 ghost use Rattle.term_names.specs.declared.names.Which.{Which};
+ghost use Rattle.term_expansion.specs.SymbolsAndTerms.{both};
 
 use crate::attributes::{TermAttributes, next_name};
 use crate::taken::is_taken;
 use sexpr::Cause;
-use std::alloc::Global;
 use sym_table::Symbols;
 use term_expansion::values::Value;
 use term_names::faults::ReadFault;
 use term_names::free::free_leaves;
-use term_names::names::Names;
+use term_names::names::{NameTables, Names};
+use term_names::settings::ReadSettings;
 use term_pool::Terms;
 use text_items::nodes::ItemText;
 use text_items::refusals::refused;
@@ -42,20 +44,19 @@ struct TermToName<'n> {
 /// Goes through the distinct cells of the term once where there is a name. Refuses at the first name that is taken, and
 /// want of memory.
 pub(crate) fn give_names(
-    alloc: Global,
+    settings: &ReadSettings<'_>,
     attributes: &TermAttributes<'_, '_, '_>,
     symbols: &Symbols,
     terms: &mut Terms<'_>,
-    names: &mut Names<'_>,
+    names: &mut Names,
     value: Value,
 ) -> Result<(), ReadFault>
     requires attributes { AreTermAttributes attributes.now.items.now attributes.now.first attributes.now.end }
-    requires term { (t : Typed) × IsValue symbols.now terms.old value t }
+    requires term { (t : Typed) × IsValue (both symbols.now terms.old) value t }
     requires low { value.height ≤ most_height }
-    requires script { (sc : Script) × IsScript symbols.now terms.old names.old.known sc }
-    ensures given { (t : Typed) (sc : Script) → IsValue symbols.now terms.old value t → IsScript symbols.now terms.old names.old.known sc → GivesNames symbols.now terms.new names.new.known t (with_names t (names_at attributes.now.items.now attributes.now.first attributes.now.end) sc) result }
-    ensures macros { (w : Which) → macro_of names.new.known w ≡ macro_of names.old.known w }
-    ensures base { names.new.known.base ≡ names.old.known.base }
+    requires script { (sc : Script) × IsScript (both symbols.now terms.old) (known_in settings.now names.old) sc }
+    ensures given { (t : Typed) (sc : Script) → IsValue (both symbols.now terms.old) value t → IsScript (both symbols.now terms.old) (known_in settings.now names.old) sc → GivesNames (both symbols.now terms.new) (known_in settings.now names.new) t (with_names t (names_at attributes.now.items.now attributes.now.first attributes.now.end) sc) result }
+    ensures macros { (w : Which) → macro_of (known_in settings.now names.new) w ≡ macro_of (known_in settings.now names.old) w }
     ensures scope { names.new.scope ≡ names.old.scope }
     ensures keeps { KeepsTerms terms.old terms.new }
     ensures unchanged { IsUnchanged terms.old.pass terms.new.pass }
@@ -64,26 +65,30 @@ pub(crate) fn give_names(
     if next_name(items, first, end).is_none() {
         return Ok(());
     }
-    let free = free_leaves(alloc, symbols, terms, names, value)?;
+    let tables = NameTables {
+        settings,
+        symbols,
+        names,
+    };
+    let free = free_leaves(&tables, terms, value)?;
     let term = TermToName {
         value: &value,
         free: &free,
     };
-    give_each(alloc, attributes, names, &term)
+    give_each(settings, attributes, names, &term)
 }
 
 /// Gives a term the names of its attributes.
 fn give_each(
-    alloc: Global,
+    settings: &ReadSettings<'_>,
     attributes: &TermAttributes<'_, '_, '_>,
-    names: &mut Names<'_>,
+    names: &mut Names,
     term: &TermToName<'_>,
 ) -> Result<(), ReadFault>
     requires attributes { AreTermAttributes attributes.now.items.now attributes.now.first attributes.now.end }
-    requires script { (s : Table) × (v : TermsView) × (t : Typed) × (sc : Script) × IsFreeIn s v term.now.value.now term.now.free.now t × IsScript s v names.old.known sc }
-    ensures given { (s : Table) (v : TermsView) (t : Typed) (sc : Script) → IsFreeIn s v term.now.value.now term.now.free.now t → IsScript s v names.old.known sc → GivesNames s v names.new.known t (with_names t (names_at attributes.now.items.now attributes.now.first attributes.now.end) sc) result }
-    ensures macros { (w : Which) → macro_of names.new.known w ≡ macro_of names.old.known w }
-    ensures base { names.new.known.base ≡ names.old.known.base }
+    requires script { (s : Table) × (v : TermsView) × (t : Typed) × (sc : Script) × IsFreeIn (both s v) term.now.value.now term.now.free.now t × IsScript (both s v) (known_in settings.now names.old) sc }
+    ensures given { (s : Table) (v : TermsView) (t : Typed) (sc : Script) → IsFreeIn (both s v) term.now.value.now term.now.free.now t → IsScript (both s v) (known_in settings.now names.old) sc → GivesNames (both s v) (known_in settings.now names.new) t (with_names t (names_at attributes.now.items.now attributes.now.first attributes.now.end) sc) result }
+    ensures macros { (w : Which) → macro_of (known_in settings.now names.new) w ≡ macro_of (known_in settings.now names.old) w }
     ensures scope { names.new.scope ≡ names.old.scope }
 {
     let TermAttributes { items, first, end } = *attributes;
@@ -92,32 +97,31 @@ fn give_each(
         let Some(at) = next_name(items, k, end) else {
             return Ok(());
         };
-        give_name(alloc, items, names, term, at)?;
+        give_name(settings, items, names, term, at)?;
         k = at;
     }
 }
 
 /// Gives a term the name at node `at`.
 fn give_name(
-    alloc: Global,
+    settings: &ReadSettings<'_>,
     items: &ItemText<'_, '_>,
-    names: &mut Names<'_>,
+    names: &mut Names,
     term: &TermToName<'_>,
     at: usize,
 ) -> Result<(), ReadFault>
     requires name { IsSymbolAt items.now at }
-    requires script { (s : Table) × (v : TermsView) × (sc : Script) × IsScript s v names.old.known sc }
-    ensures given { (s : Table) (v : TermsView) (t : Typed) (sc : Script) → IsFreeIn s v term.now.value.now term.now.free.now t → IsScript s v names.old.known sc → GivesNames s v names.new.known t (with_names t (name_in items.now at ∷ []) sc) result }
-    ensures macros { (w : Which) → macro_of names.new.known w ≡ macro_of names.old.known w }
-    ensures base { names.new.known.base ≡ names.old.known.base }
+    requires script { (s : Table) × (v : TermsView) × (sc : Script) × IsScript (both s v) (known_in settings.now names.old) sc }
+    ensures given { (s : Table) (v : TermsView) (t : Typed) (sc : Script) → IsFreeIn (both s v) term.now.value.now term.now.free.now t → IsScript (both s v) (known_in settings.now names.old) sc → GivesNames (both s v) (known_in settings.now names.new) t (with_names t (name_in items.now at ∷ []) sc) result }
+    ensures macros { (w : Which) → macro_of (known_in settings.now names.new) w ≡ macro_of (known_in settings.now names.old) w }
     ensures scope { names.new.scope ≡ names.old.scope }
 {
     let name = name_of(items, at);
-    if is_taken(names, name) {
+    if is_taken(settings, names, name) {
         let place = place_at(items, at);
         return Err(ReadFault::Text(refused(Cause::Repeated, place)));
     }
-    let owned = Vec::from_slice(alloc, term.free)?;
+    let owned = Vec::from_slice(settings.alloc, term.free)?;
     names.give_name(name, *term.value, owned)?;
     Ok(())
 }

@@ -6,6 +6,7 @@ ghost use Rattle.term_names.specs.Making.{IsMade};
 ghost use Rattle.problem_text.specs.TypedTerms.{Typed};
 ghost use Rattle.problem_text.specs.Scripts.{Script};
 ghost use Rattle.term_reader.specs.Settling.{SettlesTerm};
+ghost use Rattle.term_expansion.specs.SymbolsAndTerms.{both};
 
 use sexpr::Cause;
 use term_expansion::values::Value;
@@ -17,7 +18,7 @@ const MOST_HEIGHT: u64 = 2000;
 
 /// The term that begins at `place`, where its sorts allow one and it is not too high.
 pub(crate) fn settle(place: u64, made: Option<Value>) -> Result<Value, ReadFault>
-    ensures { (s : Table) (v : TermsView) (o : Option Typed) (sc : Script) → IsMade s v o (Ok made) → SettlesTerm s v place o sc result }
+    ensures { (s : Table) (v : TermsView) (o : Option Typed) (sc : Script) → IsMade (both s v) o (Ok made) → SettlesTerm (both s v) place o sc result }
 {
     match made {
         None => Err(ReadFault::Text(refused(Cause::SortMismatch, place))),

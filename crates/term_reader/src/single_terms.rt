@@ -15,13 +15,12 @@ ghost use Rattle.text_items.specs.Lexers.{IsFirstOfItem, GoesOnWith};
 ghost use Rattle.problem_text.specs.Limits.{limited};
 ghost use Rattle.problem_text.specs.Names.{Bound, Place, itself};
 ghost use Rattle.term_reader.specs.ProblemViews.{IsProblemOf, IsReaderOf, ReadsTerm, ReadsValue};
-ghost use Rattle.term_reader.specs.Reading.{IsReaderIdle, ComesToTerm};
 ghost use Rattle.problem_text.specs.Scripts.{Script};
 ghost use Rattle.term_names.specs.Standing.{AddsNoSymbols, AreLeavesOf};
 ghost use Rattle.problem_text.specs.Terms.{read_term};
+ghost use Rattle.term_expansion.specs.SymbolsAndTerms.{both};
 
 use crate::flags::Flags;
-use crate::frame_stacks::Frames;
 use crate::problem::Problem;
 use crate::reader::Reader;
 use crate::reading::read;
@@ -34,7 +33,7 @@ use term_expansion::values::{Bound as Binding, Value};
 use term_names::faults::ReadFault;
 use term_names::lets::as_itself;
 use term_names::names::Names;
-use term_names::stacks::Values;
+use term_names::settings::ReadSettings;
 use term_pool::Terms;
 use text_items::item_laws::items_begin_at_tokens;
 use text_items::nodes::{ItemText, Node, read_item};
@@ -43,7 +42,8 @@ use text_items::nodes::{ItemText, Node, read_item};
 /// the named terms of what it read.
 #[derive(Drop)]
 pub struct TermReader<'a> {
-    reader: Reader<'a>,
+    settings: ReadSettings<'a>,
+    reader: Reader,
     /// Variables that were pushed since a term was read: their names are looked up when the next one is.
     pushed: Vec<u32>,
     nodes: Vec<Node>,
@@ -52,10 +52,11 @@ pub struct TermReader<'a> {
 impl<'a> Model for TermReader<'a> {
     ghost use Rattle.std.specs.Prelude.{reverse};
     ghost use Rattle.term_reader.specs.ProblemViews.{ReaderView};
+    ghost use Rattle.term_reader.specs.ReadingViews.{reader_in};
 
     ghost Value = { ReaderView };
 
-    ghost view = { λ r. record { reader = r.reader; pushed = reverse r.pushed.items } };
+    ghost view = { λ r. record { reader = reader_in r.settings r.reader; pushed = reverse r.pushed.items } };
 }
 
 impl<'a> TermReader<'a> {
@@ -64,14 +65,12 @@ impl<'a> TermReader<'a> {
         ensures { (s : Table) (v : TermsView) (sc : Script) → IsProblemOf s v problem.now sc → IsReaderOf s v result sc (record { scope = []; settings = limited flags.expand_lets }) }
     {
         TermReader {
-            reader: Reader {
+            settings: ReadSettings {
                 alloc,
                 replaces_lets: flags.expand_lets,
-                names: Names::new(alloc, Some(&problem.entries)),
-                values: Values::new(alloc),
-                leaves: Vec::new(alloc),
-                frames: Frames::new(alloc),
+                base: Some(&problem.entries),
             },
+            reader: Reader::new(alloc),
             pushed: Vec::new(alloc),
             nodes: Vec::new(alloc),
         }
@@ -127,14 +126,11 @@ impl<'a> TermReader<'a> {
     {
         enter_each(symbols, &mut self.reader.names, &self.pushed)?;
         self.pushed.clear();
-        let value = read_first(
-            lexer,
-            first,
-            &mut self.nodes,
-            symbols,
-            terms,
-            &mut self.reader,
-        )?;
+        // An item begins at the token.
+        items_begin_at_tokens();
+        read_item(lexer, first, &mut self.nodes)?;
+        let items = ItemText::new(lexer, &self.nodes);
+        let value = read(&self.settings, &items, symbols, terms, &mut self.reader, 0)?;
         Ok(value.term)
     }
 
@@ -182,15 +178,15 @@ impl<'a> TermReader<'a> {
     {
         enter_each(symbols, &mut self.reader.names, &self.pushed)?;
         self.pushed.clear();
-        read(items, symbols, terms, &mut self.reader, k)
+        read(&self.settings, items, symbols, terms, &mut self.reader, k)
     }
 }
 
 /// Puts a variable in scope, by its leaf, where it stands for itself. Refuses want of memory alone.
-fn enter_variable(symbols: &Symbols, names: &mut Names<'_>, leaf: u32) -> Result<(), Memory>
+fn enter_variable(symbols: &Symbols, names: &mut Names, leaf: u32) -> Result<(), Memory>
     requires { (x : Var) × IsLeaf symbols.now leaf (variable_leaf x) }
-    ensures scope { (v : TermsView) (x : Var) (bs : List Bound) → IsLeaf symbols.now leaf (variable_leaf x) → IsScope symbols.now v names.old.scope bs → OnOk result (IsScope symbols.now v names.new.scope (itself x ∷ bs)) }
-    ensures known { names.new.known ≡ names.old.known }
+    ensures scope { (v : TermsView) (x : Var) (bs : List Bound) → IsLeaf symbols.now leaf (variable_leaf x) → IsScope (both symbols.now v) names.old.scope bs → OnOk result (IsScope (both symbols.now v) names.new.scope (itself x ∷ bs)) }
+    ensures own { names.new.own ≡ names.old.own }
 {
     // A table has few leaves, so the leaf is a reference too.
     let _leaves = symbols.count();
@@ -206,10 +202,10 @@ fn enter_variable(symbols: &Symbols, names: &mut Names<'_>, leaf: u32) -> Result
 
 /// Puts variables in scope, by their leaves, the first one outermost, where they stand for themselves. Refuses want of
 /// memory alone.
-fn enter_each(symbols: &Symbols, names: &mut Names<'_>, leaves: &[u32]) -> Result<(), Memory>
+fn enter_each(symbols: &Symbols, names: &mut Names, leaves: &[u32]) -> Result<(), Memory>
     requires { (xs : List Var) × AreLeavesOf symbols.now (reverse leaves.now) xs }
-    ensures scope { (v : TermsView) (xs : List Var) (bs : List Bound) → AreLeavesOf symbols.now (reverse leaves.now) xs → IsScope symbols.now v names.old.scope bs → OnOk result (IsScope symbols.now v names.new.scope (map itself xs ++ bs)) }
-    ensures known { names.new.known ≡ names.old.known }
+    ensures scope { (v : TermsView) (xs : List Var) (bs : List Bound) → AreLeavesOf symbols.now (reverse leaves.now) xs → IsScope (both symbols.now v) names.old.scope bs → OnOk result (IsScope (both symbols.now v) names.new.scope (map itself xs ++ bs)) }
+    ensures own { names.new.own ≡ names.old.own }
 {
     let mut at = 0;
     'variables: while at < leaves.len() {
@@ -217,32 +213,4 @@ fn enter_each(symbols: &Symbols, names: &mut Names<'_>, leaves: &[u32]) -> Resul
         at += 1;
     }
     Ok(())
-}
-
-/// Reads the term that begins with `first`, the token that the lexer gave last, in place of what `nodes` held.
-fn read_first(
-    lexer: &mut Lexer<'_>,
-    first: Token,
-    nodes: &mut Vec<Node>,
-    symbols: &mut Symbols,
-    terms: &mut Terms<'_>,
-    reader: &mut Reader<'_>,
-) -> Result<Value, ReadFault>
-    requires formed { HasForm (at.source lexer.old) }
-    requires first { IsFirstOfItem lexer.old first }
-    requires idle { (sc : Script) × (p : Place) × IsReaderIdle symbols.old terms.old reader.old sc p }
-    requires room { length symbols.old.leaves + (length (at.source lexer.old) - first.start) ≤ 2 ^ 30 }
-    ensures reads { (i : Item) (rest : List Token) (sc : Script) (p : Place) → GoesOnWith lexer.old first i rest → IsReaderIdle symbols.old terms.old reader.old sc p → ComesToTerm symbols.new terms.old terms.new reader.new p (read_term i p sc) result }
-    ensures behind { (i : Item) (rest : List Token) → GoesOnWith lexer.old first i rest → OnOk result (AreTokens (at.source lexer.new) (at.position lexer.new) rest) }
-    ensures source { at.source lexer.new ≡ at.source lexer.old }
-    ensures few { length symbols.new.leaves ≤ length symbols.old.leaves + (at.position lexer.new - first.start) }
-    ensures inside { at.position lexer.new ≤ length (at.source lexer.new) }
-    ensures symbols { AddsNoSymbols symbols.old symbols.new }
-    ensures keeps { KeepsTerms terms.old terms.new }
-{
-    // An item begins at the token.
-    items_begin_at_tokens();
-    read_item(lexer, first, nodes)?;
-    let items = ItemText::new(lexer, nodes);
-    read(&items, symbols, terms, reader, 0)
 }

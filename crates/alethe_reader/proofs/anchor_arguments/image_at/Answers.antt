@@ -4,7 +4,7 @@ use Rattle.std.proofs.lemmas.Result.{err_from_is_err_and}
 use Rattle.sexpr.specs.declared.causes.Refusal.{Refusal}
 use Rattle.term_reader.proofs.Staying.{adds_none, refers_stays}
 use Rattle.alethe_reader.specs.Opening.{is_wanted}
-use Rattle.alethe_reader.proofs.Answering.{refuses}
+use Rattle.term_reader.proofs.Coming.{refuses}
 use Rattle.alethe_reader.proofs.ImageReading.{outer_taken, needed_replace, image_refers, image_placed, image_lacks, image_high, image_low, other_sort, no_image, no_height, image_refused, image_made}
 use Rattle.alethe_reader.proofs.anchor_arguments.image_at.Goals as goal
 

@@ -6,7 +6,7 @@ use Rattle.alethe_text.specs.Anchors.{argument_read}
 use Rattle.alethe_text.specs.Commands.{Argument, assigned, argument_of}
 use Rattle.text_items.specs.Stepping.{name_in}
 use Rattle.alethe_commands.specs.CommandNodes.{sort_said}
-use Rattle.alethe_reader.proofs.Answering.{refuses, same_outcome}
+use Rattle.term_reader.proofs.Coming.{refuses, same_outcome}
 use Rattle.alethe_reader.proofs.ArgumentNodes.{term_is}
 use Rattle.alethe_reader.proofs.ArgumentReading.{alone_refused}
 use Rattle.alethe_reader.proofs.anchor_arguments.read_argument.Goals as goal

@@ -4,7 +4,7 @@ use Rattle.std.proofs.lemmas.Result.{err_from_is_err_and}
 use Rattle.text_items.specs.ItemShapes.{Name}
 use Rattle.term_reader.proofs.Staying.{adds_then, adds_variable, keeps_then}
 use Rattle.alethe_text.specs.ProofTerms.{place_in}
-use Rattle.alethe_reader.proofs.Answering.{refuses}
+use Rattle.term_reader.proofs.Coming.{refuses}
 use Rattle.alethe_reader.proofs.TermAnswers.{value_answers}
 use Rattle.alethe_reader.proofs.WrittenStays.{bindings_stay}
 use Rattle.alethe_reader.proofs.ArgumentReading.{name_free, fails, lacks_memory, argument_done, enough_images, outer_images, name_bad, sort_bad, term_bad, image_answers}

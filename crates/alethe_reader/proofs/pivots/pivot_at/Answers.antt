@@ -15,7 +15,7 @@ pub names_at-requires-clause-reader : goal.names_at-requires-clause-reader
 names_at-requires-clause-reader c =
     let (settings, nesting, p, reader) = c.requires.reader in
     let read = c.in_ok-value.ensures.read p.script (place_in settings nesting) reader in
-    (settings, nesting, record p { script = read.outcome.1 }, read.outcome.5)
+    (settings, nesting, record p { script = read.answer.state }, read.answer.after.reader)
 
 pub returns-in_err-names_at-clause-read : goal.returns-in_err-names_at-clause-read
 returns-in_err-names_at-clause-read c settings nesting p h =

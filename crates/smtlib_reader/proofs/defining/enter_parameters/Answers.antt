@@ -13,5 +13,5 @@ pub returns-clause-entered : goal.returns-clause-entered
 returns-clause-entered c = λ v sc idle.
     let xs = parameters_said c.args.items.now c.args.parameters.now in
     let bound = c.in_ok-leaves.ensures.bound v in
-    is_entered _ _ v c.args.reader.now (record { leaves = c.in_ok-leaves.leaves; sorts = c.in_ok-sorts.sorts }) _ _ _ xs sc c.list_parameters.ensures.symbols idle bound (c.in_ok-sorts.ensures.items ∙ c.sorts_from.ensures)
-    (λ p scope keeps. c.in_ok-bind.ensures.bound v (map itself xs) p (rw c.deref.ensures.value bound) scope keeps) c.bind.ensures.known c.truncate.ensures
+    is_entered _ _ v _ (record { leaves = c.in_ok-leaves.leaves; sorts = c.in_ok-sorts.sorts }) _ _ _ _ xs sc c.list_parameters.ensures.symbols idle bound (c.in_ok-sorts.ensures.items ∙ c.sorts_from.ensures)
+    (λ p scope keeps. c.in_ok-bind.ensures.bound v (map itself xs) p (rw c.deref.ensures.value bound) scope keeps) c.bind.ensures.own c.truncate.ensures

@@ -1,5 +1,5 @@
 -- Nothing was read, and no leaf of a new table is that of a function.
-use Rattle.std.proofs.Common.{◌≡◌, ℕ, zero, suc, false, List, [], ◌∷◌, IsTrue, slice_get, None, refl, sym, subst, rules}
+use Rattle.std.proofs.Common.{◌≡◌, ℕ, zero, suc, false, List, [], ◌∷◌, IsTrue, slice_get, None, refl, sym, ap, subst, rules}
 use Rattle.std.specs.Option.{IsSomeAnd}
 use Rattle.sym_table.specs.Leaf.{Leaf, is_function, name_of, first_leaves}
 use Rattle.sym_table.specs.Table.{Table, IsFunctionName}
@@ -7,9 +7,11 @@ use Rattle.term_pool.specs.Views.{ReferToAll}
 use Rattle.problem_text.specs.Scripts.{empty_script}
 use Rattle.term_names.specs.Entries.{no_entries}
 use Rattle.term_names.specs.InScope.{IsScope}
-use Rattle.term_names.specs.Known.{KnownView, known_entry}
+use Rattle.term_names.specs.Known.{KnownView, base_of, known_entry}
+use Rattle.term_names.specs.Scope.{known_in}
 use Rattle.term_names.specs.Standing.{IsNameMeant}
 use Rattle.smtlib_reader.proofs.problem_reading.new_session.Goals as goal
+use Rattle.term_expansion.specs.SymbolsAndTerms.{both}
 
 abbrev AreNoFunctions : List Leaf → Type 0
 AreNoFunctions [] = Unit {0}
@@ -23,28 +25,28 @@ none_named name (l ∷ ls) (suc k) apart h = none_named name ls k apart.1 h
 no_function : (s : Table) (name : List ℕ) → s.leaves ≡ first_leaves → IsFunctionName s name → ⊥
 no_function s name e (k, h) = none_named name s.leaves k (subst AreNoFunctions (sym e) (search rules)) h
 
-no_entry : (known : KnownView) (name : List ℕ) → known.base ≡ no_entries → known.own ≡ no_entries → known_entry known name ≡ None
-no_entry known name base own = rw (base, own) refl
+no_entry : (k : KnownView) (name : List ℕ) → k.base ≡ no_entries → k.own ≡ no_entries → known_entry k name ≡ None
+no_entry k name base own = rw (base, own) refl
 
-pub returns-clause-session : goal.returns-clause-session
-returns-clause-session c s v new = record {
+pub returns : goal.returns
+returns c = λ e s v none new. record {
   idle = record {
     script = record {
       sorts = new.sorts;
       built_in = λ name built. refl;
       names = λ name.
-          subst (IsNameMeant s v c.new.result.known empty_script name) (sym (no_entry c.new.result.known name c.new.ensures.base c.new.ensures.own)) (
+          subst (IsNameMeant (both s v) (known_in e c.new.result.names) empty_script name) (sym (no_entry (known_in e c.new.result.names) name (ap base_of none) c.new.ensures.own)) (
             record { no_named = refl; no_macro = refl },
             record { no_function = record { table = no_function s name new.leaves; script = refl }; free = refl },
           );
     };
-    scope = subst (λ es. IsScope s v es []) (sym c.new.ensures.scope) tt;
+    scope = subst (λ es. IsScope (both s v) es []) (sym c.new.ensures.scope) tt;
     settings = refl;
-    no_values = c.new-2.ensures;
-    no_leaves = c.new-3.ensures.items;
-    no_frames = c.new-4.ensures;
+    no_values = c.new.ensures.values;
+    no_leaves = c.new.ensures.leaves;
+    no_frames = c.new.ensures.frames;
   };
-  assertions = subst (λ rs. ReferToAll s v rs []) (sym c.new-5.ensures.items) tt;
+  assertions = subst (λ rs. ReferToAll s v rs []) (sym c.new-2.ensures.items) tt;
   has_logic = refl;
   is_checked = refl;
 }

@@ -1,3 +1,4 @@
+use Rattle.std.proofs.Common.{refl}
 use Rattle.std.proofs.lemmas.Result.{err_from_is_err_and}
 use Rattle.smtlib_reader.proofs.ScriptCommands.{has_first, are_nested, nothing_left, command_fault, exit_read, performed, not_performed}
 use Rattle.smtlib_reader.proofs.script_reading.read_command.Goals as goal
@@ -35,9 +36,9 @@ pub returns-in_err-perform-clause-reads : goal.returns-in_err-perform-clause-rea
 returns-in_err-perform-clause-reads c sc whole left session =
     let p = err_from_is_err_and c.from_residual-in_err-perform.result c.from_residual-in_err-perform.ensures.1 in
     let h = has_first (rw c.if-not-branch.false at c.in_ok-next_item.ensures.item) c.deref.ensures.value left c.new-items.result c.new-items.ensures in
-    rw (p.1, p.2) (not_performed h session.is_checked c.in_ok-command.command c.in_ok-command.ensures.0 (c.is_exit.ensures.1 c.if-is_exit.false) _ (c.in_err-perform.ensures.performs sc session))
+    rw (p.1, p.2) (not_performed h session.is_checked c.in_ok-command.command c.in_ok-command.ensures.0 (c.is_exit.ensures.1 c.if-is_exit.false) (c.in_err-perform.ensures.performs sc session))
 
 pub returns-clause-reads : goal.returns-clause-reads
 returns-clause-reads c sc whole left session =
     let h = has_first (rw c.if-not-branch.false at c.in_ok-next_item.ensures.item) c.deref.ensures.value left c.new-items.result c.new-items.ensures in
-    performed h session.is_checked c.in_ok-command.command c.in_ok-command.ensures.0 (c.is_exit.ensures.1 c.if-is_exit.false) c.perform.ensures.replaces (c.in_ok-perform.ensures.performs sc session)
+    performed h session.is_checked c.in_ok-command.command c.in_ok-command.ensures.0 (c.is_exit.ensures.1 c.if-is_exit.false) refl (c.in_ok-perform.ensures.performs sc session)

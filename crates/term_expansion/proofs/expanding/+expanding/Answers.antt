@@ -14,6 +14,7 @@ use Rattle.term_expansion.proofs.Heights as heights
 use Rattle.term_expansion.proofs.NeedLemmas.{refers-grow, done-grow, needs-grow}
 use Rattle.term_expansion.proofs.TermParts.{refers_back, cell_no_variable, arguments_refer, head_within}
 use Rattle.term_expansion.proofs.expanding.+expanding.Goals as goal
+use Rattle.term_expansion.specs.SymbolsAndTerms.{both}
 
 pub expand-returns-then-is_leaf-clause-value : goal.expand-returns-then-is_leaf-clause-value
 expand-returns-then-is_leaf-clause-value t c = λ u q refers says.
@@ -220,7 +221,7 @@ expand_application-app-requires-clause-args t c =
     let said = c.requires.said in
     let refer = arguments_refer s v c.args.r c.args.head list c.requires.head c.in_ok-list.ensures.arguments in
     lemma.arguments_known s v a c.args.r c.args.head list c.requires.head refer z c.deref-2.result.now c.deref-2.result.now _ refl
-    (lemma.arguments_expanded s v a c.args.r c.args.head list c.requires.head refer z c.deref-2.result.now (subst (λ (is : List ℕ). ExpandsAll c.args.symbols.now c.args.terms.now c.expand_all.new.terms c.args.expansion.now.assignments c.in_ok-list.list.items is) (sym c.deref-2.ensures.value)
+    (lemma.arguments_expanded s v a c.args.r c.args.head list c.requires.head refer z c.deref-2.result.now (subst (λ (is : List ℕ). ExpandsAll (both c.args.symbols.now c.args.terms.now) c.expand_all.new.terms c.args.expansion.now.assignments c.in_ok-list.list.items is) (sym c.deref-2.ensures.value)
     (lemma.all_expand_moved c.args.symbols.now c.args.terms.now c.arguments_of.new.terms c.expand_all.new.terms c.args.expansion.now.assignments c.in_ok-list.list.items c.deref.result.now c.in_ok-arguments.arguments.items c.arguments_of.ensures.same c.deref.ensures.value c.in_ok-arguments.ensures.value)) said.means said.puts said.refers said.says)
 
 pub expand_application-returns-in_err-app-clause-placed : goal.expand_application-returns-in_err-app-clause-placed
@@ -232,7 +233,7 @@ expand_application-returns-in_err-app-clause-placed t c =
     let w = c.expand_all.new.terms in
     let z = c.app.new.self in
     lemma.application_placed s v a c.args.r c.args.head list c.requires.head (arguments_refer s v c.args.r c.args.head list c.requires.head c.in_ok-list.ensures.arguments)
-    c.count-leaves.ensures.table c.trees_are_built_of_parts.ensures.application c.trees_of_terms.ensures.one_tree c.requires.no_variable w z c.deref-2.result.now (subst (λ (is : List ℕ). ExpandsAll c.args.symbols.now c.args.terms.now c.expand_all.new.terms c.args.expansion.now.assignments c.in_ok-list.list.items is) (sym c.deref-2.ensures.value)
+    c.count-leaves.ensures.table c.trees_are_built_of_parts.ensures.application c.trees_of_terms.ensures.one_tree c.requires.no_variable w z c.deref-2.result.now (subst (λ (is : List ℕ). ExpandsAll (both c.args.symbols.now c.args.terms.now) c.expand_all.new.terms c.args.expansion.now.assignments c.in_ok-list.list.items is) (sym c.deref-2.ensures.value)
     (lemma.all_expand_moved c.args.symbols.now c.args.terms.now c.arguments_of.new.terms c.expand_all.new.terms c.args.expansion.now.assignments c.in_ok-list.list.items c.deref.result.now c.in_ok-arguments.arguments.items c.arguments_of.ensures.same c.deref.ensures.value c.in_ok-arguments.ensures.value)) c.app.ensures.keeps
     (lemma.all_placed_moved s v c.arguments_of.new.terms w a list c.deref.result.now c.arguments_of.ensures.same c.deref.ensures.value c.in_ok-arguments.ensures.placed)
     (λ ts known. (c.in_err-app.ensures.full ts known).placed)
@@ -248,7 +249,7 @@ expand_application-returns-in_err-app-clause-full t c =
     let e = err_from_is_err_and c.from_residual-in_err-app.result c.from_residual-in_err-app.ensures.1 in
     rw (e.1, e.2) (λ full.
     lemma.application_full s v a c.args.r c.args.head list c.requires.head (arguments_refer s v c.args.r c.args.head list c.requires.head c.in_ok-list.ensures.arguments)
-    c.count-leaves.ensures.table c.trees_are_built_of_parts.ensures.application c.trees_of_terms.ensures.one_tree c.requires.no_variable w z c.deref-2.result.now (subst (λ (is : List ℕ). ExpandsAll c.args.symbols.now c.args.terms.now c.expand_all.new.terms c.args.expansion.now.assignments c.in_ok-list.list.items is) (sym c.deref-2.ensures.value)
+    c.count-leaves.ensures.table c.trees_are_built_of_parts.ensures.application c.trees_of_terms.ensures.one_tree c.requires.no_variable w z c.deref-2.result.now (subst (λ (is : List ℕ). ExpandsAll (both c.args.symbols.now c.args.terms.now) c.expand_all.new.terms c.args.expansion.now.assignments c.in_ok-list.list.items is) (sym c.deref-2.ensures.value)
     (lemma.all_expand_moved c.args.symbols.now c.args.terms.now c.arguments_of.new.terms c.expand_all.new.terms c.args.expansion.now.assignments c.in_ok-list.list.items c.deref.result.now c.in_ok-arguments.arguments.items c.arguments_of.ensures.same c.deref.ensures.value c.in_ok-arguments.ensures.value))
     (λ ts known. (c.in_err-app.ensures.full ts known).full))
 
@@ -261,7 +262,7 @@ expand_application-returns-clause-value t c =
     let w = c.expand_all.new.terms in
     let z = c.app.new.self in
     lemma.application_is s v a c.args.r c.args.head list c.requires.head (arguments_refer s v c.args.r c.args.head list c.requires.head c.in_ok-list.ensures.arguments)
-    c.count-leaves.ensures.table c.trees_are_built_of_parts.ensures.application c.trees_of_terms.ensures.one_tree c.requires.no_variable w z c.deref-2.result.now (subst (λ (is : List ℕ). ExpandsAll c.args.symbols.now c.args.terms.now c.expand_all.new.terms c.args.expansion.now.assignments c.in_ok-list.list.items is) (sym c.deref-2.ensures.value)
+    c.count-leaves.ensures.table c.trees_are_built_of_parts.ensures.application c.trees_of_terms.ensures.one_tree c.requires.no_variable w z c.deref-2.result.now (subst (λ (is : List ℕ). ExpandsAll (both c.args.symbols.now c.args.terms.now) c.expand_all.new.terms c.args.expansion.now.assignments c.in_ok-list.list.items is) (sym c.deref-2.ensures.value)
     (lemma.all_expand_moved c.args.symbols.now c.args.terms.now c.arguments_of.new.terms c.expand_all.new.terms c.args.expansion.now.assignments c.in_ok-list.list.items c.deref.result.now c.in_ok-arguments.arguments.items c.arguments_of.ensures.same c.deref.ensures.value c.in_ok-arguments.ensures.value)) c.in_ok-app.field-0
     (λ ts u refer is. c.in_ok-app.ensures.term s ts u refer is)
 
@@ -274,7 +275,7 @@ expand_application-returns-clause-placed t c =
     let w = c.expand_all.new.terms in
     let z = c.app.new.self in
     lemma.application_placed s v a c.args.r c.args.head list c.requires.head (arguments_refer s v c.args.r c.args.head list c.requires.head c.in_ok-list.ensures.arguments)
-    c.count-leaves.ensures.table c.trees_are_built_of_parts.ensures.application c.trees_of_terms.ensures.one_tree c.requires.no_variable w z c.deref-2.result.now (subst (λ (is : List ℕ). ExpandsAll c.args.symbols.now c.args.terms.now c.expand_all.new.terms c.args.expansion.now.assignments c.in_ok-list.list.items is) (sym c.deref-2.ensures.value)
+    c.count-leaves.ensures.table c.trees_are_built_of_parts.ensures.application c.trees_of_terms.ensures.one_tree c.requires.no_variable w z c.deref-2.result.now (subst (λ (is : List ℕ). ExpandsAll (both c.args.symbols.now c.args.terms.now) c.expand_all.new.terms c.args.expansion.now.assignments c.in_ok-list.list.items is) (sym c.deref-2.ensures.value)
     (lemma.all_expand_moved c.args.symbols.now c.args.terms.now c.arguments_of.new.terms c.expand_all.new.terms c.args.expansion.now.assignments c.in_ok-list.list.items c.deref.result.now c.in_ok-arguments.arguments.items c.arguments_of.ensures.same c.deref.ensures.value c.in_ok-arguments.ensures.value)) c.app.ensures.keeps
     (lemma.all_placed_moved s v c.arguments_of.new.terms w a list c.deref.result.now c.arguments_of.ensures.same c.deref.ensures.value c.in_ok-arguments.ensures.placed)
     (λ ts known. (c.in_ok-app.ensures.built ts known).placed)
@@ -308,7 +309,7 @@ expand_let-expand_all-requires t c =
           lemma.all_said_moved s v c.let_work.new.terms a g.values.items c.deref.result.now same c.deref.ensures.value
               (lemma.values_said s v a c.args.r c.in_ok-work.work.body g.variables.items g.values.items c.count-leaves.ensures.table c.in_ok-work.ensures.work c.requires.said),
           record {
-            needs = subst (λ (x : TermsView). AreNeeds s x c.let_work.new.needs.leaves) (sym same) c.in_ok-work.ensures.needs;
+            needs = subst (λ (x : TermsView). AreNeeds (both s x) c.let_work.new.needs.leaves) (sym same) c.in_ok-work.ensures.needs;
             done = lemma.are_done_moved s v c.let_work.new.terms c.args.expansion.now.done same c.requires.expansion.done;
           },
         ),
@@ -360,7 +361,7 @@ expand_let-expand-requires t c =
       (
         heights.low_grow s v z (c.args.most - 1) c.in_ok-work.work.body keeps c.in_ok-work.ensures.body_low,
         (
-          subst (λ (b : List Assigned). IsSaid s z b c.in_ok-work.work.body) (sym (c.in_ok-assign.ensures ∙ assigned_same c.deref-2.result.now c.in_ok-work.work.given.variables.items c.deref-3.result.now c.in_ok-list.list.items c.expand_all.new.expansion.assignments c.args.expansion.now.assignments c.deref-2.ensures.value c.deref-3.ensures.value c.in_ok-list.ensures.assignments))
+          subst (λ (b : List Assigned). IsSaid (both s z) b c.in_ok-work.work.body) (sym (c.in_ok-assign.ensures ∙ assigned_same c.deref-2.result.now c.in_ok-work.work.given.variables.items c.deref-3.result.now c.in_ok-list.list.items c.expand_all.new.expansion.assignments c.args.expansion.now.assignments c.deref-2.ensures.value c.deref-3.ensures.value c.in_ok-list.ensures.assignments))
               (lemma.body_said s v a c.args.r c.in_ok-work.work.body g.variables.items g.values.items c.count-leaves.ensures.table c.in_ok-work.ensures.work z (subst (λ (x : TermsView). KeepsTerms x c.expand_all.new.terms) c.let_work.ensures.same c.expand_all.ensures.keeps) c.in_ok-list.list.items (lemma.all_expand_moved c.args.symbols.now c.args.terms.now c.let_work.new.terms c.expand_all.new.terms c.args.expansion.now.assignments c.in_ok-work.work.given.values.items c.deref.result.now c.in_ok-list.list.items c.let_work.ensures.same c.deref.ensures.value c.in_ok-list.ensures.value) c.requires.said),
           record { needs = c.in_ok-list.ensures.expansion.needs; done = c.in_ok-list.ensures.expansion.done },
         ),
@@ -377,7 +378,7 @@ expand_let-returns-in_err-body-clause-placed t c =
     let y = c.expand.new.terms in
     lemma.let_placed s v a c.args.r c.in_ok-work.work.body g.variables.items g.values.items c.count-leaves.ensures.table c.in_ok-work.ensures.work z (subst (λ (x : TermsView). KeepsTerms x c.expand_all.new.terms) c.let_work.ensures.same c.expand_all.ensures.keeps) c.in_ok-list.list.items (lemma.all_expand_moved c.args.symbols.now c.args.terms.now c.let_work.new.terms c.expand_all.new.terms c.args.expansion.now.assignments c.in_ok-work.work.given.values.items c.deref.result.now c.in_ok-list.list.items c.let_work.ensures.same c.deref.ensures.value c.in_ok-list.ensures.value) y c.expand.ensures.keeps
     (lemma.all_placed_moved s v c.let_work.new.terms z a g.values.items c.deref.result.now c.let_work.ensures.same c.deref.ensures.value c.in_ok-list.ensures.placed)
-    (subst (λ (b : List Assigned). PlacesOne s z y b c.in_ok-work.work.body) (c.in_ok-assign.ensures ∙ assigned_same c.deref-2.result.now c.in_ok-work.work.given.variables.items c.deref-3.result.now c.in_ok-list.list.items c.expand_all.new.expansion.assignments c.args.expansion.now.assignments c.deref-2.ensures.value c.deref-3.ensures.value c.in_ok-list.ensures.assignments) c.in_err-body.ensures.placed)
+    (subst (λ (b : List Assigned). PlacesOne (both s z) y b c.in_ok-work.work.body) (c.in_ok-assign.ensures ∙ assigned_same c.deref-2.result.now c.in_ok-work.work.given.variables.items c.deref-3.result.now c.in_ok-list.list.items c.expand_all.new.expansion.assignments c.args.expansion.now.assignments c.deref-2.ensures.value c.deref-3.ensures.value c.in_ok-list.ensures.assignments) c.in_err-body.ensures.placed)
 
 pub expand_let-returns-in_err-body-clause-full : goal.expand_let-returns-in_err-body-clause-full
 expand_let-returns-in_err-body-clause-full t c =
@@ -390,7 +391,7 @@ expand_let-returns-in_err-body-clause-full t c =
     let e = err_from_is_err_and c.from_residual-in_err-body.result c.from_residual-in_err-body.ensures.1 in
     rw (e.1, e.2) (λ full.
     lemma.let_full s v a c.args.r c.in_ok-work.work.body g.variables.items g.values.items c.count-leaves.ensures.table c.in_ok-work.ensures.work z (subst (λ (x : TermsView). KeepsTerms x c.expand_all.new.terms) c.let_work.ensures.same c.expand_all.ensures.keeps) c.in_ok-list.list.items (lemma.all_expand_moved c.args.symbols.now c.args.terms.now c.let_work.new.terms c.expand_all.new.terms c.args.expansion.now.assignments c.in_ok-work.work.given.values.items c.deref.result.now c.in_ok-list.list.items c.let_work.ensures.same c.deref.ensures.value c.in_ok-list.ensures.value) y
-    (subst (λ (b : List Assigned). FillsOne s z y b c.in_ok-work.work.body) (c.in_ok-assign.ensures ∙ assigned_same c.deref-2.result.now c.in_ok-work.work.given.variables.items c.deref-3.result.now c.in_ok-list.list.items c.expand_all.new.expansion.assignments c.args.expansion.now.assignments c.deref-2.ensures.value c.deref-3.ensures.value c.in_ok-list.ensures.assignments) (c.in_err-body.ensures.full full)))
+    (subst (λ (b : List Assigned). FillsOne (both s z) y b c.in_ok-work.work.body) (c.in_ok-assign.ensures ∙ assigned_same c.deref-2.result.now c.in_ok-work.work.given.variables.items c.deref-3.result.now c.in_ok-list.list.items c.expand_all.new.expansion.assignments c.args.expansion.now.assignments c.deref-2.ensures.value c.deref-3.ensures.value c.in_ok-list.ensures.assignments) (c.in_err-body.ensures.full full)))
 
 pub expand_let-take_back-requires : goal.expand_let-take_back-requires
 expand_let-take_back-requires t c =
@@ -406,7 +407,7 @@ expand_let-returns-in_err-take_back-clause-placed t c =
     let y = c.expand.new.terms in
     lemma.let_placed s v a c.args.r c.in_ok-work.work.body g.variables.items g.values.items c.count-leaves.ensures.table c.in_ok-work.ensures.work z (subst (λ (x : TermsView). KeepsTerms x c.expand_all.new.terms) c.let_work.ensures.same c.expand_all.ensures.keeps) c.in_ok-list.list.items (lemma.all_expand_moved c.args.symbols.now c.args.terms.now c.let_work.new.terms c.expand_all.new.terms c.args.expansion.now.assignments c.in_ok-work.work.given.values.items c.deref.result.now c.in_ok-list.list.items c.let_work.ensures.same c.deref.ensures.value c.in_ok-list.ensures.value) y c.expand.ensures.keeps
     (lemma.all_placed_moved s v c.let_work.new.terms z a g.values.items c.deref.result.now c.let_work.ensures.same c.deref.ensures.value c.in_ok-list.ensures.placed)
-    (subst (λ (b : List Assigned). PlacesOne s z y b c.in_ok-work.work.body) (c.in_ok-assign.ensures ∙ assigned_same c.deref-2.result.now c.in_ok-work.work.given.variables.items c.deref-3.result.now c.in_ok-list.list.items c.expand_all.new.expansion.assignments c.args.expansion.now.assignments c.deref-2.ensures.value c.deref-3.ensures.value c.in_ok-list.ensures.assignments) c.in_ok-body.ensures.placed)
+    (subst (λ (b : List Assigned). PlacesOne (both s z) y b c.in_ok-work.work.body) (c.in_ok-assign.ensures ∙ assigned_same c.deref-2.result.now c.in_ok-work.work.given.variables.items c.deref-3.result.now c.in_ok-list.list.items c.expand_all.new.expansion.assignments c.args.expansion.now.assignments c.deref-2.ensures.value c.deref-3.ensures.value c.in_ok-list.ensures.assignments) c.in_ok-body.ensures.placed)
 
 pub expand_let-returns-clause-value : goal.expand_let-returns-clause-value
 expand_let-returns-clause-value t c =
@@ -417,7 +418,7 @@ expand_let-returns-clause-value t c =
     let z = c.expand_all.new.terms in
     let y = c.expand.new.terms in
     lemma.let_expanded s v a c.args.r c.in_ok-work.work.body g.variables.items g.values.items c.count-leaves.ensures.table c.in_ok-work.ensures.work z (subst (λ (x : TermsView). KeepsTerms x c.expand_all.new.terms) c.let_work.ensures.same c.expand_all.ensures.keeps) c.in_ok-list.list.items (lemma.all_expand_moved c.args.symbols.now c.args.terms.now c.let_work.new.terms c.expand_all.new.terms c.args.expansion.now.assignments c.in_ok-work.work.given.values.items c.deref.result.now c.in_ok-list.list.items c.let_work.ensures.same c.deref.ensures.value c.in_ok-list.ensures.value) y c.in_ok-body.body
-    (subst (λ (b : List Assigned). ExpandsOne s z y b c.in_ok-work.work.body c.in_ok-body.body) (c.in_ok-assign.ensures ∙ assigned_same c.deref-2.result.now c.in_ok-work.work.given.variables.items c.deref-3.result.now c.in_ok-list.list.items c.expand_all.new.expansion.assignments c.args.expansion.now.assignments c.deref-2.ensures.value c.deref-3.ensures.value c.in_ok-list.ensures.assignments) c.in_ok-body.ensures.value)
+    (subst (λ (b : List Assigned). ExpandsOne (both s z) y b c.in_ok-work.work.body c.in_ok-body.body) (c.in_ok-assign.ensures ∙ assigned_same c.deref-2.result.now c.in_ok-work.work.given.variables.items c.deref-3.result.now c.in_ok-list.list.items c.expand_all.new.expansion.assignments c.args.expansion.now.assignments c.deref-2.ensures.value c.deref-3.ensures.value c.in_ok-list.ensures.assignments) c.in_ok-body.ensures.value)
 
 pub expand_let-returns-clause-placed : goal.expand_let-returns-clause-placed
 expand_let-returns-clause-placed t c =
@@ -429,7 +430,7 @@ expand_let-returns-clause-placed t c =
     let y = c.expand.new.terms in
     lemma.let_placed s v a c.args.r c.in_ok-work.work.body g.variables.items g.values.items c.count-leaves.ensures.table c.in_ok-work.ensures.work z (subst (λ (x : TermsView). KeepsTerms x c.expand_all.new.terms) c.let_work.ensures.same c.expand_all.ensures.keeps) c.in_ok-list.list.items (lemma.all_expand_moved c.args.symbols.now c.args.terms.now c.let_work.new.terms c.expand_all.new.terms c.args.expansion.now.assignments c.in_ok-work.work.given.values.items c.deref.result.now c.in_ok-list.list.items c.let_work.ensures.same c.deref.ensures.value c.in_ok-list.ensures.value) y c.expand.ensures.keeps
     (lemma.all_placed_moved s v c.let_work.new.terms z a g.values.items c.deref.result.now c.let_work.ensures.same c.deref.ensures.value c.in_ok-list.ensures.placed)
-    (subst (λ (b : List Assigned). PlacesOne s z y b c.in_ok-work.work.body) (c.in_ok-assign.ensures ∙ assigned_same c.deref-2.result.now c.in_ok-work.work.given.variables.items c.deref-3.result.now c.in_ok-list.list.items c.expand_all.new.expansion.assignments c.args.expansion.now.assignments c.deref-2.ensures.value c.deref-3.ensures.value c.in_ok-list.ensures.assignments) c.in_ok-body.ensures.placed)
+    (subst (λ (b : List Assigned). PlacesOne (both s z) y b c.in_ok-work.work.body) (c.in_ok-assign.ensures ∙ assigned_same c.deref-2.result.now c.in_ok-work.work.given.variables.items c.deref-3.result.now c.in_ok-list.list.items c.expand_all.new.expansion.assignments c.args.expansion.now.assignments c.deref-2.ensures.value c.deref-3.ensures.value c.in_ok-list.ensures.assignments) c.in_ok-body.ensures.placed)
 
 pub expand_let-returns-clause-assignments : goal.expand_let-returns-clause-assignments
 expand_let-returns-clause-assignments t c =

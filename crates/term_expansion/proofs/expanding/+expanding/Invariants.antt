@@ -6,6 +6,7 @@ use Rattle.term_pool.specs.Views.{ReferToAll, KeepsTerms}
 use Rattle.term_expansion.specs.Expanding.{SaysAll, HasPartTerms, replaced_each, IsExpansion}
 use Rattle.rule_model.specs.Replacement.{Replacement}
 use Rattle.term_expansion.proofs.expanding.+expanding.Given as goal
+use Rattle.term_expansion.specs.SymbolsAndTerms.{both}
 
 abbrev pub decreases-expand_application : goal.decreases-expand_application
 decreases-expand_application l = 4 * l.most
@@ -27,6 +28,6 @@ invariant-expand_all-terms l =
     KeepsTerms l.fn.terms l.terms
     × (l.expansion.assignments ≡ l.fn.expansion.assignments)
     × (length l.all.items ≡ l.r-index)
-    × IsExpansion l.symbols l.terms l.expansion
-    × ((ts : List Term) (q : Replacement) → ReferToAll l.symbols l.fn.terms l.list ts → SaysAll l.symbols l.fn.terms l.fn.expansion.assignments q ts → ReferToAll l.symbols l.terms l.all.items (take l.r-index (replaced_each q ts)))
-    × ((ts : List Term) (q : Replacement) (whole : Tree) → ReferToAll l.symbols l.fn.terms l.list ts → SaysAll l.symbols l.fn.terms l.fn.expansion.assignments q ts → HasPartTerms l.symbols whole (replaced_each q ts) → PlacesOnlyIn l.fn.terms.pass l.terms.pass whole)
+    × IsExpansion (both l.symbols l.terms) l.expansion
+    × ((ts : List Term) (q : Replacement) → ReferToAll l.symbols l.fn.terms l.list ts → SaysAll (both l.symbols l.fn.terms) l.fn.expansion.assignments q ts → ReferToAll l.symbols l.terms l.all.items (take l.r-index (replaced_each q ts)))
+    × ((ts : List Term) (q : Replacement) (whole : Tree) → ReferToAll l.symbols l.fn.terms l.list ts → SaysAll (both l.symbols l.fn.terms) l.fn.expansion.assignments q ts → HasPartTerms l.symbols whole (replaced_each q ts) → PlacesOnlyIn l.fn.terms.pass l.terms.pass whole)

@@ -12,6 +12,7 @@ use Rattle.term_expansion.proofs.Heights as heights
 use Rattle.term_expansion.proofs.Needing as lemma
 use Rattle.term_expansion.proofs.TermParts as parts
 use Rattle.term_expansion.proofs.needs.+needing.Goals as goal
+use Rattle.term_expansion.specs.SymbolsAndTerms.{both}
 
 pub add_needs_of-returns-clause-adds : goal.add_needs_of-returns-clause-adds
 add_needs_of-returns-clause-adds t c =
@@ -192,8 +193,8 @@ needs_of_let-returns-clause-adds t c = λ u refers.
     let found = c.leaves.found.keys in
     let list = c.deref-k-items.result.now in
     let all : take c.leaves.k-index list ≡ c.in_ok-inside.inside.items = take_all c.leaves.k-index list c.leaves-test.false ∙ c.deref-k-items.ensures.value in
-    let inside : HasNeeds s v p.body (take c.leaves.k-index list) =
-    subst (HasNeeds s v p.body) (sym all) (subst (λ z. HasNeeds s z p.body c.in_ok-inside.inside.items) c.let_parts.ensures.same c.in_ok-inside.ensures.leaves) in
+    let inside : HasNeeds (both s v) p.body (take c.leaves.k-index list) =
+    subst (HasNeeds (both s v) p.body) (sym all) (subst (λ z. HasNeeds (both s z) p.body c.in_ok-inside.inside.items) c.let_parts.ensures.same c.in_ok-inside.ensures.leaves) in
     let (bs, body, e, let_refers) = parts.let_refers s v c.args.r u refers (c.requires.is_let u refers) in
     subst (λ (w : Term). AddsLeaves s old found (λ x. IsNeeded x w)) (sym e)
     (lemma.through-all s (take c.leaves.k-index list) old found bs body

@@ -5,6 +5,7 @@ use Rattle.term_expansion.specs.declared.assignments.Assigned.{Assigned}
 use Rattle.term_expansion.proofs.Images.{drop-at}
 use Rattle.term_expansion.proofs.SaidReplacements.{says-start, says-next}
 use Rattle.term_expansion.proofs.putting_in.begin.Goals as goal
+use Rattle.term_expansion.specs.SymbolsAndTerms.{both}
 
 pub bounds-init : goal.bounds-init
 bounds-init c = (
@@ -24,5 +25,5 @@ pub returns-clause-says : goal.returns-clause-says
 returns-clause-says c = λ s v q table few h.
     let end = c.bounds-test.false in
     let none : 0 ≡ c.bounds.at = omega arith in
-    subst (λ (a : List Assigned). SaysWhole s v a q) (sym c.new.ensures.assignments)
-    (c.bounds.invariant.1 s v q table few (subst (λ (n : ℕ). IsReplacement s v (drop n c.args.replacement.now) q) none h))
+    subst (λ (a : List Assigned). SaysWhole (both s v) a q) (sym c.new.ensures.assignments)
+    (c.bounds.invariant.1 s v q table few (subst (λ (n : ℕ). IsReplacement (both s v) (drop n c.args.replacement.now) q) none h))

@@ -10,8 +10,10 @@ use Rattle.term_expansion.specs.Free.{AddsLeaves, AddsOne, AddsUnbound}
 use Rattle.term_expansion.specs.Heights.{IsAtMost}
 use Rattle.term_names.specs.FreeParts.{CoversFree, AreBodies}
 use Rattle.term_expansion.proofs.LeafLemmas as leaf
+use Rattle.term_names.specs.Scope.{known_in}
 use Rattle.term_names.proofs.Gathering as lemma
 use Rattle.term_names.proofs.free.+gather.Goals as goal
+use Rattle.term_expansion.specs.SymbolsAndTerms.{both}
 
 pub gather-returns-then-has-clause-adds : goal.gather-returns-then-has-clause-adds
 gather-returns-then-has-clause-adds t c =
@@ -46,7 +48,7 @@ gather-gather_let-requires t c =
     let v = c.args.terms.now in
     let w = c.head.new.self in
     let first : w ≡ v = leaf.stays v w c.head.ensures.keeps c.head.ensures.unchanged in
-    (omega arith, (c.requires.table, (subst (λ z. IsAtMost s z c.args.most c.args.r) (sym first) c.requires.low, (λ u refers. c.in_default-head.ensures.let_term s u c.requires.table (subst (λ z. RefersTo s z c.args.r u) first refers), (subst (λ z. AreBodies s z c.args.bodies.now) (sym first) c.requires.bodies, (subst (λ z. CoversFree s z c.args.region.now.seen.keys c.args.region.now.found.keys) (sym first) c.requires.covers, (c.requires.script.0, subst (λ z. IsScript s z c.args.tables.now.names.now.known c.requires.script.0) (sym first) c.requires.script.1)))))))
+    (omega arith, (c.requires.table, (subst (λ z. IsAtMost (both s z) c.args.most c.args.r) (sym first) c.requires.low, (λ u refers. c.in_default-head.ensures.let_term s u c.requires.table (subst (λ z. RefersTo s z c.args.r u) first refers), (subst (λ z. AreBodies (both s z) c.args.bodies.now) (sym first) c.requires.bodies, (subst (λ z. CoversFree (both s z) c.args.region.now.seen.keys c.args.region.now.found.keys) (sym first) c.requires.covers, (c.requires.script.0, subst (λ z. IsScript (both s z) (known_in c.args.tables.now.settings.now c.args.tables.now.names.now) c.requires.script.0) (sym first) c.requires.script.1)))))))
 
 pub gather-returns-in_default-head-clause-covers : goal.gather-returns-in_default-head-clause-covers
 gather-returns-in_default-head-clause-covers t c =
@@ -60,7 +62,7 @@ gather-returns-in_default-head-clause-covers t c =
     (λ one.
     lemma.covers-more s v old c.add-in_default-head.new.set.keys c.args.region.now.found.keys found c.args.r
     (λ u refers. c.in_ok-gather_let.ensures.adds u (subst (λ z. RefersTo s z c.args.r u) (sym first) refers))
-    (subst (AddsOne old c.add-in_default-head.new.set.keys) c.number-in_default-head.ensures.number one) (subst (λ z. CoversFree s z old found) first c.in_ok-gather_let.ensures.covers))
+    (subst (AddsOne old c.add-in_default-head.new.set.keys) c.number-in_default-head.ensures.number one) (subst (λ z. CoversFree (both s z) old found) first c.in_ok-gather_let.ensures.covers))
     c.add-in_default-head.ensures
 
 pub gather-is_variable-requires : goal.gather-is_variable-requires
@@ -94,8 +96,8 @@ gather-gather_all-requires t c =
     let first : w ≡ v = leaf.stays v w c.head.ensures.keeps c.head.ensures.unchanged in
     let same = c.arguments.ensures.same in
     let no_let = λ (u : Term) (refers : RefersTo s w c.args.r u). leaf.application-no_let s c.in-Some-head.head (arguments_of u) u (c.in-Some-head.ensures.application s u c.requires.table (subst (λ z. RefersTo s z c.args.r u) first refers)) in
-    let low = c.parts_are_lower.ensures.arguments s w c.args.most c.args.r c.in_ok-list.list.items (subst (λ z. IsAtMost s z c.args.most c.args.r) (sym first) c.requires.low) (λ u refers. c.in_ok-list.ensures.arguments s u refers (no_let u refers)) in
-    (omega arith, (c.requires.table, (lemma.low_at s w c.arguments.new.terms (c.args.most - 1) c.in_ok-list.list.items c.deref.result.now same c.deref.ensures.value low, (subst (λ z. AreBodies s z c.args.bodies.now) (sym (same ∙ first)) c.requires.bodies, (subst (λ z. CoversFree s z c.args.region.now.seen.keys c.args.region.now.found.keys) (sym (same ∙ first)) c.requires.covers, (c.requires.script.0, subst (λ z. IsScript s z c.args.tables.now.names.now.known c.requires.script.0) (sym (same ∙ first)) c.requires.script.1))))))
+    let low = c.parts_are_lower.ensures.arguments s w c.args.most c.args.r c.in_ok-list.list.items (subst (λ z. IsAtMost (both s z) c.args.most c.args.r) (sym first) c.requires.low) (λ u refers. c.in_ok-list.ensures.arguments s u refers (no_let u refers)) in
+    (omega arith, (c.requires.table, (lemma.low_at s w c.arguments.new.terms (c.args.most - 1) c.in_ok-list.list.items c.deref.result.now same c.deref.ensures.value low, (subst (λ z. AreBodies (both s z) c.args.bodies.now) (sym (same ∙ first)) c.requires.bodies, (subst (λ z. CoversFree (both s z) c.args.region.now.seen.keys c.args.region.now.found.keys) (sym (same ∙ first)) c.requires.covers, (c.requires.script.0, subst (λ z. IsScript (both s z) (known_in c.args.tables.now.settings.now c.args.tables.now.names.now) c.requires.script.0) (sym (same ∙ first)) c.requires.script.1))))))
 
 -- what the arguments have
 adds : (t : ℕ) (c : goal.gather-After-drop-list-2 t) → (u : Term) → RefersTo c.args.tables.now.symbols.now c.args.terms.now c.args.r u → AddsLeaves c.args.tables.now.symbols.now c.args.region.now.found.keys c.gather_all.new.region.found.keys (λ x. IsFree x u)
@@ -124,7 +126,7 @@ gather-returns-clause-covers t c =
     on_ok_weaker c.add-2.result
     (λ one.
     lemma.covers-more s v old c.add-2.new.set.keys c.args.region.now.found.keys found c.args.r (adds t c)
-    (subst (AddsOne old c.add-2.new.set.keys) c.number-2.ensures.number one) (subst (λ z. CoversFree s z old found) first c.in_ok-gather_all.ensures.covers))
+    (subst (AddsOne old c.add-2.new.set.keys) c.number-2.ensures.number one) (subst (λ z. CoversFree (both s z) old found) first c.in_ok-gather_all.ensures.covers))
     c.add-2.ensures
 
 pub gather_all-terms-preserved : goal.gather_all-terms-preserved
@@ -170,7 +172,7 @@ gather_let-gather_all-requires t c =
         c.requires.table,
         (
           lemma.low_at s v c.let_parts.new.terms (c.args.most - 1) p.values.items c.deref-2.result.now same c.deref-2.ensures.value low,
-          (subst (λ z. AreBodies s z c.args.bodies.now) (sym same) c.requires.bodies, (subst (λ z. CoversFree s z c.args.region.now.seen.keys c.args.region.now.found.keys) (sym same) c.requires.covers, (c.requires.script.0, subst (λ z. IsScript s z c.args.tables.now.names.now.known c.requires.script.0) (sym same) c.requires.script.1))),
+          (subst (λ z. AreBodies (both s z) c.args.bodies.now) (sym same) c.requires.bodies, (subst (λ z. CoversFree (both s z) c.args.region.now.seen.keys c.args.region.now.found.keys) (sym same) c.requires.covers, (c.requires.script.0, subst (λ z. IsScript (both s z) (known_in c.args.tables.now.settings.now c.args.tables.now.names.now) c.requires.script.0) (sym same) c.requires.script.1))),
         ),
       ),
     )
@@ -186,7 +188,7 @@ gather_let-leaves_of-requires t c =
       omega arith,
       (
         c.requires.table,
-        (subst (λ z. IsAtMost s z (c.args.most - 1) p.body) (sym (again ∙ c.let_parts.ensures.same)) low, (subst (λ z. AreBodies s z c.gather_all.new.bodies) (sym again) c.in_ok-gather_all.ensures.bodies, (c.requires.script.0, subst (λ z. IsScript s z c.args.tables.now.names.now.known c.requires.script.0) (sym (again ∙ c.let_parts.ensures.same)) c.requires.script.1))),
+        (subst (λ z. IsAtMost (both s z) (c.args.most - 1) p.body) (sym (again ∙ c.let_parts.ensures.same)) low, (subst (λ z. AreBodies (both s z) c.gather_all.new.bodies) (sym again) c.in_ok-gather_all.ensures.bodies, (c.requires.script.0, subst (λ z. IsScript (both s z) (known_in c.args.tables.now.settings.now c.args.tables.now.names.now) c.requires.script.0) (sym (again ∙ c.let_parts.ensures.same)) c.requires.script.1))),
       ),
     )
 
@@ -207,7 +209,7 @@ pub gather_let-returns-clause-bodies : goal.gather_let-returns-clause-bodies
 gather_let-returns-clause-bodies t c =
     let s = c.args.tables.now.symbols.now in
     let z = c.gather_all.new.terms in
-    subst (λ z. AreBodies s z c.insert.new.self) (c.gather_all.ensures.same ∙ c.let_parts.ensures.same)
+    subst (λ z. AreBodies (both s z) c.insert.new.self) (c.gather_all.ensures.same ∙ c.let_parts.ensures.same)
     (lemma.bodies-more s z c.leaves_of.new.bodies c.insert.new.self c.number-3.result c.in_ok-leaves.leaves c.in_ok-insert.ensures.updates.0
     (λ u refers. c.in_ok-leaves.ensures.leaves u (subst (λ r. RefersTo s z r u) c.number-3.ensures.number refers)) c.in_ok-leaves.ensures.bodies)
 
@@ -216,7 +218,7 @@ gather_let-returns-clause-covers t c =
     let s = c.args.tables.now.symbols.now in
     let seen = c.gather_all.new.region.seen.keys in
     let found = c.gather_all.new.region.found.keys in
-    lemma.covers-kept s c.args.terms.now seen found c.add_unbound-2.new.found.keys c.in_ok-add_unbound.ensures.kept (subst (λ z. CoversFree s z seen found) c.let_parts.ensures.same c.in_ok-gather_all.ensures.covers)
+    lemma.covers-kept s c.args.terms.now seen found c.add_unbound-2.new.found.keys c.in_ok-add_unbound.ensures.kept (subst (λ z. CoversFree (both s z) seen found) c.let_parts.ensures.same c.in_ok-gather_all.ensures.covers)
 
 pub gather_let-returns-in-Some-get-clause-adds : goal.gather_let-returns-in-Some-get-clause-adds
 gather_let-returns-in-Some-get-clause-adds t c =
@@ -241,5 +243,5 @@ gather_let-returns-in-Some-get-clause-covers t c =
     let seen = c.gather_all.new.region.seen.keys in
     let found = c.gather_all.new.region.found.keys in
     on_ok_weaker c.add_unbound.result
-    (λ unbound. lemma.covers-kept s c.args.terms.now seen found c.add_unbound.new.found.keys unbound.kept (subst (λ z. CoversFree s z seen found) c.let_parts.ensures.same c.in_ok-gather_all.ensures.covers))
+    (λ unbound. lemma.covers-kept s c.args.terms.now seen found c.add_unbound.new.found.keys unbound.kept (subst (λ z. CoversFree (both s z) seen found) c.let_parts.ensures.same c.in_ok-gather_all.ensures.covers))
     c.add_unbound.ensures

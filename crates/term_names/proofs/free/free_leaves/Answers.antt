@@ -9,8 +9,8 @@ pub returns-then-not-may_have_variables-clause-free : goal.returns-then-not-may_
 returns-then-not-may_have_variables-clause-free c t h =
     let none = c.if-not-may_have_variables.ensures refl in
     rw c.new.ensures.items
-    (leaves-free c.args.symbols.now [] t.tree (none-free c.args.symbols.now c.args.terms.now c.args.what.term (λ k x. none k x.name x.sort) t.tree h.refers))
+    (leaves-free c.args.tables.now.symbols.now [] t.tree (none-free c.args.tables.now.symbols.now c.args.terms.now c.args.what.term (λ k x. none k x.name x.sort) t.tree h.refers))
 
 pub returns-clause-free : goal.returns-clause-free
 returns-clause-free c =
-    IfOk-weaker c.leaves_of.result _ _ (λ leaves found t h. leaves-free c.args.symbols.now leaves.items t.tree (found t.tree h.refers)) c.leaves_of.ensures.leaves
+    IfOk-weaker c.leaves_of.result _ _ (λ leaves found t h. leaves-free c.args.tables.now.symbols.now leaves.items t.tree (found t.tree h.refers)) c.leaves_of.ensures.leaves

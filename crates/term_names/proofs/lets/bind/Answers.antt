@@ -31,6 +31,6 @@ variables-preserved c =
       λ v bs ps h g.
           bind-next _ v c.args.replaces_lets c.args.leaves.now c.args.values.now c.args.from c.variables.at c.get.result c.args.names.now.scope c.variables.names.scope
           c.bind_one.new.names.scope c.variables-test.true below c.get.ensures (c.in_ok-bind_one.ensures.bound v) (c.variables.invariant.1 v) bs ps h g,
-      c.in_ok-bind_one.ensures.known ∙ c.variables.invariant.2,
+      c.in_ok-bind_one.ensures.own ∙ c.variables.invariant.2,
       (e ∷ inner, more ∙ ap (λ xs. e ∷ xs) split, omega arith),
     )

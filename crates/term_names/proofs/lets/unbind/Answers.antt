@@ -11,5 +11,5 @@ variables-preserved c =
       omega arith,
       subst (λ n. c.pop.new.self.scope ≡ drop n c.args.names.now.scope) next
           (sym (drop-tail {X = Scoped} (c.args.count - c.variables.left) c.args.names.now.scope e c.pop.new.self.scope (sym c.variables.invariant.1 ∙ same))),
-      c.pop.ensures.known ∙ c.variables.invariant.2,
+      c.pop.ensures.own ∙ c.variables.invariant.2,
     )

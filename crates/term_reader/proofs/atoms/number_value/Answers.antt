@@ -8,7 +8,8 @@ leaf-requires c = number_low c.args.symbols.now c.numeral.new.self c.in_ok-leaf.
 
 pub returns-clause-value : goal.returns-clause-value
 returns-clause-value c =
-    number_is c.numeral.new.self c.leaf.result c.in_ok-leaf.leaf _ c.args.n c.leaf.ensures.number (to_z-of_z c.ranges.n) c.in_ok-leaf.ensures.leaf c.leaf.ensures.stands
+    number_is c.numeral.new.self c.leaf.result c.in_ok-leaf.leaf _ c.args.n c.leaf.ensures.number (to_z-of_z c.ranges.n) c.in_ok-leaf.ensures.leaf
+    c.leaf.ensures.stands
 
 pub returns-clause-symbols : goal.returns-clause-symbols
 returns-clause-symbols c = adds_numeral c.args.symbols.now c.numeral.new.self c.in_ok-leaf.leaf _ c.in_ok-leaf.ensures.found_or_new c.numeral.ensures.keeps

@@ -1,8 +1,9 @@
-use Rattle.std.proofs.Common.{◌≤◌, ◌<◌, arith, length}
-use Rattle.term_reader.specs.Credits.{node_of, bound_of, effort}
-use Rattle.term_reader.specs.declared.reader.Reader.{Reader}
+use Rattle.std.proofs.Common.{arith, IfOk}
+use Rattle.term_reader.specs.Leaving.{Spends}
+use Rattle.term_reader.specs.ReadingViews.{reader_in}
 use Rattle.term_reader.specs.declared.reader.Turn.{Turn}
-use Rattle.term_reader.proofs.EnteringTerms.{application_goes, application_unknown, application_further, at_opened, opened_goes}
+use Rattle.term_reader.proofs.EnteringTerms.{application_goes, application_unknown, application_further, opened_goes, opened_spends}
+use Rattle.term_reader.proofs.InnermostForm.{spends_inside, spends_few, spends_progress}
 use Rattle.term_reader.proofs.entering.enter_application.Goals as goal
 
 pub place_at-requires : goal.place_at-requires
@@ -14,35 +15,39 @@ pub place_at-requires-2 : goal.place_at-requires-2
 place_at-requires-2 c = let (v, g, h) = c.requires in h.at.inside
 
 pub returns-in_default-clause-goes : goal.returns-in_default-clause-goes
-returns-in_default-clause-goes c =
-    λ v g h.
-    application_unknown c.args.items.now g c.args.symbols.now v c.args.reader.now c.args.k c.args.parts.now.head c.args.parts.now.first c.args.parts.now.end c.place_at.result c.refused.result h
+returns-in_default-clause-goes c v g h =
+    let p = c.args.parts.now in
+    application_unknown c.args.items.now g c.args.symbols.now v (reader_in c.args.settings.now c.args.reader.now) c.args.k p.head p.first p.end
+    c.place_at.result c.refused.result h
     c.place_at.ensures c.refused.ensures c.in_default.ensures
 
 pub returns-clause-goes : goal.returns-clause-goes
-returns-clause-goes c =
-    λ v g h.
-    opened_goes c.args.reader.now c.open_form.new.reader _ c.args.parts.now.first c.open_form.result c.open_form.ensures.opened c.args.items.now g c.args.symbols.now v c.open_form.ensures.fault
+returns-clause-goes c v g h =
+    let p = c.args.parts.now in
+    opened_goes c.args.settings.now c.args.reader.now c.open_form.new.reader _ p.first c.open_form.result c.open_form.ensures.opened c.args.items.now g
+    c.args.symbols.now v c.open_form.ensures.fault
     (rw c.len.ensures
-    (application_goes c.args.items.now g c.args.symbols.now v c.args.reader.now c.args.k c.args.parts.now.head c.args.parts.now.first c.args.parts.now.end c.place_at-2.result c.in-Some.applied h
+    (application_goes c.args.items.now g c.args.symbols.now v (reader_in c.args.settings.now c.args.reader.now) c.args.k p.head p.first p.end
+    c.place_at-2.result c.in-Some.applied h
     c.place_at-2.ensures c.in-Some.ensures))
 
-pub returns-clause-inside : goal.returns-clause-inside
-returns-clause-inside c =
+spends : (c : goal.After-open_form)
+    → IfOk c.open_form.result
+    (λ (t : Turn). Spends c.args.items.now c.args.symbols.now (reader_in c.args.settings.now c.args.reader.now) (Turn.Read c.args.k) c.args.symbols.now
+    (reader_in c.args.settings.now c.open_form.new.reader) t)
+spends c =
     let (v, g, h) = c.requires in
-    let further = application_further c.args.items.now g c.args.symbols.now v c.args.reader.now c.args.k c.args.parts.now.head c.args.parts.now.first c.args.parts.now.end h in
-    at_opened c.args.reader.now c.open_form.new.reader _ c.args.parts.now.first c.open_form.result c.open_form.ensures.opened (λ (q : Reader) (t : Turn). node_of t ≤ length c.args.items.now.nodes) (omega arith)
+    let p = c.args.parts.now in
+    let further = application_further c.args.items.now g c.args.symbols.now v (reader_in c.args.settings.now c.args.reader.now) c.args.k p.head p.first p.end
+    h in
+    opened_spends c.args.settings.now c.args.reader.now c.open_form.new.reader _ p.first c.open_form.result c.open_form.ensures.opened c.args.items.now
+    c.args.symbols.now c.args.k further (let later = further.later in omega arith)
+
+pub returns-clause-inside : goal.returns-clause-inside
+returns-clause-inside c = spends_inside _ _ _ _ _ _ c.open_form.result (spends c)
 
 pub returns-clause-few : goal.returns-clause-few
-returns-clause-few c =
-    let (v, g, h) = c.requires in
-    let further = application_further c.args.items.now g c.args.symbols.now v c.args.reader.now c.args.k c.args.parts.now.head c.args.parts.now.first c.args.parts.now.end h in
-    at_opened c.args.reader.now c.open_form.new.reader _ c.args.parts.now.first c.open_form.result c.open_form.ensures.opened
-    (λ (q : Reader) (t : Turn). bound_of c.args.symbols.now c.args.items.now.nodes q (node_of t) ≤ bound_of c.args.symbols.now c.args.items.now.nodes c.args.reader.now c.args.k) (omega arith)
+returns-clause-few c = spends_few _ _ _ _ _ _ c.open_form.result (spends c)
 
 pub returns-clause-progress : goal.returns-clause-progress
-returns-clause-progress c =
-    let (v, g, h) = c.requires in
-    let further = application_further c.args.items.now g c.args.symbols.now v c.args.reader.now c.args.k c.args.parts.now.head c.args.parts.now.first c.args.parts.now.end h in
-    at_opened c.args.reader.now c.open_form.new.reader _ c.args.parts.now.first c.open_form.result c.open_form.ensures.opened
-    (λ (q : Reader) (t : Turn). effort c.args.items.now.nodes q t < effort c.args.items.now.nodes c.args.reader.now (Turn.Read c.args.k)) (omega arith)
+returns-clause-progress c = spends_progress _ _ _ _ _ _ c.open_form.result (spends c)

@@ -7,24 +7,20 @@ use Rattle.term_reader.proofs.leaving.leave_arguments.Goals as goal
 pub apply-requires-clause-head : goal.apply-requires-clause-head
 apply-requires-clause-head c =
     let (items, g, h) = c.requires.read in
-    rw c.in_ok-push.ensures.pushed
-    (applied_here items g c.args.symbols.now c.args.terms.now c.args.reader.now c.args.value c.args.form.now.end c.args.form.now h)
+    rw c.in_ok-push.ensures.pushed (applied_here _ _ _ _ _ _ _ _ h)
 
 pub returns-in_err-made-clause-leaves : goal.returns-in_err-made-clause-leaves
 returns-in_err-made-clause-leaves c = λ items g h.
     let p = err_from_is_err_and c.from_residual-in_err-made.result c.from_residual-in_err-made.ensures.1 in
-    rw (p.1, p.2)
-    (arguments_fault items g c.args.symbols.now c.args.terms.now c.args.reader.now c.args.value c.args.form.now.end c.args.form.now h
-    refl c.apply.new.terms c.push.new.self c.in_ok-push.ensures.pushed c.in_err-made.field-0.0 c.in_err-made.ensures.makes _)
+    rw (p.1, p.2) (arguments_fault _ _ _ _ _ _ _ _ h refl _ _ c.in_ok-push.ensures.pushed _ c.in_err-made.ensures.makes _)
 
 pub returns-in_err-term-clause-leaves : goal.returns-in_err-term-clause-leaves
 returns-in_err-term-clause-leaves c = λ items g h.
     let p = err_from_is_err_and c.from_residual-in_err-term.result c.from_residual-in_err-term.ensures.1 in
     rw (p.1, p.2)
-    (arguments_refused items g c.args.symbols.now c.args.terms.now c.args.reader.now c.args.value c.args.form.now.end c.args.form.now h
-    refl c.apply.new.terms c.push.new.self c.in_ok-push.ensures.pushed c.in_ok-made.made c.in_ok-made.ensures.makes c.in_err-term.field-0.0 c.in_err-term.ensures _)
+    (arguments_refused _ _ _ _ _ _ _ _ h refl _ _ c.in_ok-push.ensures.pushed _ c.in_ok-made.ensures.makes _ c.in_err-term.ensures _)
 
 pub returns-clause-leaves : goal.returns-clause-leaves
 returns-clause-leaves c = λ items g h.
-    arguments_settled items g c.args.symbols.now c.args.terms.now c.args.reader.now c.args.value c.args.form.now.end c.args.form.now h
-    refl c.apply.new.terms c.apply.ensures.keeps c.push.new.self c.in_ok-push.ensures.pushed c.in_ok-made.made c.in_ok-made.ensures.makes c.in_ok-term.term c.in_ok-term.ensures c.truncate.new.self c.truncate.ensures
+    arguments_settled _ _ _ _ _ _ _ _ h refl _ c.apply.ensures.keeps _ c.in_ok-push.ensures.pushed
+    _ c.in_ok-made.ensures.makes _ c.in_ok-term.ensures c.truncate.new.self c.truncate.ensures

@@ -1,5 +1,6 @@
 use Rattle.std.proofs.Common.{◌≡◌, ◌-◌}
 use Rattle.term_names.specs.Known.{macro_of}
+use Rattle.term_names.specs.Scope.{known_in}
 use Rattle.term_names.specs.declared.names.Which.{Which}
 use Rattle.term_reader.proofs.NamesLeft.{AreLeft}
 use Rattle.term_reader.specs.Layers.{AreTermAttributes}
@@ -8,9 +9,9 @@ use Rattle.term_reader.proofs.naming.give_each.Given as goal
 abbrev pub invariant-each : goal.invariant-each
 invariant-each l = record {
   there : AreTermAttributes l.attributes.items.now l.k l.attributes.end;
-  left : AreLeft l.attributes.items.now l.term.value.now l.term.free.now l.attributes.first l.k l.attributes.end l.fn.names.known l.names.known;
-  macros : (w : Which) → macro_of l.names.known w ≡ macro_of l.fn.names.known w;
-  base : l.names.known.base ≡ l.fn.names.known.base;
+  left : AreLeft l.attributes.items.now l.term.value.now l.term.free.now l.attributes.first l.k l.attributes.end
+      (known_in l.fn.settings l.fn.names) (known_in l.fn.settings l.names);
+  macros : (w : Which) → macro_of (known_in l.fn.settings l.names) w ≡ macro_of (known_in l.fn.settings l.fn.names) w;
   scope : l.names.scope ≡ l.fn.names.scope;
 }
 

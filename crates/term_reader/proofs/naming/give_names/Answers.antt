@@ -3,6 +3,7 @@ use Rattle.text_items.specs.ItemShapes.{Name}
 use Rattle.term_expansion.specs.Free.{AreFreeLeaves}
 use Rattle.rule_model.specs.Replacement.{free_variables}
 use Rattle.problem_text.specs.Terms.{with_names}
+use Rattle.term_names.specs.Scope.{known_in}
 use Rattle.term_reader.proofs.NamesLeft.{where_none}
 use Rattle.term_reader.proofs.Staying.{table_keeps_none, adds_none, value_stays, script_stays}
 use Rattle.term_reader.proofs.naming.give_names.Goals as goal
@@ -26,4 +27,4 @@ returns-clause-given c =
       low = c.requires.low;
       free = subst (λ (leaves : List ℕ). AreFreeLeaves s leaves (free_variables t.tree)) (sym c.deref.ensures.value) (c.in_ok-free.ensures.free t value);
     })
-    (script_stays s s old new (adds_none s) keeps c.args.names.now.known sc is)
+    (script_stays s s old new (adds_none s) keeps (known_in c.args.settings.now c.args.names.now) sc is)

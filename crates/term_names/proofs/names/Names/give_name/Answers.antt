@@ -1,12 +1,11 @@
 -- The name gets the entry of a named term, which goes last; the variables in scope stay.
 use Rattle.std.proofs.Common.{◌≡◌, ◌∙◌, ◌+◌, length, ap, reverse, arith, rules}
-use Rattle.term_names.specs.EntryTables.{AreTableNumbers, IsInStep, entries_view}
-use Rattle.term_names.specs.Known.{KnownView, base_of, known_entry}
-use Rattle.term_names.specs.Scope.{NamesView}
+use Rattle.term_names.specs.EntryTables.{AreTableNumbers, IsInStep}
+use Rattle.term_names.specs.Scope.{OwnNames}
 use Rattle.term_names.specs.declared.entries.Entry.{Entry}
 use Rattle.term_names.specs.declared.entries.Entry.TheVariants as variant
 use Rattle.term_names.proofs.NameEntries.{length_pushed, AreTableNumbers-same, AreTableNumbers-put}
-use Rattle.term_names.proofs.PutEntries.{linked_put, scoped_put, number_put, in_step_put, disjoint_put, unknown_base}
+use Rattle.term_names.proofs.PutEntries.{linked_put, scoped_put, number_put, in_step_put}
 use Rattle.term_names.proofs.names.Names.give_name.Goals as goal
 
 abbrev entry : (c : goal.After-unwrap-2) → Entry
@@ -29,18 +28,13 @@ numbers c =
     AreTableNumbers-put _ _ _ _ _ put.0 (number_put _ _ c.args.name.now (entry c) _ c.in_ok-number.ensures.put)
     (AreTableNumbers-same _ _ _ c.in_ok-reserve-2.ensures.entries.2 (in_step c).numbers)
 
-abbrev known : (c : goal.After-unwrap-2) → KnownView
-known c = record { base = base_of c.self.inside.base; own = entries_view c.self.inside.own.table c.self.inside.own.macros.items c.self.inside.own.named.items }
-
 pub invariant_of-self-2 : goal.invariant_of-self-2
 invariant_of-self-2 c = (
   record { there = (in_step c).there; numbers = numbers c },
   linked_put _ _ c.args.name.now (entry c) _ c.in_ok-number.ensures.put _ c.self.invariant.1,
-  disjoint_put (base_of c.self.inside.base) _ _ c.args.name.now (entry c) c.in_ok-number.ensures.entries
-      (unknown_base (known c) c.args.name.now (ap (λ (n : NamesView). known_entry n.known c.args.name.now) c.self.view_is ∙ c.requires)) c.self.invariant.2,
 )
 
 pub returns-clause-scope : goal.returns-clause-scope
 returns-clause-scope c =
     scoped_put _ _ c.args.name.now (entry c) _ c.in_ok-number.ensures.put (reverse c.self.inside.held.items) c.self.invariant.1.outer
-    ∙ ap (λ (n : NamesView). n.scope) c.self.view_is
+    ∙ ap (λ (n : OwnNames). n.scope) c.self.view_is

@@ -1,9 +1,7 @@
 -- The variable is linked to the one of its name that was innermost.
 use Rattle.std.proofs.Common.{◌≡◌, ◌∙◌, ◌++◌, [], ◌∷◌, ap, length, rules}
-use Rattle.term_names.specs.Entries.{lookup}
-use Rattle.term_names.specs.Known.{base_of}
 use Rattle.term_names.specs.NameTable.{entries_of}
-use Rattle.term_names.specs.Scope.{NamesView}
+use Rattle.term_names.specs.Scope.{OwnNames}
 use Rattle.term_names.proofs.PutEntries.{linked_push, scoped_push, in_step_push}
 use Rattle.term_names.proofs.names.Names.push.Goals as goal
 
@@ -15,8 +13,6 @@ invariant_of-self-2 c =
       in_step_push _ _ _ c.args.name.now _ _ _ _ _ _ c.in_ok-name.ensures.numbered c.set_innermost.ensures c.innermost-outer.ensures more all c.self.invariant.1
           _ _ _ c.in_ok-name.ensures.entries c.self.invariant.0,
       linked_push _ _ _ c.args.name.now _ _ _ _ _ _ c.in_ok-name.ensures.numbered c.set_innermost.ensures c.innermost-outer.ensures more all c.self.invariant.1,
-      λ name some.
-          ap (λ es. lookup es name) (ap entries_of c.set_innermost.ensures ∙ c.in_ok-name.ensures.entries) ∙ c.self.invariant.2 name some,
     )
 
 pub returns-clause-pushed : goal.returns-clause-pushed
@@ -27,10 +23,7 @@ returns-clause-pushed c =
     let same = ap entries_of c.set_innermost.ensures ∙ c.in_ok-name.ensures.entries in
     let scope = scoped_push _ _ _ c.args.name.now _ _ _ _ _ _ c.in_ok-name.ensures.numbered c.set_innermost.ensures c.innermost-outer.ensures more all c.self.invariant.1 in
     (λ i. record {
-      known = record {
-        base = base_of c.self.inside.base;
-        own = record { names = same i; macros = c.self.inside.own.macros.items; named = c.self.inside.own.named.items };
-      };
+      own = record { names = same i; macros = c.self.inside.own.macros.items; named = c.self.inside.own.named.items };
       scope = scope i;
     })
-    ∙ ap (λ (n : NamesView). record n { scope = record { name = c.args.name.now; bound = c.args.bound } ∷ n.scope }) c.self.view_is
+    ∙ ap (λ (n : OwnNames). record n { scope = record { name = c.args.name.now; bound = c.args.bound } ∷ n.scope }) c.self.view_is
