@@ -1,5 +1,5 @@
 -- The items of a proof's text, the first one after the other, and how they begin.
-use Rattle.std.proofs.Common.{◌≡◌, refl, sym, ◌∙◌, ap, subst, ℕ, List, [], ◌∷◌, length, Bool, true, false, Ok, Err, Option, Some, None, bytes_eq, unwrap_or, if◌then◌else◌}
+use Rattle.std.proofs.Common.{◌≡◌, refl, sym, ◌∙◌, ap, subst, ℕ, List, [], ◌∷◌, Bool, true, false, Ok, Err, Option, Some, None, bytes_eq, unwrap_or, if◌then◌else◌}
 use Rattle.std.specs.Prelude.{codes}
 use Rattle.sexpr.specs.declared.causes.Refusal.{Refusal}
 use Rattle.sexpr.specs.declared.lexing.Lexer.{Lexer}
@@ -14,23 +14,11 @@ use Rattle.text_items.specs.Lexers.{GoesOnWith}
 use Rattle.text_items.specs.Nesting.{AreItsNodes}
 use Rattle.text_items.specs.Spelling.{is_list_item}
 use Rattle.text_items.specs.declared.nodes.Node.{Node}
+use Rattle.text_items.proofs.TokensLeft.{Begins, begins, not_faulty}
 use Rattle.alethe_text.specs.Commands.{is_symbol_of}
 use Rattle.alethe_text.specs.ProofTexts.{behind_answer, unwrapped_commands, is_list_of_commands}
 use Rattle.alethe_items.specs.TextItems.{HasCommandItems, IsListEnd, IsFirst, behind_list}
 use Rattle.alethe_items.specs.Brackets.{is_open, is_close, is_bracket, begins_bracket}
-
--- what reading one token tells of the tokens that are left
-abbrev Begins : Read → List Token → Type 0
-Begins r [] = r ≡ Ok None
-Begins r (t ∷ ts) = r ≡ Ok (Some t)
-
-begins : (text : List ℕ) (at : ℕ) (tokens : List Token) → AreTokens text at tokens → Begins (next_token text at) tokens
-begins text at [] h = h
-begins text at (t ∷ ts) h = h.0
-
-not_faulty : (tokens : List Token) (r : Refusal) → Begins (Err r) tokens → ⊥
-not_faulty [] r h = cc h
-not_faulty (t ∷ ts) r h = cc h
 
 pub no_fault : (text : List ℕ) (at : ℕ) (in_list : Bool) (items behind : Items) (r : Refusal) → next_token text at ≡ Err r → HasCommandItems text in_list at items behind → ⊥
 no_fault text at in_list items behind r is h = not_faulty h.tokens r (subst (λ (x : Read). Begins x h.tokens) is (begins text at h.tokens h.read))

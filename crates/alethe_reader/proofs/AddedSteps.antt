@@ -35,6 +35,7 @@ use Rattle.alethe_reader.proofs.IdsInUse.{sights_seen, unused_new, ids_step, ids
 use Rattle.alethe_reader.proofs.StandingSteps.{ends_with}
 use Rattle.alethe_reader.proofs.StoredItems.{commands_same}
 use Rattle.alethe_reader.proofs.WrittenStays.{first_same, ids_same}
+use Rattle.term_expansion.specs.SymbolsAndTerms.{both}
 
 -- the indices of the assumes of a scope
 assumes_indices : {V T : Type 0} (nesting : Nesting V T) (items : ProofItems V T) → map (λ (c : Sight). c.index) (assumes_seen nesting items) ≡ assumes_in nesting items
@@ -62,21 +63,21 @@ refer_pairs s v (r ∷ refs) (t ∷ ts) h = (h.0, refer_pairs s v refs ts h.1)
 
 -- What is seen and what may be discharged, and whether an id is that of the innermost anchor, is so by references and by terms.
 module _ (s : Table) (v : TermsView) where
-  open_same : (n : Nesting ℕ ℕ) (m : Nesting Var Term) (id : List ℕ) → StandForNesting s v n m → is_open_id n id ≡ is_open_id m id
+  open_same : (n : Nesting ℕ ℕ) (m : Nesting Var Term) (id : List ℕ) → StandForNesting (both s v) n m → is_open_id n id ≡ is_open_id m id
   open_same outermost outermost id h = refl
   open_same outermost (inside around before anchor) id h = absurd h
   open_same (inside around before anchor) outermost id h = absurd h
   open_same (inside around before anchor) (inside outer behind other) id h = ap (bytes_eq id) h.2
 
-  seen_same : (n : Nesting ℕ ℕ) (m : Nesting Var Term) (is : ProofItems ℕ ℕ) (ps : ProofItems Var Term) → StandForNesting s v n m → StandForItems s v is ps → seen n is ≡ seen m ps
+  seen_same : (n : Nesting ℕ ℕ) (m : Nesting Var Term) (is : ProofItems ℕ ℕ) (ps : ProofItems Var Term) → StandForNesting (both s v) n m → StandForItems s v is ps → seen n is ≡ seen m ps
   seen_same n m is ps h k = sym (sights_seen (at n is)) ∙ (ap sights_of (ids_same s v (at n is) (at m ps) h k) ∙ sights_seen (at m ps))
 
   assumes_same : (n : Nesting ℕ ℕ) (m : Nesting Var Term) → first_index n ≡ first_index m → (is : ProofItems ℕ ℕ) (ps : ProofItems Var Term) → StandForItems s v is ps → assumes_in n is ≡ assumes_in m ps
   assumes_same n m e _ _ no_items_stand = refl
-  assumes_same n m e _ _ (assume_stands is ps id r t h refers) = both (assumes_same n m e is ps h) e (commands_same s v is ps h)
+  assumes_same n m e _ _ (assume_stands is ps id r t h refers) = joined (assumes_same n m e is ps h) e (commands_same s v is ps h)
     where
-      both : assumes_in n is ≡ assumes_in m ps → first_index n ≡ first_index m → commands_in is ≡ commands_in ps → assumes_in n (with_assume is id r) ≡ assumes_in m (with_assume ps id t)
-      both a b c = cc
+      joined : assumes_in n is ≡ assumes_in m ps → first_index n ≡ first_index m → commands_in is ≡ commands_in ps → assumes_in n (with_assume is id r) ≡ assumes_in m (with_assume ps id t)
+      joined a b c = cc
   assumes_same n m e _ _ (step_stands is ps step of h stands) = assumes_same n m e is ps h
   assumes_same n m e _ _ (subproof_stands is ps bs cs within proof step of h b g stands) = assumes_same n m e is ps h
 
@@ -96,7 +97,7 @@ module _ (s : Table) (v : TermsView) where
         resolution_same (inl e) = inl (is.rule ∙ e)
         resolution_same (inr e) = inr (is.rule ∙ e)
 
-module _ (s : Table) (v : TermsView) (settings : ProofSettings) (d : Session) (n : NewStep) (of : Step Term) (p : ProofState) (h : IsToAdd s v settings d n of p) where
+module _ (s : Table) (v : TermsView) (settings : ProofSettings) (d : Session) (n : NewStep) (of : Step Term) (p : ProofState) (h : IsToAdd (both s v) settings d n of p) where
   abbrev step : Step ℕ
   step = step_added d.parts n
 
@@ -148,7 +149,7 @@ module _ (s : Table) (v : TermsView) (settings : ProofSettings) (d : Session) (n
       (subst (λ (here : Standing). AreSeen here.sees of.premises) c.1 h.premises)
       (subst (λ (here : Standing). AreSeen here.discharges of.discharged) c.1 h.discharged)
     where
-      go : (r : Nesting ℕ ℕ) (m : Nesting Var Term) → StandForNesting s v r m → is_open_id m of.id ≡ true → AreSeen (closes_scope m p.scope.items).sees of.premises → AreSeen (closes_scope m p.scope.items).discharges of.discharged → MayCloseHere r d.builder.items step
+      go : (r : Nesting ℕ ℕ) (m : Nesting Var Term) → StandForNesting (both s v) r m → is_open_id m of.id ≡ true → AreSeen (closes_scope m p.scope.items).sees of.premises → AreSeen (closes_scope m p.scope.items).discharges of.discharged → MayCloseHere r d.builder.items step
       go outermost outermost k e f g = absurd (cc)
       go outermost (inside around before anchor) k e f g = absurd k
       go (inside around before anchor) outermost k e f g = absurd k
@@ -170,12 +171,12 @@ module _ (s : Table) (v : TermsView) (settings : ProofSettings) (d : Session) (n
 
   -- what is written behind it, where it stands in the scope
   written_here : (e : Session) → is_open_id p.scope.nesting of.id ≡ false → e.builder ≡ take_step d.builder step → e.ids.used ≡ d.ids.used ++ in_use step.id role.Step (next_index d.builder) ∷ [] → e.anchors ≡ d.anchors → e.bound ≡ d.bound
-      → IsWritten s v e (steps.with_step of p)
+      → IsWritten (both s v) e (steps.with_step of p)
   written_here e not_open built used anchors bound =
-      subst (IsWritten s v e) (sym scoped) (record {
+      subst (IsWritten (both s v) e) (sym scoped) (record {
         nesting = rw (added) h.written.nesting;
         items = subst (λ (b : Scope ℕ ℕ). StandForItems s v b.items (with_step p.scope.items of)) (sym added) (step_stands d.builder.items p.scope.items step of h.written.items is);
-        ids = used ∙ (both h.written.ids refl ∙ (sym (ids_step d.builder step) ∙ ap ids_in (sym added)));
+        ids = used ∙ (joined h.written.ids refl ∙ (sym (ids_step d.builder step) ∙ ap ids_in (sym added)));
         places = rw anchors h.written.places;
         starts_kept = rw (anchors, added) h.written.starts_kept;
         counts_kept = rw (anchors, added) h.written.counts_kept;
@@ -188,17 +189,17 @@ module _ (s : Table) (v : TermsView) (settings : ProofSettings) (d : Session) (n
       scoped : steps.with_step of p ≡ record p { scope = add_step p.scope of }
       scoped = ap (λ b. record p { scope = if b then close_scope p.scope.nesting p.scope.items of else add_step p.scope of; anchors = if b then take (length p.anchors - 1) p.anchors else p.anchors }) not_open
 
-      both : {us ws : List Used} {id id2 : List ℕ} → us ≡ ws → id ≡ id2 → us ++ in_use id role.Step (next_index d.builder) ∷ [] ≡ ws ++ in_use id2 role.Step (next_index d.builder) ∷ []
-      both x y = cc
+      joined : {us ws : List Used} {id id2 : List ℕ} → us ≡ ws → id ≡ id2 → us ++ in_use id role.Step (next_index d.builder) ∷ [] ≡ ws ++ in_use id2 role.Step (next_index d.builder) ∷ []
+      joined x y = cc
 
   -- and where it closes the scope
   written_around : (e : Session) (a : OpenAnchor) → is_open_id p.scope.nesting of.id ≡ true → IsAnchorOf p.scope.nesting a → e.builder ≡ take_step d.builder step
       → e.ids.used ≡ take a.ids d.ids.used ++ in_use step.id role.Step (next_index d.builder) ∷ []
       → ((front : List OpenAnchor) (last : OpenAnchor) → d.anchors.items ≡ front ++ last ∷ [] → e.anchors.items ≡ front)
-      → ((around : Nesting Var Term) (before : ProofItems Var Term) (other : Anchor Var Term) → a.variables ≡ length other.bindings → AreBound s v d.bound (inside around before other) → AreBound s v e.bound around)
-      → IsWritten s v e (steps.with_step of p)
+      → ((around : Nesting Var Term) (before : ProofItems Var Term) (other : Anchor Var Term) → a.variables ≡ length other.bindings → AreBound (both s v) d.bound (inside around before other) → AreBound (both s v) e.bound around)
+      → IsWritten (both s v) e (steps.with_step of p)
   written_around e a opened anchor_of built used popped left =
-      subst (IsWritten s v e) (sym scoped) (go d.builder.nesting p.scope.nesting h.written.nesting refl refl anchor_of opened)
+      subst (IsWritten (both s v) e) (sym scoped) (go d.builder.nesting p.scope.nesting h.written.nesting refl refl anchor_of opened)
     where
       closed : e.builder ≡ close_scope d.builder.nesting d.builder.items step
       closed = built ∙ ap (λ b. if b then close_scope d.builder.nesting d.builder.items step else add_step d.builder step) (opens true opened)
@@ -213,8 +214,8 @@ module _ (s : Table) (v : TermsView) (settings : ProofSettings) (d : Session) (n
           let less : length (map (λ (a : OpenAnchor). a.place) front) ≡ length p.anchors - 1 = omega (arith, count) in
           sym (take-append_seam (map (λ (a : OpenAnchor). a.place) front) (last.place ∷ [])) ∙ (ap (λ k. take k (map (λ (a : OpenAnchor). a.place) front ++ last.place ∷ [])) less ∙ ap (take (length p.anchors - 1)) (sym places))
 
-      go : (r : Nesting ℕ ℕ) (m : Nesting Var Term) → StandForNesting s v r m → d.builder.nesting ≡ r → p.scope.nesting ≡ m → IsAnchorOf m a → is_open_id m of.id ≡ true
-          → IsWritten s v e (record p { scope = close_scope p.scope.nesting p.scope.items of; anchors = take (length p.anchors - 1) p.anchors })
+      go : (r : Nesting ℕ ℕ) (m : Nesting Var Term) → StandForNesting (both s v) r m → d.builder.nesting ≡ r → p.scope.nesting ≡ m → IsAnchorOf m a → is_open_id m of.id ≡ true
+          → IsWritten (both s v) e (record p { scope = close_scope p.scope.nesting p.scope.items of; anchors = take (length p.anchors - 1) p.anchors })
       go outermost outermost k er em anchored o = absurd anchored
       go outermost (inside around before anchor) k er em anchored o = absurd k
       go (inside around before anchor) outermost k er em anchored o = absurd k
@@ -226,20 +227,20 @@ module _ (s : Table) (v : TermsView) (settings : ProofSettings) (d : Session) (n
           let state : close_scope p.scope.nesting p.scope.items of ≡ at outer (with_subproof behind other.bindings p.scope.items of) = ap (λ m. close_scope m p.scope.items of) em in
           let whole : d.builder ≡ at (inside around before anchor) d.builder.items = ap (λ r. at r d.builder.items) er in
           record {
-            nesting = subst (λ (q : Scope Var Term). StandForNesting s v e.builder.nesting q.nesting) (sym state) (subst (λ (b : Scope ℕ ℕ). StandForNesting s v b.nesting outer) (sym now) k.0);
+            nesting = subst (λ (q : Scope Var Term). StandForNesting (both s v) e.builder.nesting q.nesting) (sym state) (subst (λ (b : Scope ℕ ℕ). StandForNesting (both s v) b.nesting outer) (sym now) k.0);
             items = subst (λ (q : Scope Var Term). StandForItems s v e.builder.items q.items) (sym state)
                 (subst (λ (b : Scope ℕ ℕ). StandForItems s v b.items (with_subproof behind other.bindings p.scope.items of)) (sym now)
                 (subproof_stands before behind anchor.bindings other.bindings d.builder.items p.scope.items step of k.1 k.3 h.written.items is));
-            ids = used ∙ (both (anchored.0 ∙ sym same_start) (h.written.ids ∙ ap ids_in whole) refl (ap next_index whole)
+            ids = used ∙ (joined (anchored.0 ∙ sym same_start) (h.written.ids ∙ ap ids_in whole) refl (ap next_index whole)
                 ∙ (sym (ids_close around before anchor d.builder.items step) ∙ ap ids_in (sym now)));
             places = ap (map (λ (a : OpenAnchor). a.place)) (popped start.front start.last start.split) ∙ last_left start.front start.last start.split;
             starts_kept = ap (map (λ (a : OpenAnchor). a.ids)) (popped start.front start.last start.split) ∙ (start.others ∙ ap (λ (b : Scope ℕ ℕ). starts b.nesting) (sym now));
             counts_kept = ap (map (λ (a : OpenAnchor). a.variables)) (popped count.front count.last count.split) ∙ (count.others ∙ ap (λ (b : Scope ℕ ℕ). counts b.nesting) (sym now));
-            bound = subst (λ (q : Scope Var Term). AreBound s v e.bound q.nesting) (sym state) (left outer behind other anchored.1 (subst (AreBound s v d.bound) em h.written.bound));
+            bound = subst (λ (q : Scope Var Term). AreBound (both s v) e.bound q.nesting) (sym state) (left outer behind other anchored.1 (subst (AreBound (both s v) d.bound) em h.written.bound));
           }
         where
-          both : {m n : ℕ} {us ws : List Used} {id id2 : List ℕ} {k l : ℕ} → m ≡ n → us ≡ ws → id ≡ id2 → k ≡ l → take m us ++ in_use id role.Step k ∷ [] ≡ take n ws ++ in_use id2 role.Step l ∷ []
-          both x y z w = cc
+          joined : {m n : ℕ} {us ws : List Used} {id id2 : List ℕ} {k l : ℕ} → m ≡ n → us ≡ ws → id ≡ id2 → k ≡ l → take m us ++ in_use id role.Step k ∷ [] ≡ take n ws ++ in_use id2 role.Step l ∷ []
+          joined x y z w = cc
 
   -- where the reader stands then
   place_after : (o : Option OpenAnchor) → IsClosing d.ids.used p of.id h.here o → h.here.nesting ≡ (steps.with_step of p).scope.nesting
@@ -250,7 +251,7 @@ module _ (s : Table) (v : TermsView) (settings : ProofSettings) (d : Session) (n
       go outermost = refl
       go (inside around before anchor) = refl
 
-  is_session : (e : Session) → e.strict ≡ d.strict → e.reader ≡ d.reader → IsWritten s v e (steps.with_step of p) → IsProofSession s v settings e (steps.with_step of p)
+  is_session : (e : Session) → e.strict ≡ d.strict → e.reader ≡ d.reader → IsWritten (both s v) e (steps.with_step of p) → IsProofSession (both s v) settings e (steps.with_step of p)
   is_session e strict same written = record {
     strict = h.strict ∙ sym strict;
     reader = subst (λ r. IsReaderOf s v r p.script (place_in settings (steps.with_step of p).scope.nesting)) (sym same)
@@ -259,14 +260,14 @@ module _ (s : Table) (v : TermsView) (settings : ProofSettings) (d : Session) (n
   }
 
   pub added_here : (e : Session) → e.strict ≡ d.strict → n.closes ≡ None → e.reader ≡ d.reader → e.builder ≡ take_step d.builder step → e.ids.used ≡ d.ids.used ++ in_use step.id role.Step (next_index d.builder) ∷ [] → e.anchors ≡ d.anchors → e.bound ≡ d.bound
-      → IsProofSession s v settings e (steps.with_step of p)
+      → IsProofSession (both s v) settings e (steps.with_step of p)
   added_here e strict none same built used anchors bound = is_session e strict same (written_here e (subst (IsClosing d.ids.used p of.id h.here) none h.closes).0 built used anchors bound)
 
   pub added_around : (e : Session) (a : OpenAnchor) → e.strict ≡ d.strict → n.closes ≡ Some a → e.reader ≡ d.reader → e.builder ≡ take_step d.builder step
       → e.ids.used ≡ take a.ids d.ids.used ++ in_use step.id role.Step (next_index d.builder) ∷ []
       → ((front : List OpenAnchor) (last : OpenAnchor) → d.anchors.items ≡ front ++ last ∷ [] → e.anchors.items ≡ front)
-      → ((around : Nesting Var Term) (before : ProofItems Var Term) (other : Anchor Var Term) → a.variables ≡ length other.bindings → AreBound s v d.bound (inside around before other) → AreBound s v e.bound around)
-      → IsProofSession s v settings e (steps.with_step of p)
+      → ((around : Nesting Var Term) (before : ProofItems Var Term) (other : Anchor Var Term) → a.variables ≡ length other.bindings → AreBound (both s v) d.bound (inside around before other) → AreBound (both s v) e.bound around)
+      → IsProofSession (both s v) settings e (steps.with_step of p)
   added_around e a strict some same built used popped left =
       let closes = subst (IsClosing d.ids.used p of.id h.here) some h.closes in
       is_session e strict same (written_around e a closes.0 closes.2 built used popped left)

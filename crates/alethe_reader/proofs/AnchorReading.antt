@@ -54,17 +54,18 @@ use Rattle.alethe_reader.proofs.OpenedNames.{among_joined, fresh_apart, unbound_
 use Rattle.alethe_reader.proofs.ScopeReading.{reader_inside}
 use Rattle.alethe_reader.proofs.StillRead.{keeps_changed}
 use Rattle.alethe_reader.proofs.WrittenStays.{written_stays, found_now, unused_now}
+use Rattle.term_expansion.specs.SymbolsAndTerms.{both}
 
 -- The leaves of an anchor's variables differ from each other, and from those that open anchors bind.
 module _ (s : Table) (v : TermsView) where
-  open_stand : (n : Nesting ℕ ℕ) (m : Nesting Var Term) → StandForNesting s v n m → AllZip (IsBindingOf s v) (open_bindings n) (open_bindings m)
+  open_stand : (n : Nesting ℕ ℕ) (m : Nesting Var Term) → StandForNesting (both s v) n m → AllZip (IsBindingOf s v) (open_bindings n) (open_bindings m)
   open_stand outermost outermost h = tt
   open_stand outermost (inside around before anchor) h = absurd h
   open_stand (inside around before anchor) outermost h = absurd h
   open_stand (inside around before anchor) (inside outer behind other) h =
       zip_joined (IsBindingOf s v) (open_bindings around) anchor.bindings (open_bindings outer) other.bindings (open_stand around outer h.0) h.3
 
-  unbound_leaves : (n : Nesting ℕ ℕ) (m : Nesting Var Term) → StandForNesting s v n m → (bs : List (ℕ × ℕ)) (cs : List (Var × Term)) → AllZip (IsBindingOf s v) bs cs
+  unbound_leaves : (n : Nesting ℕ ℕ) (m : Nesting Var Term) → StandForNesting (both s v) n m → (bs : List (ℕ × ℕ)) (cs : List (Var × Term)) → AllZip (IsBindingOf s v) bs cs
       → AllByRecursion (λ c. is_among (bound_names m) c.0.name ≡ false) cs → AllByRecursion (λ x. ¬ Contains (map (λ b. b.0) (open_bindings n)) x) (map (λ b. b.0) bs)
   unbound_leaves n m stand [] [] zip free = tt
   unbound_leaves n m stand [] (c ∷ cs) zip free = absurd zip
@@ -96,10 +97,10 @@ abbrev pub JudgesId : Named → Option Found → Result ⊤ Refusal → Type 0
 JudgesId named found result = (p : ProofState) → IsIdFound (ids_in p.scope) named.name.now found → id_judged Repeated (is_named named) p ≡ given result p
 
 abbrev pub ReadsArguments : Table → TermsView → Session → List Argument → Table → TermsView → ReaderView → BoundVariables → Result ⊤ ReadFault → Type 0
-ReadsArguments s v e others z w r b result = (settings : ProofSettings) (p : ProofState) → IsReaderOf s v e.reader p.script (place_in settings p.scope.nesting) → AreBound s v e.bound p.scope.nesting
-    → AnswersAs z v w (AreArgumentsRead z w settings r b p) (arguments_read settings [] others p) result
+ReadsArguments s v e others z w r b result = (settings : ProofSettings) (p : ProofState) → IsReaderOf s v e.reader p.script (place_in settings p.scope.nesting) → AreBound (both s v) e.bound p.scope.nesting
+    → AnswersAs v (both z w) (AreArgumentsRead (both z w) settings r b p) (arguments_read settings [] others p) result
 
-module _ {s : Table} {v : TermsView} {settings : ProofSettings} {e : Session} {p : ProofState} (session : IsProofSession s v settings e p) (place : ℕ) (named : Named) {n : Name} (same : is_named named ≡ n) (found : Option Found) (look : IsIdFound e.ids.used named.name.now found) (others : List Argument) where
+module _ {s : Table} {v : TermsView} {settings : ProofSettings} {e : Session} {p : ProofState} (session : IsProofSession (both s v) settings e p) (place : ℕ) (named : Named) {n : Name} (same : is_named named ≡ n) (found : Option Found) (look : IsIdFound e.ids.used named.name.now found) (others : List Argument) where
   -- once the arguments were read
   abbrev opened : List (Var × Term) → Reading ⊤
   opened bs = changed (with_anchor place n.name bs)
@@ -113,22 +114,22 @@ module _ {s : Table} {v : TermsView} {settings : ProofSettings} {e : Session} {p
       ap (λ (o : Outcome ProofState ⊤). and_then o (λ _ q. and_then (arguments_read settings [] others q) opened))
       (subst (λ m. id_judged Repeated m p ≡ given result p) same (h p (found_now s v e p named.name.now found look session.written)))
 
-  pub bad_id : {N : ⊤ → ⊤ → ProofState → Type 0} (refusal : Refusal) → JudgesId named found (Err refusal) → AnswersAs s v v N (anchor_read settings place n others p) (Err (ReadFault.Text refusal))
+  pub bad_id : {N : ⊤ → ⊤ → ProofState → Type 0} (refusal : Refusal) → JudgesId named found (Err refusal) → AnswersAs v (both s v) N (anchor_read settings place n others p) (Err (ReadFault.Text refusal))
   bad_id refusal h = same_outcome (judged (Err refusal) h) (refuses refl refl)
 
   module _ (new_id : JudgesId named found (Ok tt)) {z : Table} {w : TermsView} {r : ReaderView} {b : BoundVariables} where
-    pub bad_argument : {N : ⊤ → ⊤ → ProofState → Type 0} (fault : ReadFault) → ReadsArguments s v e others z w r b (Err fault) → AnswersAs z v w N (anchor_read settings place n others p) (Err fault)
+    pub bad_argument : {N : ⊤ → ⊤ → ProofState → Type 0} (fault : ReadFault) → ReadsArguments s v e others z w r b (Err fault) → AnswersAs v (both z w) N (anchor_read settings place n others p) (Err fault)
     bad_argument fault read = same_outcome (judged (Ok tt) new_id) (stops opened keeps_opened (read settings p session.reader session.written.bound))
 
     module _ (read : ReadsArguments s v e others z w r b (Ok tt)) where
-      h : AnswersAs z v w (AreArgumentsRead z w settings r b p) (arguments_read settings [] others p) (Ok tt)
+      h : AnswersAs v (both z w) (AreArgumentsRead (both z w) settings r b p) (arguments_read settings [] others p) (Ok tt)
       h = read settings p session.reader session.written.bound
 
-      pub no_room : {N : ⊤ → ⊤ → ProofState → Type 0} → AnswersAs z v w N (anchor_read settings place n others p) (Err ReadFault.Memory)
+      pub no_room : {N : ⊤ → ⊤ → ProofState → Type 0} → AnswersAs v (both z w) N (anchor_read settings place n others p) (Err ReadFault.Memory)
       no_room = same_outcome (judged (Ok tt) new_id) (goes opened keeps_opened h (adds_none z).keeps (keeps_none w) (λ bs q k. no_memory refl))
 
       module _ (table : AddsNoSymbols s z) (terms : KeepsTerms v w) (slice : List (ℕ × ℕ)) (sliced : slice ≡ b.opened.items) where
-        before : IsWritten z w e p
+        before : IsWritten (both z w) e p
         before = written_stays s z v w table.keeps terms e p session.written
 
         name : named.name.now ≡ n.name
@@ -154,7 +155,7 @@ module _ {s : Table} {v : TermsView} {settings : ProofSettings} {e : Session} {p
             → ((s : Table) (v : TermsView) (sc : Script) (at : Place) (bs : List (Var × Term)) → AllZip (IsBindingOf s v) b.opened.items bs → IsReaderOf s v r sc at → IsReaderOf s v d.reader sc (record at { scope = entered (length bs) bs at.scope }))
             → d.builder ≡ open_anchor e.builder (anchor_with named.name.now slice) → number ≡ next_scope e.builder → d.ids.used ≡ e.ids.used ++ in_use named.name.now Anchor number ∷ []
             → d.anchors.items ≡ e.anchors.items ++ record { place = place; ids = ids; variables = variables } ∷ [] → d.bound ≡ b → d.strict ≡ e.strict
-            → AnswersAs z v w (StandsAfter z w settings d) (anchor_read settings place n others p) (Ok tt)
+            → AnswersAs v (both z w) (StandsAfter (both z w) settings d) (anchor_read settings place n others p) (Ok tt)
         is_opened d ids variables number ids_are variables_are enters building numbering using anchors bound strict =
             same_outcome (judged (Ok tt) new_id)
             (goes opened keeps_opened h (adds_none z).keeps (keeps_none w) (λ bs q k. answers tt (with_anchor place n.name bs q) refl refl (record { session = after bs q k })))
@@ -171,7 +172,7 @@ module _ {s : Table} {v : TermsView} {settings : ProofSettings} {e : Session} {p
             marked : (f : OpenAnchor → ℕ) (ks : List ℕ) → map f e.anchors.items ≡ ks → map f d.anchors.items ≡ ks ++ f last ∷ []
             marked f ks is = ap (map f) anchors ∙ (map-append f e.anchors.items (last ∷ []) ∙ ap (λ l. l ++ f last ∷ []) is)
 
-            written : (bs : List (Var × Term)) (q : ProofState) → AreArgumentsRead z w settings r b p tt bs q → IsWritten z w d (with_anchor place n.name bs q)
+            written : (bs : List (Var × Term)) (q : ProofState) → AreArgumentsRead (both z w) settings r b p tt bs q → IsWritten (both z w) d (with_anchor place n.name bs q)
             written bs q k = record {
               nesting = rw (built, k.same.scope) (before.nesting, before.items, refl, k.opening.opened);
               items = rw built no_items_stand;
@@ -190,7 +191,7 @@ module _ {s : Table} {v : TermsView} {settings : ProofSettings} {e : Session} {p
               });
             }
 
-            after : (bs : List (Var × Term)) (q : ProofState) → AreArgumentsRead z w settings r b p tt bs q → IsProofSession z w settings d (with_anchor place n.name bs q)
+            after : (bs : List (Var × Term)) (q : ProofState) → AreArgumentsRead (both z w) settings r b p tt bs q → IsProofSession (both z w) settings d (with_anchor place n.name bs q)
             after bs q k = record {
               strict = session.strict ∙ sym strict;
               reader =

@@ -33,14 +33,14 @@ module _ {A B : Type 0} {s z : Table} (old : TermsView) {v w : TermsView} {o : O
 
 module _ {A B T U : Type 0} {s : Table} {old mid : TermsView} {M : T → A → ProofState → Type 0} {N : U → B → ProofState → Type 0} {o : Outcome ProofState A} (next : A → Reading B) (keeps : (a : A) → KeepsRead (next a)) where
   -- The first part has a fault.
-  pub stops : {fault : ReadFault} → AnswersAs s old mid M o (Err fault) → AnswersAs s old mid N (and_then o next) (Err fault)
+  pub stops : {fault : ReadFault} → AnswersAs old (both s mid) M o (Err fault) → AnswersAs old (both s mid) N (and_then o next) (Err fault)
   stops h = coming.stops next (λ a. (keeps a).keeps) h
 
   -- The first part has none, and this is what the others answer.
-  pub goes : {t : T} {z : Table} {new : TermsView} {r : Result U ReadFault} → AnswersAs s old mid M o (Ok t) → Keeps s z → KeepsTerms mid new
-      → ((a : A) (p : ProofState) → M t a p → AnswersAs z mid new N (next a p) r) → AnswersAs z old new N (and_then o next) r
+  pub goes : {t : T} {z : Table} {new : TermsView} {r : Result U ReadFault} → AnswersAs old (both s mid) M o (Ok t) → Keeps s z → KeepsTerms mid new
+      → ((a : A) (p : ProofState) → M t a p → AnswersAs mid (both z new) N (next a p) r) → AnswersAs old (both z new) N (and_then o next) r
   goes {t} {z} {new} {r} h table terms k =
-      let rest : AnswersAs z mid new N (and_then o next) r =
+      let rest : AnswersAs mid (both z new) N (and_then o next) r =
       same_outcome (ap (λ (q : Outcome ProofState A). and_then q next) h.answer.is) (k h.answer.value h.answer.state h.answer.after) in
       record {
         answer = rest.answer;

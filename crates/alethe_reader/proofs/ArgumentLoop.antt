@@ -32,6 +32,7 @@ use Rattle.alethe_reader.proofs.Answering.{part_of_whole, placed_with, fails_wit
 use Rattle.alethe_reader.proofs.LeftToRead.{and_then_then, and_then_same, and_then_give}
 use Rattle.alethe_reader.proofs.StillRead.{keeps_give, keeps_then as keeps_both}
 use Rattle.alethe_reader.proofs.StillReadCommands.{keeps_each_argument}
+use Rattle.term_expansion.specs.SymbolsAndTerms.{both}
 
 or_none : (a b : Option ℕ) → option_or a b ≡ None → (a ≡ None) × (b ≡ None)
 or_none None b e = (refl, e)
@@ -74,13 +75,13 @@ pub record AreLeft (settings : ProofSettings) (z : Table) (v w : TermsView) (t :
   pub earlier : List (List ℕ)
   pub read : List (Var × Term)
   pub now : ProofState
-  pub opening : IsOpening z w settings t e earlier read now
+  pub opening : IsOpening (both z w) settings t e earlier read now
   pub same : IsSameScope p now
   pub comes : and_then (arguments_read settings earlier left now) (λ more. give (read ++ more)) ≡ whole
   pub placed : PlacesCellsOf z v.pass w.pass (WasRead whole)
 
 pub begins : (s : Table) (v : TermsView) (r : ReaderView) (d e : BoundVariables) → e.names ≡ d.names → e.images ≡ d.images → e.opened.items ≡ [] → (settings : ProofSettings) (p : ProofState) (left : List Argument)
-    → IsReaderOf s v r p.script (place_in settings p.scope.nesting) → AreBound s v d p.scope.nesting → AreLeft settings s v v r e p left (arguments_read settings [] left p)
+    → IsReaderOf s v r p.script (place_in settings p.scope.nesting) → AreBound (both s v) d p.scope.nesting → AreLeft settings s v v r e p left (arguments_read settings [] left p)
 begins s v r d e names images opened settings p left reader bound = record {
   earlier = [];
   read = [];
@@ -104,7 +105,7 @@ begins s v r d e names images opened settings p left reader bound = record {
 
 module _ {settings : ProofSettings} {z : Table} {v w : TermsView} {t : ReaderView} {e : BoundVariables} {p : ProofState} {left : List Argument} {whole : Outcome ProofState (List (Var × Term))} (l : AreLeft settings z v w t e p left whole) where
   -- all were read
-  pub ends : left ≡ [] → AnswersAs z v w (AreArgumentsRead z w settings t e p) whole (Ok tt)
+  pub ends : left ≡ [] → AnswersAs v (both z w) (AreArgumentsRead (both z w) settings t e p) whole (Ok tt)
   unfolding arguments_read
   ends none = record {
     answer = record {
@@ -133,10 +134,10 @@ module _ {settings : ProofSettings} {z : Table} {v w : TermsView} {t : ReaderVie
         record { reads = λ term was. more.reads term (first.reads term was); faults = λ refusal e. more.faults refusal (first.faults refusal e) }
 
     module _ {u : ReaderView} {f : BoundVariables} where
-      pub fails : {fault : ReadFault} → AnswersAs y w x (IsArgumentRead y x settings u f l.earlier l.read l.now) this (Err fault) → AnswersAs y v x (AreArgumentsRead y x settings u f p) whole (Err fault)
+      pub fails : {fault : ReadFault} → AnswersAs w (both y x) (IsArgumentRead (both y x) settings u f l.earlier l.read l.now) this (Err fault) → AnswersAs v (both y x) (AreArgumentsRead (both y x) settings u f p) whole (Err fault)
       fails g = fails_with v part symbols.keeps terms l.placed g
 
-      pub goes_on : AnswersAs y w x (IsArgumentRead y x settings u f l.earlier l.read l.now) this (Ok tt) → AreLeft settings y v x u f p rest whole
+      pub goes_on : AnswersAs w (both y x) (IsArgumentRead (both y x) settings u f l.earlier l.read l.now) this (Ok tt) → AreLeft settings y v x u f p rest whole
       unfolding ◌>>=◌
       goes_on g =
           let b = g.answer.value in

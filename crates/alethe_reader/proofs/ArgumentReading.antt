@@ -52,18 +52,18 @@ use Rattle.alethe_reader.proofs.TermAnswers.{value_answers}
 use Rattle.alethe_reader.proofs.WrittenStays.{bindings_stay}
 
 -- a fault, or want of memory, whatever would have come after
-pub fails : {A T U : Type 0} {s : Table} {v w : TermsView} {M : T → A → ProofState → Type 0} (N : U → A → ProofState → Type 0) {o : Outcome ProofState A} (fault : ReadFault) → AnswersAs s v w M o (Err fault) → AnswersAs s v w N o (Err fault)
+pub fails : {A T U : Type 0} {s : Table} {v w : TermsView} {M : T → A → ProofState → Type 0} (N : U → A → ProofState → Type 0) {o : Outcome ProofState A} (fault : ReadFault) → AnswersAs v (both s w) M o (Err fault) → AnswersAs v (both s w) N o (Err fault)
 fails N fault h = record { answer = h.answer; placed = h.placed }
 
 -- in a table with more leaves
-pub ends_so : {A T U : Type 0} {s z : Table} {v w : TermsView} {M : T → A → ProofState → Type 0} (N : U → A → ProofState → Type 0) {o : Outcome ProofState A} {t : T} (u : U) → Keeps s z → AnswersAs s v w M o (Ok t)
-    → ((a : A) (p : ProofState) → M t a p → N u a p) → AnswersAs z v w N o (Ok u)
+pub ends_so : {A T U : Type 0} {s z : Table} {v w : TermsView} {M : T → A → ProofState → Type 0} (N : U → A → ProofState → Type 0) {o : Outcome ProofState A} {t : T} (u : U) → Keeps s z → AnswersAs v (both s w) M o (Ok t)
+    → ((a : A) (p : ProofState) → M t a p → N u a p) → AnswersAs v (both z w) N o (Ok u)
 ends_so {A} {T} {U} {s} {z} {v} {w} {M} N {o} {t} u keeps h more = record {
   answer = record { value = h.answer.value; state = h.answer.state; is = h.answer.is; after = more h.answer.value h.answer.state h.answer.after };
   placed = places_then s z v.pass w.pass w.pass (WasRead o) keeps (pass_keeps_none w.pass) h.placed (places_none z w.pass w.pass (WasRead o) refl);
 }
 
-pub lacks_memory : {A T U : Type 0} {s z : Table} {v w : TermsView} {M : T → A → ProofState → Type 0} (N : U → A → ProofState → Type 0) {o : Outcome ProofState A} {t : T} → Keeps s z → AnswersAs s v w M o (Ok t) → AnswersAs z v w N o (Err ReadFault.Memory)
+pub lacks_memory : {A T U : Type 0} {s z : Table} {v w : TermsView} {M : T → A → ProofState → Type 0} (N : U → A → ProofState → Type 0) {o : Outcome ProofState A} {t : T} → Keeps s z → AnswersAs v (both s w) M o (Ok t) → AnswersAs v (both z w) N o (Err ReadFault.Memory)
 lacks_memory {A} {T} {U} {s} {z} {v} {w} {M} N {o} {t} keeps h = record {
   answer = tt;
   placed = places_then s z v.pass w.pass w.pass (WasRead o) keeps (pass_keeps_none w.pass) h.placed (places_none z w.pass w.pass (WasRead o) refl);
@@ -128,12 +128,12 @@ module _ (settings : ProofSettings) (earlier : List (List ℕ)) (place : ℕ) (x
       unfolding ◌>>=◌
       to_term = so_far false false plain free ∙ ap (argument_so false false) given_sort
 
-      no_term : {T U : Type 0} {s : Table} {v w : TermsView} {M : T → Typed → ProofState → Type 0} (N : U → Var × Term → ProofState → Type 0) (fault : ReadFault) → AnswersAs s v w M (term_in settings p.scope.nesting i named_state) (Err fault)
-          → AnswersAs s v w N (argument_read settings earlier (assigned place x o i) p) (Err fault)
+      no_term : {T U : Type 0} {s : Table} {v w : TermsView} {M : T → Typed → ProofState → Type 0} (N : U → Var × Term → ProofState → Type 0) (fault : ReadFault) → AnswersAs v (both s w) M (term_in settings p.scope.nesting i named_state) (Err fault)
+          → AnswersAs v (both s w) N (argument_read settings earlier (assigned place x o i) p) (Err fault)
       no_term N fault h = same_outcome to_term (stops (image_read place x.name wanted p.scope.nesting) (keeps_image place x.name wanted p.scope.nesting) h)
 
-      module _ (s : Table) (v mid w : TermsView) (r : ReaderView) (c : Value) (h : AnswersAs s v mid (IsReadValue s mid settings p.scope.nesting r named_state) (term_in settings p.scope.nesting i named_state) (Ok c)) (keeps : KeepsTerms mid w) where
-        read_after : (t : Typed) (q : ProofState) → IsReadValue s mid settings p.scope.nesting r named_state c t q → (image : ℕ) (b : Var × Term) (z : ProofState) → IsImageRead s w x.name p.scope.nesting t q image b z
+      module _ (s : Table) (v mid w : TermsView) (r : ReaderView) (c : Value) (h : AnswersAs v (both s mid) (IsReadValue (both s mid) settings p.scope.nesting r named_state) (term_in settings p.scope.nesting i named_state) (Ok c)) (keeps : KeepsTerms mid w) where
+        read_after : (t : Typed) (q : ProofState) → IsReadValue (both s mid) settings p.scope.nesting r named_state c t q → (image : ℕ) (b : Var × Term) (z : ProofState) → IsImageRead (both s w) x.name p.scope.nesting t q image b z
             → IsVariableRead s w settings r x.name c p image b z
         read_after t q m image b z g = record {
           term = rw g.same (refers_stays s s mid w (adds_none s).keeps keeps c.term t.tree m.is.refers);
@@ -145,19 +145,19 @@ module _ (settings : ProofSettings) (earlier : List (List ℕ)) (place : ℕ) (x
         }
 
         variable_read : (result : Result ℕ ReadFault)
-            → ((t : Typed) (q : ProofState) → IsReadValue s mid settings p.scope.nesting r named_state c t q → AnswersAs s mid w (IsImageRead s w x.name p.scope.nesting t q) (image_read place x.name wanted p.scope.nesting t q) result)
-            → AnswersAs s v w (IsVariableRead s w settings r x.name c p) (argument_read settings earlier (assigned place x o i) p) result
+            → ((t : Typed) (q : ProofState) → IsReadValue (both s mid) settings p.scope.nesting r named_state c t q → AnswersAs mid (both s w) (IsImageRead (both s w) x.name p.scope.nesting t q) (image_read place x.name wanted p.scope.nesting t q) result)
+            → AnswersAs v (both s w) (IsVariableRead s w settings r x.name c p) (argument_read settings earlier (assigned place x o i) p) result
         variable_read result k =
             same_outcome to_term
             (goes (image_read place x.name wanted p.scope.nesting) (keeps_image place x.name wanted p.scope.nesting) h (adds_none s).keeps keeps
             (λ t q m. answers_more (IsVariableRead s w settings r x.name c p) (λ image b z g. read_after t q m image b z g) (k t q m)))
 
 -- The argument's variable joins those that were read.
-module _ (s z : Table) (v w : TermsView) (settings : ProofSettings) (adds : AddsNoSymbols s z) (terms : KeepsTerms v w) (earlier : List (List ℕ)) (bs : List (Var × Term)) (p q : ProofState) (d e : BoundVariables) (r t : ReaderView) (opening : IsOpening s v settings r d earlier bs p) (same : IsSameScope p q) where
+module _ (s z : Table) (v w : TermsView) (settings : ProofSettings) (adds : AddsNoSymbols s z) (terms : KeepsTerms v w) (earlier : List (List ℕ)) (bs : List (Var × Term)) (p q : ProofState) (d e : BoundVariables) (r t : ReaderView) (opening : IsOpening (both s v) settings r d earlier bs p) (same : IsSameScope p q) where
   opens_more : (b : Var × Term) (name : List ℕ) (leaf term image : ℕ) → IsReaderOf z w t q.script (place_in settings p.scope.nesting) → b.0.name ≡ name → is_among (map (λ u. u.id) d.names.used) name ≡ false
       → IsLeaf z leaf (variable_leaf b.0) → RefersTo z w term b.1 → RefersTo z w image (image_of p.scope.nesting b.1)
       → map (λ u. u.id) e.names.used ≡ map (λ u. u.id) d.names.used ++ name ∷ [] → e.images.items ≡ d.images.items ++ (leaf, image) ∷ [] → e.opened.items ≡ d.opened.items ++ (leaf, term) ∷ []
-      → IsOpening z w settings t e (b.0.name ∷ earlier) (bs ++ b ∷ []) q
+      → IsOpening (both z w) settings t e (b.0.name ∷ earlier) (bs ++ b ∷ []) q
   opens_more b name leaf term image reader named free is term_there image_there names images_are opened_are = record {
     reader = rw same.scope reader;
     names = rw same.scope (names ∙ (ap (λ ns. ns ++ name ∷ []) opening.names ∙ (ap (λ n. (bound_names p.scope.nesting ++ map (λ c. c.0.name) bs) ++ n ∷ []) (sym named)
@@ -180,17 +180,17 @@ module _ (s z : Table) (v w : TermsView) (settings : ProofSettings) (adds : Adds
           ∙ ap (λ qs. images_in p.scope.nesting ++ qs) (sym (map-append (λ c. (c.0, Rattle.rule_model.specs.Substitution.put_in (images (open_anchors p.scope.nesting)) c.1)) bs (b ∷ [])))
 
 -- The variable has its leaf, and joins those that were read.
-module _ (s z y : Table) (v w : TermsView) (settings : ProofSettings) (earlier : List (List ℕ)) (bs : List (Var × Term)) (p : ProofState) (d e : BoundVariables) (r t : ReaderView) (opening : IsOpening s v settings r d earlier bs p) (symbols : AddsNoSymbols s z) (added : AddsNoSymbols z y) (terms : KeepsTerms v w) where
+module _ (s z y : Table) (v w : TermsView) (settings : ProofSettings) (earlier : List (List ℕ)) (bs : List (Var × Term)) (p : ProofState) (d e : BoundVariables) (r t : ReaderView) (opening : IsOpening (both s v) settings r d earlier bs p) (symbols : AddsNoSymbols s z) (added : AddsNoSymbols z y) (terms : KeepsTerms v w) where
   pub argument_done : {o : Outcome ProofState (Var × Term)} (n name : List ℕ) (c : Value) (leaf image : ℕ) → n ≡ name → is_among (map (λ u. u.id) d.names.used) n ≡ false → IsLeaf y leaf (variable_leaf (record { name = n; sort = c.sort }))
       → map (λ u. u.id) e.names.used ≡ map (λ u. u.id) d.names.used ++ n ∷ [] → e.images.items ≡ d.images.items ++ (leaf, image) ∷ [] → e.opened.items ≡ d.opened.items ++ (leaf, c.term) ∷ []
-      → AnswersAs z v w (IsVariableRead z w settings t name c p) o (Ok image) → AnswersAs y v w (IsArgumentRead y w settings t e earlier bs p) o (Ok tt)
+      → AnswersAs v (both z w) (IsVariableRead z w settings t name c p) o (Ok image) → AnswersAs v (both y w) (IsArgumentRead (both y w) settings t e earlier bs p) o (Ok tt)
   argument_done n name c leaf image same free is names images opened h =
-      ends_so (IsArgumentRead y w settings t e earlier bs p) tt added.keeps h (λ b q k. record { opening = joined b q k; same = k.same })
+      ends_so (IsArgumentRead (both y w) settings t e earlier bs p) tt added.keeps h (λ b q k. record { opening = joined b q k; same = k.same })
     where
       leaf_is : (b : Var × Term) → b.0.name ≡ n → b.0.sort ≡ c.sort → IsLeaf y leaf (variable_leaf b.0)
       leaf_is b named sort = rw (named, sort) is
 
-      joined : (b : Var × Term) (q : ProofState) → IsVariableRead z w settings t name c p image b q → IsOpening y w settings t e (b.0.name ∷ earlier) (bs ++ b ∷ []) q
+      joined : (b : Var × Term) (q : ProofState) → IsVariableRead z w settings t name c p image b q → IsOpening (both y w) settings t e (b.0.name ∷ earlier) (bs ++ b ∷ []) q
       joined b q k =
           opens_more s y v w settings (adds_then s z y symbols added) terms earlier bs p q d e r t opening k.same b n leaf c.term image
           (reader_stays z y w w added (keeps_none w) t q.script (place_in settings p.scope.nesting) k.reader) (k.named ∙ sym same) free (leaf_is b (k.named ∙ sym same) k.sort)
@@ -198,7 +198,7 @@ module _ (s z y : Table) (v w : TermsView) (settings : ProofSettings) (earlier :
           names images opened
 
 -- how many images there are around the anchor
-module _ (s : Table) (v : TermsView) (settings : ProofSettings) (r : ReaderView) (d : BoundVariables) (earlier : List (List ℕ)) (bs : List (Var × Term)) (p : ProofState) (h : IsOpening s v settings r d earlier bs p) where
+module _ (s : Table) (v : TermsView) (settings : ProofSettings) (r : ReaderView) (d : BoundVariables) (earlier : List (List ℕ)) (bs : List (Var × Term)) (p : ProofState) (h : IsOpening (both s v) settings r d earlier bs p) where
   images_long : length d.images.items ≡ length (images_in p.scope.nesting) + length bs
   images_long =
       sym (AllZip-long (IsBindingOf s v) d.images.items (images_in p.scope.nesting ++ put_in_each (images (open_anchors p.scope.nesting)) bs) h.images)
@@ -231,7 +231,7 @@ abbrev pub ReadsItem : Table → TermsView → ReaderView → Item → Table →
 ReadsItem s v r i z w t result = (sc : Script) (at : Place) → IsReaderOf s v r sc at → ReadsValue z v w t at (read_term i at sc) result
 
 -- A variable whose name was judged, and whose sort is given, is read by its term and its image.
-module _ {s : Table} {v : TermsView} {settings : ProofSettings} {r : ReaderView} {d : BoundVariables} {earlier : List (List ℕ)} {bs : List (Var × Term)} {p : ProofState} (opening : IsOpening s v settings r d earlier bs p) (place : ℕ) {x : Name} (o : Option Item) (i : Item) (n : Named) (named : is_named n ≡ x) where
+module _ {s : Table} {v : TermsView} {settings : ProofSettings} {r : ReaderView} {d : BoundVariables} {earlier : List (List ℕ)} {bs : List (Var × Term)} {p : ProofState} (opening : IsOpening (both s v) settings r d earlier bs p) (place : ℕ) {x : Name} (o : Option Item) (i : Item) (n : Named) (named : is_named n ≡ x) where
   pub name_bad : (refusal : Refusal) → IsNameJudged (is_built_in n.name.now) (is_among (map (λ u. u.id) d.names.used) n.name.now) n.place (Err refusal) → (argument_read settings earlier (assigned place x o i) p).result ≡ Err refusal
   name_bad refusal judged = name_refused settings earlier place x o i p refusal (judged_here s v settings r d earlier bs p opening n x named (Err refusal) judged)
 
@@ -244,19 +244,19 @@ module _ {s : Table} {v : TermsView} {settings : ProofSettings} {r : ReaderView}
 
     module _ {wanted : Option Sort} (sort : Ok wanted ≡ sort_given s.sorts o) {z : Table} {w : TermsView} {t : ReaderView} where
       term_read : (result : Result Value ReadFault) → ReadsItem s v r i z w t result
-          → AnswersAs z v w (IsReadValue z w settings p.scope.nesting t (named_state settings earlier place x o i p)) (term_in settings p.scope.nesting i (named_state settings earlier place x o i p)) result
+          → AnswersAs v (both z w) (IsReadValue (both z w) settings p.scope.nesting t (named_state settings earlier place x o i p)) (term_in settings p.scope.nesting i (named_state settings earlier place x o i p)) result
       term_read result read =
           value_answers z v w settings p.scope.nesting t i (named_state settings earlier place x o i p) result
           (read (with_let_name x.name p.script) (place_in settings p.scope.nesting) (reader_here s v settings r d earlier bs p opening x.name))
 
-      pub term_bad : {U : Type 0} (N : U → Var × Term → ProofState → Type 0) (fault : ReadFault) → ReadsItem s v r i z w t (Err fault) → AnswersAs z v w N (argument_read settings earlier (assigned place x o i) p) (Err fault)
+      pub term_bad : {U : Type 0} (N : U → Var × Term → ProofState → Type 0) (fault : ReadFault) → ReadsItem s v r i z w t (Err fault) → AnswersAs v (both z w) N (argument_read settings earlier (assigned place x o i) p) (Err fault)
       term_bad N fault read = no_term settings earlier place x o i p free.0 free.1 wanted (given_here s v settings r d earlier bs p opening o (Ok wanted) sort) N fault (term_read (Err fault) read)
 
       pub image_answers : {y : TermsView} {c : Value} {result : Result ℕ ReadFault} → ReadsItem s v r i z w t (Ok c) → AddsNoSymbols s z → KeepsTerms v w → KeepsTerms w y
           → ((name : List ℕ) (t : Typed) (nesting : Nesting Var Term) (more : List (List ℕ)) (q : ProofState) → IsValue (both z w) c t → BindApart nesting
           → AllZip (IsBindingOf z w) (take (length d.images.items - length d.opened.items) d.images.items) (images_in nesting) → map (λ u. u.id) d.names.used ≡ bound_names nesting ++ more
-          → AnswersAs z w y (IsImageRead z y name nesting t q) (image_read place name wanted nesting t q) result)
-          → AnswersAs z v y (IsVariableRead z y settings t x.name c p) (argument_read settings earlier (assigned place x o i) p) result
+          → AnswersAs w (both z y) (IsImageRead (both z y) name nesting t q) (image_read place name wanted nesting t q) result)
+          → AnswersAs v (both z y) (IsVariableRead z y settings t x.name c p) (argument_read settings earlier (assigned place x o i) p) result
       image_answers {y} {c} {result} read table terms more image =
           variable_read settings earlier place x o i p free.0 free.1 wanted (given_here s v settings r d earlier bs p opening o (Ok wanted) sort) z v w y t c (term_read (Ok c) read) more result
           (λ b q k. image x.name b p.scope.nesting _ q k.is opening.apart (bindings_stay s z v w table.keeps terms _ _ (outer_images s v settings r d earlier bs p opening)) opening.names)

@@ -32,9 +32,10 @@ use Rattle.alethe_reader.proofs.Answering.{stops, goes}
 use Rattle.alethe_reader.proofs.IdsInUse.{ids_assume}
 use Rattle.alethe_reader.proofs.StillRead.{keeps_changed}
 use Rattle.alethe_reader.proofs.WrittenStays.{found_now, written_stays}
+use Rattle.term_expansion.specs.SymbolsAndTerms.{both}
 
 -- the id is judged by the ids in use
-pub judged_now : {s : Table} {v : TermsView} {settings : ProofSettings} {d : Session} {p : ProofState} {r : Result ⊤ Refusal} (n : Name) (found : Option Found) → IsProofSession s v settings d p → IsIdFound d.ids.used n.name found
+pub judged_now : {s : Table} {v : TermsView} {settings : ProofSettings} {d : Session} {p : ProofState} {r : Result ⊤ Refusal} (n : Name) (found : Option Found) → IsProofSession (both s v) settings d p → IsIdFound d.ids.used n.name found
     → ((q : ProofState) → IsIdFound (ids_in q.scope) n.name found → id_judged BadAnchor n q ≡ given r q) → id_judged BadAnchor n p ≡ given r p
 judged_now n found session looked judged = judged _ (found_now _ _ _ _ _ _ looked session.written)
 
@@ -50,30 +51,30 @@ module _ (settings : ProofSettings) (n : Name) (i : Item) (p : ProofState) where
   unfolding assume_read ◌>>=◌
   judged r e = ap (λ (o : Outcome ProofState ⊤). and_then o (λ _ q. and_then (formula_in settings q.scope.nesting i q) assumed)) e
 
-  pub bad_id : (s : Table) (v w : TermsView) (d : Session) (refusal : Refusal) → w ≡ v → id_judged BadAnchor n p ≡ given (Err refusal) p → AnswersAs s v w (StandsAfter s w settings d) (assume_read settings n i p) (Err (ReadFault.Text refusal))
+  pub bad_id : (s : Table) (v w : TermsView) (d : Session) (refusal : Refusal) → w ≡ v → id_judged BadAnchor n p ≡ given (Err refusal) p → AnswersAs v (both s w) (StandsAfter (both s w) settings d) (assume_read settings n i p) (Err (ReadFault.Text refusal))
   bad_id s v w d refusal same e = same_outcome (judged (Err refusal) e) (refuses same refl)
 
   module _ (new_id : id_judged BadAnchor n p ≡ given (Ok tt) p) where
-    pub no_formula : (s z : Table) (v w : TermsView) (d e : Session) (fault : ReadFault) → AnswersAs z v w (IsReadFormula z w settings p.scope.nesting d.reader p) (formula_in settings p.scope.nesting i p) (Err fault)
-        → AnswersAs z v w (StandsAfter z w settings e) (assume_read settings n i p) (Err fault)
+    pub no_formula : (s z : Table) (v w : TermsView) (d e : Session) (fault : ReadFault) → AnswersAs v (both z w) (IsReadFormula (both z w) settings p.scope.nesting d.reader p) (formula_in settings p.scope.nesting i p) (Err fault)
+        → AnswersAs v (both z w) (StandsAfter (both z w) settings e) (assume_read settings n i p) (Err fault)
     no_formula s z v w d e fault h = same_outcome (judged (Ok tt) new_id) (stops assumed keeps_assumed h)
 
-    module _ (z : Table) (v w : TermsView) (d : Session) (c : ℕ) (h : AnswersAs z v w (IsReadFormula z w settings p.scope.nesting d.reader p) (formula_in settings p.scope.nesting i p) (Ok c)) where
-      pub no_room : (e : Session) → AnswersAs z v w (StandsAfter z w settings e) (assume_read settings n i p) (Err ReadFault.Memory)
+    module _ (z : Table) (v w : TermsView) (d : Session) (c : ℕ) (h : AnswersAs v (both z w) (IsReadFormula (both z w) settings p.scope.nesting d.reader p) (formula_in settings p.scope.nesting i p) (Ok c)) where
+      pub no_room : (e : Session) → AnswersAs v (both z w) (StandsAfter (both z w) settings e) (assume_read settings n i p) (Err ReadFault.Memory)
       no_room e = same_outcome (judged (Ok tt) new_id) (goes assumed keeps_assumed h (adds_none z).keeps (keeps_none w) (λ t q k. no_memory refl))
 
       -- the assume is added, and its id put in use
-      pub is_assumed : (s : Table) (e : Session) → IsProofSession s v settings e p → Keeps s z → KeepsTerms v w
+      pub is_assumed : (s : Table) (e : Session) → IsProofSession (both s v) settings e p → Keeps s z → KeepsTerms v w
           → d.builder ≡ add_assume e.builder n.name c → d.ids.used ≡ e.ids.used ++ in_use n.name Assume (next_index e.builder) ∷ [] → d.anchors ≡ e.anchors → d.bound ≡ e.bound → d.strict ≡ e.strict
-          → AnswersAs z v w (StandsAfter z w settings d) (assume_read settings n i p) (Ok tt)
+          → AnswersAs v (both z w) (StandsAfter (both z w) settings d) (assume_read settings n i p) (Ok tt)
       is_assumed s e session table terms built used anchors bound strict =
           same_outcome (judged (Ok tt) new_id)
           (goes assumed keeps_assumed h (adds_none z).keeps (keeps_none w) (λ t q k. answers tt (record q { scope = add_assume q.scope n.name t }) refl refl (record { session = after t q k })))
         where
-          before : IsWritten z w e p
+          before : IsWritten (both z w) e p
           before = written_stays s z v w table terms e p session.written
 
-          after : (t : Term) (q : ProofState) → IsReadFormula z w settings p.scope.nesting d.reader p c t q → IsProofSession z w settings d (record q { scope = add_assume q.scope n.name t })
+          after : (t : Term) (q : ProofState) → IsReadFormula (both z w) settings p.scope.nesting d.reader p c t q → IsProofSession (both z w) settings d (record q { scope = add_assume q.scope n.name t })
           after t q k = record {
             strict = session.strict ∙ sym strict;
             reader = rw k.behind.scope k.behind.reader;

@@ -45,6 +45,7 @@ use Rattle.alethe_reader.proofs.Answering.{part_of_whole, placed_with, fails_wit
 use Rattle.alethe_reader.proofs.PivotReading.{pivots_stay}
 use Rattle.alethe_reader.proofs.StillRead.{keeps_give}
 use Rattle.alethe_reader.proofs.StillReadCommands.{keeps_attributes}
+use Rattle.term_expansion.specs.SymbolsAndTerms.{both}
 
 -- of two readings the one that is meant
 one_of : {A : Type 0} (b : Bool) (one other : Reading A) (p : ProofState) → b ≡ true → (if b then one else other) p ≡ one p
@@ -54,7 +55,7 @@ other_of : {A : Type 0} (b : Bool) (one other : Reading A) (p : ProofState) → 
 other_of b one other p e = rw e refl
 
 -- the parts go on being those of the step
-parts_stay : (s z : Table) (v w : TermsView) → Keeps s z → KeepsTerms v w → (d : StepParts) (step : Step Term) → AreStepParts s v d step → AreStepParts z w d step
+parts_stay : (s z : Table) (v w : TermsView) → Keeps s z → KeepsTerms v w → (d : StepParts) (step : Step Term) → AreStepParts (both s v) d step → AreStepParts (both z w) d step
 parts_stay s z v w table terms d step h = record {
   premises = h.premises;
   discharged = h.discharged;
@@ -63,14 +64,14 @@ parts_stay s z v w table terms d step h = record {
 }
 
 -- An attribute's reading, by that of what stands in it.
-module _ {s : Table} {v : TermsView} {settings : ProofSettings} {at : text.Standing} {standing : Standing} {d : Session} {p : ProofState} {before : Step Term} (stands : StandsAt s v settings at d standing p) (parts : AreStepParts s v d.parts before) where
+module _ {s : Table} {v : TermsView} {settings : ProofSettings} {at : text.Standing} {standing : Standing} {d : Session} {p : ProofState} {before : Step Term} (stands : StandsAt (both s v) settings at d standing p) (parts : AreStepParts (both s v) d.parts before) where
   -- with these parts the step is read
-  read_with : (ps : StepParts) (listed others : List ℕ) (pivots : List (Term × Bool)) (ratios : Option (List Fraction)) → AreStepParts s v ps (record before { premises = listed; discharged = others; pivots = pivots; ratios = ratios })
-      → AreReadAttributes s v settings at.nesting (record d { parts = ps }) p before tt (record before { premises = listed; discharged = others; pivots = pivots; ratios = ratios }) p
+  read_with : (ps : StepParts) (listed others : List ℕ) (pivots : List (Term × Bool)) (ratios : Option (List Fraction)) → AreStepParts (both s v) ps (record before { premises = listed; discharged = others; pivots = pivots; ratios = ratios })
+      → AreReadAttributes (both s v) settings at.nesting (record d { parts = ps }) p before tt (record before { premises = listed; discharged = others; pivots = pivots; ratios = ratios }) p
   read_with ps listed others pivots ratios are = record { parts = are; id = refl; rule = refl; rule_name = refl; clause = refl; behind = record { reader = stands.reader; scope = refl; anchors = refl } }
 
   pub rule_answers : (n : Name) (result : Result ⊤ ReadFault) → IsRuleJudged (demand (not (is_among left_out_rules n.name)) LeftOut n.place p) p result
-      → AnswersAs s v v (AreReadAttributes s v settings at.nesting d p before) (attribute_read settings at (rule n) before p) result
+      → AnswersAs v (both s v) (AreReadAttributes (both s v) settings at.nesting d p before) (attribute_read settings at (rule n) before p) result
   unfolding attribute_read ◌>>=◌
   rule_answers n (Ok _) judged =
       answers before p refl (ap (λ (o : Outcome ProofState ⊤). and_then o (λ _. give before)) judged) (read_with d.parts before.premises before.discharged before.pivots before.ratios parts)
@@ -80,8 +81,8 @@ module _ {s : Table} {v : TermsView} {settings : ProofSettings} {at : text.Stand
   rule_answers n (Err ReadFault.Memory) judged = absurd judged
 
   indices_answer : (e : Session) (put : List ℕ → Step Term) (sights : List Sight) (ns : List Name) (indices : List ℕ) (result : Result ⊤ ReadFault) → AreIndices sights ns p indices result
-      → AreReadAttributes s v settings at.nesting e p before tt (put indices) p
-      → AnswersAs s v v (AreReadAttributes s v settings at.nesting e p before) (and_then (text.indices_of sights ns p) (λ is. give (put is))) result
+      → AreReadAttributes (both s v) settings at.nesting e p before tt (put indices) p
+      → AnswersAs v (both s v) (AreReadAttributes (both s v) settings at.nesting e p before) (and_then (text.indices_of sights ns p) (λ is. give (put is))) result
   indices_answer e put sights ns indices (Ok _) are after = answers (put indices) p refl (ap (λ (o : Outcome ProofState (List ℕ)). and_then o (λ is. give (put is))) are) after
   indices_answer e put sights ns indices (Err (ReadFault.Text refusal)) are after =
       refuses refl (ap (λ (r : Result (List ℕ) Refusal). (going_on r (text.indices_of sights ns p).state (λ is. give (put is))).result) are)
@@ -89,14 +90,14 @@ module _ {s : Table} {v : TermsView} {settings : ProofSettings} {at : text.Stand
   indices_answer e put sights ns indices (Err ReadFault.Memory) are after = no_memory refl
 
   pub premises_answer : (ns : List Name) (indices : Vec ℕ Global) (result : Result ⊤ ReadFault) → AreIndices at.sees ns p indices.items result
-      → AnswersAs s v v (AreReadAttributes s v settings at.nesting (record d { parts = record d.parts { premises = indices } }) p before) (attribute_read settings at (premises ns) before p) result
+      → AnswersAs v (both s v) (AreReadAttributes (both s v) settings at.nesting (record d { parts = record d.parts { premises = indices } }) p before) (attribute_read settings at (premises ns) before p) result
   unfolding attribute_read ◌>>=◌
   premises_answer ns indices result are =
       indices_answer _ (λ is. record before { premises = is }) at.sees ns indices.items result are
       (read_with _ indices.items before.discharged before.pivots before.ratios (record { premises = refl; discharged = parts.discharged; pivots = parts.pivots; ratios = parts.ratios }))
 
   pub discharge_answers : (ns : List Name) (indices : Vec ℕ Global) (result : Result ⊤ ReadFault) → AreIndices at.discharges ns p indices.items result
-      → AnswersAs s v v (AreReadAttributes s v settings at.nesting (record d { parts = record d.parts { discharged = indices } }) p before) (attribute_read settings at (discharge ns) before p) result
+      → AnswersAs v (both s v) (AreReadAttributes (both s v) settings at.nesting (record d { parts = record d.parts { discharged = indices } }) p before) (attribute_read settings at (discharge ns) before p) result
   unfolding attribute_read ◌>>=◌
   discharge_answers ns indices result are =
       indices_answer _ (λ is. record before { discharged = is }) at.discharges ns indices.items result are
@@ -110,8 +111,8 @@ module _ {s : Table} {v : TermsView} {settings : ProofSettings} {at : text.Stand
       are_ratios = one_of (takes_coefficients before.rule) _ _ p (ap takes_coefficients same ∙ takes)
 
       ratios_read : (e : Session) (read : Result (Option (List Fraction)) Refusal) (result : Result ⊤ ReadFault) → AreRatios e.parts result read
-          → AreReadAttributes s v settings at.nesting e p before tt (record before { ratios = if e.parts.has_ratios then Some (map fraction_of_ratio e.parts.ratios.items) else None }) p
-          → AnswersAs s v v (AreReadAttributes s v settings at.nesting e p before) (and_then (given read p) (λ qs. give (record before { ratios = qs }))) result
+          → AreReadAttributes (both s v) settings at.nesting e p before tt (record before { ratios = if e.parts.has_ratios then Some (map fraction_of_ratio e.parts.ratios.items) else None }) p
+          → AnswersAs v (both s v) (AreReadAttributes (both s v) settings at.nesting e p before) (and_then (given read p) (λ qs. give (record before { ratios = qs }))) result
       ratios_read e read (Ok _) are after =
           answers (record before { ratios = if e.parts.has_ratios then Some (map fraction_of_ratio e.parts.ratios.items) else None }) p refl
           (ap (λ (r : Result (Option (List Fraction)) Refusal). and_then (given r p) (λ qs. give (record before { ratios = qs }))) are) after
@@ -121,7 +122,7 @@ module _ {s : Table} {v : TermsView} {settings : ProofSettings} {at : text.Stand
       ratios_read e read (Err ReadFault.Memory) are after = no_memory refl
 
       pub ratios_answer : (ps : StepParts) (result : Result ⊤ ReadFault) → AreRatios ps result (coefficients_from items) → ps.premises ≡ d.parts.premises → ps.discharged ≡ d.parts.discharged → ps.pivots ≡ d.parts.pivots
-          → AnswersAs s v v (AreReadAttributes s v settings at.nesting (record d { parts = ps }) p before) (attribute_read settings at (arguments items) before p) result
+          → AnswersAs v (both s v) (AreReadAttributes (both s v) settings at.nesting (record d { parts = ps }) p before) (attribute_read settings at (arguments items) before p) result
       ratios_answer ps result are listed others pivots =
           same_outcome are_ratios
           (ratios_read _ (coefficients_from items) result are
@@ -140,9 +141,9 @@ module _ {s : Table} {v : TermsView} {settings : ProofSettings} {at : text.Stand
           ∙ ap (λ c. (if c then pivots_from settings at.nesting items >>= put else named_among settings at.nesting items >>= λ _. give before) p) (rw (stands.strict, same) takes)
 
       module _ (e : Session) where
-        pub pivots_answer : {z : Table} {w : TermsView} → (d.strict && takes_pivots kind) ≡ true → (result : Result ⊤ ReadFault) → AnswersAs z v w (AreReadPivots z w settings at.nesting e.reader p e.parts.pivots.items) (pivots_from settings at.nesting items p) result
+        pub pivots_answer : {z : Table} {w : TermsView} → (d.strict && takes_pivots kind) ≡ true → (result : Result ⊤ ReadFault) → AnswersAs v (both z w) (AreReadPivots (both z w) settings at.nesting e.reader p e.parts.pivots.items) (pivots_from settings at.nesting items p) result
             → e.parts.premises ≡ d.parts.premises → e.parts.discharged ≡ d.parts.discharged → e.parts.has_ratios ≡ d.parts.has_ratios → e.parts.ratios ≡ d.parts.ratios
-            → AnswersAs z v w (AreReadAttributes z w settings at.nesting e p before) (attribute_read settings at (arguments items) before p) result
+            → AnswersAs v (both z w) (AreReadAttributes (both z w) settings at.nesting e p before) (attribute_read settings at (arguments items) before p) result
         unfolding ◌>>=◌
         pivots_answer {z} {w} takes (Ok _) h listed others has ratios =
             same_outcome (by_pivots true takes)
@@ -157,8 +158,8 @@ module _ {s : Table} {v : TermsView} {settings : ProofSettings} {at : text.Stand
             })))
         pivots_answer {z} {w} takes (Err fault) h listed others has ratios = same_outcome (by_pivots true takes) (stops put (λ of. keeps_give (record before { pivots = unwrap_or of [] })) h)
 
-        pub names_answer : {z : Table} {w : TermsView} → (d.strict && takes_pivots kind) ≡ false → (result : Result ⊤ ReadFault) → AnswersAs z v w (AreNamed z w settings at.nesting e.reader p) (named_among settings at.nesting items p) result
-            → Keeps s z → KeepsTerms v w → e.parts ≡ d.parts → AnswersAs z v w (AreReadAttributes z w settings at.nesting e p before) (attribute_read settings at (arguments items) before p) result
+        pub names_answer : {z : Table} {w : TermsView} → (d.strict && takes_pivots kind) ≡ false → (result : Result ⊤ ReadFault) → AnswersAs v (both z w) (AreNamed (both z w) settings at.nesting e.reader p) (named_among settings at.nesting items p) result
+            → Keeps s z → KeepsTerms v w → e.parts ≡ d.parts → AnswersAs v (both z w) (AreReadAttributes (both z w) settings at.nesting e p before) (attribute_read settings at (arguments items) before p) result
         unfolding ◌>>=◌
         names_answer {z} {w} takes (Ok _) h table terms still =
             same_outcome (by_pivots false takes)
@@ -168,7 +169,7 @@ module _ {s : Table} {v : TermsView} {settings : ProofSettings} {at : text.Stand
 
 -- nothing of a step is among its parts
 pub none_among : (s : Table) (v : TermsView) (d : StepParts) (before : Step Term) → IsBare before → takes_coefficients before.rule ≡ d.has_ratios
-    → d.premises.items ≡ [] → d.discharged.items ≡ [] → d.pivots.items ≡ [] → d.ratios.items ≡ [] → AreStepParts s v d before
+    → d.premises.items ≡ [] → d.discharged.items ≡ [] → d.pivots.items ≡ [] → d.ratios.items ≡ [] → AreStepParts (both s v) d before
 none_among s v d before bare takes no_premises no_discharged no_pivots no_ratios = record {
   premises = no_premises ∙ sym bare.premises;
   discharged = no_discharged ∙ sym bare.discharged;
@@ -183,12 +184,12 @@ pub record AreSoFar (settings : ProofSettings) (at : text.Standing) (standing : 
   pub step : Step Term
   pub state : ProofState
   pub comes : whole ≡ attributes_read settings at left step state
-  pub stands : StandsAt s v settings at d standing state
-  pub read : AreReadAttributes s v settings at.nesting d p before tt step state
+  pub stands : StandsAt (both s v) settings at d standing state
+  pub read : AreReadAttributes (both s v) settings at.nesting d p before tt step state
   pub placed : PlacesCellsOf s old.pass v.pass (WasRead whole)
 
 -- a session with the same ids and the same reader stands at the same place
-pub stands_still : (s : Table) (v : TermsView) (settings : ProofSettings) (at : text.Standing) (standing : Standing) (d e : Session) (p : ProofState) → StandsAt s v settings at d standing p → e.ids ≡ d.ids → e.reader ≡ d.reader → e.strict ≡ d.strict → StandsAt s v settings at e standing p
+pub stands_still : (s : Table) (v : TermsView) (settings : ProofSettings) (at : text.Standing) (standing : Standing) (d e : Session) (p : ProofState) → StandsAt (both s v) settings at d standing p → e.ids ≡ d.ids → e.reader ≡ d.reader → e.strict ≡ d.strict → StandsAt (both s v) settings at e standing p
 stands_still s v settings at standing d e p h ids reader strict = record {
   strict = h.strict ∙ sym strict;
   sees = subst (λ (x : IdsView). IsReach x.used standing.premises at.sees) (sym ids) h.sees;
@@ -197,7 +198,7 @@ stands_still s v settings at standing d e p h ids reader strict = record {
 }
 
 module _ (settings : ProofSettings) (at : text.Standing) (standing : Standing) (p : ProofState) (before : Step Term) where
-  pub so_far_first : (s : Table) (v : TermsView) (d : Session) (left : List Attribute) → StandsAt s v settings at d standing p → AreStepParts s v d.parts before
+  pub so_far_first : (s : Table) (v : TermsView) (d : Session) (left : List Attribute) → StandsAt (both s v) settings at d standing p → AreStepParts (both s v) d.parts before
       → AreSoFar settings at standing s v v d p before left (attributes_read settings at left before p)
   so_far_first s v d left stands parts = record {
     step = before;
@@ -209,7 +210,7 @@ module _ (settings : ProofSettings) (at : text.Standing) (standing : Standing) (
   }
 
   module _ {s : Table} {old v : TermsView} {d : Session} {left : List Attribute} {whole : Outcome ProofState (Step Term)} (h : AreSoFar settings at standing s old v d p before left whole) where
-    pub all_read : left ≡ [] → AnswersAs s old v (AreReadAttributes s v settings at.nesting d p before) whole (Ok tt)
+    pub all_read : left ≡ [] → AnswersAs old (both s v) (AreReadAttributes (both s v) settings at.nesting d p before) whole (Ok tt)
     unfolding attributes_read
     all_read none = record {
       answer = record { value = h.step; state = h.state; is = h.comes ∙ ap (λ (xs : List Attribute). attributes_read settings at xs h.step h.state) none; after = h.read };
@@ -228,10 +229,10 @@ module _ (settings : ProofSettings) (at : text.Standing) (standing : Standing) (
       part : IsPartOf terms_in this whole
       part = part_of_whole this (attributes_read settings at rest) (keeps_attributes settings at rest) (sym splits)
 
-      pub fails : {e : Session} {fault : ReadFault} → AnswersAs z v w (AreReadAttributes z w settings at.nesting e h.state h.step) this (Err fault) → AnswersAs z old w (AreReadAttributes z w settings at.nesting e p before) whole (Err fault)
+      pub fails : {e : Session} {fault : ReadFault} → AnswersAs v (both z w) (AreReadAttributes (both z w) settings at.nesting e h.state h.step) this (Err fault) → AnswersAs old (both z w) (AreReadAttributes (both z w) settings at.nesting e p before) whole (Err fault)
       fails read = fails_with old part adds.keeps keeps h.placed read
 
-      pub so_far_next : {e : Session} → AnswersAs z v w (AreReadAttributes z w settings at.nesting e h.state h.step) this (Ok tt) → KeepsOthers d e → AreSoFar settings at standing z old w e p before rest whole
+      pub so_far_next : {e : Session} → AnswersAs v (both z w) (AreReadAttributes (both z w) settings at.nesting e h.state h.step) this (Ok tt) → KeepsOthers d e → AreSoFar settings at standing z old w e p before rest whole
       so_far_next read others =
           let a = read.answer in
           record {

@@ -21,6 +21,7 @@ use Rattle.alethe_reader.specs.Bound.{images_in, AreBound}
 use Rattle.alethe_reader.specs.Ids.{Used, IsUnused, IsIdFound}
 use Rattle.alethe_reader.specs.declared.bound.BoundVariables.{BoundVariables}
 use Rattle.alethe_reader.specs.declared.ids.Found.{Found}
+use Rattle.term_expansion.specs.SymbolsAndTerms.{both}
 
 -- names that are in use
 pub used_among : (us : List Used) (name : List ℕ) (k : ℕ) (u : Used) → slice_get us k ≡ Some u → u.id ≡ name → is_among (map (λ u. u.id) us) name ≡ true
@@ -78,31 +79,31 @@ pub images_named : (n : Nesting Var Term) → map (λ b. b.0.name) (images_in n)
 images_named outermost = refl
 images_named (inside around before anchor) =
     map-append (λ b. b.0.name) (images_in around) (put_in_each (images (open_anchors around)) anchor.bindings)
-    ∙ (both (images_named around) (each_named (images (open_anchors around)) anchor.bindings)
+    ∙ (joined (images_named around) (each_named (images (open_anchors around)) anchor.bindings)
     ∙ sym (map-append (λ b. b.0.name) (open_bindings around) anchor.bindings))
   where
-    both : {a b c d : List (List ℕ)} → a ≡ b → c ≡ d → a ++ c ≡ b ++ d
-    both e f = cc
+    joined : {a b c d : List (List ℕ)} → a ≡ b → c ≡ d → a ++ c ≡ b ++ d
+    joined e f = cc
 
 pub images_many : (n : Nesting Var Term) → length (images_in n) ≡ length (bound_names n)
 images_many n = sym (length-map (images_in n) (λ b. b.0.name)) ∙ ap (λ ns. length ns) (images_named n)
 
 -- the scope of the innermost anchor is left
 module _ (s : Table) (v : TermsView) (d : BoundVariables) where
-  pub bound_many : (around : Nesting Var Term) (before : ProofItems Var Term) (anchor : Anchor Var Term) → AreBound s v d (inside around before anchor)
+  pub bound_many : (around : Nesting Var Term) (before : ProofItems Var Term) (anchor : Anchor Var Term) → AreBound (both s v) d (inside around before anchor)
       → length d.images.items ≡ length (images_in around) + length anchor.bindings
   bound_many around before anchor h =
       sym (AllZip-long (IsBindingOf s v) d.images.items (images_in (inside around before anchor)) h.images)
       ∙ (length-append (images_in around) (put_in_each (images (open_anchors around)) anchor.bindings)
       ∙ ap (λ n. length (images_in around) + n) (length-map anchor.bindings _))
 
-  pub enough_bound : (n : Nesting Var Term) → AreBound s v d n → length (own_bindings n) ≤ length d.images.items
+  pub enough_bound : (n : Nesting Var Term) → AreBound (both s v) d n → length (own_bindings n) ≤ length d.images.items
   enough_bound outermost h = omega arith
   enough_bound (inside around before anchor) h = omega (arith, bound_many around before anchor h)
 
   pub bound_left : (e : BoundVariables) (left : ℕ) (around : Nesting Var Term) (before : ProofItems Var Term) (anchor : Anchor Var Term)
-      → left ≡ length d.images.items - length anchor.bindings → AreBound s v d (inside around before anchor)
-      → e.names.used ≡ take left d.names.used → e.images.items ≡ take left d.images.items → AreBound s v e around
+      → left ≡ length d.images.items - length anchor.bindings → AreBound (both s v) d (inside around before anchor)
+      → e.names.used ≡ take left d.names.used → e.images.items ≡ take left d.images.items → AreBound (both s v) e around
   bound_left e left around before anchor is h names same = record {
     names = ap (map (λ u. u.id)) names ∙ (sym (take-map (λ u. u.id) left d.names.used)
         ∙ (ap (take left) (h.names ∙ map-append (λ b. b.0.name) (open_bindings around) anchor.bindings)

@@ -22,6 +22,7 @@ use Rattle.alethe_reader.specs.KeptReads.{KeepsRead}
 use Rattle.alethe_reader.specs.ReadTerms.{IsReadFormula, AreReadFormulas}
 use Rattle.alethe_reader.proofs.LeftToRead.{and_then_then, and_then_same, and_then_give, Left, all_left, none_left, fails, no_room, goes_on}
 use Rattle.alethe_reader.proofs.StillRead.{keeps_give, keeps_then, keeps_formulas}
+use Rattle.term_expansion.specs.SymbolsAndTerms.{both}
 
 -- references still stand for their terms, and one more does
 all_refer : (s z : Table) (v w : TermsView) → AddsNoSymbols s z → KeepsTerms v w → (rs : List ℕ) (ts : List Term) (r : ℕ) (t : Term) → ReferToAll s v rs ts → RefersTo z w r t
@@ -42,7 +43,7 @@ module _ (settings : ProofSettings) (nesting : Nesting Var Term) (p : ProofState
 
   -- The formulas from node k on, to before node `end`, are left; those before them were read, for which these references stand.
   abbrev pub AreLeft : Table → TermsView → TermsView → ReaderView → List ℕ → ItemsView → ℕ → ℕ → Outcome ProofState (List Term) → Type 0
-  AreLeft s old v r refs = Left s old v others (AreReadFormulas s v settings nesting r p refs tt)
+  AreLeft s old v r refs = Left s old v others (AreReadFormulas (both s v) settings nesting r p refs tt)
 
   pub left_first : (s : Table) (v : TermsView) (r : ReaderView) (refs : List ℕ) (items : ItemsView) (k end : ℕ) → refs ≡ [] → IsReaderOf s v r p.script (place_in settings nesting)
       → AreLeft s v v r refs items k end (formulas_in settings nesting (items_at items k end) p)
@@ -51,7 +52,7 @@ module _ (settings : ProofSettings) (nesting : Nesting Var Term) (p : ProofState
 
 module _ {settings : ProofSettings} {nesting : Nesting Var Term} {p : ProofState} {s : Table} {old v : TermsView} {r : ReaderView} {refs : List ℕ} {whole : Outcome ProofState (List Term)} {items : ItemsView} {k end : ℕ}
     (h : AreLeft settings nesting p s old v r refs items k end whole) where
-  pub all_read : end ≤ k → AnswersAs s old v (AreReadFormulas s v settings nesting r p refs) whole (Ok tt)
+  pub all_read : end ≤ k → AnswersAs old (both s v) (AreReadFormulas (both s v) settings nesting r p refs) whole (Ok tt)
   unfolding formulas_in
   all_read at_end =
       none_left h at_end (h.read ++ []) refl (record { refer = subst (λ ts. ReferToAll s v refs ts) (sym (append-nil h.read)) h.holds.refer; behind = h.holds.behind })
@@ -77,15 +78,15 @@ module _ {settings : ProofSettings} {nesting : Nesting Var Term} {p : ProofState
   joins t o = and_then_then o _ _ ∙ and_then_same o _ _ (λ us u. ap (λ xs. done xs u) (sym (append_assoc h.read (t ∷ []) us)))
 
   module _ {z : Table} {w : TermsView} {q : ReaderView} (adds : AddsNoSymbols s z) (keeps : KeepsTerms v w) (less : k < end) (inside : end ≤ length items.nodes) where
-    pub no_formula : {fault : ReadFault} {after : List ℕ} → AnswersAs z v w (IsReadFormula z w settings nesting q h.state) one (Err fault)
-        → AnswersAs z old w (AreReadFormulas z w settings nesting q p after) whole (Err fault)
+    pub no_formula : {fault : ReadFault} {after : List ℕ} → AnswersAs v (both z w) (IsReadFormula (both z w) settings nesting q h.state) one (Err fault)
+        → AnswersAs old (both z w) (AreReadFormulas (both z w) settings nesting q p after) whole (Err fault)
     no_formula this = fails h adds keeps one tail keeps_tail (splits less inside) this
 
-    pub no_memory : {c : ℕ} {after : List ℕ} → AnswersAs z v w (IsReadFormula z w settings nesting q h.state) one (Ok c)
-        → AnswersAs z old w (AreReadFormulas z w settings nesting q p after) whole (Err ReadFault.Memory)
+    pub no_memory : {c : ℕ} {after : List ℕ} → AnswersAs v (both z w) (IsReadFormula (both z w) settings nesting q h.state) one (Ok c)
+        → AnswersAs old (both z w) (AreReadFormulas (both z w) settings nesting q p after) whole (Err ReadFault.Memory)
     no_memory this = no_room h adds keeps one tail keeps_tail (splits less inside) this
 
-    pub left_next : {c : ℕ} {node : Node} {after : List ℕ} → IsItemNode items k node → after ≡ refs ++ c ∷ [] → AnswersAs z v w (IsReadFormula z w settings nesting q h.state) one (Ok c)
+    pub left_next : {c : ℕ} {node : Node} {after : List ℕ} → IsItemNode items k node → after ≡ refs ++ c ∷ [] → AnswersAs v (both z w) (IsReadFormula (both z w) settings nesting q h.state) one (Ok c)
         → AreLeft settings nesting p z old w q after items node.next end whole
     left_next {c} {node} {after} read pushed this =
         let t = this.answer.value in

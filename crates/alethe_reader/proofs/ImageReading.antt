@@ -155,7 +155,7 @@ module _ (place : ℕ) (name : List ℕ) (wanted : Option Sort) (nesting : Nesti
         cells_of : PlacesCellsOf s v.pass w.pass (WasRead (image_read place name wanted nesting t q))
         cells_of = places_of s v.pass w.pass image (WasRead (image_read place name wanted nesting t q)) image_was_read placed
 
-        pub no_image : (stop : TermStop) → (stop ≡ TermStop.PoolFull → LacksRoomFor s w.pass image) → AnswersAs s v w (IsImageRead s w name nesting t q) (image_read place name wanted nesting t q) (Err (fault_of stop))
+        pub no_image : (stop : TermStop) → (stop ≡ TermStop.PoolFull → LacksRoomFor s w.pass image) → AnswersAs v (both s w) (IsImageRead (both s w) name nesting t q) (image_read place name wanted nesting t q) (Err (fault_of stop))
         no_image TermStop.PoolFull full = record { answer = lacks_of s w.pass image (WasRead (image_read place name wanted nesting t q)) image_was_read (full refl); placed = cells_of }
         no_image TermStop.Memory full = record { answer = tt; placed = cells_of }
 
@@ -165,14 +165,14 @@ module _ (place : ℕ) (name : List ℕ) (wanted : Option Sort) (nesting : Nesti
               places_then s s v.pass w.pass x.pass (WasRead (image_read place name wanted nesting t q)) (table_keeps_none s) keeps.pass cells_of
               (places_none s w.pass x.pass (WasRead (image_read place name wanted nesting t q)) unchanged.placed)
 
-          pub no_height : AnswersAs s v x (IsImageRead s x name nesting t q) (image_read place name wanted nesting t q) (Err ReadFault.Memory)
+          pub no_height : AnswersAs v (both s x) (IsImageRead (both s x) name nesting t q) (image_read place name wanted nesting t q) (Err ReadFault.Memory)
           no_height = record { answer = tt; placed = cells_still }
 
           pub image_refused : nat_le (height image) most_height ≡ false → (refusal : Refusal) → refusal ≡ record { cause = TooHigh; at = place }
-              → AnswersAs s v x (IsImageRead s x name nesting t q) (image_read place name wanted nesting t q) (Err (ReadFault.Text refusal))
+              → AnswersAs v (both s x) (IsImageRead (both s x) name nesting t q) (image_read place name wanted nesting t q) (Err (ReadFault.Text refusal))
           image_refused e refusal is = record { answer = too_high e ∙ ap (λ (r : Refusal). Err r) (sym is); placed = cells_still }
 
-          pub image_made : nat_le (height image) most_height ≡ true → (c : ℕ) → RefersTo s x c image → AnswersAs s v x (IsImageRead s x name nesting t q) (image_read place name wanted nesting t q) (Ok c)
+          pub image_made : nat_le (height image) most_height ≡ true → (c : ℕ) → RefersTo s x c image → AnswersAs v (both s x) (IsImageRead (both s x) name nesting t q) (image_read place name wanted nesting t q) (Ok c)
           image_made e c refers = record {
             answer = record { value = variable_of; state = with_image; is = image_done e; after = record { refers = refers; same = refl; state = refl } };
             placed = cells_still;

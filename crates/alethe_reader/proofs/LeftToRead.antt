@@ -19,6 +19,7 @@ use Rattle.alethe_text.specs.States.{ProofState, Reading, give}
 use Rattle.alethe_reader.specs.Answers.{terms_in, WasRead, AnswersAs}
 use Rattle.alethe_reader.specs.KeptReads.{KeepsRead}
 use Rattle.alethe_reader.proofs.Answering.{part_of_whole, placed_with, fails_with}
+use Rattle.term_expansion.specs.SymbolsAndTerms.{both}
 
 -- one reading and then two more
 pub and_then_then : {A B C : Type 0} (o : Outcome ProofState A) (next : A → Reading B) (last : B → Reading C) → and_then (and_then o next) last ≡ and_then o (λ a s. and_then (next a s) last)
@@ -45,8 +46,8 @@ and_then_give {A} o change same = go o.result o.state
     go (Err refusal) s = refl
 
 -- a fault that a call handed on
-pub hands_on : {A T : Type 0} {s : Table} {v w : TermsView} {M : T → A → ProofState → Type 0} {o : Outcome ProofState A} {fault : ReadFault} (r : Result T ReadFault) → IsErrAnd r (λ f. f ≡ fault) → AnswersAs s v w M o (Err fault)
-    → AnswersAs s v w M o r
+pub hands_on : {A T : Type 0} {s : Table} {v w : TermsView} {M : T → A → ProofState → Type 0} {o : Outcome ProofState A} {fault : ReadFault} (r : Result T ReadFault) → IsErrAnd r (λ f. f ≡ fault) → AnswersAs v (both s w) M o (Err fault)
+    → AnswersAs v (both s w) M o r
 hands_on r is h = let e = err_from_is_err_and r is in rw (e.1, e.2) h
 
 -- What was read, and the state after it, from which this reading of the items from node k on, to before node `end`, is left.
@@ -64,7 +65,7 @@ module _ {A B : Type 0} {s : Table} {old v : TermsView} {rest : Items → B → 
 
   -- all was read
   pub none_left : {T : Type 0} {N : T → A → ProofState → Type 0} {t : T} (h : Left s old v rest Holds items k end whole) → end ≤ k → (a : A) → rest no_items h.read h.state ≡ done a h.state → N t a h.state
-      → AnswersAs s old v N whole (Ok t)
+      → AnswersAs old (both s v) N whole (Ok t)
   none_left h at_end a e after = record {
     answer = record { value = a; state = h.state; is = h.comes ∙ ap (λ xs. rest xs h.read h.state) (no_items_are items k end at_end) ∙ e; after = after };
     placed = h.placed;
@@ -77,13 +78,13 @@ module _ {A B : Type 0} {s : Table} {old v : TermsView} {rest : Items → B → 
   -- One part more was read, with this answer, or it has a fault.
   module _ {C T : Type 0} {z : Table} {w : TermsView} {M : T → C → ProofState → Type 0} (h : Left s old v rest Holds items k end whole) (adds : AddsNoSymbols s z) (keeps : KeepsTerms v w) (one : Outcome ProofState C) (tail : C → Reading A)
       (keeps_tail : (c : C) → KeepsRead (tail c)) (splits : rest (items_at items k end) h.read h.state ≡ and_then one tail) where
-    pub fails : {U : Type 0} {N : U → A → ProofState → Type 0} {fault : ReadFault} → AnswersAs z v w M one (Err fault) → AnswersAs z old w N whole (Err fault)
+    pub fails : {U : Type 0} {N : U → A → ProofState → Type 0} {fault : ReadFault} → AnswersAs v (both z w) M one (Err fault) → AnswersAs old (both z w) N whole (Err fault)
     fails this = fails_with old (part h one tail keeps_tail splits) adds.keeps keeps h.placed this
 
-    pub no_room : {U : Type 0} {N : U → A → ProofState → Type 0} {t : T} → AnswersAs z v w M one (Ok t) → AnswersAs z old w N whole (Err ReadFault.Memory)
+    pub no_room : {U : Type 0} {N : U → A → ProofState → Type 0} {t : T} → AnswersAs v (both z w) M one (Ok t) → AnswersAs old (both z w) N whole (Err ReadFault.Memory)
     no_room this = record { answer = tt; placed = placed_with old (part h one tail keeps_tail splits) adds.keeps keeps h.placed this }
 
-    pub goes_on : {Now : B → ProofState → Type 0} {m : ℕ} {t : T} (this : AnswersAs z v w M one (Ok t)) (b : B) → tail this.answer.value this.answer.state ≡ rest (items_at items m end) b this.answer.state
+    pub goes_on : {Now : B → ProofState → Type 0} {m : ℕ} {t : T} (this : AnswersAs v (both z w) M one (Ok t)) (b : B) → tail this.answer.value this.answer.state ≡ rest (items_at items m end) b this.answer.state
         → Now b this.answer.state
         → Left z old w rest Now items m end whole
     goes_on this b e now = record {

@@ -34,6 +34,7 @@ use Rattle.alethe_reader.specs.ReadTerms.{IsReadValue}
 use Rattle.alethe_reader.proofs.Answering.{stops, goes}
 use Rattle.alethe_reader.proofs.StillRead.{keeps_give, keeps_then}
 use Rattle.alethe_reader.proofs.StillReadCommands.{keeps_named_among}
+use Rattle.term_expansion.specs.SymbolsAndTerms.{both}
 
 -- what begins in an item ends in it, and so does the item
 ends_in_itself : (items : ItemsView) (k : ℕ) (node : Node) → IsItemNode items k node → EndBy items k node.next
@@ -94,26 +95,26 @@ module _ (settings : ProofSettings) (nesting : Nesting Var Term) (i : Item) (tru
   steps = refl
 
   pub no_term : {s : Table} {v w : TermsView} {r : ReaderView} {N : Option (ℕ × Bool) → Option (Term × Bool) → ProofState → Type 0} {fault : ReadFault}
-      → AnswersAs s v w (IsReadValue s w settings nesting r p) (term_in settings nesting i p) (Err fault) → AnswersAs s v w N (pivot_read settings nesting i truth p) (Err fault)
+      → AnswersAs v (both s w) (IsReadValue (both s w) settings nesting r p) (term_in settings nesting i p) (Err fault) → AnswersAs v (both s w) N (pivot_read settings nesting i truth p) (Err fault)
   no_term h = same_outcome steps (stops behind_term keeps_behind h)
 
-  module _ {s z : Table} {v w x : TermsView} {r q : ReaderView} (c : Value) (h : AnswersAs s v w (IsReadValue s w settings nesting r p) (term_in settings nesting i p) (Ok c)) (table : Keeps s z) (terms : KeepsTerms w x) (result : Result ⊤ ReadFault)
-      (named : (t : ProofState) → IsReaderOf s w r t.script (place_in settings nesting) → AnswersAs z w x (AreNamed z x settings nesting q t) (named_among settings nesting truth t) result) where
-    pub no_name : {N : Option (ℕ × Bool) → Option (Term × Bool) → ProofState → Type 0} (fault : ReadFault) → result ≡ Err fault → AnswersAs z v x N (pivot_read settings nesting i truth p) (Err fault)
+  module _ {s z : Table} {v w x : TermsView} {r q : ReaderView} (c : Value) (h : AnswersAs v (both s w) (IsReadValue (both s w) settings nesting r p) (term_in settings nesting i p) (Ok c)) (table : Keeps s z) (terms : KeepsTerms w x) (result : Result ⊤ ReadFault)
+      (named : (t : ProofState) → IsReaderOf s w r t.script (place_in settings nesting) → AnswersAs w (both z x) (AreNamed (both z x) settings nesting q t) (named_among settings nesting truth t) result) where
+    pub no_name : {N : Option (ℕ × Bool) → Option (Term × Bool) → ProofState → Type 0} (fault : ReadFault) → result ≡ Err fault → AnswersAs v (both z x) N (pivot_read settings nesting i truth p) (Err fault)
     no_name fault e =
         same_outcome steps
         (goes behind_term keeps_behind h table terms
-        (λ t u k. stops (told t) (keeps_told t) (subst (λ (o : Result ⊤ ReadFault). AnswersAs z w x (AreNamed z x settings nesting q u) (named_among settings nesting truth u) o) e (named u k.behind.reader))))
+        (λ t u k. stops (told t) (keeps_told t) (subst (λ (o : Result ⊤ ReadFault). AnswersAs w (both z x) (AreNamed (both z x) settings nesting q u) (named_among settings nesting truth u) o) e (named u k.behind.reader))))
 
     is_pivot : (t : Term) → RefersTo z x c.term t → (b : Option Bool) → BothOrNeither (IsPivotOf z x) (with_truth c.term b) (with_truth t b)
     is_pivot t refers None = tt
     is_pivot t refers (Some b) = record { term = refers; truth = refl }
 
-    pub pivot_told : (b : Option Bool) → b ≡ truth_among truth → result ≡ Ok tt → AnswersAs z v x (IsReadPivot z x settings nesting q p) (pivot_read settings nesting i truth p) (Ok (with_truth c.term b))
+    pub pivot_told : (b : Option Bool) → b ≡ truth_among truth → result ≡ Ok tt → AnswersAs v (both z x) (IsReadPivot (both z x) settings nesting q p) (pivot_read settings nesting i truth p) (Ok (with_truth c.term b))
     pivot_told b same e =
         same_outcome steps
         (goes behind_term keeps_behind h table terms
-        (λ t u k. goes (told t) (keeps_told t) (subst (λ (o : Result ⊤ ReadFault). AnswersAs z w x (AreNamed z x settings nesting q u) (named_among settings nesting truth u) o) e (named u k.behind.reader)) (adds_none z).keeps (keeps_none x)
+        (λ t u k. goes (told t) (keeps_told t) (subst (λ (o : Result ⊤ ReadFault). AnswersAs w (both z x) (AreNamed (both z x) settings nesting q u) (named_among settings nesting truth u) o) e (named u k.behind.reader)) (adds_none z).keeps (keeps_none x)
         (λ _ y l. answers (with_truth t.tree (truth_among truth)) y refl refl (record {
           stands =
               subst (λ o. BothOrNeither (IsPivotOf z x) (with_truth c.term b) (with_truth t.tree o)) same

@@ -13,7 +13,8 @@ use Rattle.problem_text.specs.Outcomes.{Outcome, done, and_then}
 use Rattle.term_names.specs.Standing.{AddsNoSymbols}
 use Rattle.term_names.specs.declared.faults.ReadFault.{ReadFault}
 use Rattle.term_reader.specs.ProblemViews.{ReaderView, IsReaderOf}
-use Rattle.term_reader.proofs.Staying.{zip_weaken, refers_stays}
+use Rattle.term_expansion.proofs.Zips.{zip_weaken}
+use Rattle.term_reader.proofs.Staying.{refers_stays}
 use Rattle.alethe_text.specs.Arguments.{pivots_from}
 use Rattle.alethe_text.specs.Commands.{behind_first}
 use Rattle.alethe_text.specs.ProofTerms.{place_in}
@@ -26,6 +27,7 @@ use Rattle.alethe_reader.proofs.LeftToRead.{and_then_then, and_then_same, and_th
 use Rattle.alethe_reader.proofs.PivotPairs.{others_behind, pair_split, both_assoc, none_before, none_behind}
 use Rattle.alethe_reader.proofs.StillRead.{keeps_give, keeps_then}
 use Rattle.alethe_reader.proofs.StillReadCommands.{keeps_pivots}
+use Rattle.term_expansion.specs.SymbolsAndTerms.{both}
 
 -- pivots go on standing for those that they are
 module _ (s z : Table) (v w : TermsView) (table : Keeps s z) (terms : KeepsTerms v w) where
@@ -58,7 +60,7 @@ behind before pivots = give (both_lists before pivots)
 -- The pivots that are held stand for those that were read, where all arguments so far are pivots.
 pub record AreHeld (s : Table) (v : TermsView) (settings : ProofSettings) (nesting : Nesting Var Term) (r : ReaderView) (old : ProofState) (all : Bool) (refs : List (ℕ × Bool)) (read : Option (List (Term × Bool))) (new : ProofState) : Type 0 where
   pub stand : BothOrNeither (AllZip (IsPivotOf s v)) (held_pivots all refs) read
-  pub behind_it : IsBehind s v settings nesting r old new
+  pub behind_it : IsBehind (both s v) settings nesting r old new
 
 module _ (settings : ProofSettings) (nesting : Nesting Var Term) (p : ProofState) where
   -- the pivots behind those that were read
@@ -77,21 +79,21 @@ module _ (settings : ProofSettings) (nesting : Nesting Var Term) (p : ProofState
 
 module _ {settings : ProofSettings} {nesting : Nesting Var Term} {p : ProofState} {s : Table} {old v : TermsView} {r : ReaderView} {all : Bool} {refs : List (ℕ × Bool)} {items : ItemsView} {k end : ℕ} {whole : Outcome ProofState (Option (List (Term × Bool)))}
     (h : AreLeft settings nesting p s old v r all refs items k end whole) where
-  read_to_end : end ≤ k → (after : List (ℕ × Bool)) → AllZip (IsPivotOf s v) after (unwrap_or h.read []) → AnswersAs s old v (AreReadPivots s v settings nesting r p after) whole (Ok tt)
+  read_to_end : end ≤ k → (after : List (ℕ × Bool)) → AllZip (IsPivotOf s v) after (unwrap_or h.read []) → AnswersAs old (both s v) (AreReadPivots (both s v) settings nesting r p after) whole (Ok tt)
   unfolding pivots_from
   read_to_end at_end after stand =
       none_left h at_end (both_lists h.read (Some [])) refl
       (record { stand = subst (λ (of : Option (List (Term × Bool))). AllZip (IsPivotOf s v) after (unwrap_or of [])) (sym (none_behind h.read)) stand; behind = h.holds.behind_it })
 
   -- all arguments were pivots, or some was none
-  pub all_held : end ≤ k → all ≡ true → AnswersAs s old v (AreReadPivots s v settings nesting r p refs) whole (Ok tt)
+  pub all_held : end ≤ k → all ≡ true → AnswersAs old (both s v) (AreReadPivots (both s v) settings nesting r p refs) whole (Ok tt)
   all_held at_end e = read_to_end at_end refs (go h.read (subst (λ b. BothOrNeither (AllZip (IsPivotOf s v)) (held_pivots b refs) h.read) e h.holds.stand))
     where
       go : (of : Option (List (Term × Bool))) → BothOrNeither (AllZip (IsPivotOf s v)) (Some refs) of → AllZip (IsPivotOf s v) refs (unwrap_or of [])
       go None stand = absurd stand
       go (Some qs) stand = stand
 
-  pub none_held : end ≤ k → all ≡ false → (after : List (ℕ × Bool)) → after ≡ [] → AnswersAs s old v (AreReadPivots s v settings nesting r p after) whole (Ok tt)
+  pub none_held : end ≤ k → all ≡ false → (after : List (ℕ × Bool)) → after ≡ [] → AnswersAs old (both s v) (AreReadPivots (both s v) settings nesting r p after) whole (Ok tt)
   none_held at_end e after none =
       read_to_end at_end after (subst (λ rs. AllZip (IsPivotOf s v) rs (unwrap_or h.read [])) (sym none) (go h.read (subst (λ b. BothOrNeither (AllZip (IsPivotOf s v)) (held_pivots b refs) h.read) e h.holds.stand)))
     where
@@ -128,16 +130,16 @@ module _ {settings : ProofSettings} {nesting : Nesting Var Term} {p : ProofState
     joins pivot o = and_then_then o _ _ ∙ and_then_same o _ _ (λ pivots u. ap (λ x. done x u) (sym (both_assoc h.read (one_pivot pivot) pivots)))
 
     module _ {z : Table} {w : TermsView} {q : ReaderView} (adds : AddsNoSymbols s z) (keeps : KeepsTerms v w) (less : k < end) (inside : end ≤ length items.nodes) where
-      pub no_pivot : {fault : ReadFault} {after : List (ℕ × Bool)} → AnswersAs z v w (IsReadPivot z w settings nesting q h.state) one (Err fault)
-          → AnswersAs z old w (AreReadPivots z w settings nesting q p after) whole (Err fault)
+      pub no_pivot : {fault : ReadFault} {after : List (ℕ × Bool)} → AnswersAs v (both z w) (IsReadPivot (both z w) settings nesting q h.state) one (Err fault)
+          → AnswersAs old (both z w) (AreReadPivots (both z w) settings nesting q p after) whole (Err fault)
       no_pivot this = fails h adds keeps one tail keeps_tail (splits less inside) this
 
-      pub no_memory : {c : Option (ℕ × Bool)} {after : List (ℕ × Bool)} {fault : ReadFault} → fault ≡ ReadFault.Memory → AnswersAs z v w (IsReadPivot z w settings nesting q h.state) one (Ok c)
-          → AnswersAs z old w (AreReadPivots z w settings nesting q p after) whole (Err fault)
+      pub no_memory : {c : Option (ℕ × Bool)} {after : List (ℕ × Bool)} {fault : ReadFault} → fault ≡ ReadFault.Memory → AnswersAs v (both z w) (IsReadPivot (both z w) settings nesting q h.state) one (Ok c)
+          → AnswersAs old (both z w) (AreReadPivots (both z w) settings nesting q p after) whole (Err fault)
       no_memory e this = rw e (no_room h adds keeps one tail keeps_tail (splits less inside) this)
 
       pub left_next : {c : Option (ℕ × Bool)} {still : Bool} {after : List (ℕ × Bool)} → held_pivots still after ≡ both_lists (held_pivots all refs) (one_pivot c)
-          → AnswersAs z v w (IsReadPivot z w settings nesting q h.state) one (Ok c)
+          → AnswersAs v (both z w) (IsReadPivot (both z w) settings nesting q h.state) one (Ok c)
           → AreLeft settings nesting p z old w q still after items m end whole
       left_next {c} held this =
           let pivot = this.answer.value in

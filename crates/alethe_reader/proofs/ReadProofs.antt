@@ -37,6 +37,7 @@ use Rattle.alethe_reader.specs.declared.session.OpenAnchor.{OpenAnchor}
 use Rattle.alethe_reader.specs.declared.session.Session.{Session}
 use Rattle.alethe_text.proofs.CommandNames.{commands_named}
 use Rattle.alethe_text.proofs.SymbolNames.{AreSpelled}
+use Rattle.term_expansion.specs.SymbolsAndTerms.{both}
 
 -- how a proof is read with these flags
 abbrev pub settings_with : Flags → ProofSettings
@@ -44,7 +45,7 @@ settings_with flags = record { replaces_lets = flags.expand_lets; is_strict = fl
 
 -- nothing was read of a proof
 pub is_new : (s : Table) (v : TermsView) (settings : ProofSettings) (d : Session) (before : Script) → settings.is_strict ≡ d.strict → d.builder ≡ unwritten → d.ids.used ≡ [] → d.anchors.items ≡ []
-    → AreBound s v d.bound outermost → IsReaderOf s v d.reader before (place_in settings outermost) → IsProofSession s v settings d (unread before)
+    → AreBound (both s v) d.bound outermost → IsReaderOf s v d.reader before (place_in settings outermost) → IsProofSession (both s v) settings d (unread before)
 is_new s v settings d before strict built none no_anchors bound reader = record {
   strict = strict;
   reader = reader;
@@ -89,12 +90,12 @@ starts_none (inside around before anchor) e = absurd (let f = ap length e in let
 some_starts : (n : Nesting ℕ ℕ) (k : ℕ) (ks : List ℕ) → k ∷ ks ≡ starts n → n ≡ outermost → ⊥
 some_starts n k ks e is = let f = e ∙ ap starts is in cc
 
-both_outermost : (s : Table) (v : TermsView) (n : Nesting ℕ ℕ) (m : Nesting Var Term) → n ≡ outermost → StandForNesting s v n m → m ≡ outermost
+both_outermost : (s : Table) (v : TermsView) (n : Nesting ℕ ℕ) (m : Nesting Var Term) → n ≡ outermost → StandForNesting (both s v) n m → m ≡ outermost
 both_outermost s v outermost outermost e h = refl
 both_outermost s v outermost (inside around before anchor) e h = absurd h
 both_outermost s v (inside around before anchor) m e h = absurd (cc)
 
-not_outermost : (s : Table) (v : TermsView) (n : Nesting ℕ ℕ) (m : Nesting Var Term) → (n ≡ outermost → ⊥) → StandForNesting s v n m → (items : Proof Var Term) (places : List ℕ) (p : ProofState)
+not_outermost : (s : Table) (v : TermsView) (n : Nesting ℕ ℕ) (m : Nesting Var Term) → (n ≡ outermost → ⊥) → StandForNesting (both s v) n m → (items : Proof Var Term) (places : List ℕ) (p : ProofState)
     → (closed_proof m items places p).result ≡ Err (record { cause = BadAnchor; at = slice_index_or places 0 0 })
 not_outermost s v outermost m other h items places p = absurd (other refl)
 not_outermost s v (inside around before anchor) outermost other h items places p = absurd h
@@ -112,12 +113,12 @@ pub none_there : (xs : List OpenAnchor) → slice_get xs 0 ≡ None → xs ≡ [
 none_there [] e = refl
 none_there (b ∷ bs) e = absurd (cc)
 
-module _ (s : Table) (v : TermsView) (settings : ProofSettings) (d : Session) (p : ProofState) (behind : Items) (session : IsProofSession s v settings d p) where
-  pub item_behind : (place : ℕ) → Some place ≡ excess behind → IsFinished s v p (closing_from settings behind tt p) (Err (ReadFault.Text (record { cause = BadCommand; at = place })))
+module _ (s : Table) (v : TermsView) (settings : ProofSettings) (d : Session) (p : ProofState) (behind : Items) (session : IsProofSession (both s v) settings d p) where
+  pub item_behind : (place : ℕ) → Some place ≡ excess behind → IsFinished (both s v) p (closing_from settings behind tt p) (Err (ReadFault.Text (record { cause = BadCommand; at = place })))
   item_behind place e = excess_refuses settings behind p place (sym e)
 
   pub anchor_open : None ≡ excess behind → (a : OpenAnchor) (others : List OpenAnchor) → d.anchors.items ≡ a ∷ others
-      → IsFinished s v p (closing_from settings behind tt p) (Err (ReadFault.Text (record { cause = BadAnchor; at = a.place })))
+      → IsFinished (both s v) p (closing_from settings behind tt p) (Err (ReadFault.Text (record { cause = BadAnchor; at = a.place })))
   anchor_open e a others is =
       let w = session.written in
       let starts_is : a.ids ∷ map (λ b. b.ids) others ≡ starts d.builder.nesting = sym (ap (map (λ b. b.ids)) is) ∙ w.starts_kept in
@@ -129,7 +130,7 @@ module _ (s : Table) (v : TermsView) (settings : ProofSettings) (d : Session) (p
   pub none_open : d.anchors.items ≡ [] → d.builder.nesting ≡ outermost
   none_open is = starts_none d.builder.nesting (sym session.written.starts_kept ∙ ap (map (λ b. b.ids)) is)
 
-  pub proof_finished : None ≡ excess behind → d.anchors.items ≡ [] → (refs : Proof ℕ ℕ) → refs ≡ d.builder.items → IsFinished s v p (closing_from settings behind tt p) (Ok refs)
+  pub proof_finished : None ≡ excess behind → d.anchors.items ≡ [] → (refs : Proof ℕ ℕ) → refs ≡ d.builder.items → IsFinished (both s v) p (closing_from settings behind tt p) (Ok refs)
   proof_finished e is refs same =
       let closed = both_outermost s v d.builder.nesting p.scope.nesting (none_open is) session.written.nesting in (
         p.scope.items,
@@ -150,13 +151,13 @@ module _ (text : List ℕ) (l : Lexer) (whole : source l ≡ text) (start : posi
 -- Nothing was read of the text, and all its commands are left.
 pub record IsBegun (text : List ℕ) (settings : ProofSettings) (before : Script) (l : Lexer) (in_list : Bool) (s : Table) (v : TermsView) (d : Session) : Type 0 where
   pub left : (items : Items) → StandsForItems text items → AreCommandsLeft (source l) settings in_list (position l) (unread before) (proof_from settings items (unread before))
-  pub session : IsProofSession s v settings d (unread before)
+  pub session : IsProofSession (both s v) settings d (unread before)
 
 -- behind the answer and inside the list
 pub begun : {text : List ℕ} {settings : ProofSettings} {before : Script} {in_list : Bool} {s : Table} {v : TermsView} {d : Session} → AreSpelled → (l m o : Lexer) → source l ≡ text → position l ≡ 0
     → ((items : Items) → HasCommandItems (source l) false (position l) items no_items → HasCommandItems (source m) false (position m) (behind_answer items) no_items)
     → ((items : Items) → HasCommandItems (source m) false (position m) items no_items → HasCommandItems (source o) in_list (position o) (unwrapped_commands items) (behind_list items))
-    → IsProofSession s v settings d (unread before) → IsBegun text settings before o in_list s v d
+    → IsProofSession (both s v) settings d (unread before) → IsBegun text settings before o in_list s v d
 begun {text} {settings} {before} spelled l m o whole start skips enters session = record {
   left = λ items h. record {
     items = unwrapped_commands (behind_answer items);
@@ -169,13 +170,13 @@ begun {text} {settings} {before} spelled l m o whole start skips enters session 
 }
 
 module _ {text : List ℕ} {settings : ProofSettings} {before : Script} {l : Lexer} {in_list : Bool} {s : Table} {v : TermsView} {d : Session} (b : IsBegun text settings before l in_list s v d) where
-  pub some_left : HasForm text → (settings : ProofSettings) × (p : ProofState) × (whole : Outcome ProofState (Proof Var Term)) × AreCommandsLeft (source l) settings in_list (position l) p whole × IsProofSession s v settings d p
+  pub some_left : HasForm text → (settings : ProofSettings) × (p : ProofState) × (whole : Outcome ProofState (Proof Var Term)) × AreCommandsLeft (source l) settings in_list (position l) p whole × IsProofSession (both s v) settings d p
   some_left (items, h) = (settings, unread before, proof_from settings items (unread before), b.left items h, b.session)
 
   -- so the reading of all commands is that of the whole text
   pub all_read : {text_after : List ℕ} {z : Table} {w : TermsView} {e : Session} {at : ℕ} {result : Result Unit ReadFault}
-      → ((settings : ProofSettings) (p : ProofState) (whole : Outcome ProofState (Proof Var Term)) → AreCommandsLeft (source l) settings in_list (position l) p whole → IsProofSession s v settings d p → ReadsProof text_after z v w settings e at whole result)
-      → (items : Items) → StandsForItems text items → ReadsProof text_after z v w settings e at (proof_from settings items (unread before)) result
+      → ((settings : ProofSettings) (p : ProofState) (whole : Outcome ProofState (Proof Var Term)) → AreCommandsLeft (source l) settings in_list (position l) p whole → IsProofSession (both s v) settings d p → ReadsProof text_after v (both z w) settings e at whole result)
+      → (items : Items) → StandsForItems text items → ReadsProof text_after v (both z w) settings e at (proof_from settings items (unread before)) result
   all_read reads items h = reads settings (unread before) (proof_from settings items (unread before)) (b.left items h) b.session
 
 -- the items that are left behind the answer
@@ -185,11 +186,11 @@ some_behind l m skips (items, h) = (behind_answer items, skips items h)
 
 -- what reading all commands of the text has come to
 abbrev pub ReadsText : List ℕ → ProofSettings → Script → List ℕ → Table → TermsView → TermsView → Session → ℕ → Result Unit ReadFault → Type 0
-ReadsText text settings before source s old new d at result = (items : Items) → StandsForItems text items → ReadsProof source s old new settings d at (proof_from settings items (unread before)) result
+ReadsText text settings before source s old new d at result = (items : Items) → StandsForItems text items → ReadsProof source old (both s new) settings d at (proof_from settings items (unread before)) result
 
 -- once all commands were read, and what is left is finished
 abbrev pub Finishes : ProofSettings → List ℕ → Table → TermsView → Session → ℕ → Result (Proof ℕ ℕ) ReadFault → Type 0
-Finishes settings source s new d at result = (p : ProofState) (behind : Items) → HasCommandItems source false at behind no_items → IsProofSession s new settings d p → IsFinished s new p (closing_from settings behind tt p) result
+Finishes settings source s new d at result = (p : ProofState) (behind : Items) → HasCommandItems source false at behind no_items → IsProofSession (both s new) settings d p → IsFinished (both s new) p (closing_from settings behind tt p) result
 
 module _ {text : List ℕ} (settings : ProofSettings) (before : Script) (form : HasForm text) where
   abbrev whole_of : Items → Outcome ProofState (Proof Var Term)
@@ -202,7 +203,7 @@ module _ {text : List ℕ} (settings : ProofSettings) (before : Script) (form : 
   first_fault items h r is = inr (record { items = items; nested = h; refused = is })
 
   module _ (s : Table) (new : TermsView) where
-    proof_of : (result : Result (Proof ℕ ℕ) ReadFault) → (p : ProofState) × IsFinished s new p (whole_of form.0) result → IfOk result (IsProofOf text settings before s new)
+    proof_of : (result : Result (Proof ℕ ℕ) ReadFault) → (p : ProofState) × IsFinished (both s new) p (whole_of form.0) result → IfOk result (IsProofOf text settings before s new)
     proof_of (Ok refs) (p, (proof, is, refer)) = record {
       proof = proof;
       after = p.script;
@@ -216,8 +217,8 @@ module _ {text : List ℕ} (settings : ProofSettings) (before : Script) (form : 
     }
     proof_of (Err fault) h = tt
 
-    fault_of : (result : Result (Proof ℕ ℕ) ReadFault) (r : Refusal) → result ≡ Err (ReadFault.Text r) → (p : ProofState) × IsFinished s new p (whole_of form.0) result → (whole_of form.0).result ≡ Err r
-    fault_of result r e (p, h) = subst (λ (x : Result (Proof ℕ ℕ) ReadFault). IsFinished s new p (whole_of form.0) x) e h
+    fault_of : (result : Result (Proof ℕ ℕ) ReadFault) (r : Refusal) → result ≡ Err (ReadFault.Text r) → (p : ProofState) × IsFinished (both s new) p (whole_of form.0) result → (whole_of form.0).result ≡ Err r
+    fault_of result r e (p, h) = subst (λ (x : Result (Proof ℕ ℕ) ReadFault). IsFinished (both s new) p (whole_of form.0) x) e h
 
   module _ {source : List ℕ} {s : Table} {old new : TermsView} {d : Session} {at : ℕ} where
     pub read_placed : (result : Result Unit ReadFault) → ReadsText text settings before source s old new d at result → PlacesCellsOf s old.pass new.pass (IsCountedOfProof text settings before)
@@ -233,12 +234,12 @@ module _ {text : List ℕ} (settings : ProofSettings) (before : Script) (form : 
         lacks_more s new.pass (WasRead (whole_of form.0)) (IsCountedOfProof text settings before) (counted form.0 form.1)
         (subst (λ (x : ReadFault). EndsWith s new.pass (whole_of form.0).result (WasRead (whole_of form.0)) x) is (reads form.0 form.1).answer)
 
-    ended : {u : Unit {0}} (result : Result (Proof ℕ ℕ) ReadFault) → ReadsText text settings before source s old new d at (Ok u) → Finishes settings source s new d at result → (p : ProofState) × IsFinished s new p (whole_of form.0) result
+    ended : {u : Unit {0}} (result : Result (Proof ℕ ℕ) ReadFault) → ReadsText text settings before source s old new d at (Ok u) → Finishes settings source s new d at result → (p : ProofState) × IsFinished (both s new) p (whole_of form.0) result
     ended result reads finishes =
         let (p, none, session) = (reads form.0 form.1).answer in
-        (p, subst (λ (w : Outcome ProofState (Proof Var Term)). IsFinished s new p w result) none.comes (finishes p none.behind none.here session))
+        (p, subst (λ (w : Outcome ProofState (Proof Var Term)). IsFinished (both s new) p w result) none.comes (finishes p none.behind none.here session))
 
-    pub some_end : {u : Unit {0}} → ReadsText text settings before source s old new d at (Ok u) → (p : ProofState) × (behind : Items) × HasCommandItems source false at behind no_items × IsProofSession s new settings d p
+    pub some_end : {u : Unit {0}} → ReadsText text settings before source s old new d at (Ok u) → (p : ProofState) × (behind : Items) × HasCommandItems source false at behind no_items × IsProofSession (both s new) settings d p
     some_end reads = let (p, none, session) = (reads form.0 form.1).answer in (p, none.behind, none.here, session)
 
     module _ {u : Unit {0}} (result : Result (Proof ℕ ℕ) ReadFault) (reads : ReadsText text settings before source s old new d at (Ok u)) (finishes : Finishes settings source s new d at result) where
@@ -249,7 +250,7 @@ module _ {text : List ℕ} (settings : ProofSettings) (before : Script) (form : 
       finished_fault r e = first_fault form.0 form.1 r (fault_of s new result r e (ended result reads finishes))
 
       pub never_full : result ≡ Err ReadFault.PoolFull → ⊥
-      never_full e = let (p, h) = ended result reads finishes in subst (λ (x : Result (Proof ℕ ℕ) ReadFault). IsFinished s new p (whole_of form.0) x) e h
+      never_full e = let (p, h) = ended result reads finishes in subst (λ (x : Result (Proof ℕ ℕ) ReadFault). IsFinished (both s new) p (whole_of form.0) x) e h
 
       pub never_both : ((proof : Proof Var Term) (after : Script) (r : Refusal) → StandsForProof text settings before proof after → IsFirstProofFault text settings before r → ⊥)
           → (r : Refusal) → IsFirstProofFault text settings before r → IfOk result (λ _. ⊥)

@@ -32,6 +32,7 @@ use Rattle.alethe_reader.proofs.IdsInUse.{unused_new}
 use Rattle.alethe_reader.proofs.JudgedIds.{judged_new, judged_used}
 use Rattle.alethe_reader.proofs.Reaches.{splits, reaches_none, reaches_all, reaches_outer, reaches_assumes}
 use Rattle.alethe_reader.proofs.WrittenStays.{ids_same}
+use Rattle.term_expansion.specs.SymbolsAndTerms.{both}
 
 -- the last of a list whose images end so
 pub record EndsWith {A B : Type 0} (f : A → B) (xs : List A) (ys : List B) (y : B) : Type 0 where
@@ -115,7 +116,7 @@ zip_length R [] (y ∷ ys) h = absurd h
 zip_length R (x ∷ xs) [] h = absurd h
 zip_length R (x ∷ xs) (y ∷ ys) h = ap suc (zip_length R xs ys h.1)
 
-module _ (s : Table) (v : TermsView) (d : Session) (p : ProofState) (n : Name) (h : IsWritten s v d p) where
+module _ (s : Table) (v : TermsView) (d : Session) (p : ProofState) (n : Name) (h : IsWritten (both s v) d p) where
   pub same_ids : d.ids.used ≡ ids_in p.scope
   same_ids = h.ids ∙ ids_same s v d.builder p.scope h.nesting h.items
 
@@ -156,7 +157,7 @@ module _ (s : Table) (v : TermsView) (d : Session) (p : ProofState) (n : Name) (
     pub stands_nowhere : ((front : List OpenAnchor) (a : OpenAnchor) → d.anchors.items ≡ front ++ a ∷ [] → a.ids ≢ f.place) → (refusal : Refusal) → refusal ≡ record { cause = cause_of BadAnchor f.role; at = n.place } → IsStanding d.ids.used p n (Err refusal)
     stands_nowhere none refusal is = refused (go d.builder.nesting p.scope.nesting h.nesting h.starts_kept there) refusal is
       where
-        go : (r : Nesting ℕ ℕ) (m : Nesting Var Term) → StandForNesting s v r m → map (λ (a : OpenAnchor). a.ids) d.anchors.items ≡ starts r → IsUsedAt (ids_in (at m p.scope.items)) n.name f → is_open_id m n.name ≡ false
+        go : (r : Nesting ℕ ℕ) (m : Nesting Var Term) → StandForNesting (both s v) r m → map (λ (a : OpenAnchor). a.ids) d.anchors.items ≡ starts r → IsUsedAt (ids_in (at m p.scope.items)) n.name f → is_open_id m n.name ≡ false
         go outermost outermost k e u = refl
         go outermost (inside around before anchor) k e u = absurd k
         go (inside around before anchor) outermost k e u = absurd k
@@ -177,7 +178,7 @@ module _ (s : Table) (v : TermsView) (d : Session) (p : ProofState) (n : Name) (
             let there = used.alone k u within.0 same in
             omega (arith, within.1, there, e)
 
-        go : (r : Nesting ℕ ℕ) (m : Nesting Var Term) → StandForNesting s v r m → map (λ (a : OpenAnchor). a.ids) d.anchors.items ≡ starts r → map (λ (a : OpenAnchor). a.variables) d.anchors.items ≡ counts r
+        go : (r : Nesting ℕ ℕ) (m : Nesting Var Term) → StandForNesting (both s v) r m → map (λ (a : OpenAnchor). a.ids) d.anchors.items ≡ starts r → map (λ (a : OpenAnchor). a.variables) d.anchors.items ≡ counts r
             → IsUsedAt (ids_in (at m p.scope.items)) n.name f → m ≡ p.scope.nesting
             → IsStandingOf d.ids.used p n (record { premises = record { first = 0; end = a.ids; takes_steps = true }; discharges = record { first = first; end = len; takes_steps = false }; closes = Some a })
         go outermost outermost k es cs u same = absurd (none (sym es ∙ ap (map (λ (a : OpenAnchor). a.ids)) split))

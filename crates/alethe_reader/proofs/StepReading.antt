@@ -42,9 +42,10 @@ use Rattle.alethe_text.proofs.FormedSteps.{read_has_rule}
 use Rattle.alethe_reader.proofs.StillRead.{keeps_then, keeps_changed}
 use Rattle.alethe_reader.proofs.StillReadCommands.{keeps_attributes}
 use Rattle.alethe_reader.proofs.WrittenStays.{written_stays}
+use Rattle.term_expansion.specs.SymbolsAndTerms.{both}
 
 -- the answer says what it is the outcome of
-with_outcome : {A T : Type 0} {s : Table} {v w : TermsView} {M : T → A → ProofState → Type 0} {o : Outcome ProofState A} {t : T} → AnswersAs s v w M o (Ok t) → AnswersAs s v w (λ t a p. M t a p × (o ≡ done a p)) o (Ok t)
+with_outcome : {A T : Type 0} {s : Table} {v w : TermsView} {M : T → A → ProofState → Type 0} {o : Outcome ProofState A} {t : T} → AnswersAs v (both s w) M o (Ok t) → AnswersAs v (both s w) (λ t a p. M t a p × (o ≡ done a p)) o (Ok t)
 with_outcome h = record {
   answer = record { value = h.answer.value; state = h.answer.state; is = h.answer.is; after = (h.answer.after, h.answer.is) };
   placed = h.placed;
@@ -83,7 +84,7 @@ clause_stays s z v w table terms (r ∷ refs) [] h = absurd h
 clause_stays s z v w table terms (r ∷ refs) (t ∷ ts) h = (refers_stays s z v w table terms r t h.0, clause_stays s z v w table terms refs ts h.1)
 
 -- Nothing of what is written was changed.
-written_same : (s : Table) (v : TermsView) (d e : Session) (p q : ProofState) → e.builder ≡ d.builder → e.ids.used ≡ d.ids.used → e.anchors ≡ d.anchors → e.bound ≡ d.bound → q.scope ≡ p.scope → q.anchors ≡ p.anchors → IsWritten s v d p → IsWritten s v e q
+written_same : (s : Table) (v : TermsView) (d e : Session) (p q : ProofState) → e.builder ≡ d.builder → e.ids.used ≡ d.ids.used → e.anchors ≡ d.anchors → e.bound ≡ d.bound → q.scope ≡ p.scope → q.anchors ≡ p.anchors → IsWritten (both s v) d p → IsWritten (both s v) e q
 written_same s v d e p q built used anchors bound scope places h = record {
   nesting = rw (built, scope) h.nesting;
   items = rw (built, scope) h.items;
@@ -127,7 +128,7 @@ module _ (s : Table) (v : TermsView) (settings : ProofSettings) (used : List Use
 
 -- what is answered of how a step stands by its id, of where the reader goes then, of the step's literals and of its attributes
 abbrev pub JudgesStep : Session → Named → Result ReaderStanding Refusal → Type 0
-JudgesStep d named result = (s : Table) (v : TermsView) (p : ProofState) → IsSymbolName named.name.now → IsWritten s v d p → IsStanding d.ids.used p (is_named named) result
+JudgesStep d named result = (s : Table) (v : TermsView) (p : ProofState) → IsSymbolName named.name.now → IsWritten (both s v) d p → IsStanding d.ids.used p (is_named named) result
 
 abbrev pub GoesThere : ReaderView → Option OpenAnchor → ReaderView → Type 0
 GoesThere old closes new = (s : Table) (v : TermsView) (settings : ProofSettings) (used : List Used) (p : ProofState) (id : List ℕ) (here : Standing)
@@ -135,18 +136,18 @@ GoesThere old closes new = (s : Table) (v : TermsView) (settings : ProofSettings
 
 abbrev pub ReadsLiterals : Table → TermsView → ReaderView → Items → Table → TermsView → ReaderView → List ℕ → Result ⊤ ReadFault → Type 0
 ReadsLiterals s v old literals z w new refs result = (settings : ProofSettings) (nesting : Nesting Var Term) (p : ProofState)
-    → IsReaderOf s v old p.script (place_in settings nesting) → AnswersAs z v w (AreReadFormulas z w settings nesting new p refs) (formulas_in settings nesting literals p) result
+    → IsReaderOf s v old p.script (place_in settings nesting) → AnswersAs v (both z w) (AreReadFormulas (both z w) settings nesting new p refs) (formulas_in settings nesting literals p) result
 
 abbrev pub ReadsAttributes : Table → TermsView → Session → ReaderStanding → Rule → List Attribute → Table → TermsView → Session → Result ⊤ ReadFault → Type 0
 ReadsAttributes z w d standing kind attributes y x e result = (settings : ProofSettings) (at : Standing) (p : ProofState) (bare : Step Term)
-    → StandsAt z w settings at d standing p → bare.rule ≡ kind → IsBare bare → AnswersAs y w x (AreReadAttributes y x settings at.nesting e p bare) (attributes_read settings at attributes bare p) result
+    → StandsAt (both z w) settings at d standing p → bare.rule ≡ kind → IsBare bare → AnswersAs w (both y x) (AreReadAttributes (both y x) settings at.nesting e p bare) (attributes_read settings at attributes bare p) result
 
 -- A step is read part by part, in the order of the text.
-module _ {s : Table} {v : TermsView} {settings : ProofSettings} {d : Session} {p : ProofState} (session : IsProofSession s v settings d p) {n : Name} (named : Named) (same : is_named named ≡ n) (symbol : IsSymbolName n.name) where
+module _ {s : Table} {v : TermsView} {settings : ProofSettings} {d : Session} {p : ProofState} (session : IsProofSession (both s v) settings d p) {n : Name} (named : Named) (same : is_named named ≡ n) (symbol : IsSymbolName n.name) where
   judged : (result : Result ReaderStanding Refusal) → JudgesStep d named result → IsStanding d.ids.used p n result
   judged result h = subst (λ x. IsStanding d.ids.used p x result) same (h s v p (subst IsSymbolName (ap (λ (x : Name). x.name) (sym same)) symbol) session.written)
 
-  pub no_standing : {N : ⊤ → ⊤ → ProofState → Type 0} (literals : Items) (attributes : List Attribute) (refusal : Refusal) → JudgesStep d named (Err refusal) → AnswersAs s v v N (step_read settings n literals attributes p) (Err (ReadFault.Text refusal))
+  pub no_standing : {N : ⊤ → ⊤ → ProofState → Type 0} (literals : Items) (attributes : List Attribute) (refusal : Refusal) → JudgesStep d named (Err refusal) → AnswersAs v (both s v) N (step_read settings n literals attributes p) (Err (ReadFault.Text refusal))
   no_standing literals attributes refusal h =
       same_outcome (stepped settings n literals attributes p)
       (refuses refl (ap (λ (r : Result Standing Refusal). (going_on r (standing_of n p).state (after_standing settings n literals attributes p)).result) (judged (Err refusal) h)))
@@ -166,43 +167,43 @@ module _ {s : Table} {v : TermsView} {settings : ProofSettings} {d : Session} {p
       some_reader = (settings, stands.here.nesting, p, reader_there)
 
       pub no_clause : {N : ⊤ → ⊤ → ProofState → Type 0} (literals : Items) {z : Table} {w : TermsView} {t : ReaderView} {refs : List ℕ} {fault : ReadFault} (attributes : List Attribute) → ReadsLiterals s v r literals z w t refs (Err fault)
-          → AnswersAs z v w N (step_read settings n literals attributes p) (Err fault)
+          → AnswersAs v (both z w) N (step_read settings n literals attributes p) (Err fault)
       no_clause literals attributes read =
           same_outcome (stood literals attributes) (stops (after_clause settings n literals attributes p stands.here) (keeps_after settings n literals attributes p stands.here) (read settings stands.here.nesting p reader_there))
 
       module _ (literals : Items) {z : Table} {w : TermsView} {t : ReaderView} {refs : List ℕ} (literals_read : ReadsLiterals s v r literals z w t refs (Ok tt)) where
-        formulas : AnswersAs z v w (AreReadFormulas z w settings stands.here.nesting t p refs) (formulas_in settings stands.here.nesting literals p) (Ok tt)
+        formulas : AnswersAs v (both z w) (AreReadFormulas (both z w) settings stands.here.nesting t p refs) (formulas_in settings stands.here.nesting literals p) (Ok tt)
         formulas = literals_read settings stands.here.nesting p reader_there
 
         -- behind the literals the step stands as before
-        stands_there : (parts : StepParts) {clause : List Term} {q : ProofState} → AreReadFormulas z w settings stands.here.nesting t p refs tt clause q → StandsAt z w settings stands.here (record d { reader = t; parts = parts }) standing q
+        stands_there : (parts : StepParts) {clause : List Term} {q : ProofState} → AreReadFormulas (both z w) settings stands.here.nesting t p refs tt clause q → StandsAt (both z w) settings stands.here (record d { reader = t; parts = parts }) standing q
         stands_there parts k = record { strict = session.strict; sees = stands.premises; discharges = stands.discharges; reader = k.behind.reader }
 
-        pub stands_behind : (parts : StepParts) → (settings : ProofSettings) × (at : Standing) × (q : ProofState) × StandsAt z w settings at (record d { reader = t; parts = parts }) standing q
+        pub stands_behind : (parts : StepParts) → (settings : ProofSettings) × (at : Standing) × (q : ProofState) × StandsAt (both z w) settings at (record d { reader = t; parts = parts }) standing q
         stands_behind parts = (settings, stands.here, formulas.answer.state, stands_there parts formulas.answer.after)
 
         module _ (attributes : List Attribute) {word : List ℕ} (worded : word ≡ rule_word attributes) {kind : Rule} (ruled : kind ≡ rule_named word) (parts : StepParts) (e : Session) {y : Table} {x : TermsView} (adds : AddsNoSymbols z y) (keeps : KeepsTerms w x) where
-          at_attributes : (result : Result ⊤ ReadFault) → ReadsAttributes z w (record d { reader = t; parts = parts }) standing kind attributes y x e result → (clause : List Term) (q : ProofState) → AreReadFormulas z w settings stands.here.nesting t p refs tt clause q
-              → AnswersAs y w x (AreReadAttributes y x settings stands.here.nesting e q (before settings n literals attributes p clause)) (attributes_read settings stands.here attributes (before settings n literals attributes p clause) q) result
+          at_attributes : (result : Result ⊤ ReadFault) → ReadsAttributes z w (record d { reader = t; parts = parts }) standing kind attributes y x e result → (clause : List Term) (q : ProofState) → AreReadFormulas (both z w) settings stands.here.nesting t p refs tt clause q
+              → AnswersAs w (both y x) (AreReadAttributes (both y x) settings stands.here.nesting e q (before settings n literals attributes p clause)) (attributes_read settings stands.here attributes (before settings n literals attributes p clause) q) result
           at_attributes result read clause q k =
               read settings stands.here q (before settings n literals attributes p clause) (stands_there parts k) (sym (ruled ∙ ap rule_named worded)) (is_bare n.name (rule_word attributes) clause)
 
           then_attributes : {N : ⊤ → ⊤ → ProofState → Type 0} {result : Result ⊤ ReadFault}
-              → ((clause : List Term) (q : ProofState) → AreReadFormulas z w settings stands.here.nesting t p refs tt clause q → AnswersAs y w x N (after_clause settings n literals attributes p stands.here clause q) result)
-              → AnswersAs y v x N (step_read settings n literals attributes p) result
+              → ((clause : List Term) (q : ProofState) → AreReadFormulas (both z w) settings stands.here.nesting t p refs tt clause q → AnswersAs w (both y x) N (after_clause settings n literals attributes p stands.here clause q) result)
+              → AnswersAs v (both y x) N (step_read settings n literals attributes p) result
           then_attributes f = same_outcome (stood literals attributes) (goes (after_clause settings n literals attributes p stands.here) (keeps_after settings n literals attributes p stands.here) formulas adds.keeps keeps f)
 
-          pub no_attributes : {N : ⊤ → ⊤ → ProofState → Type 0} {fault : ReadFault} → ReadsAttributes z w (record d { reader = t; parts = parts }) standing kind attributes y x e (Err fault) → AnswersAs y v x N (step_read settings n literals attributes p) (Err fault)
+          pub no_attributes : {N : ⊤ → ⊤ → ProofState → Type 0} {fault : ReadFault} → ReadsAttributes z w (record d { reader = t; parts = parts }) standing kind attributes y x e (Err fault) → AnswersAs v (both y x) N (step_read settings n literals attributes p) (Err fault)
           no_attributes read = then_attributes (λ clause q k. stops (added settings n literals attributes p) (keeps_added settings n literals attributes p) (at_attributes _ read clause q k))
 
-          pub no_room : {N : ⊤ → ⊤ → ProofState → Type 0} → ReadsAttributes z w (record d { reader = t; parts = parts }) standing kind attributes y x e (Ok tt) → AnswersAs y v x N (step_read settings n literals attributes p) (Err ReadFault.Memory)
+          pub no_room : {N : ⊤ → ⊤ → ProofState → Type 0} → ReadsAttributes z w (record d { reader = t; parts = parts }) standing kind attributes y x e (Ok tt) → AnswersAs v (both y x) N (step_read settings n literals attributes p) (Err ReadFault.Memory)
           no_room read = then_attributes (λ clause q k.
               goes (added settings n literals attributes p) (keeps_added settings n literals attributes p) (at_attributes (Ok tt) read clause q k) (adds_none y).keeps (keeps_none x) (λ step l m. no_memory refl))
 
           module _ (read : ReadsAttributes z w (record d { reader = t; parts = parts }) standing kind attributes y x e (Ok tt)) (first : AddsNoSymbols s z) (old : KeepsTerms v w) (others : KeepsOthers (record d { reader = t; parts = parts }) e) (held : parts.clause.items ≡ refs) (rule_symbol : IsSymbolName (rule_word attributes))
               (new : NewStep) (id_is : new.id ≡ named) (rule_is : new.rule ≡ kind) (word_is : new.word.now ≡ word) (closed : new.closes ≡ standing.closes) where
-            to_be_added : (clause : List Term) (q : ProofState) → AreReadFormulas z w settings stands.here.nesting t p refs tt clause q → (step : Step Term) (l : ProofState) → AreReadAttributes y x settings stands.here.nesting e q (before settings n literals attributes p clause) tt step l
-                → attributes_read settings stands.here attributes (before settings n literals attributes p clause) q ≡ done step l → IsToAdd y x settings e new step l
+            to_be_added : (clause : List Term) (q : ProofState) → AreReadFormulas (both z w) settings stands.here.nesting t p refs tt clause q → (step : Step Term) (l : ProofState) → AreReadAttributes (both y x) settings stands.here.nesting e q (before settings n literals attributes p clause) tt step l
+                → attributes_read settings stands.here attributes (before settings n literals attributes p clause) q ≡ done step l → IsToAdd (both y x) settings e new step l
             to_be_added clause q k step l done comes =
                 let has = read_has_rule settings stands.here n.name attributes clause q l step rule_symbol comes in
                 let scope = done.behind.scope ∙ k.behind.scope in
@@ -225,14 +226,14 @@ module _ {s : Table} {v : TermsView} {settings : ProofSettings} {d : Session} {p
                   parts = done.parts;
                 }
 
-            pub may_add : (s : Table) × (v : TermsView) × (settings : ProofSettings) × (step : Step Term) × (p : ProofState) × IsToAdd s v settings e new step p
+            pub may_add : (s : Table) × (v : TermsView) × (settings : ProofSettings) × (step : Step Term) × (p : ProofState) × IsToAdd (both s v) settings e new step p
             may_add =
                 let f = formulas.answer in
                 let a = (at_attributes (Ok tt) read f.value f.state f.after).answer in
                 (y, x, settings, a.value, a.state, to_be_added f.value f.state f.after a.value a.state a.after a.is)
 
-            pub is_stepped : (f : Session) → ((s : Table) (v : TermsView) (settings : ProofSettings) (step : Step Term) (p : ProofState) → IsToAdd s v settings e new step p → IsProofSession s v settings f (with_step step p))
-                → AnswersAs y v x (StandsAfter y x settings f) (step_read settings n literals attributes p) (Ok tt)
+            pub is_stepped : (f : Session) → ((s : Table) (v : TermsView) (settings : ProofSettings) (step : Step Term) (p : ProofState) → IsToAdd (both s v) settings e new step p → IsProofSession (both s v) settings f (with_step step p))
+                → AnswersAs v (both y x) (StandsAfter (both y x) settings f) (step_read settings n literals attributes p) (Ok tt)
             is_stepped f adding = then_attributes (λ clause q k.
                 goes (added settings n literals attributes p) (keeps_added settings n literals attributes p) (with_outcome (at_attributes (Ok tt) read clause q k)) (adds_none y).keeps (keeps_none x)
                 (λ step l m. answers tt (with_step step l) refl refl (record { session = adding y x settings step l (to_be_added clause q k step l m.0 m.1) })))

@@ -6,7 +6,7 @@ use Rattle.term_pool.specs.Views.{TermsView, RefersTo}
 use Rattle.rule_model.specs.Proofs.{Step, ProofItems}
 use Rattle.rule_model.specs.Scopes.{commands_in, subproofs_in}
 use Rattle.proof_store.specs.Meaning.{IsBindingOf, IsPivotOf, IsStepOf, StandForItems, no_items_stand, assume_stands, step_stands, subproof_stands}
-use Rattle.term_reader.proofs.Staying.{zip_weaken}
+use Rattle.term_expansion.proofs.Zips.{zip_weaken}
 
 -- as many commands, and subproofs
 pub commands_same : (s : Table) (v : TermsView) (is : ProofItems ℕ ℕ) (ps : ProofItems Var Term) → StandForItems s v is ps → commands_in is ≡ commands_in ps

@@ -24,10 +24,11 @@ use Rattle.alethe_reader.specs.KeptReads.{KeepsRead}
 use Rattle.alethe_reader.specs.ReadTerms.{IsReadValue, IsReadFormula}
 use Rattle.alethe_reader.proofs.Answering.{stops, goes}
 use Rattle.alethe_reader.proofs.StillRead.{keeps_then, keeps_demand, keeps_give}
+use Rattle.term_expansion.specs.SymbolsAndTerms.{both}
 
 module _ (s : Table) (old new : TermsView) (settings : ProofSettings) (nesting : Nesting Var Term) (r : ReaderView) (i : Item) (p : ProofState) where
   pub value_answers : (result : Result Value ReadFault) → ReadsValue s old new r (place_in settings nesting) (read_term i (place_in settings nesting) p.script) result
-      → AnswersAs s old new (IsReadValue s new settings nesting r p) (term_in settings nesting i p) result
+      → AnswersAs old (both s new) (IsReadValue (both s new) settings nesting r p) (term_in settings nesting i p) result
   unfolding term_in
   value_answers (Ok c) h = record {
     answer = record {
@@ -47,21 +48,21 @@ module _ (s : Table) (old new : TermsView) (settings : ProofSettings) (nesting :
   keeps_judged : (t : Typed) → KeepsRead (judged t)
   keeps_judged t = keeps_then (demand (sort_eq t.sort Sort.Bool) SortMismatch (place_of i)) _ (keeps_demand _ _ _) (λ _. keeps_give t.tree)
 
-  pub no_formula : (fault : ReadFault) → AnswersAs s old new (IsReadValue s new settings nesting r p) (term_in settings nesting i p) (Err fault)
-      → AnswersAs s old new (IsReadFormula s new settings nesting r p) (formula_in settings nesting i p) (Err fault)
+  pub no_formula : (fault : ReadFault) → AnswersAs old (both s new) (IsReadValue (both s new) settings nesting r p) (term_in settings nesting i p) (Err fault)
+      → AnswersAs old (both s new) (IsReadFormula (both s new) settings nesting r p) (formula_in settings nesting i p) (Err fault)
   unfolding formula_in ◌>>=◌
   no_formula fault h = stops judged keeps_judged h
 
-  module _ (c : Value) (h : AnswersAs s old new (IsReadValue s new settings nesting r p) (term_in settings nesting i p) (Ok c)) where
+  module _ (c : Value) (h : AnswersAs old (both s new) (IsReadValue (both s new) settings nesting r p) (term_in settings nesting i p) (Ok c)) where
     pub other_sort : sort_eq c.sort Sort.Bool ≡ false → (refusal : Refusal) → refusal ≡ record { cause = SortMismatch; at = place_of i }
-        → AnswersAs s old new (IsReadFormula s new settings nesting r p) (formula_in settings nesting i p) (Err (ReadFault.Text refusal))
+        → AnswersAs old (both s new) (IsReadFormula (both s new) settings nesting r p) (formula_in settings nesting i p) (Err (ReadFault.Text refusal))
     unfolding formula_in ◌>>=◌
     other_sort e refusal is = goes judged keeps_judged h (adds_none s).keeps (keeps_none new) (λ t q k. refuses refl (go t q (ap (λ sort. sort_eq sort Sort.Bool) (sym k.is.sort) ∙ e)))
       where
         go : (t : Typed) (q : ProofState) → sort_eq t.sort Sort.Bool ≡ false → (judged t q).result ≡ Err refusal
         go t q f = rw (f, is) refl
 
-    pub is_formula : sort_eq c.sort Sort.Bool ≡ true → AnswersAs s old new (IsReadFormula s new settings nesting r p) (formula_in settings nesting i p) (Ok c.term)
+    pub is_formula : sort_eq c.sort Sort.Bool ≡ true → AnswersAs old (both s new) (IsReadFormula (both s new) settings nesting r p) (formula_in settings nesting i p) (Ok c.term)
     unfolding formula_in ◌>>=◌
     is_formula e = goes judged keeps_judged h (adds_none s).keeps (keeps_none new) (λ t q k. answers t.tree q refl (go t q (ap (λ sort. sort_eq sort Sort.Bool) (sym k.is.sort) ∙ e)) (record { refers = k.is.refers; behind = k.behind }))
       where

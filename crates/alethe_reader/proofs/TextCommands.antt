@@ -29,6 +29,7 @@ use Rattle.alethe_text.proofs.CommandNames.{is_named_so}
 use Rattle.alethe_reader.proofs.Answering.{part_of_whole}
 use Rattle.alethe_reader.proofs.LeftToRead.{and_then_then}
 use Rattle.alethe_reader.proofs.StillReadCommands.{keeps_left}
+use Rattle.term_expansion.specs.SymbolsAndTerms.{both}
 
 -- the first of the commands, by its shape
 abbrev then_rest : ProofSettings → Items → Items → Outcome ProofState ⊤ → Outcome ProofState (Proof Var Term)
@@ -61,7 +62,7 @@ pub record HasFirst (source : List ℕ) (items : ItemsView) (in_list : Bool) (at
 
 -- some command is left of a text that is being read
 abbrev pub IsLeft : List ℕ → Bool → ℕ → Table → TermsView → Session → Type 0
-IsLeft source in_list at s v d = (settings : ProofSettings) × (p : ProofState) × (whole : Outcome ProofState (Proof Var Term)) × AreCommandsLeft source settings in_list at p whole × IsProofSession s v settings d p
+IsLeft source in_list at s v d = (settings : ProofSettings) × (p : ProofState) × (whole : Outcome ProofState (Proof Var Term)) × AreCommandsLeft source settings in_list at p whole × IsProofSession (both s v) settings d p
 
 -- the nodes that were read are those of the first command
 pub first_nested : {in_list : Bool} {old new : List ℕ} {nodes slice : List Node} {from at : ℕ} {s : Table} {v : TermsView} {d : Session} → slice ≡ nodes
@@ -112,7 +113,7 @@ module _ (settings : ProofSettings) (in_list : Bool) (p : ProofState) (whole : O
   -- a command more
   pub performs_well : {source : List ℕ} {s : Table} {old new : TermsView} {d : Session} {at : ℕ} {u : ⊤} (others behind : Items) (o : Outcome ProofState ⊤)
       → HasCommandItems source in_list at others behind → HaveNames others → then_rest settings others behind o ≡ whole
-      → AnswersAs s old new (StandsAfter s new settings d) o (Ok u) → ReadsProofCommand source s old new settings d in_list at whole (Ok true)
+      → AnswersAs old (both s new) (StandsAfter (both s new) settings d) o (Ok u) → ReadsProofCommand source old (both s new) settings d in_list at whole (Ok true)
   performs_well others behind o here named comes h =
       answers_whole whole (part_read others behind o comes) h (
         h.answer.state,
@@ -122,11 +123,11 @@ module _ (settings : ProofSettings) (in_list : Bool) (p : ProofState) (whole : O
 
   pub performs_not : {source : List ℕ} {s : Table} {old new : TermsView} {d : Session} {at : ℕ} {fault : ReadFault} (others behind : Items) (o : Outcome ProofState ⊤)
       → then_rest settings others behind o ≡ whole
-      → AnswersAs s old new (StandsAfter s new settings d) o (Err fault) → ReadsProofCommand source s old new settings d in_list at whole (Err fault)
+      → AnswersAs old (both s new) (StandsAfter (both s new) settings d) o (Err fault) → ReadsProofCommand source old (both s new) settings d in_list at whole (Err fault)
   performs_not others behind o comes h = fails whole (part_read others behind o comes) h
 
-  pub ends_here : {source : List ℕ} {s : Table} {v : TermsView} {d : Session} {at : ℕ} → NoneLeft source settings at p whole → IsProofSession s v settings d p → ReadsProofCommand source s v v settings d in_list at whole (Ok false)
+  pub ends_here : {source : List ℕ} {s : Table} {v : TermsView} {d : Session} {at : ℕ} → NoneLeft source settings at p whole → IsProofSession (both s v) settings d p → ReadsProofCommand source v (both s v) settings d in_list at whole (Ok false)
   ends_here {source} {s} {v} none session = record { answer = (p, none, session); placed = places_none s v.pass v.pass (WasRead whole) refl }
 
-  pub refused_here : {source : List ℕ} {s : Table} {v : TermsView} {d : Session} {at : ℕ} (r : Refusal) → whole.result ≡ Err r → ReadsProofCommand source s v v settings d in_list at whole (Err (ReadFault.Text r))
+  pub refused_here : {source : List ℕ} {s : Table} {v : TermsView} {d : Session} {at : ℕ} (r : Refusal) → whole.result ≡ Err r → ReadsProofCommand source v (both s v) settings d in_list at whole (Err (ReadFault.Text r))
   refused_here r is = refuses refl is

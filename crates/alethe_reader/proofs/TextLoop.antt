@@ -16,12 +16,13 @@ use Rattle.alethe_reader.specs.Answers.{WasRead}
 use Rattle.alethe_reader.specs.Sessions.{IsProofSession}
 use Rattle.alethe_reader.specs.TextReading.{AreCommandsLeft, ReadsProofCommand, ReadsProof, IsBehindCommands, most_after}
 use Rattle.alethe_reader.specs.declared.session.Session.{Session}
+use Rattle.term_expansion.specs.SymbolsAndTerms.{both}
 
 -- The reading began with these, and is here now.
 pub record IsUnderWay (in_list : Bool) (l : Lexer) (s : Table) (v : TermsView) (d : Session) (m : Lexer) (z : Table) (w : TermsView) (e : Session) : Type 0 where
-  pub left : (settings : ProofSettings) (p : ProofState) (whole : Outcome ProofState (Proof Var Term)) → AreCommandsLeft (source l) settings in_list (position l) p whole → IsProofSession s v settings d p
-      → (now : ProofState) × AreCommandsLeft (source m) settings in_list (position m) now whole × IsProofSession z w settings e now
-  pub placed : (settings : ProofSettings) (p : ProofState) (whole : Outcome ProofState (Proof Var Term)) → AreCommandsLeft (source l) settings in_list (position l) p whole → IsProofSession s v settings d p
+  pub left : (settings : ProofSettings) (p : ProofState) (whole : Outcome ProofState (Proof Var Term)) → AreCommandsLeft (source l) settings in_list (position l) p whole → IsProofSession (both s v) settings d p
+      → (now : ProofState) × AreCommandsLeft (source m) settings in_list (position m) now whole × IsProofSession (both z w) settings e now
+  pub placed : (settings : ProofSettings) (p : ProofState) (whole : Outcome ProofState (Proof Var Term)) → AreCommandsLeft (source l) settings in_list (position l) p whole → IsProofSession (both s v) settings d p
       → PlacesCellsOf z v.pass w.pass (WasRead whole)
   pub symbols : AddsNoSymbols s z
   pub keeps : KeepsTerms v w
@@ -44,18 +45,18 @@ begins in_list l s v d inside short = record {
 
 module _ {in_list : Bool} {l : Lexer} {s : Table} {v : TermsView} {d : Session} {m : Lexer} {z : Table} {w : TermsView} {e : Session} (h : IsUnderWay in_list l s v d m z w e) where
   -- the commands that are left are those of some outcome
-  pub some_left : (settings : ProofSettings) × (p : ProofState) × (whole : Outcome ProofState (Proof Var Term)) × AreCommandsLeft (source l) settings in_list (position l) p whole × IsProofSession s v settings d p
-      → (settings : ProofSettings) × (p : ProofState) × (whole : Outcome ProofState (Proof Var Term)) × AreCommandsLeft (source m) settings in_list (position m) p whole × IsProofSession z w settings e p
+  pub some_left : (settings : ProofSettings) × (p : ProofState) × (whole : Outcome ProofState (Proof Var Term)) × AreCommandsLeft (source l) settings in_list (position l) p whole × IsProofSession (both s v) settings d p
+      → (settings : ProofSettings) × (p : ProofState) × (whole : Outcome ProofState (Proof Var Term)) × AreCommandsLeft (source m) settings in_list (position m) p whole × IsProofSession (both z w) settings e p
   some_left (settings, p, whole, left, session) = let (now, more, stands) = h.left settings p whole left session in (settings, now, whole, more, stands)
 
   module _ {y : Table} {x : TermsView} (symbols : AddsNoSymbols z y) (terms : KeepsTerms w x) where
-    placed_so_far : (settings : ProofSettings) (p : ProofState) (whole : Outcome ProofState (Proof Var Term)) → AreCommandsLeft (source l) settings in_list (position l) p whole → IsProofSession s v settings d p
+    placed_so_far : (settings : ProofSettings) (p : ProofState) (whole : Outcome ProofState (Proof Var Term)) → AreCommandsLeft (source l) settings in_list (position l) p whole → IsProofSession (both s v) settings d p
         → PlacesCellsOf y w.pass x.pass (WasRead whole) → PlacesCellsOf y v.pass x.pass (WasRead whole)
     placed_so_far settings p whole left session placed =
         places_then z y v.pass w.pass x.pass (WasRead whole) symbols.keeps terms.pass (h.placed settings p whole left session) placed
 
   module _ (o : Lexer) {y : Table} {x : TermsView} {f : Session} (symbols : AddsNoSymbols z y) (terms : KeepsTerms w x) where
-    pub goes_on : ((settings : ProofSettings) (p : ProofState) (whole : Outcome ProofState (Proof Var Term)) → AreCommandsLeft (source m) settings in_list (position m) p whole → IsProofSession z w settings e p → ReadsProofCommand (source o) y w x settings f in_list (position o) whole (Ok true))
+    pub goes_on : ((settings : ProofSettings) (p : ProofState) (whole : Outcome ProofState (Proof Var Term)) → AreCommandsLeft (source m) settings in_list (position m) p whole → IsProofSession (both z w) settings e p → ReadsProofCommand (source o) w (both y x) settings f in_list (position o) whole (Ok true))
         → source o ≡ source m → position o ≤ length (source m) → IsBehindCommands f.builder (position o)
         → most_after (length y.leaves) (source o) (position o) ≤ most_after (length z.leaves) (source m) (position m)
         → IsUnderWay in_list l s v d o y x f
@@ -70,15 +71,15 @@ module _ {in_list : Bool} {l : Lexer} {s : Table} {v : TermsView} {d : Session} 
       short = short;
     }
 
-    pub fails : (fault : ReadFault) → ((settings : ProofSettings) (p : ProofState) (whole : Outcome ProofState (Proof Var Term)) → AreCommandsLeft (source m) settings in_list (position m) p whole → IsProofSession z w settings e p → ReadsProofCommand (source o) y w x settings f in_list (position o) whole (Err fault))
-        → (settings : ProofSettings) (p : ProofState) (whole : Outcome ProofState (Proof Var Term)) → AreCommandsLeft (source l) settings in_list (position l) p whole → IsProofSession s v settings d p → ReadsProof (source o) y v x settings f (position o) whole (Err fault)
+    pub fails : (fault : ReadFault) → ((settings : ProofSettings) (p : ProofState) (whole : Outcome ProofState (Proof Var Term)) → AreCommandsLeft (source m) settings in_list (position m) p whole → IsProofSession (both z w) settings e p → ReadsProofCommand (source o) w (both y x) settings f in_list (position o) whole (Err fault))
+        → (settings : ProofSettings) (p : ProofState) (whole : Outcome ProofState (Proof Var Term)) → AreCommandsLeft (source l) settings in_list (position l) p whole → IsProofSession (both s v) settings d p → ReadsProof (source o) v (both y x) settings f (position o) whole (Err fault)
     fails fault reads settings p whole left session =
         let (now, more, stands) = h.left settings p whole left session in
         let r = reads settings now whole more stands in
         record { answer = r.answer; placed = placed_so_far symbols terms settings p whole left session r.placed }
 
-    pub ends : ((settings : ProofSettings) (p : ProofState) (whole : Outcome ProofState (Proof Var Term)) → AreCommandsLeft (source m) settings in_list (position m) p whole → IsProofSession z w settings e p → ReadsProofCommand (source o) y w x settings f in_list (position o) whole (Ok false))
-        → (settings : ProofSettings) (p : ProofState) (whole : Outcome ProofState (Proof Var Term)) → AreCommandsLeft (source l) settings in_list (position l) p whole → IsProofSession s v settings d p → ReadsProof (source o) y v x settings f (position o) whole (Ok tt)
+    pub ends : ((settings : ProofSettings) (p : ProofState) (whole : Outcome ProofState (Proof Var Term)) → AreCommandsLeft (source m) settings in_list (position m) p whole → IsProofSession (both z w) settings e p → ReadsProofCommand (source o) w (both y x) settings f in_list (position o) whole (Ok false))
+        → (settings : ProofSettings) (p : ProofState) (whole : Outcome ProofState (Proof Var Term)) → AreCommandsLeft (source l) settings in_list (position l) p whole → IsProofSession (both s v) settings d p → ReadsProof (source o) v (both y x) settings f (position o) whole (Ok tt)
     ends reads settings p whole left session =
         let (now, more, stands) = h.left settings p whole left session in
         let r = reads settings now whole more stands in

@@ -1,8 +1,7 @@
 -- Private. A step that is to be added to a proof.
 use Rattle.std.specs.Prelude.{◌≡◌, ℕ, List, map, All, Contains, Option, Some, None, if◌then◌else◌}
-use Rattle.sym_table.specs.Table.{Table}
 use Rattle.term_model.specs.Terms.{Term}
-use Rattle.term_pool.specs.Views.{TermsView, ReferToAll}
+use Rattle.term_pool.specs.Views.{ReferToAll}
 use Rattle.rule_model.specs.Proofs.{Fraction, Step}
 use Rattle.rule_model.specs.Visibility.{Sight}
 use Rattle.rule_model.specs.WellFormed.{HasRule}
@@ -17,6 +16,7 @@ use Rattle.alethe_reader.specs.StepParts.{AreStepParts}
 use Rattle.alethe_reader.specs.declared.session.Session.{Session}
 use Rattle.alethe_reader.specs.declared.session.StepParts.{StepParts}
 use Rattle.alethe_reader.specs.declared.stepping.NewStep.{NewStep}
+use Rattle.term_expansion.specs.SymbolsAndTerms.{SymbolsAndTerms}
 
 -- its coefficients, and the step over references
 abbrev pub ratios_told : StepParts → Option (List Fraction)
@@ -39,11 +39,11 @@ abbrev pub AreSeen : List Sight → List ℕ → Type 0
 AreSeen sights indices = All (Contains (map (λ c. c.index) sights)) indices
 
 -- The step was read in the state, and may be added to its proof; the session has its parts.
-pub record IsToAdd (s : Table) (v : TermsView) (settings : ProofSettings) (d : Session) (n : NewStep) (step : Step Term) (p : ProofState) : Type 0 where
+pub record IsToAdd (w : SymbolsAndTerms) (settings : ProofSettings) (d : Session) (n : NewStep) (step : Step Term) (p : ProofState) : Type 0 where
   pub here : Standing
   pub strict : settings.is_strict ≡ d.strict
-  pub reader : IsReaderOf s v d.reader p.script (place_in settings here.nesting)
-  pub written : IsWritten s v d p
+  pub reader : IsReaderOf w.symbols w.terms d.reader p.script (place_in settings here.nesting)
+  pub written : IsWritten w d p
   pub id : step.id ≡ n.id.name.now
   pub rule : step.rule ≡ n.rule
   pub word : step.rule_name ≡ n.word.now
@@ -51,5 +51,5 @@ pub record IsToAdd (s : Table) (v : TermsView) (settings : ProofSettings) (d : S
   pub named : HasRule step
   pub premises : AreSeen here.sees step.premises
   pub discharged : AreSeen here.discharges step.discharged
-  pub clause : ReferToAll s v d.parts.clause.items step.clause
-  pub parts : AreStepParts s v d.parts step
+  pub clause : ReferToAll w.symbols w.terms d.parts.clause.items step.clause
+  pub parts : AreStepParts w d.parts step

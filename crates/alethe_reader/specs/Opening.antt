@@ -4,10 +4,9 @@ use Rattle.std.specs.List.{AllZip}
 use Rattle.std.specs.Option.{option_map_or}
 use Rattle.sexpr.specs.declared.causes.Cause.TheVariants.{Repeated, BadAnchor, SortMismatch, TooHigh}
 use Rattle.sexpr.specs.declared.causes.Refusal.{Refusal}
-use Rattle.sym_table.specs.Table.{Table}
 use Rattle.term_model.specs.declared.symbols.Sort.{Sort}
 use Rattle.term_model.specs.Terms.{Var, Term, sort_eq}
-use Rattle.term_pool.specs.Views.{TermsView, RefersTo}
+use Rattle.term_pool.specs.Views.{RefersTo}
 use Rattle.rule_model.specs.Contexts.{put_in_each, images}
 use Rattle.rule_model.specs.Heights.{height}
 use Rattle.rule_model.specs.Judged.{open_anchors}
@@ -24,6 +23,7 @@ use Rattle.alethe_text.specs.ProofTerms.{place_in}
 use Rattle.alethe_text.specs.States.{ProofSettings, ProofState, Reading, ◌>>=◌, give, demand}
 use Rattle.alethe_reader.specs.Bound.{images_in, BindApart}
 use Rattle.alethe_reader.specs.declared.bound.BoundVariables.{BoundVariables}
+use Rattle.term_expansion.specs.SymbolsAndTerms.{SymbolsAndTerms}
 
 -- none of the names is one of these, and no two are the same
 abbrev pub AreFresh : List (List ℕ) → List (Var × Term) → Type 0
@@ -31,12 +31,12 @@ AreFresh names [] = ⊤
 AreFresh names (b ∷ bs) = (is_among names b.0.name ≡ false) × AreFresh (names ++ b.0.name ∷ []) bs
 
 -- The variables bs of the anchor were read, with these names, the last one first.
-pub record IsOpening (s : Table) (v : TermsView) (settings : ProofSettings) (r : ReaderView) (d : BoundVariables) (earlier : List (List ℕ)) (bs : List (Var × Term)) (p : ProofState) : Type 0 where
-  pub reader : IsReaderOf s v r p.script (place_in settings p.scope.nesting)
+pub record IsOpening (w : SymbolsAndTerms) (settings : ProofSettings) (r : ReaderView) (d : BoundVariables) (earlier : List (List ℕ)) (bs : List (Var × Term)) (p : ProofState) : Type 0 where
+  pub reader : IsReaderOf w.symbols w.terms r p.script (place_in settings p.scope.nesting)
   pub names : map (λ u. u.id) d.names.used ≡ bound_names p.scope.nesting ++ map (λ b. b.0.name) bs
   pub judged : (name : List ℕ) → (is_among earlier name || is_among (bound_names p.scope.nesting) name) ≡ is_among (map (λ u. u.id) d.names.used) name
-  pub images : AllZip (IsBindingOf s v) d.images.items (images_in p.scope.nesting ++ put_in_each (images (open_anchors p.scope.nesting)) bs)
-  pub opened : AllZip (IsBindingOf s v) d.opened.items bs
+  pub images : AllZip (IsBindingOf w.symbols w.terms) d.images.items (images_in p.scope.nesting ++ put_in_each (images (open_anchors p.scope.nesting)) bs)
+  pub opened : AllZip (IsBindingOf w.symbols w.terms) d.opened.items bs
   pub apart : BindApart p.scope.nesting
   pub fresh : AreFresh (bound_names p.scope.nesting) bs
 
@@ -46,14 +46,14 @@ pub record IsSameScope (old new : ProofState) : Type 0 where
   pub anchors : new.anchors ≡ old.anchors
 
 -- an argument was read
-pub record IsArgumentRead (s : Table) (v : TermsView) (settings : ProofSettings) (r : ReaderView) (d : BoundVariables) (earlier : List (List ℕ)) (bs : List (Var × Term)) (old : ProofState) (_ : ⊤) (b : Var × Term) (new : ProofState) : Type 0 where
-  pub opening : IsOpening s v settings r d (b.0.name ∷ earlier) (bs ++ b ∷ []) new
+pub record IsArgumentRead (w : SymbolsAndTerms) (settings : ProofSettings) (r : ReaderView) (d : BoundVariables) (earlier : List (List ℕ)) (bs : List (Var × Term)) (old : ProofState) (_ : ⊤) (b : Var × Term) (new : ProofState) : Type 0 where
+  pub opening : IsOpening w settings r d (b.0.name ∷ earlier) (bs ++ b ∷ []) new
   pub same : IsSameScope old new
 
 -- all of them were read
-pub record AreArgumentsRead (s : Table) (v : TermsView) (settings : ProofSettings) (r : ReaderView) (d : BoundVariables) (old : ProofState) (_ : ⊤) (bs : List (Var × Term)) (new : ProofState) : Type 0 where
+pub record AreArgumentsRead (w : SymbolsAndTerms) (settings : ProofSettings) (r : ReaderView) (d : BoundVariables) (old : ProofState) (_ : ⊤) (bs : List (Var × Term)) (new : ProofState) : Type 0 where
   pub earlier : List (List ℕ)
-  pub opening : IsOpening s v settings r d earlier bs new
+  pub opening : IsOpening w settings r d earlier bs new
   pub same : IsSameScope old new
 
 -- the name of a variable at this place is judged, by whether it is built in and whether it is bound
@@ -78,8 +78,8 @@ image_read place name wanted nesting t = do
   give (record { name = name; sort = t.sort }, t.tree)
 
 -- The image was made, and counts as read.
-pub record IsImageRead (s : Table) (v : TermsView) (name : List ℕ) (nesting : Nesting Var Term) (t : Typed) (old : ProofState) (c : ℕ) (b : Var × Term) (new : ProofState) : Type 0 where
-  pub refers : RefersTo s v c (image_of nesting t.tree)
+pub record IsImageRead (w : SymbolsAndTerms) (name : List ℕ) (nesting : Nesting Var Term) (t : Typed) (old : ProofState) (c : ℕ) (b : Var × Term) (new : ProofState) : Type 0 where
+  pub refers : RefersTo w.symbols w.terms c (image_of nesting t.tree)
   pub same : b ≡ (record { name = name; sort = t.sort }, t.tree)
   pub state : new ≡ record old { script = with_term (image_of nesting t.tree) old.script }
 

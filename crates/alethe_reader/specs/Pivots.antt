@@ -2,9 +2,7 @@
 use Rattle.std.specs.Prelude.{◌≡◌, ◌≤◌, ℕ, Bool, List, [], ◌∷◌, ◌++◌, Option, Some, None, option_map, option_and_then, unwrap_or, if◌then◌else◌, ⊤}
 use Rattle.std.specs.List.{AllZip}
 use Rattle.sexpr.specs.Items.{Item, Items, no_items, item}
-use Rattle.sym_table.specs.Table.{Table}
 use Rattle.term_model.specs.Terms.{Var, Term}
-use Rattle.term_pool.specs.Views.{TermsView}
 use Rattle.rule_model.specs.Scopes.{Nesting}
 use Rattle.proof_store.specs.Meaning.{IsPivotOf}
 use Rattle.text_items.specs.ItemsAt.{ItemsView, end_at, items_at}
@@ -15,6 +13,7 @@ use Rattle.alethe_text.specs.Commands.{behind_first}
 use Rattle.alethe_text.specs.ProofTerms.{term_in}
 use Rattle.alethe_text.specs.States.{ProofSettings, ProofState, Reading, ◌>>=◌, give}
 use Rattle.alethe_reader.specs.Behind.{IsBehind}
+use Rattle.term_expansion.specs.SymbolsAndTerms.{SymbolsAndTerms}
 
 -- the first of some items, where there is one
 abbrev pub first_alone : Items → Items
@@ -63,11 +62,11 @@ BothOrNeither R None (Some b) = ⊥
 BothOrNeither R None None = ⊤
 
 -- a term was read with what stands behind it, and their pivot stands for the one that they are
-pub record IsReadPivot (s : Table) (v : TermsView) (settings : ProofSettings) (nesting : Nesting Var Term) (r : ReaderView) (old : ProofState) (pivot : Option (ℕ × Bool)) (of : Option (Term × Bool)) (new : ProofState) : Type 0 where
-  pub stands : BothOrNeither (IsPivotOf s v) pivot of
-  pub behind : IsBehind s v settings nesting r old new
+pub record IsReadPivot (w : SymbolsAndTerms) (settings : ProofSettings) (nesting : Nesting Var Term) (r : ReaderView) (old : ProofState) (pivot : Option (ℕ × Bool)) (of : Option (Term × Bool)) (new : ProofState) : Type 0 where
+  pub stands : BothOrNeither (IsPivotOf w.symbols w.terms) pivot of
+  pub behind : IsBehind w settings nesting r old new
 
 -- arguments were read, and these pivots stand for those that they are
-pub record AreReadPivots (s : Table) (v : TermsView) (settings : ProofSettings) (nesting : Nesting Var Term) (r : ReaderView) (old : ProofState) (pivots : List (ℕ × Bool)) (_ : ⊤) (of : Option (List (Term × Bool))) (new : ProofState) : Type 0 where
-  pub stand : AllZip (IsPivotOf s v) pivots (unwrap_or of [])
-  pub behind : IsBehind s v settings nesting r old new
+pub record AreReadPivots (w : SymbolsAndTerms) (settings : ProofSettings) (nesting : Nesting Var Term) (r : ReaderView) (old : ProofState) (pivots : List (ℕ × Bool)) (_ : ⊤) (of : Option (List (Term × Bool))) (new : ProofState) : Type 0 where
+  pub stand : AllZip (IsPivotOf w.symbols w.terms) pivots (unwrap_or of [])
+  pub behind : IsBehind w settings nesting r old new

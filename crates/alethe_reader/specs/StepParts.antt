@@ -2,9 +2,7 @@
 use Rattle.std.specs.Prelude.{◌≡◌, ℕ, ◌-◌, List, [], map, Option, Some, None, Result, Ok, Err, if◌then◌else◌, ⊤}
 use Rattle.std.specs.List.{AllZip}
 use Rattle.sexpr.specs.declared.causes.Refusal.{Refusal}
-use Rattle.sym_table.specs.Table.{Table}
 use Rattle.term_model.specs.Terms.{Var, Term}
-use Rattle.term_pool.specs.Views.{TermsView}
 use Rattle.rule_model.specs.Proofs.{Step, Fraction}
 use Rattle.rule_model.specs.Scopes.{Nesting}
 use Rattle.proof_store.specs.Meaning.{IsPivotOf}
@@ -23,12 +21,13 @@ use Rattle.alethe_reader.specs.declared.session.StepParts.{StepParts}
 use Rattle.alethe_reader.specs.declared.standing.Standing.{Standing}
 use Rattle.alethe_reader.specs.Reach.{IsReach}
 use Rattle.alethe_reader.specs.Behind.{IsBehind}
+use Rattle.term_expansion.specs.SymbolsAndTerms.{SymbolsAndTerms}
 
 -- the parts are those of the step, and its pivots stand for those of it
-pub record AreStepParts (s : Table) (v : TermsView) (d : StepParts) (step : Step Term) : Type 0 where
+pub record AreStepParts (w : SymbolsAndTerms) (d : StepParts) (step : Step Term) : Type 0 where
   pub premises : d.premises.items ≡ step.premises
   pub discharged : d.discharged.items ≡ step.discharged
-  pub pivots : AllZip (IsPivotOf s v) d.pivots.items step.pivots
+  pub pivots : AllZip (IsPivotOf w.symbols w.terms) d.pivots.items step.pivots
   pub ratios : (if d.has_ratios then Some (map fraction_of_ratio d.ratios.items) else None) ≡ step.ratios
 
 -- nothing of the step's attributes is read
@@ -40,20 +39,20 @@ pub record IsBare (step : Step Term) : Type 0 where
 
 -- What is read of a proof stands where a step stands, and the ids within reach are those of the commands that the step sees and
 -- of those that it may discharge.
-pub record StandsAt (s : Table) (v : TermsView) (settings : ProofSettings) (at : text.Standing) (d : Session) (standing : Standing) (p : ProofState) : Type 0 where
+pub record StandsAt (w : SymbolsAndTerms) (settings : ProofSettings) (at : text.Standing) (d : Session) (standing : Standing) (p : ProofState) : Type 0 where
   pub strict : settings.is_strict ≡ d.strict
   pub sees : IsReach d.ids.used standing.premises at.sees
   pub discharges : IsReach d.ids.used standing.discharges at.discharges
-  pub reader : IsReaderOf s v d.reader p.script (place_in settings at.nesting)
+  pub reader : IsReaderOf w.symbols w.terms d.reader p.script (place_in settings at.nesting)
 
 -- Attributes were read, and the step before them became this one, of which the session has the parts.
-pub record AreReadAttributes (s : Table) (v : TermsView) (settings : ProofSettings) (nesting : Nesting Var Term) (d : Session) (old : ProofState) (before : Step Term) (_ : ⊤) (step : Step Term) (new : ProofState) : Type 0 where
-  pub parts : AreStepParts s v d.parts step
+pub record AreReadAttributes (w : SymbolsAndTerms) (settings : ProofSettings) (nesting : Nesting Var Term) (d : Session) (old : ProofState) (before : Step Term) (_ : ⊤) (step : Step Term) (new : ProofState) : Type 0 where
+  pub parts : AreStepParts w d.parts step
   pub id : step.id ≡ before.id
   pub rule : step.rule ≡ before.rule
   pub rule_name : step.rule_name ≡ before.rule_name
   pub clause : step.clause ≡ before.clause
-  pub behind : IsBehind s v settings nesting d.reader old new
+  pub behind : IsBehind w settings nesting d.reader old new
 
 -- Nothing but the names and the parts that attributes are was changed.
 pub record KeepsOthers (old new : Session) : Type 0 where

@@ -2,7 +2,6 @@
 use Rattle.std.specs.Prelude.{◌≡◌, ◌≤◌, ◌+◌, ◌-◌, ℕ, Bool, true, false, List, [], length, None, Result, Ok, Err, ⊤}
 use Rattle.sexpr.specs.declared.causes.Refusal.{Refusal}
 use Rattle.sexpr.specs.Items.{Items, no_items}
-use Rattle.sym_table.specs.Table.{Table}
 use Rattle.term_model.specs.Terms.{Var, Term}
 use Rattle.term_pool.specs.Views.{TermsView}
 use Rattle.rule_model.specs.Proofs.{ProofItems as Proof}
@@ -10,7 +9,6 @@ use Rattle.rule_model.specs.Scopes.{Scope, next_index, next_scope}
 use Rattle.proof_store.specs.Meaning.{StandForItems}
 use Rattle.text_items.specs.ItemShapes.{excess}
 use Rattle.problem_text.specs.Outcomes.{Outcome, done}
-use Rattle.term_expansion.specs.SymbolsAndTerms.{both}
 use Rattle.term_names.specs.declared.faults.ReadFault.{ReadFault}
 use Rattle.term_reader.specs.Reading.{Comes}
 use Rattle.alethe_text.specs.ProofTexts.{commands, none_behind, finished}
@@ -20,6 +18,7 @@ use Rattle.alethe_items.specs.TextItems.{HasCommandItems}
 use Rattle.alethe_text.specs.CommandNames.{HaveNames}
 use Rattle.alethe_reader.specs.Sessions.{IsProofSession}
 use Rattle.alethe_reader.specs.declared.session.Session.{Session}
+use Rattle.term_expansion.specs.SymbolsAndTerms.{SymbolsAndTerms}
 
 -- behind the commands: what stands behind their list, and the end of the proof
 unfoldable pub closing_from : ProofSettings → Items → ⊤ → Reading (Proof Var Term)
@@ -46,27 +45,27 @@ pub record NoneLeft (source : List ℕ) (settings : ProofSettings) (at : ℕ) (p
   pub comes : closing_from settings behind tt p ≡ whole
 
 -- All commands were read.
-abbrev pub AreAllRead : List ℕ → Table → TermsView → ProofSettings → Session → ℕ → Outcome ProofState (Proof Var Term) → Type 0
-AreAllRead source s v settings d at whole = (p : ProofState) × NoneLeft source settings at p whole × IsProofSession s v settings d p
+abbrev pub AreAllRead : List ℕ → SymbolsAndTerms → ProofSettings → Session → ℕ → Outcome ProofState (Proof Var Term) → Type 0
+AreAllRead source w settings d at whole = (p : ProofState) × NoneLeft source settings at p whole × IsProofSession w settings d p
 
 -- A command was read, and others may be left; or none was left.
-abbrev pub IsProofCommandRead : List ℕ → Table → TermsView → ProofSettings → Session → Bool → ℕ → Outcome ProofState (Proof Var Term)
+abbrev pub IsProofCommandRead : List ℕ → SymbolsAndTerms → ProofSettings → Session → Bool → ℕ → Outcome ProofState (Proof Var Term)
     → Bool → Type 0
-IsProofCommandRead source s v settings d in_list at whole true =
-    (p : ProofState) × AreCommandsLeft source settings in_list at p whole × IsProofSession s v settings d p
-IsProofCommandRead source s v settings d in_list at whole false = AreAllRead source s v settings d at whole
+IsProofCommandRead source w settings d in_list at whole true =
+    (p : ProofState) × AreCommandsLeft source settings in_list at p whole × IsProofSession w settings d p
+IsProofCommandRead source w settings d in_list at whole false = AreAllRead source w settings d at whole
 
 -- the same, or the command has a fault
-abbrev pub ReadsProofCommand : List ℕ → Table → TermsView → TermsView → ProofSettings → Session → Bool → ℕ → Outcome ProofState (Proof Var Term)
+abbrev pub ReadsProofCommand : List ℕ → TermsView → SymbolsAndTerms → ProofSettings → Session → Bool → ℕ → Outcome ProofState (Proof Var Term)
     → Result Bool ReadFault → Type 0
-ReadsProofCommand source s old new settings d in_list at whole result =
-    Comes terms_in old (both s new) (IsProofCommandRead source s new settings d in_list at whole) whole result
+ReadsProofCommand source before w settings d in_list at whole result =
+    Comes terms_in before w (IsProofCommandRead source w settings d in_list at whole) whole result
 
 -- All commands of a text were read, or one has a fault.
-abbrev pub ReadsProof : List ℕ → Table → TermsView → TermsView → ProofSettings → Session → ℕ → Outcome ProofState (Proof Var Term)
+abbrev pub ReadsProof : List ℕ → TermsView → SymbolsAndTerms → ProofSettings → Session → ℕ → Outcome ProofState (Proof Var Term)
     → Result Unit ReadFault → Type 0
-ReadsProof source s old new settings d at whole result =
-    Comes terms_in old (both s new) (λ _. AreAllRead source s new settings d at whole) whole result
+ReadsProof source before w settings d at whole result =
+    Comes terms_in before w (λ _. AreAllRead source w settings d at whole) whole result
 
 -- Nothing stands behind the commands and no anchor is open, or the reading is refused for what stands there.
 abbrev pub IsEndJudged : Session → Items → Outcome ProofState (Proof Var Term) → Result Unit Refusal → Type 0
@@ -74,11 +73,11 @@ IsEndJudged d behind whole (Ok _) = (excess behind ≡ None) × (d.anchors.items
 IsEndJudged d behind whole (Err r) = whole.result ≡ Err r
 
 -- The proof that was read, or the fault of what stands behind the commands, or of an anchor that is open.
-abbrev pub IsFinished : Table → TermsView → ProofState → Outcome ProofState (Proof Var Term) → Result (Proof ℕ ℕ) ReadFault → Type 0
-IsFinished s v p whole (Ok refs) = (proof : Proof Var Term) × (whole ≡ done proof p) × StandForItems s v refs proof
-IsFinished s v p whole (Err (ReadFault.Text r)) = whole.result ≡ Err r
-IsFinished s v p whole (Err ReadFault.PoolFull) = ⊥
-IsFinished s v p whole (Err ReadFault.Memory) = ⊤
+abbrev pub IsFinished : SymbolsAndTerms → ProofState → Outcome ProofState (Proof Var Term) → Result (Proof ℕ ℕ) ReadFault → Type 0
+IsFinished w p whole (Ok refs) = (proof : Proof Var Term) × (whole ≡ done proof p) × StandForItems w.symbols w.terms refs proof
+IsFinished w p whole (Err (ReadFault.Text r)) = whole.result ≡ Err r
+IsFinished w p whole (Err ReadFault.PoolFull) = ⊥
+IsFinished w p whole (Err ReadFault.Memory) = ⊤
 
 -- how many leaves a table may have once the rest of a text is read: one for each byte
 abbrev pub most_after : ℕ → List ℕ → ℕ → ℕ

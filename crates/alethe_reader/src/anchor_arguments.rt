@@ -8,7 +8,7 @@ ghost use Rattle.proof_store.specs.Meaning.{IsBindingOf};
 ghost use Rattle.text_items.specs.ItemsAt.{end_at, item_at, items_at};
 ghost use Rattle.problem_text.specs.TypedTerms.{Typed};
 ghost use Rattle.problem_text.specs.Words as words;
-ghost use Rattle.term_names.specs.Standing.{AddsNoSymbols};
+ghost use Rattle.term_names.specs.Standing.{AddsNoSymbols, GrowByTerms};
 ghost use Rattle.term_expansion.specs.Values.{IsValue};
 ghost use Rattle.term_reader.specs.ProblemViews.{IsReaderOf};
 ghost use Rattle.text_items.specs.Stepping.{IsSymbolAt, name_in};
@@ -72,12 +72,11 @@ pub(crate) fn read_arguments(
     bound: &mut BoundVariables,
 ) -> Result<(), ReadFault>
     requires arguments { AreArgumentsAt items.now first (length items.now.nodes) }
-    requires scope { (settings : ProofSettings) × (p : ProofState) × IsReaderOf symbols.old terms.old reader.old p.script (place_in settings p.scope.nesting) × AreBound symbols.old terms.old bound.old p.scope.nesting }
+    requires scope { (settings : ProofSettings) × (p : ProofState) × IsReaderOf symbols.old terms.old reader.old p.script (place_in settings p.scope.nesting) × AreBound (both symbols.old terms.old) bound.old p.scope.nesting }
     requires room { length symbols.old.leaves + (length items.now.nodes - first) ≤ 2 ^ 30 }
-    ensures read { (settings : ProofSettings) (p : ProofState) → IsReaderOf symbols.old terms.old reader.old p.script (place_in settings p.scope.nesting) → AreBound symbols.old terms.old bound.old p.scope.nesting → AnswersAs symbols.new terms.old terms.new (AreArgumentsRead symbols.new terms.new settings reader.new bound.new p) (arguments_read settings [] (shape.arguments_in (items_at items.now first (length items.now.nodes))) p) result }
+    ensures read { (settings : ProofSettings) (p : ProofState) → IsReaderOf symbols.old terms.old reader.old p.script (place_in settings p.scope.nesting) → AreBound (both symbols.old terms.old) bound.old p.scope.nesting → AnswersAs terms.old (both symbols.new terms.new) (AreArgumentsRead (both symbols.new terms.new) settings reader.new bound.new p) (arguments_read settings [] (shape.arguments_in (items_at items.now first (length items.now.nodes))) p) result }
     ensures few { length symbols.new.leaves ≤ length symbols.old.leaves + (length items.now.nodes - first) }
-    ensures symbols { AddsNoSymbols symbols.old symbols.new }
-    ensures keeps { KeepsTerms terms.old terms.new }
+    ensures grow { GrowByTerms (both symbols.old terms.old) (both symbols.new terms.new) }
 {
     bound.opened.clear();
     let mut k = first;
@@ -100,14 +99,13 @@ fn read_argument(
 ) -> Result<(), ReadFault>
     requires item { k < length items.now.nodes }
     requires argument { shape.argument_fault (item_at items.now k) ≡ None }
-    requires opening { (settings : ProofSettings) × (earlier : List (List ℕ)) × (bs : List (Var × Term)) × (p : ProofState) × IsOpening symbols.old terms.old settings reader.old bound.old earlier bs p }
+    requires opening { (settings : ProofSettings) × (earlier : List (List ℕ)) × (bs : List (Var × Term)) × (p : ProofState) × IsOpening (both symbols.old terms.old) settings reader.old bound.old earlier bs p }
     requires room { length symbols.old.leaves + (length items.now.nodes - k) ≤ 2 ^ 30 }
-    ensures read { (settings : ProofSettings) (earlier : List (List ℕ)) (bs : List (Var × Term)) (p : ProofState) → IsOpening symbols.old terms.old settings reader.old bound.old earlier bs p → AnswersAs symbols.new terms.old terms.new (IsArgumentRead symbols.new terms.new settings reader.new bound.new earlier bs p) (argument_read settings earlier (shape.argument_of (item_at items.now k)) p) result }
+    ensures read { (settings : ProofSettings) (earlier : List (List ℕ)) (bs : List (Var × Term)) (p : ProofState) → IsOpening (both symbols.old terms.old) settings reader.old bound.old earlier bs p → AnswersAs terms.old (both symbols.new terms.new) (IsArgumentRead (both symbols.new terms.new) settings reader.new bound.new earlier bs p) (argument_read settings earlier (shape.argument_of (item_at items.now k)) p) result }
     // Each leaf that is added has a node of the item.
     ensures spent { OnOk result (length symbols.new.leaves ≤ length symbols.old.leaves + (end_at items.now k - k)) }
     ensures few { length symbols.new.leaves ≤ length symbols.old.leaves + (length items.now.nodes - k) }
-    ensures symbols { AddsNoSymbols symbols.old symbols.new }
-    ensures keeps { KeepsTerms terms.old terms.new }
+    ensures grow { GrowByTerms (both symbols.old terms.old) (both symbols.new terms.new) }
 {
     match argument_at(items, k) {
         AnchorArgument::Alone { place } => { Err(ReadFault::Text(refused(Cause::LeftOut, place))) }
@@ -148,13 +146,12 @@ fn read_assigned(
     requires name { IsSymbolAt items.now assigned.variable }
     requires sort { IsSortThere items.now assigned.sort }
     requires term { assigned.term < length items.now.nodes }
-    requires opening { (settings : ProofSettings) × (earlier : List (List ℕ)) × (bs : List (Var × Term)) × (p : ProofState) × IsOpening symbols.old terms.old settings reader.old bound.old earlier bs p }
+    requires opening { (settings : ProofSettings) × (earlier : List (List ℕ)) × (bs : List (Var × Term)) × (p : ProofState) × IsOpening (both symbols.old terms.old) settings reader.old bound.old earlier bs p }
     requires room { length symbols.old.leaves + (length items.now.nodes - assigned.term) < 2 ^ 30 }
-    ensures read { (settings : ProofSettings) (earlier : List (List ℕ)) (bs : List (Var × Term)) (p : ProofState) → IsOpening symbols.old terms.old settings reader.old bound.old earlier bs p → AnswersAs symbols.new terms.old terms.new (IsArgumentRead symbols.new terms.new settings reader.new bound.new earlier bs p) (argument_read settings earlier (shape.assigned assigned.place (name_in items.now assigned.variable) (sort_said items.now assigned.sort) (item_at items.now assigned.term)) p) result }
+    ensures read { (settings : ProofSettings) (earlier : List (List ℕ)) (bs : List (Var × Term)) (p : ProofState) → IsOpening (both symbols.old terms.old) settings reader.old bound.old earlier bs p → AnswersAs terms.old (both symbols.new terms.new) (IsArgumentRead (both symbols.new terms.new) settings reader.new bound.new earlier bs p) (argument_read settings earlier (shape.assigned assigned.place (name_in items.now assigned.variable) (sort_said items.now assigned.sort) (item_at items.now assigned.term)) p) result }
     ensures spent { OnOk result (length symbols.new.leaves ≤ length symbols.old.leaves + (end_at items.now assigned.term - assigned.term) + 1) }
     ensures few { length symbols.new.leaves ≤ length symbols.old.leaves + (length items.now.nodes - assigned.term) + 1 }
-    ensures symbols { AddsNoSymbols symbols.old symbols.new }
-    ensures keeps { KeepsTerms terms.old terms.new }
+    ensures grow { GrowByTerms (both symbols.old terms.old) (both symbols.new terms.new) }
 {
     let variable = named_at(items, assigned.variable);
     judge_variable(bound, variable)?;
@@ -218,7 +215,7 @@ fn image_at(
     requires value { (t : Typed) × IsValue (both symbols.now terms.old) value t }
     requires outer { length bound.now.opened.items ≤ length bound.now.images.items }
     requires images { (nesting : Nesting Var Term) × (more : List (List ℕ)) × AllZip (IsBindingOf symbols.now terms.old) (take (length bound.now.images.items - length bound.now.opened.items) bound.now.images.items) (images_in nesting) × (map (λ u. u.id) bound.now.names.used ≡ bound_names nesting ++ more) }
-    ensures read { (name : List ℕ) (t : Typed) (nesting : Nesting Var Term) (more : List (List ℕ)) (q : ProofState) → IsValue (both symbols.now terms.old) value t → BindApart nesting → AllZip (IsBindingOf symbols.now terms.old) (take (length bound.now.images.items - length bound.now.opened.items) bound.now.images.items) (images_in nesting) → map (λ u. u.id) bound.now.names.used ≡ bound_names nesting ++ more → AnswersAs symbols.now terms.old terms.new (IsImageRead symbols.now terms.new name nesting t q) (image_read wanted.place name wanted.sort nesting t q) result }
+    ensures read { (name : List ℕ) (t : Typed) (nesting : Nesting Var Term) (more : List (List ℕ)) (q : ProofState) → IsValue (both symbols.now terms.old) value t → BindApart nesting → AllZip (IsBindingOf symbols.now terms.old) (take (length bound.now.images.items - length bound.now.opened.items) bound.now.images.items) (images_in nesting) → map (λ u. u.id) bound.now.names.used ≡ bound_names nesting ++ more → AnswersAs terms.old (both symbols.now terms.new) (IsImageRead (both symbols.now terms.new) name nesting t q) (image_read wanted.place name wanted.sort nesting t q) result }
     ensures keeps { KeepsTerms terms.old terms.new }
 {
     if !is_wanted(wanted.sort, value.sort) {

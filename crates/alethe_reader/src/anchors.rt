@@ -4,7 +4,7 @@ ghost use Rattle.term_pool.specs.Views.{KeepsTerms};
 ghost use Rattle.rule_model.specs.RuleNames.{IsSymbolName};
 ghost use Rattle.rule_model.specs.Scopes.{next_index, next_scope};
 ghost use Rattle.text_items.specs.ItemsAt.{items_at};
-ghost use Rattle.term_names.specs.Standing.{AddsNoSymbols};
+ghost use Rattle.term_names.specs.Standing.{AddsNoSymbols, GrowByTerms};
 ghost use Rattle.text_items.specs.Stepping.{name_in};
 ghost use Rattle.alethe_commands.specs.CommandNodes.{IsAnchorThere};
 ghost use Rattle.alethe_text.specs.Anchors.{anchor_read};
@@ -12,6 +12,7 @@ ghost use Rattle.alethe_text.specs.Commands as shape;
 ghost use Rattle.alethe_text.specs.States.{ProofSettings, ProofState};
 ghost use Rattle.alethe_reader.specs.Answers.{AnswersAs};
 ghost use Rattle.alethe_reader.specs.Sessions.{IsProofSession, StandsAfter};
+ghost use Rattle.term_expansion.specs.SymbolsAndTerms.{both};
 
 use crate::anchor_arguments::read_arguments;
 use crate::ids::Role;
@@ -47,13 +48,12 @@ pub fn read_anchor(
 ) -> Result<(), ReadFault>
     requires there { IsAnchorThere items.now anchor.id anchor.first }
     requires name { IsSymbolName (name_in items.now anchor.id).name }
-    requires session { (settings : ProofSettings) × (p : ProofState) × IsProofSession symbols.old terms.old settings session.old p }
+    requires session { (settings : ProofSettings) × (p : ProofState) × IsProofSession (both symbols.old terms.old) settings session.old p }
     requires room { length symbols.old.leaves + (length items.now.nodes - anchor.first) ≤ 2 ^ 30 }
     requires few { next_scope session.old.builder + 1 < 2 ^ 32 - 1 }
-    ensures read { (settings : ProofSettings) (p : ProofState) → IsProofSession symbols.old terms.old settings session.old p → AnswersAs symbols.new terms.old terms.new (StandsAfter symbols.new terms.new settings session.new) (anchor_read settings anchor.place (name_in items.now anchor.id) (shape.arguments_in (items_at items.now anchor.first (length items.now.nodes))) p) result }
+    ensures read { (settings : ProofSettings) (p : ProofState) → IsProofSession (both symbols.old terms.old) settings session.old p → AnswersAs terms.old (both symbols.new terms.new) (StandsAfter (both symbols.new terms.new) settings session.new) (anchor_read settings anchor.place (name_in items.now anchor.id) (shape.arguments_in (items_at items.now anchor.first (length items.now.nodes))) p) result }
     ensures few { length symbols.new.leaves ≤ length symbols.old.leaves + (length items.now.nodes - anchor.first) }
-    ensures symbols { AddsNoSymbols symbols.old symbols.new }
-    ensures keeps { KeepsTerms terms.old terms.new }
+    ensures grow { GrowByTerms (both symbols.old terms.old) (both symbols.new terms.new) }
     ensures commands { OnOk result (next_index session.new.builder ≡ next_index session.old.builder) }
     ensures scopes { OnOk result (next_scope session.new.builder ≡ next_scope session.old.builder + 1) }
 {

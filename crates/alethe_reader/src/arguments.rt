@@ -6,7 +6,7 @@ ghost use Rattle.term_model.specs.Terms.{Var, Term};
 ghost use Rattle.term_pool.specs.Views.{KeepsTerms};
 ghost use Rattle.rule_model.specs.Scopes.{Nesting};
 ghost use Rattle.problem_text.specs.NamedItems.{is_named_item};
-ghost use Rattle.term_names.specs.Standing.{AddsNoSymbols};
+ghost use Rattle.term_names.specs.Standing.{AddsNoSymbols, GrowByTerms};
 ghost use Rattle.term_reader.specs.ProblemViews.{IsReaderOf};
 ghost use Rattle.alethe_text.specs.Arguments as shape;
 ghost use Rattle.alethe_text.specs.Arguments.{named_among};
@@ -17,6 +17,7 @@ ghost use Rattle.alethe_reader.specs.Arguments.{AreNamed};
 ghost use Rattle.text_items.specs.ItemShapes.{items_of};
 ghost use Rattle.text_items.specs.ItemsAt.{item_at, items_at};
 ghost use Rattle.alethe_commands.specs.CommandNodes.{AreItemsAt};
+ghost use Rattle.term_expansion.specs.SymbolsAndTerms.{both};
 
 use crate::ranges::NodeRange;
 use alethe_commands::is_symbol;
@@ -92,12 +93,11 @@ pub(crate) fn names_at(
     requires items { AreItemsAt items.now arguments.first arguments.end }
     requires reader { (settings : ProofSettings) × (nesting : Nesting Var Term) × (p : ProofState) × IsReaderOf symbols.old terms.old reader.old p.script (place_in settings nesting) }
     requires room { length symbols.old.leaves + (length items.now.nodes - arguments.first) ≤ 2 ^ 30 }
-    ensures read { (settings : ProofSettings) (nesting : Nesting Var Term) (p : ProofState) → IsReaderOf symbols.old terms.old reader.old p.script (place_in settings nesting) → AnswersAs symbols.new terms.old terms.new (AreNamed symbols.new terms.new settings nesting reader.new p) (named_among settings nesting (items_at items.now arguments.first arguments.end) p) result }
+    ensures read { (settings : ProofSettings) (nesting : Nesting Var Term) (p : ProofState) → IsReaderOf symbols.old terms.old reader.old p.script (place_in settings nesting) → AnswersAs terms.old (both symbols.new terms.new) (AreNamed (both symbols.new terms.new) settings nesting reader.new p) (named_among settings nesting (items_at items.now arguments.first arguments.end) p) result }
     // Each leaf that is added has a node of its own.
     ensures spent { OnOk result (length symbols.new.leaves ≤ length symbols.old.leaves + (arguments.end - arguments.first)) }
     ensures few { length symbols.new.leaves ≤ length symbols.old.leaves + (length items.now.nodes - arguments.first) }
-    ensures symbols { AddsNoSymbols symbols.old symbols.new }
-    ensures keeps { KeepsTerms terms.old terms.new }
+    ensures grow { GrowByTerms (both symbols.old terms.old) (both symbols.new terms.new) }
 {
     let mut k = arguments.first;
     'arguments: while k < arguments.end {

@@ -8,6 +8,7 @@ ghost use Rattle.rule_model.specs.Scopes.{Anchor, Nesting, outermost, inside, ow
 ghost use Rattle.problem_text.specs.Words.{is_among};
 ghost use Rattle.alethe_reader.specs.Bound.{AreBound};
 ghost use Rattle.alethe_reader.specs.Ids.{IsUnused};
+ghost use Rattle.term_expansion.specs.SymbolsAndTerms.{both};
 
 use crate::ids::{Ids, Role};
 use pair_pool::Ref;
@@ -37,7 +38,7 @@ pub(crate) struct OpenedVariable {
 impl BoundVariables {
     /// Nothing is bound.
     pub fn new(alloc: Global) -> BoundVariables
-        ensures { (s : Table) (v : TermsView) → AreBound s v result outermost }
+        ensures { (s : Table) (v : TermsView) → AreBound (both s v) result outermost }
     {
         BoundVariables {
             alloc,
@@ -70,8 +71,8 @@ impl BoundVariables {
 
     /// Leaves the scope of the innermost anchor, which binds so many variables.
     pub(crate) fn leave(&mut self, count: usize)
-        requires { (s : Table) × (v : TermsView) × (nesting : Nesting Var Term) × AreBound s v self.old nesting × (count ≡ length (own_bindings nesting)) }
-        ensures { (s : Table) (v : TermsView) (around : Nesting Var Term) (before : ProofItems Var Term) (anchor : Anchor Var Term) → count ≡ length anchor.bindings → AreBound s v self.old (inside around before anchor) → AreBound s v self.new around }
+        requires { (s : Table) × (v : TermsView) × (nesting : Nesting Var Term) × AreBound (both s v) self.old nesting × (count ≡ length (own_bindings nesting)) }
+        ensures { (s : Table) (v : TermsView) (around : Nesting Var Term) (before : ProofItems Var Term) (anchor : Anchor Var Term) → count ≡ length anchor.bindings → AreBound (both s v) self.old (inside around before anchor) → AreBound (both s v) self.new around }
     {
         let left = self.images.len() - count;
         self.images.truncate(left);

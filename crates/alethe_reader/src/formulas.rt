@@ -4,7 +4,7 @@ ghost use Rattle.term_model.specs.Terms.{Var, Term, sort_eq};
 ghost use Rattle.term_model.specs.declared.symbols.Sort.TheVariants as sort;
 ghost use Rattle.term_pool.specs.Views.{KeepsTerms};
 ghost use Rattle.rule_model.specs.Scopes.{Nesting};
-ghost use Rattle.term_names.specs.Standing.{AddsNoSymbols};
+ghost use Rattle.term_names.specs.Standing.{AddsNoSymbols, GrowByTerms};
 ghost use Rattle.term_reader.specs.ProblemViews.{IsReaderOf};
 ghost use Rattle.alethe_text.specs.ProofTerms.{place_in, formula_in, formulas_in};
 ghost use Rattle.alethe_text.specs.States.{ProofSettings, ProofState};
@@ -12,6 +12,7 @@ ghost use Rattle.alethe_reader.specs.Answers.{AnswersAs};
 ghost use Rattle.alethe_reader.specs.ReadTerms.{IsReadFormula, AreReadFormulas};
 ghost use Rattle.text_items.specs.ItemsAt.{end_at, item_at, items_at};
 ghost use Rattle.alethe_commands.specs.CommandNodes.{AreItemsAt};
+ghost use Rattle.term_expansion.specs.SymbolsAndTerms.{both};
 
 use crate::ranges::NodeRange;
 use pair_pool::Ref;
@@ -38,12 +39,11 @@ pub(crate) fn formula_at(
     requires item { k < length items.now.nodes }
     requires reader { (settings : ProofSettings) × (nesting : Nesting Var Term) × (p : ProofState) × IsReaderOf symbols.old terms.old reader.old p.script (place_in settings nesting) }
     requires room { length symbols.old.leaves + (length items.now.nodes - k) ≤ 2 ^ 30 }
-    ensures read { (settings : ProofSettings) (nesting : Nesting Var Term) (p : ProofState) → IsReaderOf symbols.old terms.old reader.old p.script (place_in settings nesting) → AnswersAs symbols.new terms.old terms.new (IsReadFormula symbols.new terms.new settings nesting reader.new p) (formula_in settings nesting (item_at items.now k) p) result }
+    ensures read { (settings : ProofSettings) (nesting : Nesting Var Term) (p : ProofState) → IsReaderOf symbols.old terms.old reader.old p.script (place_in settings nesting) → AnswersAs terms.old (both symbols.new terms.new) (IsReadFormula (both symbols.new terms.new) settings nesting reader.new p) (formula_in settings nesting (item_at items.now k) p) result }
     // Each leaf that is added has a node of the item.
     ensures spent { OnOk result (length symbols.new.leaves ≤ length symbols.old.leaves + (end_at items.now k - k)) }
     ensures few { length symbols.new.leaves ≤ length symbols.old.leaves + (length items.now.nodes - k) }
-    ensures symbols { AddsNoSymbols symbols.old symbols.new }
-    ensures keeps { KeepsTerms terms.old terms.new }
+    ensures grow { GrowByTerms (both symbols.old terms.old) (both symbols.new terms.new) }
 {
     let value = reader.value_at(items, k, symbols, terms)?;
     if is_bool(value.sort) {
@@ -75,12 +75,11 @@ pub(crate) fn formulas_at(
     requires items { AreItemsAt items.now range.first range.end }
     requires reader { (settings : ProofSettings) × (nesting : Nesting Var Term) × (p : ProofState) × IsReaderOf symbols.old terms.old reader.old p.script (place_in settings nesting) }
     requires room { length symbols.old.leaves + (length items.now.nodes - range.first) ≤ 2 ^ 30 }
-    ensures read { (settings : ProofSettings) (nesting : Nesting Var Term) (p : ProofState) → IsReaderOf symbols.old terms.old reader.old p.script (place_in settings nesting) → AnswersAs symbols.new terms.old terms.new (AreReadFormulas symbols.new terms.new settings nesting reader.new p formulas.new.items) (formulas_in settings nesting (items_at items.now range.first range.end) p) result }
+    ensures read { (settings : ProofSettings) (nesting : Nesting Var Term) (p : ProofState) → IsReaderOf symbols.old terms.old reader.old p.script (place_in settings nesting) → AnswersAs terms.old (both symbols.new terms.new) (AreReadFormulas (both symbols.new terms.new) settings nesting reader.new p formulas.new.items) (formulas_in settings nesting (items_at items.now range.first range.end) p) result }
     // Each leaf that is added has a node of its own.
     ensures spent { OnOk result (length symbols.new.leaves ≤ length symbols.old.leaves + (range.end - range.first)) }
     ensures few { length symbols.new.leaves ≤ length symbols.old.leaves + (length items.now.nodes - range.first) }
-    ensures symbols { AddsNoSymbols symbols.old symbols.new }
-    ensures keeps { KeepsTerms terms.old terms.new }
+    ensures grow { GrowByTerms (both symbols.old terms.old) (both symbols.new terms.new) }
 {
     formulas.clear();
     let mut k = range.first;

@@ -2,13 +2,14 @@
 ghost use Rattle.std.specs.Prelude.{◌≤◌, ◌<◌, ◌^◌, ◌+◌, ◌-◌, length, OnOk};
 ghost use Rattle.term_pool.specs.Views.{KeepsTerms};
 ghost use Rattle.rule_model.specs.Scopes.{next_index, next_scope};
-ghost use Rattle.term_names.specs.Standing.{AddsNoSymbols};
+ghost use Rattle.term_names.specs.Standing.{AddsNoSymbols, GrowByTerms};
 ghost use Rattle.alethe_commands.specs.CommandNodes.{IsCommandThere, command_said};
 ghost use Rattle.alethe_text.specs.ProofTexts.{performed};
 ghost use Rattle.alethe_text.specs.States.{ProofSettings, ProofState};
 ghost use Rattle.alethe_reader.specs.Answers.{AnswersAs};
 ghost use Rattle.alethe_text.specs.CommandNames.{IsNamed};
 ghost use Rattle.alethe_reader.specs.Sessions.{IsProofSession, StandsAfter};
+ghost use Rattle.term_expansion.specs.SymbolsAndTerms.{both};
 
 use crate::anchors::{AnchorNodes, read_anchor};
 use crate::assuming::read_assume;
@@ -31,16 +32,15 @@ pub(crate) fn perform(
 ) -> Result<(), ReadFault>
     requires there { IsCommandThere items.now command }
     requires named { IsNamed (command_said items.now command) }
-    requires session { (settings : ProofSettings) × (p : ProofState) × IsProofSession symbols.old terms.old settings session.old p }
+    requires session { (settings : ProofSettings) × (p : ProofState) × IsProofSession (both symbols.old terms.old) settings session.old p }
     requires room { length symbols.old.leaves + length items.now.nodes ≤ 2 ^ 30 }
     requires few { next_index session.old.builder + 1 < 2 ^ 32 - 1 }
     requires few_scopes { next_scope session.old.builder + 1 < 2 ^ 32 - 1 }
-    ensures read { (settings : ProofSettings) (p : ProofState) → IsProofSession symbols.old terms.old settings session.old p → AnswersAs symbols.new terms.old terms.new (StandsAfter symbols.new terms.new settings session.new) (performed settings (command_said items.now command) p) result }
+    ensures read { (settings : ProofSettings) (p : ProofState) → IsProofSession (both symbols.old terms.old) settings session.old p → AnswersAs terms.old (both symbols.new terms.new) (StandsAfter (both symbols.new terms.new) settings session.new) (performed settings (command_said items.now command) p) result }
     ensures few { length symbols.new.leaves ≤ length symbols.old.leaves + length items.now.nodes }
     ensures commands { OnOk result (next_index session.new.builder ≤ next_index session.old.builder + 1) }
     ensures scopes { OnOk result (next_scope session.new.builder ≤ next_scope session.old.builder + 1) }
-    ensures symbols { AddsNoSymbols symbols.old symbols.new }
-    ensures keeps { KeepsTerms terms.old terms.new }
+    ensures grow { GrowByTerms (both symbols.old terms.old) (both symbols.new terms.new) }
 {
     match command {
         Command::Assume { id, term } => read_assume(items, id, term, symbols, terms, session),

@@ -4,7 +4,7 @@ ghost use Rattle.std.specs.Prelude.{◌≡◌, ◌<◌, ◌≤◌, ◌^◌, ◌+
 ghost use Rattle.term_model.specs.Terms.{Var, Term};
 ghost use Rattle.term_pool.specs.Views.{KeepsTerms};
 ghost use Rattle.rule_model.specs.Scopes.{Nesting};
-ghost use Rattle.term_names.specs.Standing.{AddsNoSymbols};
+ghost use Rattle.term_names.specs.Standing.{AddsNoSymbols, GrowByTerms};
 ghost use Rattle.term_names.specs.declared.faults.ReadFault.TheVariants as fault;
 ghost use Rattle.term_reader.specs.ProblemViews.{IsReaderOf};
 ghost use Rattle.alethe_text.specs.Arguments.{pivots_from, truth_of};
@@ -15,6 +15,7 @@ ghost use Rattle.alethe_reader.specs.Pivots as spec;
 ghost use Rattle.alethe_reader.specs.Pivots.{EndsPair, IsReadPivot, AreReadPivots, pivot_read, held_pivots, one_pivot, both_lists};
 ghost use Rattle.text_items.specs.ItemsAt.{end_at, item_at, items_at};
 ghost use Rattle.alethe_commands.specs.CommandNodes.{AreItemsAt};
+ghost use Rattle.term_expansion.specs.SymbolsAndTerms.{both};
 
 use crate::arguments::names_at;
 use crate::ranges::NodeRange;
@@ -45,12 +46,11 @@ pub(crate) fn pivots_at(
     requires items { AreItemsAt items.now arguments.first arguments.end }
     requires reader { (settings : ProofSettings) × (nesting : Nesting Var Term) × (p : ProofState) × IsReaderOf symbols.old terms.old reader.old p.script (place_in settings nesting) }
     requires room { length symbols.old.leaves + (length items.now.nodes - arguments.first) ≤ 2 ^ 30 }
-    ensures read { (settings : ProofSettings) (nesting : Nesting Var Term) (p : ProofState) → IsReaderOf symbols.old terms.old reader.old p.script (place_in settings nesting) → AnswersAs symbols.new terms.old terms.new (AreReadPivots symbols.new terms.new settings nesting reader.new p pivots.new.items) (pivots_from settings nesting (items_at items.now arguments.first arguments.end) p) result }
+    ensures read { (settings : ProofSettings) (nesting : Nesting Var Term) (p : ProofState) → IsReaderOf symbols.old terms.old reader.old p.script (place_in settings nesting) → AnswersAs terms.old (both symbols.new terms.new) (AreReadPivots (both symbols.new terms.new) settings nesting reader.new p pivots.new.items) (pivots_from settings nesting (items_at items.now arguments.first arguments.end) p) result }
     // Each leaf that is added has a node of its own.
     ensures spent { OnOk result (length symbols.new.leaves ≤ length symbols.old.leaves + (arguments.end - arguments.first)) }
     ensures few { length symbols.new.leaves ≤ length symbols.old.leaves + (length items.now.nodes - arguments.first) }
-    ensures symbols { AddsNoSymbols symbols.old symbols.new }
-    ensures keeps { KeepsTerms terms.old terms.new }
+    ensures grow { GrowByTerms (both symbols.old terms.old) (both symbols.new terms.new) }
 {
     pivots.clear();
     let mut all = true;
@@ -95,11 +95,10 @@ fn pivot_at(
     requires items { AreItemsAt items.now (end_at items.now pair.first) pair.end }
     requires reader { (settings : ProofSettings) × (nesting : Nesting Var Term) × (p : ProofState) × IsReaderOf symbols.old terms.old reader.old p.script (place_in settings nesting) }
     requires room { length symbols.old.leaves + (length items.now.nodes - pair.first) ≤ 2 ^ 30 }
-    ensures read { (settings : ProofSettings) (nesting : Nesting Var Term) (p : ProofState) → IsReaderOf symbols.old terms.old reader.old p.script (place_in settings nesting) → AnswersAs symbols.new terms.old terms.new (IsReadPivot symbols.new terms.new settings nesting reader.new p) (pivot_read settings nesting (item_at items.now pair.first) (items_at items.now (end_at items.now pair.first) pair.end) p) result }
+    ensures read { (settings : ProofSettings) (nesting : Nesting Var Term) (p : ProofState) → IsReaderOf symbols.old terms.old reader.old p.script (place_in settings nesting) → AnswersAs terms.old (both symbols.new terms.new) (IsReadPivot (both symbols.new terms.new) settings nesting reader.new p) (pivot_read settings nesting (item_at items.now pair.first) (items_at items.now (end_at items.now pair.first) pair.end) p) result }
     ensures spent { OnOk result (length symbols.new.leaves ≤ length symbols.old.leaves + (pair.end - pair.first)) }
     ensures few { length symbols.new.leaves ≤ length symbols.old.leaves + (length items.now.nodes - pair.first) }
-    ensures symbols { AddsNoSymbols symbols.old symbols.new }
-    ensures keeps { KeepsTerms terms.old terms.new }
+    ensures grow { GrowByTerms (both symbols.old terms.old) (both symbols.new terms.new) }
 {
     let value = reader.value_at(items, pair.first, symbols, terms)?;
     let behind = NodeRange {

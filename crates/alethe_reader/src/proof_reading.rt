@@ -16,6 +16,7 @@ ghost use Rattle.alethe_items.specs.TextItems.{HasCommandItems};
 ghost use Rattle.alethe_reader.specs.Reading.{IsCountedOfProof, IsProofOf};
 ghost use Rattle.alethe_reader.specs.Sessions.{IsProofSession};
 ghost use Rattle.alethe_reader.specs.TextReading.{IsEndJudged, IsFinished, IsBehindCommands, closing_from};
+ghost use Rattle.term_expansion.specs.SymbolsAndTerms.{both};
 
 use crate::bound::BoundVariables;
 use crate::ids::Ids;
@@ -35,7 +36,7 @@ use text_items::refusals::refused;
 
 /// A proof of which nothing was read yet.
 fn new_session<'a>(alloc: Global, problem: &'a Problem, flags: Flags) -> Session<'a>
-    ensures session { (s : Table) (v : TermsView) (before : Script) → IsProblemOf s v problem.now before → IsProofSession s v (record { replaces_lets = flags.expand_lets; is_strict = flags.strict }) result (unread before) }
+    ensures session { (s : Table) (v : TermsView) (before : Script) → IsProblemOf s v problem.now before → IsProofSession (both s v) (record { replaces_lets = flags.expand_lets; is_strict = flags.strict }) result (unread before) }
     ensures short { IsBehindCommands result.builder 0 }
 {
     Session {
@@ -60,8 +61,8 @@ fn new_session<'a>(alloc: Global, problem: &'a Problem, flags: Flags) -> Session
 ///
 /// The builder is taken out of the session.
 fn finish(alloc: Global, lexer: Lexer<'_>, session: &mut Session<'_>) -> Result<Proof, ReadFault>
-    requires { (s : Table) × (v : TermsView) × (settings : ProofSettings) × (p : ProofState) × (behind : Items) × HasCommandItems (at.source lexer) false (at.position lexer) behind no_items × IsProofSession s v settings session.old p }
-    ensures { (s : Table) (v : TermsView) (settings : ProofSettings) (p : ProofState) (behind : Items) → HasCommandItems (at.source lexer.entry) false (at.position lexer.entry) behind no_items → IsProofSession s v settings session.old p → IsFinished s v p (closing_from settings behind tt p) result }
+    requires { (s : Table) × (v : TermsView) × (settings : ProofSettings) × (p : ProofState) × (behind : Items) × HasCommandItems (at.source lexer) false (at.position lexer) behind no_items × IsProofSession (both s v) settings session.old p }
+    ensures { (s : Table) (v : TermsView) (settings : ProofSettings) (p : ProofState) (behind : Items) → HasCommandItems (at.source lexer.entry) false (at.position lexer.entry) behind no_items → IsProofSession (both s v) settings session.old p → IsFinished (both s v) p (closing_from settings behind tt p) result }
 {
     judge_end(lexer, session)?;
     let builder = replace(&mut session.builder, ProofBuilder::new(alloc));
@@ -71,7 +72,7 @@ fn finish(alloc: Global, lexer: Lexer<'_>, session: &mut Session<'_>) -> Result<
 /// Judges the end of a proof: refused where something stands behind the list of its commands, or an anchor is open.
 fn judge_end(lexer: Lexer<'_>, session: &Session<'_>) -> Result<(), Refusal>
     requires { (behind : Items) × HasCommandItems (at.source lexer) false (at.position lexer) behind no_items }
-    ensures { (s : Table) (v : TermsView) (settings : ProofSettings) (p : ProofState) (behind : Items) → HasCommandItems (at.source lexer.entry) false (at.position lexer.entry) behind no_items → IsProofSession s v settings session.now p → IsEndJudged session.now behind (closing_from settings behind tt p) result }
+    ensures { (s : Table) (v : TermsView) (settings : ProofSettings) (p : ProofState) (behind : Items) → HasCommandItems (at.source lexer.entry) false (at.position lexer.entry) behind no_items → IsProofSession (both s v) settings session.now p → IsEndJudged session.now behind (closing_from settings behind tt p) result }
 {
     if let Some(place) = excess(lexer) {
         return Err(refused(Cause::BadCommand, place));

@@ -9,6 +9,7 @@ ghost use Rattle.alethe_reader.specs.Judging.{is_named};
 ghost use Rattle.alethe_reader.specs.Sessions.{IsWritten};
 ghost use Rattle.alethe_reader.specs.Standing.{IsStanding};
 ghost use Rattle.alethe_reader.specs.declared.session.OpenAnchor.{OpenAnchor};
+ghost use Rattle.term_expansion.specs.SymbolsAndTerms.{both};
 
 use crate::ids::Found;
 use crate::judging::{Named, cause_of};
@@ -33,7 +34,7 @@ pub(crate) fn standing_at(
     found: Option<Found>,
 ) -> Result<Standing, Refusal>
     requires { IsIdFound session.now.ids.used id.name.now found }
-    ensures { (s : Table) (v : TermsView) (p : ProofState) → IsSymbolName id.entry.name.now → IsWritten s v session.now p → IsStanding session.now.ids.used p (is_named id.entry) result }
+    ensures { (s : Table) (v : TermsView) (p : ProofState) → IsSymbolName id.entry.name.now → IsWritten (both s v) session.now p → IsStanding session.now.ids.used p (is_named id.entry) result }
 {
     let Some(found) = found else {
         return Ok(standing_here(session.ids.len()));

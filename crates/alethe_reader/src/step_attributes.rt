@@ -8,7 +8,7 @@ ghost use Rattle.rule_model.specs.Proofs.{Step};
 ghost use Rattle.rule_model.specs.RuleNames.{left_out_rules};
 ghost use Rattle.text_items.specs.ItemsAt.{items_at};
 ghost use Rattle.problem_text.specs.Words.{is_among};
-ghost use Rattle.term_names.specs.Standing.{AddsNoSymbols};
+ghost use Rattle.term_names.specs.Standing.{AddsNoSymbols, GrowByTerms};
 ghost use Rattle.text_items.specs.Stepping.{IsSymbolAt, name_in};
 ghost use Rattle.alethe_commands.specs.CommandNodes.{AreAttributesAt, IsAttributeThere, attribute_said};
 ghost use Rattle.alethe_text.specs.Arguments as spec;
@@ -19,6 +19,7 @@ ghost use Rattle.alethe_text.specs.States.{ProofSettings, ProofState, demand};
 ghost use Rattle.alethe_text.specs.Steps.{attribute_read, attributes_read};
 ghost use Rattle.alethe_reader.specs.Answers.{AnswersAs};
 ghost use Rattle.alethe_reader.specs.StepParts.{AreStepParts, IsBare, StandsAt, AreReadAttributes, AreRatios, IsRuleJudged, KeepsOthers, fault_of_coefficients, own_nodes, nodes_from};
+ghost use Rattle.term_expansion.specs.SymbolsAndTerms.{both};
 
 use crate::arguments::names_at;
 use crate::judging::named_at;
@@ -70,13 +71,12 @@ pub(crate) fn attributes_at(
     session: &mut Session<'_>,
 ) -> Result<(), ReadFault>
     requires attributes { AreAttributesAt items.now step.first (length items.now.nodes) }
-    requires stands { (settings : ProofSettings) × (at : ids.Standing) × (p : ProofState) × StandsAt symbols.old terms.old settings at session.old step.standing p }
+    requires stands { (settings : ProofSettings) × (at : ids.Standing) × (p : ProofState) × StandsAt (both symbols.old terms.old) settings at session.old step.standing p }
     requires room { length symbols.old.leaves + (length items.now.nodes - step.first) ≤ 2 ^ 30 }
-    ensures read { (settings : ProofSettings) (at : ids.Standing) (p : ProofState) (before : Step Term) → StandsAt symbols.old terms.old settings at session.old step.standing p → before.rule ≡ step.rule → IsBare before → AnswersAs symbols.new terms.old terms.new (AreReadAttributes symbols.new terms.new settings at.nesting session.new p before) (attributes_read settings at (attributes_of (items_at items.now step.first (length items.now.nodes))) before p) result }
+    ensures read { (settings : ProofSettings) (at : ids.Standing) (p : ProofState) (before : Step Term) → StandsAt (both symbols.old terms.old) settings at session.old step.standing p → before.rule ≡ step.rule → IsBare before → AnswersAs terms.old (both symbols.new terms.new) (AreReadAttributes (both symbols.new terms.new) settings at.nesting session.new p before) (attributes_read settings at (attributes_of (items_at items.now step.first (length items.now.nodes))) before p) result }
     // Each leaf that is added has a node of its own.
     ensures few { length symbols.new.leaves ≤ length symbols.old.leaves + (length items.now.nodes - step.first) }
-    ensures symbols { AddsNoSymbols symbols.old symbols.new }
-    ensures keeps { KeepsTerms terms.old terms.new }
+    ensures grow { GrowByTerms (both symbols.old terms.old) (both symbols.new terms.new) }
     ensures others { KeepsOthers session.old session.new }
 {
     clear(&mut session.parts, takes_coefficients(step.rule));
@@ -95,7 +95,7 @@ pub(crate) fn attributes_at(
 /// Empties what attributes have of a step's parts. There are coefficients, though none so far, where its rule takes them.
 #[tactic(auto, using(crate::proofs::AttributeReading::none_among))]
 fn clear(parts: &mut StepParts, has_ratios: bool)
-    ensures parts { (s : Table) (v : TermsView) (before : Step Term) → IsBare before → spec.takes_coefficients before.rule ≡ has_ratios → AreStepParts s v parts.new before }
+    ensures parts { (s : Table) (v : TermsView) (before : Step Term) → IsBare before → spec.takes_coefficients before.rule ≡ has_ratios → AreStepParts (both s v) parts.new before }
     ensures clause { parts.new.clause ≡ parts.old.clause }
 {
     parts.premises.clear();
@@ -136,13 +136,12 @@ fn attribute_at(
     session: &mut Session<'_>,
 ) -> Result<(), ReadFault>
     requires there { IsAttributeThere items.now one.attribute }
-    requires stands { (settings : ProofSettings) × (at : ids.Standing) × (p : ProofState) × StandsAt symbols.old terms.old settings at session.old one.standing p }
+    requires stands { (settings : ProofSettings) × (at : ids.Standing) × (p : ProofState) × StandsAt (both symbols.old terms.old) settings at session.old one.standing p }
     requires room { length symbols.old.leaves + nodes_from one.attribute (length items.now.nodes) ≤ 2 ^ 30 }
-    ensures read { (settings : ProofSettings) (at : ids.Standing) (p : ProofState) (before : Step Term) → StandsAt symbols.old terms.old settings at session.old one.standing p → before.rule ≡ one.rule → AreStepParts symbols.old terms.old session.old.parts before → AnswersAs symbols.new terms.old terms.new (AreReadAttributes symbols.new terms.new settings at.nesting session.new p before) (attribute_read settings at (attribute_said items.now one.attribute) before p) result }
+    ensures read { (settings : ProofSettings) (at : ids.Standing) (p : ProofState) (before : Step Term) → StandsAt (both symbols.old terms.old) settings at session.old one.standing p → before.rule ≡ one.rule → AreStepParts (both symbols.old terms.old) session.old.parts before → AnswersAs terms.old (both symbols.new terms.new) (AreReadAttributes (both symbols.new terms.new) settings at.nesting session.new p before) (attribute_read settings at (attribute_said items.now one.attribute) before p) result }
     ensures spent { OnOk result (length symbols.new.leaves ≤ length symbols.old.leaves + own_nodes one.attribute) }
     ensures few { length symbols.new.leaves ≤ length symbols.old.leaves + nodes_from one.attribute (length items.now.nodes) }
-    ensures symbols { AddsNoSymbols symbols.old symbols.new }
-    ensures keeps { KeepsTerms terms.old terms.new }
+    ensures grow { GrowByTerms (both symbols.old terms.old) (both symbols.new terms.new) }
     ensures others { KeepsOthers session.old session.new }
 {
     let standing = one.standing;

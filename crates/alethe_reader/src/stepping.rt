@@ -10,7 +10,7 @@ ghost use Rattle.rule_model.specs.Writing as writing;
 ghost use Rattle.rule_model.specs.Writing.{MayTake};
 ghost use Rattle.proof_store.specs.Ratios.{fractions};
 ghost use Rattle.text_items.specs.ItemsAt.{items_at};
-ghost use Rattle.term_names.specs.Standing.{AddsNoSymbols};
+ghost use Rattle.term_names.specs.Standing.{AddsNoSymbols, GrowByTerms};
 ghost use Rattle.term_names.specs.declared.faults.ReadFault.{ReadFault};
 ghost use Rattle.term_reader.specs.ProblemViews.{IsReaderOf};
 ghost use Rattle.text_items.specs.Stepping.{name_in};
@@ -28,6 +28,7 @@ ghost use Rattle.alethe_reader.specs.Ids.{Used};
 ghost use Rattle.alethe_reader.specs.Sessions.{IsProofSession, StandsAfter};
 ghost use Rattle.alethe_reader.specs.Standing.{IsClosing};
 ghost use Rattle.alethe_reader.specs.declared.session.OpenAnchor.{OpenAnchor};
+ghost use Rattle.term_expansion.specs.SymbolsAndTerms.{both};
 
 use crate::formulas::formulas_at;
 use crate::ids::Role;
@@ -83,13 +84,12 @@ pub fn read_step(
     requires there { IsStepThere items.now step.id step.first step.attributes }
     requires name { IsSymbolName (name_in items.now step.id).name }
     requires rule { IsSymbolName (steps.rule_word (shape.attributes_of (items_at items.now step.attributes (length items.now.nodes)))) }
-    requires session { (settings : ProofSettings) × (p : ProofState) × IsProofSession symbols.old terms.old settings session.old p }
+    requires session { (settings : ProofSettings) × (p : ProofState) × IsProofSession (both symbols.old terms.old) settings session.old p }
     requires room { length symbols.old.leaves + (length items.now.nodes - step.first) ≤ 2 ^ 30 }
     requires few { next_index session.old.builder + 1 < 2 ^ 32 - 1 }
-    ensures read { (settings : ProofSettings) (p : ProofState) → IsProofSession symbols.old terms.old settings session.old p → AnswersAs symbols.new terms.old terms.new (StandsAfter symbols.new terms.new settings session.new) (steps.step_read settings (name_in items.now step.id) (items_at items.now step.first step.attributes) (shape.attributes_of (items_at items.now step.attributes (length items.now.nodes))) p) result }
+    ensures read { (settings : ProofSettings) (p : ProofState) → IsProofSession (both symbols.old terms.old) settings session.old p → AnswersAs terms.old (both symbols.new terms.new) (StandsAfter (both symbols.new terms.new) settings session.new) (steps.step_read settings (name_in items.now step.id) (items_at items.now step.first step.attributes) (shape.attributes_of (items_at items.now step.attributes (length items.now.nodes))) p) result }
     ensures few { length symbols.new.leaves ≤ length symbols.old.leaves + (length items.now.nodes - step.first) }
-    ensures symbols { AddsNoSymbols symbols.old symbols.new }
-    ensures keeps { KeepsTerms terms.old terms.new }
+    ensures grow { GrowByTerms (both symbols.old terms.old) (both symbols.new terms.new) }
     ensures commands { OnOk result (next_index session.new.builder ≡ next_index session.old.builder + 1) }
     ensures scopes { OnOk result (next_scope session.new.builder ≡ next_scope session.old.builder) }
 {
@@ -136,10 +136,10 @@ fn stand(reader: &mut TermReader<'_>, closes: Option<OpenAnchor>)
 /// Adds the step that was read, and puts its id in use. Where it closes a scope, all that belongs to the scope is left. Refuses
 /// want of memory alone.
 fn add_step(session: &mut Session<'_>, new: NewStep<'_>) -> Result<(), ReadFault>
-    requires step { (s : Table) × (v : TermsView) × (settings : ProofSettings) × (step : Step Term) × (p : ProofState) × IsToAdd s v settings session.old new step p }
+    requires step { (s : Table) × (v : TermsView) × (settings : ProofSettings) × (step : Step Term) × (p : ProofState) × IsToAdd (both s v) settings session.old new step p }
     requires name { new.name ≡ position (bytes_eq new.id.name.now) session.old.ids.names }
     requires few { next_index session.old.builder + 1 < 2 ^ 32 - 1 }
-    ensures added { OnOk result ((s : Table) (v : TermsView) (settings : ProofSettings) (step : Step Term) (p : ProofState) → IsToAdd s v settings session.old new.entry step p → IsProofSession s v settings session.new (steps.with_step step p)) }
+    ensures added { OnOk result ((s : Table) (v : TermsView) (settings : ProofSettings) (step : Step Term) (p : ProofState) → IsToAdd (both s v) settings session.old new.entry step p → IsProofSession (both s v) settings session.new (steps.with_step step p)) }
     ensures refused { IfErr result (λ fault. fault ≡ ReadFault.Memory) }
     ensures commands { OnOk result (next_index session.new.builder ≡ next_index session.old.builder + 1) }
     ensures scopes { OnOk result (next_scope session.new.builder ≡ next_scope session.old.builder) }
@@ -190,10 +190,10 @@ fn ratios_of(parts: &StepParts) -> Option<&[Ratio]>
 
 /// Leaves the scope of the innermost anchor: its ids, its variables, and itself.
 fn leave_scope(session: &mut Session<'_>, anchor: OpenAnchor)
-    requires { (s : Table) × (v : TermsView) × (nesting : Nesting Var Term) × AreBound s v session.old.bound nesting × (anchor.variables ≡ length (own_bindings nesting)) }
+    requires { (s : Table) × (v : TermsView) × (nesting : Nesting Var Term) × AreBound (both s v) session.old.bound nesting × (anchor.variables ≡ length (own_bindings nesting)) }
     ensures ids { session.new.ids ≡ record { names = session.old.ids.names; used = take anchor.ids session.old.ids.used } }
     ensures anchors { (front : List OpenAnchor) (last : OpenAnchor) → session.old.anchors.items ≡ front ++ last ∷ [] → session.new.anchors.items ≡ front }
-    ensures bound { (s : Table) (v : TermsView) (around : Nesting Var Term) (before : Proof Var Term) (other : Anchor Var Term) → anchor.variables ≡ length other.bindings → AreBound s v session.old.bound (inside around before other) → AreBound s v session.new.bound around }
+    ensures bound { (s : Table) (v : TermsView) (around : Nesting Var Term) (before : Proof Var Term) (other : Anchor Var Term) → anchor.variables ≡ length other.bindings → AreBound (both s v) session.old.bound (inside around before other) → AreBound (both s v) session.new.bound around }
     ensures builder { session.new.builder ≡ session.old.builder }
     ensures reader { session.new.reader ≡ session.old.reader }
     ensures strict { session.new.strict ≡ session.old.strict }

@@ -7,11 +7,12 @@ ghost use Rattle.term_model.specs.Terms.{Var, Term};
 ghost use Rattle.term_pool.specs.Views.{TermsView, KeepsTerms};
 ghost use Rattle.rule_model.specs.Proofs.{ProofItems as Proof};
 ghost use Rattle.problem_text.specs.Outcomes.{Outcome};
-ghost use Rattle.term_names.specs.Standing.{AddsNoSymbols};
+ghost use Rattle.term_names.specs.Standing.{AddsNoSymbols, GrowByTerms};
 ghost use Rattle.alethe_text.specs.States.{ProofSettings, ProofState};
 ghost use Rattle.alethe_items.specs.TextItems.{HasCommandItems};
 ghost use Rattle.alethe_reader.specs.Sessions.{IsProofSession};
 ghost use Rattle.alethe_reader.specs.TextReading.{AreCommandsLeft, ReadsProofCommand, ReadsProof, IsBehindCommands, most_after};
+ghost use Rattle.term_expansion.specs.SymbolsAndTerms.{both};
 
 use crate::performing::perform;
 use crate::session::Session;
@@ -32,20 +33,19 @@ fn read_command(
     terms: &mut Terms<'_>,
     session: &mut Session<'_>,
 ) -> Result<bool, ReadFault>
-    requires left { (settings : ProofSettings) × (p : ProofState) × (whole : Outcome ProofState (Proof Var Term)) × AreCommandsLeft (at.source lexer.old) settings in_list (at.position lexer.old) p whole × IsProofSession symbols.old terms.old settings session.old p }
+    requires left { (settings : ProofSettings) × (p : ProofState) × (whole : Outcome ProofState (Proof Var Term)) × AreCommandsLeft (at.source lexer.old) settings in_list (at.position lexer.old) p whole × IsProofSession (both symbols.old terms.old) settings session.old p }
     requires room { most_after (length symbols.old.leaves) (at.source lexer.old) (at.position lexer.old) ≤ 2 ^ 30 }
     requires short { length (at.source lexer.old) ≤ 268435456 }
     requires inside { at.position lexer.old ≤ length (at.source lexer.old) }
     requires few { IsBehindCommands session.old.builder (at.position lexer.old) }
-    ensures reads { (settings : ProofSettings) (p : ProofState) (whole : Outcome ProofState (Proof Var Term)) → AreCommandsLeft (at.source lexer.old) settings in_list (at.position lexer.old) p whole → IsProofSession symbols.old terms.old settings session.old p → ReadsProofCommand (at.source lexer.new) symbols.new terms.old terms.new settings session.new in_list (at.position lexer.new) whole result }
+    ensures reads { (settings : ProofSettings) (p : ProofState) (whole : Outcome ProofState (Proof Var Term)) → AreCommandsLeft (at.source lexer.old) settings in_list (at.position lexer.old) p whole → IsProofSession (both symbols.old terms.old) settings session.old p → ReadsProofCommand (at.source lexer.new) terms.old (both symbols.new terms.new) settings session.new in_list (at.position lexer.new) whole result }
     ensures source { at.source lexer.new ≡ at.source lexer.old }
     ensures progress { IfOk result (λ found. IsTrue found → at.position lexer.old < at.position lexer.new) }
     ensures inside { IfOk result (λ found. IsTrue found → at.position lexer.new ≤ length (at.source lexer.old)) }
     ensures short { IfOk result (λ found. IsTrue found → IsBehindCommands session.new.builder (at.position lexer.new)) }
     ensures few { IfOk result (λ found. IsTrue found → most_after (length symbols.new.leaves) (at.source lexer.new) (at.position lexer.new) ≤ most_after (length symbols.old.leaves) (at.source lexer.old) (at.position lexer.old)) }
     ensures few_at_all { length symbols.new.leaves ≤ most_after (length symbols.old.leaves) (at.source lexer.old) (at.position lexer.old) }
-    ensures symbols { AddsNoSymbols symbols.old symbols.new }
-    ensures keeps { KeepsTerms terms.old terms.new }
+    ensures grow { GrowByTerms (both symbols.old terms.old) (both symbols.new terms.new) }
 {
     if !next_item(lexer, in_list, nodes)? {
         return Ok(false);
@@ -66,15 +66,14 @@ pub(crate) fn read_commands(
     terms: &mut Terms<'_>,
     session: &mut Session<'_>,
 ) -> Result<(), ReadFault>
-    requires left { (settings : ProofSettings) × (p : ProofState) × (whole : Outcome ProofState (Proof Var Term)) × AreCommandsLeft (at.source lexer.old) settings in_list (at.position lexer.old) p whole × IsProofSession symbols.old terms.old settings session.old p }
+    requires left { (settings : ProofSettings) × (p : ProofState) × (whole : Outcome ProofState (Proof Var Term)) × AreCommandsLeft (at.source lexer.old) settings in_list (at.position lexer.old) p whole × IsProofSession (both symbols.old terms.old) settings session.old p }
     requires room { most_after (length symbols.old.leaves) (at.source lexer.old) (at.position lexer.old) ≤ 2 ^ 30 }
     requires short { length (at.source lexer.old) ≤ 268435456 }
     requires inside { at.position lexer.old ≤ length (at.source lexer.old) }
     requires few { IsBehindCommands session.old.builder (at.position lexer.old) }
-    ensures reads { (settings : ProofSettings) (p : ProofState) (whole : Outcome ProofState (Proof Var Term)) → AreCommandsLeft (at.source lexer.old) settings in_list (at.position lexer.old) p whole → IsProofSession symbols.old terms.old settings session.old p → ReadsProof (at.source lexer.new) symbols.new terms.old terms.new settings session.new (at.position lexer.new) whole result }
+    ensures reads { (settings : ProofSettings) (p : ProofState) (whole : Outcome ProofState (Proof Var Term)) → AreCommandsLeft (at.source lexer.old) settings in_list (at.position lexer.old) p whole → IsProofSession (both symbols.old terms.old) settings session.old p → ReadsProof (at.source lexer.new) terms.old (both symbols.new terms.new) settings session.new (at.position lexer.new) whole result }
     ensures few { length symbols.new.leaves ≤ most_after (length symbols.old.leaves) (at.source lexer.old) (at.position lexer.old) }
-    ensures symbols { AddsNoSymbols symbols.old symbols.new }
-    ensures keeps { KeepsTerms terms.old terms.new }
+    ensures grow { GrowByTerms (both symbols.old terms.old) (both symbols.new terms.new) }
 {
     'commands: loop {
         if !read_command(lexer, in_list, nodes, symbols, terms, session)? {

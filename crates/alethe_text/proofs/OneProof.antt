@@ -1,24 +1,13 @@
 -- A text of items has one reading behind a problem: a proof, or the first fault.
 use Rattle.std.proofs.Common.{◌≡◌, ℕ, List, Result, Ok, Err, refl, sym, ap, ◌∙◌, ◌⊎◌, inl, inr}
 use Rattle.sexpr.specs.declared.causes.Refusal.{Refusal}
-use Rattle.sexpr.specs.Form.{HasForm, IsFormFault}
-use Rattle.sexpr.specs.Items.{Items, StandsForItems}
+use Rattle.sexpr.specs.Form.{HasForm}
 use Rattle.term_model.specs.Terms.{Var, Term}
 use Rattle.rule_model.specs.Proofs.{ProofItems as Proof}
 use Rattle.problem_text.specs.Scripts.{Script}
+use Rattle.problem_text.proofs.OneReading.{OneNesting, NoFormFault, OneFormFault}
 use Rattle.alethe_text.specs.States.{ProofSettings, unread}
 use Rattle.alethe_text.specs.ProofTexts.{proof_from, StandsForProof, IsProofCommandFault, IsFirstProofFault}
-
--- a text stands for one list of items at most
-abbrev pub OneNesting : Type 0
-OneNesting = (source : List ℕ) (a b : Items) → StandsForItems source a → StandsForItems source b → a ≡ b
-
--- a text of items has no fault of form, and another has one at most
-abbrev pub NoFormFault : Type 0
-NoFormFault = (source : List ℕ) (refusal : Refusal) → HasForm source → IsFormFault source refusal → ⊥
-
-abbrev pub OneFormFault : Type 0
-OneFormFault = (source : List ℕ) (a b : Refusal) → IsFormFault source a → IsFormFault source b → a ≡ b
 
 ok_same : {A : Type 0} (a b : A) → ◌≡◌ {A = Result A Refusal} (Ok a) (Ok b) → a ≡ b
 ok_same a b e = cc

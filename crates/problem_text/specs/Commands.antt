@@ -11,6 +11,7 @@ use Rattle.text_items.specs.Spelling.{is_keyword_item}
 use Rattle.problem_text.specs.Words.{is_among, left_out_commands}
 use Rattle.text_items.specs.ItemShapes.{Name, name_at, excess, symbol_fault, pairs_fault}
 use Rattle.text_items.specs.ItemShapes.{items_of}
+use Rattle.text_items.specs.Keywords.{list_fault}
 
 -- A command by its items: sorts, parameters and terms are still to be read. A declaration of a sort has the place
 -- and the value of its numeral. A declaration of a constant is that of a function without arguments.
@@ -39,10 +40,6 @@ numeral_fault other = Some (place_of other)
 abbrev pub value_of_numeral : Item → ℕ
 value_of_numeral (word place spelling) = numeral_value spelling
 value_of_numeral other = 0
-
-abbrev pub list_fault : Item → Option ℕ
-list_fault (list place items) = None
-list_fault other = Some (place_of other)
 
 abbrev pub keyword_fault : Item → Option ℕ
 keyword_fault i = if is_keyword_item i then None else Some (place_of i)

@@ -10,19 +10,7 @@ use Rattle.text_items.specs.Lexers.{GoesOnWith}
 use Rattle.text_items.specs.Nesting.{AreItsNodes}
 use Rattle.smtlib_reader.specs.ProblemReading.{HasItems, IsFirstItem}
 use Rattle.text_items.specs.declared.nodes.Node.{Node}
-
--- what reading one token tells of the tokens that are left
-abbrev Begins : Read → List Token → Type 0
-Begins r [] = r ≡ Ok None
-Begins r (t ∷ ts) = r ≡ Ok (Some t)
-
-begins : (text : List ℕ) (at : ℕ) (tokens : List Token) → AreTokens text at tokens → Begins (next_token text at) tokens
-begins text at [] h = h
-begins text at (t ∷ ts) h = h.0
-
-not_faulty : (tokens : List Token) (r : Refusal) → Begins (Err r) tokens → ⊥
-not_faulty [] r h = cc h
-not_faulty (t ∷ ts) r h = cc h
+use Rattle.text_items.proofs.TokensLeft.{Begins, begins, not_faulty}
 
 pub no_fault : (text : List ℕ) (at : ℕ) (r : Refusal) → next_token text at ≡ Err r → (items : Items) × HasItems text at items → ⊥
 no_fault text at r is (items, h) = not_faulty h.tokens r (subst (λ (x : Read). Begins x h.tokens) is (begins text at h.tokens h.read))

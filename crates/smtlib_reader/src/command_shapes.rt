@@ -4,6 +4,7 @@ ghost use Rattle.sexpr.specs.Words as spell;
 ghost use Rattle.problem_text.specs.Commands as shape;
 ghost use Rattle.text_items.specs.ItemShapes.{items_of};
 ghost use Rattle.text_items.specs.ItemsAt.{end_at, item_at, items_at};
+ghost use Rattle.text_items.specs.Keywords.{list_fault};
 
 use sexpr::{TokenKind, WordKind, word_kind};
 use text_items::nodes::ItemText;
@@ -18,7 +19,7 @@ fn fault_unless(fits: bool, place: u64) -> Option<u64>
 /// Where a list has to stand.
 pub(crate) fn list_fault(items: &ItemText<'_, '_>, k: usize) -> Option<u64>
     requires { k < length items.now.nodes }
-    ensures fault { result ≡ shape.list_fault (item_at items.now k) }
+    ensures fault { result ≡ list_fault (item_at items.now k) }
     ensures inside { items_of (item_at items.now k) ≡ items_at items.now (k + 1) (end_at items.now k) }
 {
     let list = items.node(k);

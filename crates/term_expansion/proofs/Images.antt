@@ -4,7 +4,7 @@ use Rattle.std.specs.HashMap.{get}
 use Rattle.std.proofs.lemmas.Bool.Decides.{eqb_tells}
 use Rattle.pair_pool.specs.Trees.{Tree, leaf, cell}
 use Rattle.pair_pool.specs.Views.{PassView, Knows, IsKnown}
-use Rattle.sym_table.specs.Leaf.{Leaf, operator, let_head, nil}
+use Rattle.sym_table.specs.Leaf.{Leaf, operator, nil}
 use Rattle.sym_table.specs.Leaf as Leaf
 use Rattle.sym_table.specs.Table.{Table, IsLeaf, IsTable}
 use Rattle.term_model.specs.Terms.{Var, var_eq, Term, numeral, variable, operation, call, let_in, Terms, no_terms, term, Bindings, no_bindings, binding}
@@ -18,6 +18,7 @@ use Rattle.rule_model.specs.Heights.{height, highest, highest_bound}
 use Rattle.term_expansion.specs.Images.{IsSomeReplacement, IsSomeValue, PlacesTerm, LacksRoomFor}
 use Rattle.term_expansion.specs.PutFor.{PutsFor, ArePutFor, IsPieceOf}
 use Rattle.rule_model.specs.Replacement.{Replacement, replaced_by, replaced, replaced_all, HasNoLet, HaveNoLet}
+use Rattle.rule_model.proofs.Replacing.{replaced-none}
 use Rattle.problem_text.specs.TypedTerms.{Typed}
 use Rattle.term_expansion.specs.Values.{IsValue, PutsIn, IsReplacement}
 use Rattle.term_expansion.specs.declared.values.Bound.{Bound}
@@ -256,21 +257,6 @@ mutual
   put_list s table q f h (term t ts) (leaf k) p e = absurd p
   put_list s table q f h (term t ts) (cell a b) p e =
       joined_list s (put f a) (put f b) (replaced q t) (replaced_all q ts) (put_term s table q f h t a p.0 e.0) (put_list s table q f h ts b p.1 e.1)
-
--- where nothing is put in, a term without lets stays
-mutual
-  unfolding replaced
-
-  pub replaced-none : (t : Term) → HasNoLet t → replaced [] t ≡ t
-  replaced-none (numeral n) h = refl
-  replaced-none (variable x) h = refl
-  replaced-none (operation op ts) h = ap (operation op) (replaced_all-none ts h)
-  replaced-none (call f ts) h = ap (call f) (replaced_all-none ts h)
-  replaced-none (let_in bs u) h = absurd h
-
-  replaced_all-none : (ts : Terms) → HaveNoLet ts → replaced_all [] ts ≡ ts
-  replaced_all-none no_terms h = refl
-  replaced_all-none (term t ts) h = let e = replaced-none t h.0 in let f = replaced_all-none ts h.1 in cc
 
 pub empty_value : (s : Table) (v : TermsView) (bs : List Bound) (c : Value) → length bs ≡ 0 → c.plain ≡ true → (t : Typed) (q : Replacement) → IsValue (both s v) c t → IsReplacement (both s v) bs q → IsValue (both s v) c (record { tree = replaced q t.tree; sort = t.sort })
 empty_value s v [] c z p t [] h k =

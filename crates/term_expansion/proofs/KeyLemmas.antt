@@ -9,6 +9,7 @@ use Rattle.term_expansion.specs.Expanding.{pairs_of, key_of, AreGiven, AreValues
 use Rattle.term_expansion.specs.Needs.{value_of, Values, AreValuesOf}
 use Rattle.term_expansion.specs.declared.assignments.Assigned.{Assigned}
 use Rattle.term_expansion.proofs.SetLemmas.{none_in}
+use Rattle.term_expansion.proofs.Zips.{zip_weaken}
 
 -- one pair more
 pairs_of-push : (assigned : List Assigned) (leaves : List ℕ) (k : ℕ) → pairs_of assigned (leaves ++ k ∷ []) ≡ (pairs_of assigned leaves ++ k ∷ []) ++ term_of k assigned ∷ []
@@ -27,10 +28,7 @@ key-next key half new assigned r i n leaves l so_far e f number =
 
 -- one leaf more
 are-more : (more leaves ks rs gs ps : List ℕ) → ((k : ℕ) → Contains leaves k → Contains more k) → AreGiven leaves ks rs gs ps → AreGiven more ks rs gs ps
-are-more more leaves ks rs [] [] kept h = tt
-are-more more leaves ks rs [] (p ∷ ps) kept h = absurd h
-are-more more leaves ks rs (g ∷ gs) [] kept h = absurd h
-are-more more leaves ks rs (g ∷ gs) (p ∷ ps) kept h = ((kept g h.0.0, h.0.1), are-more more leaves ks rs gs ps kept h.1)
+are-more more leaves ks rs gs ps kept = zip_weaken _ _ (λ g p h. (kept g h.0, h.1)) gs ps
 
 pub given-start : (ks rs gs ps : List ℕ) → gs ≡ [] → ps ≡ [] → AreValuesGiven [] ks rs gs ps
 given-start ks rs gs ps e f =

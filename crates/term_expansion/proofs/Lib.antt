@@ -1,3 +1,4 @@
+pub mod Zips
 pub mod Images
 pub mod SetLemmas
 pub mod LeafLemmas

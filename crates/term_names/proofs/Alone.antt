@@ -17,7 +17,7 @@ use Rattle.rule_model.specs.Replacement.{HasNoLet}
 use Rattle.problem_text.specs.Scripts.{Macro}
 use Rattle.term_names.specs.Standing.{IsMacroOf, AreLeavesOf}
 use Rattle.term_names.specs.declared.entries.Macro as held
-use Rattle.term_expansion.proofs.Images.{replaced-none}
+use Rattle.rule_model.proofs.Replacing.{replaced-none}
 use Rattle.term_expansion.specs.SymbolsAndTerms.{both}
 
 -- the leaf of a symbol is that of a term, which the symbol is by itself

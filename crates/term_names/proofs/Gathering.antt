@@ -24,6 +24,8 @@ use Rattle.term_expansion.proofs.Images.{drop-at}
 use Rattle.rule_model.proofs.Freedom.{free_variables-are}
 use Rattle.term_expansion.proofs.SetLemmas.{none_in}
 use Rattle.term_expansion.proofs.LeafLemmas.{added-leaves, adds-both, adds-same, has_more, is_variable, one-adds, one-more, one_leaf, one_variable, same_some, swapped}
+use Rattle.term_expansion.proofs.Heights.{is_term}
+use Rattle.term_expansion.proofs.TermParts.{is_let_term}
 use Rattle.term_expansion.specs.SymbolsAndTerms.{both}
 
 -- what was gone through
@@ -67,17 +69,8 @@ application-adds s k ts (call f us) a b never h adds =
 application-adds s k ts (let_in bs u) a b never h adds = absurd h
 
 -- lets
-let_of : (t : Term) → IsLet t → (bs : Bindings) × (u : Term) × (t ≡ let_in bs u)
-let_of (numeral n) h = absurd h
-let_of (variable x) h = absurd h
-let_of (operation op ts) h = absurd h
-let_of (call f ts) h = absurd h
-let_of (let_in bs u) h = (bs, u, refl)
-
 pub let_there : (s : Table) (v : TermsView) (most r : ℕ) → IsAtMost (both s v) most r → ((t : Term) → RefersTo s v r t → IsLet t) → IsLetTerm v r
-let_there s v most r h is =
-    let (bs, u, e) = let_of h.means (is h.means h.refers) in
-    record { symbols = s; bindings = bs; body = u; refers = subst (λ (t : Term). RefersTo s v r t) e h.refers }
+let_there s v most r h is = is_let_term s v r is (is_term s v most r h)
 
 values_are : (s : Table) (v : TermsView) (ks rs : List ℕ) (bs : Bindings) → AreBindings s v ks rs bs → ReferToAll s v rs (bound_terms bs)
 values_are s v [] [] no_bindings h = tt

@@ -1,7 +1,6 @@
 -- Cited by crates above. What the code holds stays what it is, as the table of symbols grows and as the pass comes to know more; and the cells
 -- that were placed stay cells of what was wanted.
 use Rattle.std.proofs.Common.{◌≡◌, ◌≢◌, ◌⊎◌, inl, inr, ℕ, ℤ, pos, ◌+◌, ◌≤◌, zero, suc, refl, ◌∙◌, ap, arith, List, [], ◌∷◌, ◌++◌, length, take, drop, slice_get, Option, Some, None}
-use Rattle.std.specs.List.{AllZip}
 use Rattle.std.proofs.lemmas.List.{length-append}
 use Rattle.pair_pool.specs.Trees.{Tree, leaf, cell}
 use Rattle.pair_pool.specs.Views.{PassView, IsPlaced}
@@ -26,6 +25,7 @@ use Rattle.problem_text.specs.TypedTerms.{Typed}
 use Rattle.problem_text.specs.Scripts.{Macro, Named, Script}
 use Rattle.term_names.specs.Standing.{AreLeavesOf, IsMacroOf, IsNamedOf, IsFunctionAt, IsNoFunction, IsFreeName, IsNameMeant, IsScript, AddsNoSymbols, GrowByTerms}
 use Rattle.term_expansion.specs.Values.{IsValue, AreValues, PutsIn}
+use Rattle.term_expansion.proofs.Zips.{zip_weaken}
 use Rattle.term_names.specs.declared.entries.Macro as held_macro
 use Rattle.term_names.specs.declared.entries.Named as held_named
 use Rattle.term_reader.specs.declared.frames.Frame.{Frame}
@@ -37,13 +37,6 @@ use Rattle.term_reader.specs.ReadingViews.{ReadingView}
 use Rattle.term_expansion.specs.declared.values.Bound as bound
 use Rattle.term_expansion.specs.declared.values.Value.{Value}
 use Rattle.term_expansion.specs.SymbolsAndTerms.{SymbolsAndTerms, both, Grow}
-
--- what holds of the items of two lists, place by place, holds where it says more
-pub zip_weaken : {A B : Type 0} (R S : A → B → Type 0) → ((x : A) (y : B) → R x y → S x y) → (xs : List A) (ys : List B) → AllZip R xs ys → AllZip S xs ys
-zip_weaken R S weak [] [] h = tt
-zip_weaken R S weak [] (y ∷ ys) h = absurd h
-zip_weaken R S weak (x ∷ xs) [] h = absurd h
-zip_weaken R S weak (x ∷ xs) (y ∷ ys) h = (weak x y h.0, zip_weaken R S weak xs ys h.1)
 
 -- tables
 pub table_keeps_none : (s : Table) → Keeps s s

@@ -1,5 +1,6 @@
 pub mod FirstTokens
 pub mod TokensOfItems
+pub mod TokensLeft
 pub mod NodeRanges
 pub mod OpenLists
 pub mod Placing

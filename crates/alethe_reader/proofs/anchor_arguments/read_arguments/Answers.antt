@@ -26,7 +26,7 @@ pub returns-in_err-read_argument-clause-read : goal.returns-in_err-read_argument
 returns-in_err-read_argument-clause-read c settings p reader bound =
     let is = err_from_is_err_and c.from_residual.result c.from_residual.ensures.1 in
     let l = c.arguments.invariant.left settings p reader bound in
-    rw (is.1, is.2) (fails l c.read_argument.ensures.symbols c.read_argument.ensures.keeps (first_split c.args.items.now c.arguments.k c.arguments.invariant.there (rw c.count.ensures at c.arguments-test.true) _ refl)
+    rw (is.1, is.2) (fails l c.read_argument.ensures.grow.symbols c.read_argument.ensures.grow.terms (first_split c.args.items.now c.arguments.k c.arguments.invariant.there (rw c.count.ensures at c.arguments-test.true) _ refl)
     (c.in_err-read_argument.ensures.read settings l.earlier l.read l.now l.opening))
 
 pub arguments-preserved : goal.arguments-preserved
@@ -34,10 +34,10 @@ arguments-preserved c = record {
   there = others_fit c.args.items.now c.arguments.k c.arguments.invariant.there (rw c.count.ensures at c.arguments-test.true) _ c.node-k.ensures.next;
   left = λ settings p reader bound.
       let l = c.arguments.invariant.left settings p reader bound in
-      goes_on l c.read_argument.ensures.symbols c.read_argument.ensures.keeps (first_split c.args.items.now c.arguments.k c.arguments.invariant.there (rw c.count.ensures at c.arguments-test.true) _ c.node-k.ensures.next)
+      goes_on l c.read_argument.ensures.grow.symbols c.read_argument.ensures.grow.terms (first_split c.args.items.now c.arguments.k c.arguments.invariant.there (rw c.count.ensures at c.arguments-test.true) _ c.node-k.ensures.next)
       (c.in_ok-read_argument.ensures.read settings l.earlier l.read l.now l.opening);
-  symbols = adds_then _ _ _ c.arguments.invariant.symbols c.read_argument.ensures.symbols;
-  keeps = keeps_then _ _ _ c.arguments.invariant.keeps c.read_argument.ensures.keeps;
+  symbols = adds_then _ _ _ c.arguments.invariant.symbols c.read_argument.ensures.grow.symbols;
+  keeps = keeps_then _ _ _ c.arguments.invariant.keeps c.read_argument.ensures.grow.terms;
   few = omega (arith, c.count.ensures, c.arguments-test.true, c.node-k.ensures.next, c.node-k.ensures.behind, c.node-k.ensures.inside, c.in_ok-read_argument.ensures.spent, c.arguments.invariant.few);
 }
 

@@ -57,8 +57,8 @@ returns-in_err-push-clause-read c settings earlier bs p opening =
     rw (is.1, is.2) (lacks_memory _ c.variable.ensures.keeps
     (image_answers opening c.args.assigned.place _ _ c.named_at-variable.result c.named_at-variable.ensures c.in_ok-judge_variable.ensures c.in_ok-sort_wanted.ensures c.in_ok-value.ensures.read c.value_at.ensures.symbols c.value_at.ensures.keeps c.image_at.ensures.keeps c.in_ok-image.ensures.read))
 
-pub returns-in_err-push-clause-symbols : goal.returns-in_err-push-clause-symbols
-returns-in_err-push-clause-symbols c = adds_then _ _ _ c.value_at.ensures.symbols (adds_variable _ _ c.in_ok-leaf.leaf (record { name = c.named_at-variable.result.name.now; sort = c.in_ok-value.value.sort }) c.in_ok-leaf.ensures.found_or_new c.variable.ensures.keeps)
+pub returns-in_err-push-clause-grow : goal.returns-in_err-push-clause-grow
+returns-in_err-push-clause-grow c = record { symbols = adds_then _ _ _ c.value_at.ensures.symbols (adds_variable _ _ c.in_ok-leaf.leaf (record { name = c.named_at-variable.result.name.now; sort = c.in_ok-value.value.sort }) c.in_ok-leaf.ensures.found_or_new c.variable.ensures.keeps); terms = keeps_then _ _ _ c.value_at.ensures.keeps c.image_at.ensures.keeps }
 
 pub returns-clause-read : goal.returns-clause-read
 returns-clause-read c settings earlier bs p opening =
@@ -68,5 +68,5 @@ returns-clause-read c settings earlier bs p opening =
     c.in_ok-push.ensures.names c.in_ok-push.ensures.images c.in_ok-push.ensures.opened
     (image_answers opening c.args.assigned.place _ _ c.named_at-variable.result c.named_at-variable.ensures c.in_ok-judge_variable.ensures c.in_ok-sort_wanted.ensures c.in_ok-value.ensures.read c.value_at.ensures.symbols c.value_at.ensures.keeps c.image_at.ensures.keeps c.in_ok-image.ensures.read)
 
-pub returns-clause-symbols : goal.returns-clause-symbols
-returns-clause-symbols c = adds_then _ _ _ c.value_at.ensures.symbols (adds_variable _ _ c.in_ok-leaf.leaf (record { name = c.named_at-variable.result.name.now; sort = c.in_ok-value.value.sort }) c.in_ok-leaf.ensures.found_or_new c.variable.ensures.keeps)
+pub returns-clause-grow : goal.returns-clause-grow
+returns-clause-grow c = record { symbols = adds_then _ _ _ c.value_at.ensures.symbols (adds_variable _ _ c.in_ok-leaf.leaf (record { name = c.named_at-variable.result.name.now; sort = c.in_ok-value.value.sort }) c.in_ok-leaf.ensures.found_or_new c.variable.ensures.keeps); terms = keeps_then _ _ _ c.value_at.ensures.keeps c.image_at.ensures.keeps }

@@ -25,7 +25,7 @@ returns-in_err-enter_variables-clause-read c settings p session =
 pub anchor-requires-clause-may : goal.anchor-requires-clause-may
 anchor-requires-clause-may c =
     let (settings, p, session) = c.requires.session in
-    may_open session c.args.anchor.place c.named_at-id.result c.named_at-id.ensures _ c.look-looked.ensures.found _ c.in_ok-judge_id.ensures.judged c.in_ok-read_arguments.ensures.read c.read_arguments.ensures.symbols c.read_arguments.ensures.keeps _
+    may_open session c.args.anchor.place c.named_at-id.result c.named_at-id.ensures _ c.look-looked.ensures.found _ c.in_ok-judge_id.ensures.judged c.in_ok-read_arguments.ensures.read c.read_arguments.ensures.grow.symbols c.read_arguments.ensures.grow.terms _
     c.deref-2.ensures.value c.requires.name c.in_ok-judge_id.ensures.unused
 
 pub returns-in_err-scope-clause-read : goal.returns-in_err-scope-clause-read
@@ -45,7 +45,7 @@ returns-in_err-push-2-clause-read c settings p session =
 
 pub returns-clause-read : goal.returns-clause-read
 returns-clause-read c settings p session =
-    is_opened session c.args.anchor.place c.named_at-id.result c.named_at-id.ensures _ c.look-looked.ensures.found _ c.in_ok-judge_id.ensures.judged c.in_ok-read_arguments.ensures.read c.read_arguments.ensures.symbols c.read_arguments.ensures.keeps _ c.deref-2.ensures.value
+    is_opened session c.args.anchor.place c.named_at-id.result c.named_at-id.ensures _ c.look-looked.ensures.found _ c.in_ok-judge_id.ensures.judged c.in_ok-read_arguments.ensures.read c.read_arguments.ensures.grow.symbols c.read_arguments.ensures.grow.terms _ c.deref-2.ensures.value
     (record c.args.session.now { reader = c.enter_variables.new.reader; builder = c.anchor.new.self; ids = c.push.new.self; anchors = c.push-2.new.self; bound = c.read_arguments.new.bound }) c.len.result c.len-2.result _
     c.len.ensures (c.len-2.ensures ∙ c.read_arguments.new.bound.opened.ok.0) (λ s v sc at bs zip. c.in_ok-enter_variables.ensures s v sc at bs (rw c.deref.ensures.value zip))
     c.in_ok-scope.ensures.written c.in_ok-scope.ensures.number c.in_ok-push.ensures.pushed c.in_ok-push-2.ensures.items refl refl

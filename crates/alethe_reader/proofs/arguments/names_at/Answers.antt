@@ -1,6 +1,6 @@
 -- One node after another.
 use Rattle.std.proofs.Common.{arith, sym, ◌∙◌}
-use Rattle.term_reader.proofs.Staying.{adds_none, adds_then, keeps_none}
+use Rattle.term_reader.proofs.Staying.{adds_none, adds_then, keeps_none, keeps_then}
 use Rattle.alethe_text.specs.ProofTerms.{place_in}
 use Rattle.alethe_reader.proofs.LeftToRead.{hands_on, none_gone, more_gone, within_end}
 use Rattle.alethe_reader.proofs.NamedArguments.{left_first, all_read, left_inside, no_term, left_behind}
@@ -26,8 +26,8 @@ returns-in_err-value_at-clause-read c settings nesting p h =
     (no_term left c.node-behind.ensures c.arguments-test.true c.requires.items.inside c.value_at.ensures.symbols c.value_at.ensures.keeps (sym c.is_naming.ensures ∙ c.if-is_naming.true)
     (value_answers _ _ _ settings nesting _ _ left.state _ (c.in_err-value_at.ensures.read left.state.script (place_in settings nesting) left.holds.behind.reader)))
 
-pub returns-in_err-value_at-clause-symbols : goal.returns-in_err-value_at-clause-symbols
-returns-in_err-value_at-clause-symbols c = adds_then _ _ _ c.arguments.invariant.gone.adds c.value_at.ensures.symbols
+pub returns-in_err-value_at-clause-grow : goal.returns-in_err-value_at-clause-grow
+returns-in_err-value_at-clause-grow c = record { symbols = adds_then _ _ _ c.arguments.invariant.gone.adds c.value_at.ensures.symbols; terms = keeps_then _ _ _ c.arguments.invariant.gone.keeps c.value_at.ensures.keeps }
 
 pub arguments-preserved-then-is_naming : goal.arguments-preserved-then-is_naming
 arguments-preserved-then-is_naming c = record {

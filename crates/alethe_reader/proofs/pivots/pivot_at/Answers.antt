@@ -1,6 +1,6 @@
 -- The term, then what gets a name behind it.
 use Rattle.std.proofs.Common.{refl, sym}
-use Rattle.term_reader.proofs.Staying.{adds_then}
+use Rattle.term_reader.proofs.Staying.{adds_then, keeps_then}
 use Rattle.alethe_text.specs.ProofTerms.{place_in}
 use Rattle.alethe_reader.proofs.LeftToRead.{hands_on}
 use Rattle.alethe_reader.proofs.PivotPairs.{no_term, no_name, pivot_told}
@@ -20,16 +20,16 @@ names_at-requires-clause-reader c =
 pub returns-in_err-names_at-clause-read : goal.returns-in_err-names_at-clause-read
 returns-in_err-names_at-clause-read c settings nesting p h =
     hands_on c.from_residual-in_err-names_at.result c.from_residual-in_err-names_at.ensures.1
-    (rw (sym c.node.ensures.next) (no_name settings nesting _ _ p c.in_ok-value.value (value_answers _ _ _ settings nesting _ _ p _ (c.in_ok-value.ensures.read p.script (place_in settings nesting) h)) c.names_at.ensures.symbols.keeps c.names_at.ensures.keeps _
+    (rw (sym c.node.ensures.next) (no_name settings nesting _ _ p c.in_ok-value.value (value_answers _ _ _ settings nesting _ _ p _ (c.in_ok-value.ensures.read p.script (place_in settings nesting) h)) c.names_at.ensures.grow.symbols.keeps c.names_at.ensures.grow.terms _
     (c.in_err-names_at.ensures.read settings nesting) _ refl))
 
-pub returns-in_err-names_at-clause-symbols : goal.returns-in_err-names_at-clause-symbols
-returns-in_err-names_at-clause-symbols c = adds_then _ _ _ c.value_at.ensures.symbols c.names_at.ensures.symbols
+pub returns-in_err-names_at-clause-grow : goal.returns-in_err-names_at-clause-grow
+returns-in_err-names_at-clause-grow c = record { symbols = adds_then _ _ _ c.value_at.ensures.symbols c.names_at.ensures.grow.symbols; terms = keeps_then _ _ _ c.value_at.ensures.keeps c.names_at.ensures.grow.terms }
 
 pub returns-clause-read : goal.returns-clause-read
 returns-clause-read c settings nesting p h =
-    rw (c.with_truth.ensures, sym c.node.ensures.next) (pivot_told settings nesting _ _ p c.in_ok-value.value (value_answers _ _ _ settings nesting _ _ p _ (c.in_ok-value.ensures.read p.script (place_in settings nesting) h)) c.names_at.ensures.symbols.keeps c.names_at.ensures.keeps _
+    rw (c.with_truth.ensures, sym c.node.ensures.next) (pivot_told settings nesting _ _ p c.in_ok-value.value (value_answers _ _ _ settings nesting _ _ p _ (c.in_ok-value.ensures.read p.script (place_in settings nesting) h)) c.names_at.ensures.grow.symbols.keeps c.names_at.ensures.grow.terms _
     (c.in_ok-names_at.ensures.read settings nesting) c.truth_among-truth.result c.truth_among-truth.ensures refl)
 
-pub returns-clause-symbols : goal.returns-clause-symbols
-returns-clause-symbols c = adds_then _ _ _ c.value_at.ensures.symbols c.names_at.ensures.symbols
+pub returns-clause-grow : goal.returns-clause-grow
+returns-clause-grow c = record { symbols = adds_then _ _ _ c.value_at.ensures.symbols c.names_at.ensures.grow.symbols; terms = keeps_then _ _ _ c.value_at.ensures.keeps c.names_at.ensures.grow.terms }

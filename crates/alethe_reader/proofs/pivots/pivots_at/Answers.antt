@@ -19,10 +19,10 @@ pivot_at-requires-clause-reader c =
 
 pub pairs-preserved : goal.pairs-preserved
 pairs-preserved c = record {
-  gone = more_gone c.pairs.invariant.gone c.pivot_at.ensures.symbols c.pivot_at.ensures.keeps (omega (arith, ends_behind c.args.items.now c.pairs.k, c.pair_end-end.ensures.behind)) c.pair_end-end.ensures.inside c.in_ok-pivot.ensures.spent;
+  gone = more_gone c.pairs.invariant.gone c.pivot_at.ensures.grow.symbols c.pivot_at.ensures.grow.terms (omega (arith, ends_behind c.args.items.now c.pairs.k, c.pair_end-end.ensures.behind)) c.pair_end-end.ensures.inside c.in_ok-pivot.ensures.spent;
   left = λ settings nesting p h.
       let left = c.pairs.invariant.left settings nesting p h in
-      left_next left c.pair_end-end.ensures c.pivot_at.ensures.symbols c.pivot_at.ensures.keeps c.pairs-test.true c.requires.items.inside c.in_ok-all.ensures.held
+      left_next left c.pair_end-end.ensures c.pivot_at.ensures.grow.symbols c.pivot_at.ensures.grow.terms c.pairs-test.true c.requires.items.inside c.in_ok-all.ensures.held
       (c.in_ok-pivot.ensures.read settings nesting left.state left.holds.behind_it.reader);
 }
 
@@ -30,13 +30,13 @@ pub returns-in_err-pivot-clause-read : goal.returns-in_err-pivot-clause-read
 returns-in_err-pivot-clause-read c settings nesting p h =
     let left = c.pairs.invariant.left settings nesting p h in
     hands_on c.from_residual.result c.from_residual.ensures.1
-    (no_pivot left c.pair_end-end.ensures c.pivot_at.ensures.symbols c.pivot_at.ensures.keeps c.pairs-test.true c.requires.items.inside (c.in_err-pivot.ensures.read settings nesting left.state left.holds.behind_it.reader))
+    (no_pivot left c.pair_end-end.ensures c.pivot_at.ensures.grow.symbols c.pivot_at.ensures.grow.terms c.pairs-test.true c.requires.items.inside (c.in_err-pivot.ensures.read settings nesting left.state left.holds.behind_it.reader))
 
 pub returns-in_err-all-clause-read : goal.returns-in_err-all-clause-read
 returns-in_err-all-clause-read c settings nesting p h =
     let left = c.pairs.invariant.left settings nesting p h in
     hands_on c.from_residual-in_err-all.result c.from_residual-in_err-all.ensures.1
-    (no_memory left c.pair_end-end.ensures c.pivot_at.ensures.symbols c.pivot_at.ensures.keeps c.pairs-test.true c.requires.items.inside c.in_err-all.ensures.refused (c.in_ok-pivot.ensures.read settings nesting left.state left.holds.behind_it.reader))
+    (no_memory left c.pair_end-end.ensures c.pivot_at.ensures.grow.symbols c.pivot_at.ensures.grow.terms c.pairs-test.true c.requires.items.inside c.in_err-all.ensures.refused (c.in_ok-pivot.ensures.read settings nesting left.state left.holds.behind_it.reader))
 
 pub returns-then-all-clause-read : goal.returns-then-all-clause-read
 returns-then-all-clause-read c settings nesting p h = all_held (c.pairs.invariant.left settings nesting p h) c.pairs-test.false c.if-all.true

@@ -30,4 +30,4 @@ pub returns-else-reads_pivots-clause-read : goal.returns-else-reads_pivots-claus
 returns-else-reads_pivots-clause-read c settings at p before stands same parts =
     rw c.in-Arguments.is
     (names_answer stands parts _ same (sym c.takes_coefficients.ensures ∙ c.if-takes_coefficients.false) (record c.args.session.now { reader = c.names_at.new.reader })
-    (sym c.reads_pivots.ensures ∙ c.if-reads_pivots.false) _ (c.names_at.ensures.read settings at.nesting p stands.reader) c.names_at.ensures.symbols.keeps c.names_at.ensures.keeps refl)
+    (sym c.reads_pivots.ensures ∙ c.if-reads_pivots.false) _ (c.names_at.ensures.read settings at.nesting p stands.reader) c.names_at.ensures.grow.symbols.keeps c.names_at.ensures.grow.terms refl)

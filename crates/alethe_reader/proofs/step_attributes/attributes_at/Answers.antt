@@ -37,19 +37,25 @@ pub returns-in_err-attribute_at-clause-read : goal.returns-in_err-attribute_at-c
 returns-in_err-attribute_at-clause-read c settings at p before stands same is_bare =
     let is = err_from_is_err_and c.from_residual.result c.from_residual.ensures.1 in
     let h = c.attributes.invariant.so_far settings at p before stands same is_bare in
-    rw (is.1, is.2) (fails settings at c.args.step.standing p before h c.attribute_at.ensures.symbols c.attribute_at.ensures.keeps (rw c.count.ensures at c.in-Some.ensures.split)
+    rw (is.1, is.2) (fails settings at c.args.step.standing p before h c.attribute_at.ensures.grow.symbols c.attribute_at.ensures.grow.terms (rw c.count.ensures at c.in-Some.ensures.split)
     (c.in_err-attribute_at.ensures.read settings at h.state h.step h.stands (h.read.rule ∙ same) h.read.parts))
+
+pub returns-in_err-attribute_at-clause-grow : goal.returns-in_err-attribute_at-clause-grow
+returns-in_err-attribute_at-clause-grow c = record {
+  symbols = adds_then _ _ _ c.attributes.invariant.adds c.attribute_at.ensures.grow.symbols;
+  terms = keeps_then _ _ _ c.attributes.invariant.keeps c.attribute_at.ensures.grow.terms;
+}
 
 pub attributes-preserved : goal.attributes-preserved
 attributes-preserved c = record {
   there = rw c.count.ensures at c.in-Some.ensures.others;
   spent = omega (arith, own_fit c.attributes.at c.next_attribute.new.at c.in-Some.attribute c.in-Some.ensures.within, c.count.ensures, c.in-Some.ensures.later, c.in-Some.ensures.inside, c.in_ok-attribute_at.ensures.spent, c.attributes.invariant.spent);
-  adds = adds_then _ _ _ c.attributes.invariant.adds c.attribute_at.ensures.symbols;
-  keeps = keeps_then _ _ _ c.attributes.invariant.keeps c.attribute_at.ensures.keeps;
+  adds = adds_then _ _ _ c.attributes.invariant.adds c.attribute_at.ensures.grow.symbols;
+  keeps = keeps_then _ _ _ c.attributes.invariant.keeps c.attribute_at.ensures.grow.terms;
   others = others_kept _ _ _ c.attributes.invariant.others c.attribute_at.ensures.others;
   so_far = λ settings at p before stands same is_bare.
       let h = c.attributes.invariant.so_far settings at p before stands same is_bare in
-      so_far_next settings at c.args.step.standing p before h c.attribute_at.ensures.symbols c.attribute_at.ensures.keeps (rw c.count.ensures at c.in-Some.ensures.split)
+      so_far_next settings at c.args.step.standing p before h c.attribute_at.ensures.grow.symbols c.attribute_at.ensures.grow.terms (rw c.count.ensures at c.in-Some.ensures.split)
       (c.in_ok-attribute_at.ensures.read settings at h.state h.step h.stands (h.read.rule ∙ same) h.read.parts) c.attribute_at.ensures.others;
 }
 

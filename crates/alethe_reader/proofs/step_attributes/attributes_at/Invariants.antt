@@ -13,6 +13,7 @@ use Rattle.alethe_text.specs.Steps.{attributes_read}
 use Rattle.alethe_reader.specs.StepParts.{IsBare, StandsAt, KeepsOthers}
 use Rattle.alethe_reader.proofs.AttributeReading.{AreSoFar}
 use Rattle.alethe_reader.proofs.step_attributes.attributes_at.Given as goal
+use Rattle.term_expansion.specs.SymbolsAndTerms.{both}
 
 abbrev pub invariant-attributes : goal.invariant-attributes
 invariant-attributes l = record {
@@ -21,7 +22,7 @@ invariant-attributes l = record {
   adds : AddsNoSymbols l.fn.symbols l.symbols;
   keeps : KeepsTerms l.fn.terms l.terms;
   others : KeepsOthers l.fn.session l.session;
-  so_far : (settings : ProofSettings) (at : ids.Standing) (p : ProofState) (before : Step Term) → StandsAt l.fn.symbols l.fn.terms settings at l.fn.session l.step.standing p → before.rule ≡ l.step.rule → IsBare before
+  so_far : (settings : ProofSettings) (at : ids.Standing) (p : ProofState) (before : Step Term) → StandsAt (both l.fn.symbols l.fn.terms) settings at l.fn.session l.step.standing p → before.rule ≡ l.step.rule → IsBare before
       → AreSoFar settings at l.step.standing l.symbols l.fn.terms l.terms l.session p before (attributes_of (items_at l.items l.at (length l.items.nodes)))
       (attributes_read settings at (attributes_of (items_at l.items l.step.first (length l.items.nodes))) before p);
 }

@@ -8,6 +8,7 @@ use Rattle.alethe_reader.specs.declared.session.Session.{Session}
 use Rattle.alethe_reader.proofs.AddedSteps.{may_take, added_here, added_around}
 use Rattle.alethe_reader.proofs.stepping.add_step.Goals as goal
 use Rattle.alethe_reader.proofs.stepping.add_step.Goals.{in-Some, in_default}
+use Rattle.term_expansion.specs.SymbolsAndTerms.{both}
 
 pub take_step-requires-clause-may : goal.take_step-requires-clause-may
 take_step-requires-clause-may c =
@@ -24,7 +25,7 @@ returns-clause-added c s v settings step p h = elim c.match-new.branch [
       ∙ (ap (λ us. us ++ in_use c.args.new.id.name.now role.Step c.in_ok-index.index ∷ []) (ap (λ (t : Session). t.ids.used) w.session-is ∙ ap (λ (x : IdsView). x.used) w.leave_scope.ensures.ids)
       ∙ ap (λ k. take w.in-Some.anchor.ids c.args.session.now.ids.used ++ in_use c.args.new.id.name.now role.Step k ∷ []) c.in_ok-index.ensures.index))
       (λ front last split. ap (λ (t : Session). t.anchors.items) w.session-is ∙ w.leave_scope.ensures.anchors front last split)
-      (λ around before other count b. subst (λ (t : Session). AreBound s v t.bound around) (sym w.session-is) (w.leave_scope.ensures.bound s v around before other count b))
+      (λ around before other count b. subst (λ (t : Session). AreBound (both s v) t.bound around) (sym w.session-is) (w.leave_scope.ensures.bound s v around before other count b))
   | in_default w ↦
       added_here s v settings c.args.session.now c.args.new step p h _ (ap (λ (t : Session). t.strict) w.session-is) w.in_default.is
       (ap (λ (t : Session). t.reader) w.session-is)

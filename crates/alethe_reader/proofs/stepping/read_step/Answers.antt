@@ -33,22 +33,22 @@ attributes_at-requires-clause-stands c =
 pub returns-in_err-attributes_at-clause-read : goal.returns-in_err-attributes_at-clause-read
 returns-in_err-attributes_at-clause-read c settings p session =
     let is = err_from_is_err_and c.from_residual-in_err-attributes_at.result c.from_residual-in_err-attributes_at.ensures.1 in
-    rw (is.1, is.2) (no_attributes session c.named_at-id.result c.named_at-id.ensures c.requires.name c.in_ok-standing.ensures c.stand.ensures _ c.in_ok-formulas_at.ensures.read _ (rw c.count.ensures at c.rule_word-word.ensures) c.rule_named-rule.ensures _ _ c.attributes_at.ensures.symbols c.attributes_at.ensures.keeps
+    rw (is.1, is.2) (no_attributes session c.named_at-id.result c.named_at-id.ensures c.requires.name c.in_ok-standing.ensures c.stand.ensures _ c.in_ok-formulas_at.ensures.read _ (rw c.count.ensures at c.rule_word-word.ensures) c.rule_named-rule.ensures _ _ c.attributes_at.ensures.grow.symbols c.attributes_at.ensures.grow.terms
     c.in_err-attributes_at.ensures.read)
 
 pub add_step-requires-clause-step : goal.add_step-requires-clause-step
 add_step-requires-clause-step c =
     let (settings, p, session) = c.requires.session in
-    may_add session c.named_at-id.result c.named_at-id.ensures c.requires.name c.in_ok-standing.ensures c.stand.ensures _ c.in_ok-formulas_at.ensures.read _ (rw c.count.ensures at c.rule_word-word.ensures) c.rule_named-rule.ensures _ _ c.attributes_at.ensures.symbols c.attributes_at.ensures.keeps
-    c.in_ok-attributes_at.ensures.read c.formulas_at.ensures.symbols c.formulas_at.ensures.keeps c.attributes_at.ensures.others refl c.requires.rule _ refl refl refl refl
+    may_add session c.named_at-id.result c.named_at-id.ensures c.requires.name c.in_ok-standing.ensures c.stand.ensures _ c.in_ok-formulas_at.ensures.read _ (rw c.count.ensures at c.rule_word-word.ensures) c.rule_named-rule.ensures _ _ c.attributes_at.ensures.grow.symbols c.attributes_at.ensures.grow.terms
+    c.in_ok-attributes_at.ensures.read c.formulas_at.ensures.grow.symbols c.formulas_at.ensures.grow.terms c.attributes_at.ensures.others refl c.requires.rule _ refl refl refl refl
 
 pub returns-in_err-add_step-clause-read : goal.returns-in_err-add_step-clause-read
 returns-in_err-add_step-clause-read c settings p session =
     let is = err_from_is_err_and c.from_residual-in_err-add_step.result c.from_residual-in_err-add_step.ensures.1 in
-    rw (is.1, is.2, c.in_err-add_step.ensures.refused) (no_room session c.named_at-id.result c.named_at-id.ensures c.requires.name c.in_ok-standing.ensures c.stand.ensures _ c.in_ok-formulas_at.ensures.read _ (rw c.count.ensures at c.rule_word-word.ensures) c.rule_named-rule.ensures _ _ c.attributes_at.ensures.symbols c.attributes_at.ensures.keeps
+    rw (is.1, is.2, c.in_err-add_step.ensures.refused) (no_room session c.named_at-id.result c.named_at-id.ensures c.requires.name c.in_ok-standing.ensures c.stand.ensures _ c.in_ok-formulas_at.ensures.read _ (rw c.count.ensures at c.rule_word-word.ensures) c.rule_named-rule.ensures _ _ c.attributes_at.ensures.grow.symbols c.attributes_at.ensures.grow.terms
     c.in_ok-attributes_at.ensures.read)
 
 pub returns-clause-read : goal.returns-clause-read
 returns-clause-read c settings p session =
-    is_stepped session c.named_at-id.result c.named_at-id.ensures c.requires.name c.in_ok-standing.ensures c.stand.ensures _ c.in_ok-formulas_at.ensures.read _ (rw c.count.ensures at c.rule_word-word.ensures) c.rule_named-rule.ensures _ _ c.attributes_at.ensures.symbols c.attributes_at.ensures.keeps
-    c.in_ok-attributes_at.ensures.read c.formulas_at.ensures.symbols c.formulas_at.ensures.keeps c.attributes_at.ensures.others refl c.requires.rule _ refl refl refl refl c.add_step.new.session c.in_ok-add_step.ensures.added
+    is_stepped session c.named_at-id.result c.named_at-id.ensures c.requires.name c.in_ok-standing.ensures c.stand.ensures _ c.in_ok-formulas_at.ensures.read _ (rw c.count.ensures at c.rule_word-word.ensures) c.rule_named-rule.ensures _ _ c.attributes_at.ensures.grow.symbols c.attributes_at.ensures.grow.terms
+    c.in_ok-attributes_at.ensures.read c.formulas_at.ensures.grow.symbols c.formulas_at.ensures.grow.terms c.attributes_at.ensures.others refl c.requires.rule _ refl refl refl refl c.add_step.new.session c.in_ok-add_step.ensures.added

@@ -13,15 +13,15 @@ pub returns-in_err-read_command-clause-reads : goal.returns-in_err-read_command-
 returns-in_err-read_command-clause-reads c =
     let p = err_from_is_err_and c.from_residual.result c.from_residual.ensures.1 in
     rw (p.1, p.2)
-    (fails c.commands.invariant c.read_command.new.lexer c.read_command.ensures.symbols c.read_command.ensures.keeps c.in_err-read_command.field-0.0 c.in_err-read_command.ensures.reads)
+    (fails c.commands.invariant c.read_command.new.lexer c.read_command.ensures.grow.symbols c.read_command.ensures.grow.terms c.in_err-read_command.field-0.0 c.in_err-read_command.ensures.reads)
 
 pub returns-then-not-branch-clause-reads : goal.returns-then-not-branch-clause-reads
 returns-then-not-branch-clause-reads c =
-    ends c.commands.invariant c.read_command.new.lexer c.read_command.ensures.symbols c.read_command.ensures.keeps (rw c.if-not-branch.true at c.in_ok-read_command.ensures.reads)
+    ends c.commands.invariant c.read_command.new.lexer c.read_command.ensures.grow.symbols c.read_command.ensures.grow.terms (rw c.if-not-branch.true at c.in_ok-read_command.ensures.reads)
 
 pub commands-preserved : goal.commands-preserved
 commands-preserved c =
-    goes_on c.commands.invariant c.read_command.new.lexer c.read_command.ensures.symbols c.read_command.ensures.keeps (rw c.if-not-branch.false at c.in_ok-read_command.ensures.reads)
+    goes_on c.commands.invariant c.read_command.new.lexer c.read_command.ensures.grow.symbols c.read_command.ensures.grow.terms (rw c.if-not-branch.false at c.in_ok-read_command.ensures.reads)
     c.read_command.ensures.source
     ((rw c.if-not-branch.false at c.in_ok-read_command.ensures.inside) refl)
     ((rw c.if-not-branch.false at c.in_ok-read_command.ensures.short) refl)
