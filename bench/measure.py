@@ -9,7 +9,10 @@ CRATE = os.path.join(os.path.dirname(os.path.abspath(__file__)), "..", "crates",
 PROGRAM = os.path.join(CRATE, "out", "bench_parts")
 
 # as the root's script has it
-os.environ.setdefault("GLIBC_TUNABLES", "glibc.malloc.hugetlb=1")
+os.environ.setdefault(
+    "GLIBC_TUNABLES",
+    "glibc.malloc.hugetlb=1:glibc.malloc.mmap_threshold=16777216:glibc.malloc.top_pad=4194304",
+)
 
 
 def build_program(tiny):
