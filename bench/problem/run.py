@@ -5,7 +5,8 @@ Usage: bench/problem/run.py [ROUNDS]
 
 Makes two kinds of texts, of 1 and of 10 MB (2^20 bytes): declarations and assertions; lets and macros. Prints for each
 the least processor time of some rounds, how many MB are read in a second, and how many times the time of 10 MB is that of
-1 MB. The time includes making the pool, which has from four to eight places for each byte.
+1 MB. The time includes making the pool, which begins with the least 2^bits places, of 12 bits or more, that give one for each
+four bytes of the problem and each thirty-two of the proof.
 The program has to be built (`./carcara` does that).
 """
 

@@ -33,7 +33,7 @@ use Rattle.alethe_reader.specs.Sessions.{StandForNesting, starts, counts, IsWrit
 use Rattle.alethe_reader.specs.Standing.{IsAnchorOf, IsClosing}
 use Rattle.alethe_reader.proofs.IdsInUse.{sights_seen, unused_new, ids_step, ids_close}
 use Rattle.alethe_reader.proofs.StandingSteps.{ends_with}
-use Rattle.alethe_reader.proofs.StoredItems.{commands_same}
+use Rattle.proof_store.proofs.MeaningLemmas.{commands_same}
 use Rattle.alethe_reader.proofs.WrittenStays.{first_same, ids_same}
 use Rattle.term_expansion.specs.SymbolsAndTerms.{both}
 
@@ -251,26 +251,27 @@ module _ (s : Table) (v : TermsView) (settings : ProofSettings) (d : Session) (n
       go outermost = refl
       go (inside around before anchor) = refl
 
-  is_session : (e : Session) → e.strict ≡ d.strict → e.reader ≡ d.reader → IsWritten (both s v) e (steps.with_step of p) → IsProofSession (both s v) settings e (steps.with_step of p)
-  is_session e strict same written = record {
-    strict = h.strict ∙ sym strict;
+  is_session : (e : Session) → e.reader ≡ d.reader → IsWritten (both s v) e (steps.with_step of p) → IsProofSession (both s v) settings e (steps.with_step of p)
+  is_session e same written = record {
     reader = subst (λ r. IsReaderOf s v r p.script (place_in settings (steps.with_step of p).scope.nesting)) (sym same)
         (subst (λ m. IsReaderOf s v d.reader p.script (place_in settings m)) (place_after n.closes h.closes) h.reader);
     written = written;
   }
 
-  pub added_here : (e : Session) → e.strict ≡ d.strict → n.closes ≡ None → e.reader ≡ d.reader → e.builder ≡ take_step d.builder step → e.ids.used ≡ d.ids.used ++ in_use step.id role.Step (next_index d.builder) ∷ [] → e.anchors ≡ d.anchors → e.bound ≡ d.bound
+  pub added_here : (e : Session) → n.closes ≡ None → e.reader ≡ d.reader → e.builder ≡ take_step d.builder step
+      → e.ids.used ≡ d.ids.used ++ in_use step.id role.Step (next_index d.builder) ∷ [] → e.anchors ≡ d.anchors → e.bound ≡ d.bound
       → IsProofSession (both s v) settings e (steps.with_step of p)
-  added_here e strict none same built used anchors bound = is_session e strict same (written_here e (subst (IsClosing d.ids.used p of.id h.here) none h.closes).0 built used anchors bound)
+  added_here e none same built used anchors bound = is_session e same
+      (written_here e (subst (IsClosing d.ids.used p of.id h.here) none h.closes).0 built used anchors bound)
 
-  pub added_around : (e : Session) (a : OpenAnchor) → e.strict ≡ d.strict → n.closes ≡ Some a → e.reader ≡ d.reader → e.builder ≡ take_step d.builder step
+  pub added_around : (e : Session) (a : OpenAnchor) → n.closes ≡ Some a → e.reader ≡ d.reader → e.builder ≡ take_step d.builder step
       → e.ids.used ≡ take a.ids d.ids.used ++ in_use step.id role.Step (next_index d.builder) ∷ []
       → ((front : List OpenAnchor) (last : OpenAnchor) → d.anchors.items ≡ front ++ last ∷ [] → e.anchors.items ≡ front)
       → ((around : Nesting Var Term) (before : ProofItems Var Term) (other : Anchor Var Term) → a.variables ≡ length other.bindings → AreBound (both s v) d.bound (inside around before other) → AreBound (both s v) e.bound around)
       → IsProofSession (both s v) settings e (steps.with_step of p)
-  added_around e a strict some same built used popped left =
+  added_around e a some same built used popped left =
       let closes = subst (IsClosing d.ids.used p of.id h.here) some h.closes in
-      is_session e strict same (written_around e a closes.0 closes.2 built used popped left)
+      is_session e same (written_around e a closes.0 closes.2 built used popped left)
 
   -- its id is not in use where it is put in use
   pub unused_here : n.closes ≡ None → IsUnused d.ids.used step.id

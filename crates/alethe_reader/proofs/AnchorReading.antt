@@ -15,7 +15,8 @@ use Rattle.rule_model.specs.Scopes.{Nesting, outermost, inside, Scope, next_scop
 use Rattle.rule_model.specs.Visibility.{open_bindings}
 use Rattle.rule_model.specs.WellFormed.{MayOpen}
 use Rattle.rule_model.specs.Writing.{open_anchor}
-use Rattle.proof_store.specs.Meaning.{IsBindingOf, no_items_stand}
+use Rattle.term_pool.specs.Bindings.{IsBindingOf}
+use Rattle.proof_store.specs.Meaning.{no_items_stand}
 use Rattle.proof_store.specs.Steps.{anchor_with}
 use Rattle.text_items.specs.ItemShapes.{Name}
 use Rattle.problem_text.specs.Names.{Place}
@@ -154,9 +155,9 @@ module _ {s : Table} {v : TermsView} {settings : ProofSettings} {e : Session} {p
         pub is_opened : (d : Session) (ids variables number : ℕ) → ids ≡ length e.ids.used → variables ≡ length b.opened.items
             → ((s : Table) (v : TermsView) (sc : Script) (at : Place) (bs : List (Var × Term)) → AllZip (IsBindingOf s v) b.opened.items bs → IsReaderOf s v r sc at → IsReaderOf s v d.reader sc (record at { scope = entered (length bs) bs at.scope }))
             → d.builder ≡ open_anchor e.builder (anchor_with named.name.now slice) → number ≡ next_scope e.builder → d.ids.used ≡ e.ids.used ++ in_use named.name.now Anchor number ∷ []
-            → d.anchors.items ≡ e.anchors.items ++ record { place = place; ids = ids; variables = variables } ∷ [] → d.bound ≡ b → d.strict ≡ e.strict
+            → d.anchors.items ≡ e.anchors.items ++ record { place = place; ids = ids; variables = variables } ∷ [] → d.bound ≡ b
             → AnswersAs v (both z w) (StandsAfter (both z w) settings d) (anchor_read settings place n others p) (Ok tt)
-        is_opened d ids variables number ids_are variables_are enters building numbering using anchors bound strict =
+        is_opened d ids variables number ids_are variables_are enters building numbering using anchors bound =
             same_outcome (judged (Ok tt) new_id)
             (goes opened keeps_opened h (adds_none z).keeps (keeps_none w) (λ bs q k. answers tt (with_anchor place n.name bs q) refl refl (record { session = after bs q k })))
           where
@@ -193,7 +194,6 @@ module _ {s : Table} {v : TermsView} {settings : ProofSettings} {e : Session} {p
 
             after : (bs : List (Var × Term)) (q : ProofState) → AreArgumentsRead (both z w) settings r b p tt bs q → IsProofSession (both z w) settings d (with_anchor place n.name bs q)
             after bs q k = record {
-              strict = session.strict ∙ sym strict;
               reader =
                   reader_inside z w d.reader q.script settings q.scope.nesting q.scope.items (record { id = n.name; bindings = bs })
                   (enters z w q.script (place_in settings q.scope.nesting) bs k.opening.opened k.opening.reader);

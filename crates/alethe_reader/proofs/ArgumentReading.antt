@@ -15,7 +15,7 @@ use Rattle.term_pool.specs.Views.{TermsView, RefersTo, KeepsTerms}
 use Rattle.rule_model.specs.Contexts.{put_in_each, images}
 use Rattle.rule_model.specs.Judged.{open_anchors}
 use Rattle.rule_model.specs.Scopes.{Nesting}
-use Rattle.proof_store.specs.Meaning.{IsBindingOf}
+use Rattle.term_pool.specs.Bindings.{IsBindingOf}
 use Rattle.text_items.specs.ItemShapes.{Name}
 use Rattle.problem_text.specs.Names.{Place}
 use Rattle.problem_text.specs.Outcomes.{Outcome, and_then}

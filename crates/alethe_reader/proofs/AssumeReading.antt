@@ -65,9 +65,10 @@ module _ (settings : ProofSettings) (n : Name) (i : Item) (p : ProofState) where
 
       -- the assume is added, and its id put in use
       pub is_assumed : (s : Table) (e : Session) → IsProofSession (both s v) settings e p → Keeps s z → KeepsTerms v w
-          → d.builder ≡ add_assume e.builder n.name c → d.ids.used ≡ e.ids.used ++ in_use n.name Assume (next_index e.builder) ∷ [] → d.anchors ≡ e.anchors → d.bound ≡ e.bound → d.strict ≡ e.strict
+          → d.builder ≡ add_assume e.builder n.name c → d.ids.used ≡ e.ids.used ++ in_use n.name Assume (next_index e.builder) ∷ [] → d.anchors ≡ e.anchors
+          → d.bound ≡ e.bound
           → AnswersAs v (both z w) (StandsAfter (both z w) settings d) (assume_read settings n i p) (Ok tt)
-      is_assumed s e session table terms built used anchors bound strict =
+      is_assumed s e session table terms built used anchors bound =
           same_outcome (judged (Ok tt) new_id)
           (goes assumed keeps_assumed h (adds_none z).keeps (keeps_none w) (λ t q k. answers tt (record q { scope = add_assume q.scope n.name t }) refl refl (record { session = after t q k })))
         where
@@ -76,7 +77,6 @@ module _ (settings : ProofSettings) (n : Name) (i : Item) (p : ProofState) where
 
           after : (t : Term) (q : ProofState) → IsReadFormula (both z w) settings p.scope.nesting d.reader p c t q → IsProofSession (both z w) settings d (record q { scope = add_assume q.scope n.name t })
           after t q k = record {
-            strict = session.strict ∙ sym strict;
             reader = rw k.behind.scope k.behind.reader;
             written = record {
               nesting = rw (built, k.behind.scope) before.nesting;

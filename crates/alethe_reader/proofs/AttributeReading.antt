@@ -134,14 +134,19 @@ module _ {s : Table} {v : TermsView} {settings : ProofSettings} {at : text.Stand
       abbrev put : Option (List (Term × Bool)) → Reading (Step Term)
       put of = give (record before { pivots = unwrap_or of [] })
 
-      by_pivots : (b : Bool) → (d.strict && takes_pivots kind) ≡ b → attribute_read settings at (arguments items) before p ≡ (if b then pivots_from settings at.nesting items >>= put else named_among settings at.nesting items >>= λ _. give before) p
+      by_pivots : (b : Bool) → (settings.is_strict && takes_pivots kind) ≡ b
+          → attribute_read settings at (arguments items) before p
+          ≡ (if b then pivots_from settings at.nesting items >>= put else named_among settings at.nesting items >>= λ _. give before) p
       unfolding attribute_read arguments_from ◌>>=◌
       by_pivots b takes =
           other_of (takes_coefficients before.rule) _ _ p (ap takes_coefficients same ∙ no_coefficients)
-          ∙ ap (λ c. (if c then pivots_from settings at.nesting items >>= put else named_among settings at.nesting items >>= λ _. give before) p) (rw (stands.strict, same) takes)
+          ∙ ap (λ c. (if c then pivots_from settings at.nesting items >>= put else named_among settings at.nesting items >>= λ _. give before) p)
+          (rw same takes)
 
       module _ (e : Session) where
-        pub pivots_answer : {z : Table} {w : TermsView} → (d.strict && takes_pivots kind) ≡ true → (result : Result ⊤ ReadFault) → AnswersAs v (both z w) (AreReadPivots (both z w) settings at.nesting e.reader p e.parts.pivots.items) (pivots_from settings at.nesting items p) result
+        pub pivots_answer : {z : Table} {w : TermsView} → (settings.is_strict && takes_pivots kind) ≡ true → (result : Result ⊤ ReadFault)
+            → AnswersAs v (both z w) (AreReadPivots (both z w) settings at.nesting e.reader p e.parts.pivots.items)
+            (pivots_from settings at.nesting items p) result
             → e.parts.premises ≡ d.parts.premises → e.parts.discharged ≡ d.parts.discharged → e.parts.has_ratios ≡ d.parts.has_ratios → e.parts.ratios ≡ d.parts.ratios
             → AnswersAs v (both z w) (AreReadAttributes (both z w) settings at.nesting e p before) (attribute_read settings at (arguments items) before p) result
         unfolding ◌>>=◌
@@ -158,7 +163,8 @@ module _ {s : Table} {v : TermsView} {settings : ProofSettings} {at : text.Stand
             })))
         pivots_answer {z} {w} takes (Err fault) h listed others has ratios = same_outcome (by_pivots true takes) (stops put (λ of. keeps_give (record before { pivots = unwrap_or of [] })) h)
 
-        pub names_answer : {z : Table} {w : TermsView} → (d.strict && takes_pivots kind) ≡ false → (result : Result ⊤ ReadFault) → AnswersAs v (both z w) (AreNamed (both z w) settings at.nesting e.reader p) (named_among settings at.nesting items p) result
+        pub names_answer : {z : Table} {w : TermsView} → (settings.is_strict && takes_pivots kind) ≡ false → (result : Result ⊤ ReadFault)
+            → AnswersAs v (both z w) (AreNamed (both z w) settings at.nesting e.reader p) (named_among settings at.nesting items p) result
             → Keeps s z → KeepsTerms v w → e.parts ≡ d.parts → AnswersAs v (both z w) (AreReadAttributes (both z w) settings at.nesting e p before) (attribute_read settings at (arguments items) before p) result
         unfolding ◌>>=◌
         names_answer {z} {w} takes (Ok _) h table terms still =
@@ -189,9 +195,9 @@ pub record AreSoFar (settings : ProofSettings) (at : text.Standing) (standing : 
   pub placed : PlacesCellsOf s old.pass v.pass (WasRead whole)
 
 -- a session with the same ids and the same reader stands at the same place
-pub stands_still : (s : Table) (v : TermsView) (settings : ProofSettings) (at : text.Standing) (standing : Standing) (d e : Session) (p : ProofState) → StandsAt (both s v) settings at d standing p → e.ids ≡ d.ids → e.reader ≡ d.reader → e.strict ≡ d.strict → StandsAt (both s v) settings at e standing p
-stands_still s v settings at standing d e p h ids reader strict = record {
-  strict = h.strict ∙ sym strict;
+pub stands_still : (s : Table) (v : TermsView) (settings : ProofSettings) (at : text.Standing) (standing : Standing) (d e : Session) (p : ProofState)
+    → StandsAt (both s v) settings at d standing p → e.ids ≡ d.ids → e.reader ≡ d.reader → StandsAt (both s v) settings at e standing p
+stands_still s v settings at standing d e p h ids reader = record {
   sees = subst (λ (x : IdsView). IsReach x.used standing.premises at.sees) (sym ids) h.sees;
   discharges = subst (λ (x : IdsView). IsReach x.used standing.discharges at.discharges) (sym ids) h.discharges;
   reader = subst (λ (r : ReaderView). IsReaderOf s v r p.script (place_in settings at.nesting)) (sym reader) h.reader;
@@ -240,7 +246,6 @@ module _ (settings : ProofSettings) (at : text.Standing) (standing : Standing) (
             state = a.state;
             comes = splits ∙ ap (λ (o : Outcome ProofState (Step Term)). and_then o (attributes_read settings at rest)) a.is;
             stands = record {
-              strict = h.stands.strict ∙ sym others.strict;
               sees = subst (λ (x : IdsView). IsReach x.used standing.premises at.sees) (sym others.ids) h.stands.sees;
               discharges = subst (λ (x : IdsView). IsReach x.used standing.discharges at.discharges) (sym others.ids) h.stands.discharges;
               reader = a.after.behind.reader;
@@ -276,7 +281,6 @@ others_kept a b c h k = record {
   ids = k.ids ∙ h.ids;
   anchors = k.anchors ∙ h.anchors;
   bound = k.bound ∙ h.bound;
-  strict = k.strict ∙ h.strict;
   clause = k.clause ∙ h.clause;
 }
 

@@ -12,13 +12,13 @@ use Rattle.term_model.specs.declared.symbols.Sort.{Sort}
 use Rattle.term_model.specs.Terms.{Var, Term}
 use Rattle.term_pool.specs.Views.{TermsView, RefersTo, KeepsTerms}
 use Rattle.term_pool.specs.declared.stop.TermStop.{TermStop}
-use Rattle.term_pool.specs.Heights.{height_of}
-use Rattle.rule_model.specs.Heights.{height}
+use Rattle.term_model.specs.Heights.{height}
 use Rattle.rule_model.specs.Replacement.{Replacement}
 use Rattle.rule_model.specs.Scopes.{Nesting}
 use Rattle.rule_model.specs.Substitution.{put_in}
-use Rattle.proof_store.specs.Meaning.{IsBindingOf}
-use Rattle.contexts.specs.PutIn.{StandForReplacement, AreReplacementBy, PlacesTerm, LacksRoomFor}
+use Rattle.term_pool.specs.Bindings.{IsBindingOf}
+use Rattle.contexts.specs.PutIn.{StandForReplacement, AreReplacementBy}
+use Rattle.term_pool.specs.Placing.{PlacesTerm, LacksRoomFor}
 use Rattle.problem_text.specs.Limits.{most_height}
 use Rattle.problem_text.specs.Outcomes.{Outcome, done}
 use Rattle.problem_text.specs.Scripts.{with_term}
@@ -26,7 +26,6 @@ use Rattle.problem_text.specs.TypedTerms.{Typed}
 use Rattle.term_expansion.specs.SymbolsAndTerms.{both}
 use Rattle.term_expansion.specs.Values.{IsValue}
 use Rattle.term_expansion.specs.declared.values.Value.{Value}
-use Rattle.term_expansion.proofs.SameTerms.{height-is}
 use Rattle.term_names.specs.Faults.{fault_of}
 use Rattle.term_names.specs.Making.{PlacesCellsOf, LacksCellOf}
 use Rattle.term_names.specs.declared.faults.ReadFault.{ReadFault}
@@ -43,13 +42,6 @@ use Rattle.alethe_reader.proofs.NeededImages.{put_in_needed}
 use Rattle.alethe_reader.proofs.OuterImages.{image_same}
 use Rattle.alethe_reader.proofs.StillRead.{keeps_then, keeps_demand, keeps_give}
 use Rattle.alethe_reader.proofs.StillReadCommands.{keeps_more}
-
--- bindings as contexts has them
-pub stand_for : (s : Table) (v : TermsView) (bs : List (ℕ × ℕ)) (q : Replacement) → AllZip (IsBindingOf s v) bs q → StandForReplacement s v bs q
-stand_for s v [] [] h = tt
-stand_for s v [] (c ∷ q) h = absurd h
-stand_for s v (b ∷ bs) [] h = absurd h
-stand_for s v (b ∷ bs) (c ∷ q) h = (h.0.variable, h.0.term, stand_for s v bs q h.1)
 
 pub outer_taken : (s : Table) (v : TermsView) (bs : List (ℕ × ℕ)) (q : Replacement) (m n : ℕ) → n ≡ m → AllZip (IsBindingOf s v) (take m bs) q → AllZip (IsBindingOf s v) (take n bs) q
 outer_taken s v bs q m n same h = rw same h
@@ -70,7 +62,7 @@ module _ (s : Table) (v w : TermsView) (names more : List (List ℕ)) (outer bs 
   put_in_for = put_in_needed s v names outer (images_in nesting) zip named_at table needed.leaves bs needed.are t.tree is.refers.tree is.refers.stands (needed.among is.refers.tree is.refers.known)
 
   needed_stand : StandForReplacement s v bs put_in_for.0
-  needed_stand = stand_for s v bs put_in_for.0 put_in_for.1
+  needed_stand = put_in_for.1
 
   pub needed_replace : AreReplacementBy s v bs
   needed_replace = record { means = put_in_for.0; are = needed_stand }
@@ -89,11 +81,11 @@ module _ (s : Table) (v w : TermsView) (names more : List (List ℕ)) (outer bs 
     image_lacks h = subst (LacksRoomFor s w.pass) is_image (h t.tree put_in_for.0 is.refers needed_stand)
 
 -- the height of an image
-pub image_high : (h : ℕ) (t : Term) → h ≡ height_of t → most_height < h → nat_le (height t) most_height ≡ false
-image_high h t e high = lt-leb (height t) most_height (omega (arith, e, height-is t, high))
+pub image_high : (h : ℕ) (t : Term) → h ≡ height t → most_height < h → nat_le (height t) most_height ≡ false
+image_high h t e high = lt-leb (height t) most_height (omega (arith, e, high))
 
-pub image_low : (h : ℕ) (t : Term) → h ≡ height_of t → h ≤ most_height → nat_le (height t) most_height ≡ true
-image_low h t e low = le-leb (height t) most_height (omega (arith, e, height-is t, low))
+pub image_low : (h : ℕ) (t : Term) → h ≡ height t → h ≤ most_height → nat_le (height t) most_height ≡ true
+image_low h t e low = le-leb (height t) most_height (omega (arith, e, low))
 
 pub places_of : (s : Table) (old new : PassView) (t : Term) (P : Term → Type 0) → P t → PlacesTerm s old new t → PlacesCellsOf s old new P
 places_of s old new t P wanted h r a b e =

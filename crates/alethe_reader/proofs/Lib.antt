@@ -22,7 +22,6 @@ pub mod StillReadCommands
 mod TextCommands
 mod TextLoop
 mod ReadProofs
-mod StoredItems
 mod Reaches
 mod Indices
 mod StandingSteps

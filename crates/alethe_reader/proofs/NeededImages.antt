@@ -20,11 +20,12 @@ use Rattle.rule_model.specs.Replacement.{Replacement, replaced_by}
 use Rattle.rule_model.specs.Substitution.{put_in, Replaces}
 use Rattle.rule_model.proofs.Substituting.{term_at-none, put_in_agrees, put_in_nothing}
 use Rattle.rule_model.proofs.Standing.{slice_get_taken}
-use Rattle.proof_store.specs.Meaning.{IsBindingOf}
+use Rattle.term_pool.specs.Bindings.{IsBindingOf}
 use Rattle.alethe_text.proofs.Lists.{contains_first, contains_later}
 use Rattle.contexts.specs.FreeLeaves.{IsFreeLeaf, IsFreeInLet, IsFreeInValues, IsFreeInValue}
 use Rattle.contexts.proofs.Links.{one_variable, free_is}
-use Rattle.contexts.specs.PutIn.{PlacesTerm, StandForReplacement}
+use Rattle.contexts.specs.PutIn.{StandForReplacement}
+use Rattle.term_pool.specs.Placing.{PlacesTerm}
 use Rattle.contexts.specs.Shapes.{Either}
 use Rattle.alethe_reader.specs.Ids.{Used, IsUnused, IsUsedAt}
 use Rattle.alethe_reader.specs.declared.ids.Found.{Found}

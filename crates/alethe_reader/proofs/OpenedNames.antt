@@ -8,7 +8,7 @@ use Rattle.sym_table.specs.Table.{Table, IsLeaf}
 use Rattle.term_model.specs.Terms.{Var, Term}
 use Rattle.term_pool.specs.StandsFor.{variable_leaf}
 use Rattle.term_pool.specs.Views.{TermsView}
-use Rattle.proof_store.specs.Meaning.{IsBindingOf}
+use Rattle.term_pool.specs.Bindings.{IsBindingOf}
 use Rattle.problem_text.specs.Words.{is_among}
 use Rattle.alethe_reader.specs.Opening.{AreFresh}
 

@@ -13,7 +13,7 @@ use Rattle.problem_text.specs.Outcomes.{Outcome, done, and_then}
 use Rattle.term_names.specs.Standing.{AddsNoSymbols}
 use Rattle.term_names.specs.declared.faults.ReadFault.{ReadFault}
 use Rattle.term_reader.specs.ProblemViews.{ReaderView, IsReaderOf}
-use Rattle.term_expansion.proofs.Zips.{zip_weaken}
+use Rattle.term_model.proofs.Zips.{zip_weaken}
 use Rattle.term_reader.proofs.Staying.{refers_stays}
 use Rattle.alethe_text.specs.Arguments.{pivots_from}
 use Rattle.alethe_text.specs.Commands.{behind_first}

@@ -21,7 +21,6 @@ use Rattle.term_names.specs.Making.{PlacesCellsOf, LacksCellOf}
 use Rattle.term_names.specs.declared.faults.ReadFault.{ReadFault}
 use Rattle.term_reader.specs.ProblemViews.{IsReaderOf}
 use Rattle.term_reader.specs.Reading.{EndsWith}
-use Rattle.term_reader.specs.declared.flags.Flags.{Flags}
 use Rattle.term_reader.proofs.Staying.{places_more, lacks_more}
 use Rattle.alethe_text.specs.ProofTerms.{place_in}
 use Rattle.alethe_text.specs.ProofTexts.{commands, behind_answer, is_list_of_commands, unwrapped_commands, excess_behind, none_behind, closed_proof, finished, proof_from, StandsForProof, IsFirstProofFault}
@@ -32,22 +31,20 @@ use Rattle.alethe_reader.specs.Bound.{AreBound}
 use Rattle.alethe_reader.specs.IdsInUse.{ids_in}
 use Rattle.alethe_reader.specs.Reading.{IsCountedOfProof, IsProofOf}
 use Rattle.alethe_reader.specs.Sessions.{StandForNesting, starts, IsProofSession}
+use Rattle.alethe_reader.specs.Settings.{proof_settings}
 use Rattle.alethe_reader.specs.TextReading.{closing_from, left_from, AreCommandsLeft, ReadsProof, IsFinished}
 use Rattle.alethe_reader.specs.declared.session.OpenAnchor.{OpenAnchor}
 use Rattle.alethe_reader.specs.declared.session.Session.{Session}
+use Rattle.alethe_reader.specs.declared.settings.SessionSettings.{SessionSettings}
 use Rattle.alethe_text.proofs.CommandNames.{commands_named}
 use Rattle.alethe_text.proofs.SymbolNames.{AreSpelled}
 use Rattle.term_expansion.specs.SymbolsAndTerms.{both}
 
--- how a proof is read with these flags
-abbrev pub settings_with : Flags → ProofSettings
-settings_with flags = record { replaces_lets = flags.expand_lets; is_strict = flags.strict }
-
 -- nothing was read of a proof
-pub is_new : (s : Table) (v : TermsView) (settings : ProofSettings) (d : Session) (before : Script) → settings.is_strict ≡ d.strict → d.builder ≡ unwritten → d.ids.used ≡ [] → d.anchors.items ≡ []
+pub is_new : (s : Table) (v : TermsView) (settings : ProofSettings) (d : Session) (before : Script) → d.builder ≡ unwritten → d.ids.used ≡ []
+    → d.anchors.items ≡ []
     → AreBound (both s v) d.bound outermost → IsReaderOf s v d.reader before (place_in settings outermost) → IsProofSession (both s v) settings d (unread before)
-is_new s v settings d before strict built none no_anchors bound reader = record {
-  strict = strict;
+is_new s v settings d before built none no_anchors bound reader = record {
   reader = reader;
   written = record {
     nesting = rw built tt;
@@ -149,35 +146,43 @@ module _ (text : List ℕ) (l : Lexer) (whole : source l ≡ text) (start : posi
   some_items (items, h) = (items, all_items items h)
 
 -- Nothing was read of the text, and all its commands are left.
-pub record IsBegun (text : List ℕ) (settings : ProofSettings) (before : Script) (l : Lexer) (in_list : Bool) (s : Table) (v : TermsView) (d : Session) : Type 0 where
-  pub left : (items : Items) → StandsForItems text items → AreCommandsLeft (source l) settings in_list (position l) (unread before) (proof_from settings items (unread before))
-  pub session : IsProofSession (both s v) settings d (unread before)
+pub record IsBegun (text : List ℕ) (how : SessionSettings) (before : Script) (l : Lexer) (s : Table) (v : TermsView) (d : Session) : Type 0 where
+  pub left : (items : Items) → StandsForItems text items
+      → AreCommandsLeft (source l) how (position l) (unread before) (proof_from (proof_settings how) items (unread before))
+  pub session : IsProofSession (both s v) (proof_settings how) d (unread before)
 
 -- behind the answer and inside the list
-pub begun : {text : List ℕ} {settings : ProofSettings} {before : Script} {in_list : Bool} {s : Table} {v : TermsView} {d : Session} → AreSpelled → (l m o : Lexer) → source l ≡ text → position l ≡ 0
+pub begun : (how : SessionSettings) {text : List ℕ} {before : Script} {s : Table} {v : TermsView} {d : Session} → AreSpelled → (l m o : Lexer)
+    → source l ≡ text → position l ≡ 0
     → ((items : Items) → HasCommandItems (source l) false (position l) items no_items → HasCommandItems (source m) false (position m) (behind_answer items) no_items)
-    → ((items : Items) → HasCommandItems (source m) false (position m) items no_items → HasCommandItems (source o) in_list (position o) (unwrapped_commands items) (behind_list items))
-    → IsProofSession (both s v) settings d (unread before) → IsBegun text settings before o in_list s v d
-begun {text} {settings} {before} spelled l m o whole start skips enters session = record {
+    → ((items : Items) → HasCommandItems (source m) false (position m) items no_items
+    → HasCommandItems (source o) how.in_list (position o) (unwrapped_commands items) (behind_list items))
+    → IsProofSession (both s v) (proof_settings how) d (unread before) → IsBegun text how before o s v d
+begun how {text} {before} spelled l m o whole start skips enters session = record {
   left = λ items h. record {
     items = unwrapped_commands (behind_answer items);
     behind = behind_list (behind_answer items);
     here = enters (behind_answer items) (skips items (all_items text l whole start items h));
     named = commands_named spelled text items h;
-    comes = left_of settings items (unread before);
+    comes = left_of (proof_settings how) items (unread before);
   };
   session = session;
 }
 
-module _ {text : List ℕ} {settings : ProofSettings} {before : Script} {l : Lexer} {in_list : Bool} {s : Table} {v : TermsView} {d : Session} (b : IsBegun text settings before l in_list s v d) where
-  pub some_left : HasForm text → (settings : ProofSettings) × (p : ProofState) × (whole : Outcome ProofState (Proof Var Term)) × AreCommandsLeft (source l) settings in_list (position l) p whole × IsProofSession (both s v) settings d p
-  some_left (items, h) = (settings, unread before, proof_from settings items (unread before), b.left items h, b.session)
+module _ {text : List ℕ} {how : SessionSettings} {before : Script} {l : Lexer} {s : Table} {v : TermsView} {d : Session}
+    (b : IsBegun text how before l s v d) where
+  pub some_left : HasForm text
+      → (p : ProofState) × (whole : Outcome ProofState (Proof Var Term)) × AreCommandsLeft (source l) how (position l) p whole
+      × IsProofSession (both s v) (proof_settings how) d p
+  some_left (items, h) = (unread before, proof_from (proof_settings how) items (unread before), b.left items h, b.session)
 
   -- so the reading of all commands is that of the whole text
   pub all_read : {text_after : List ℕ} {z : Table} {w : TermsView} {e : Session} {at : ℕ} {result : Result Unit ReadFault}
-      → ((settings : ProofSettings) (p : ProofState) (whole : Outcome ProofState (Proof Var Term)) → AreCommandsLeft (source l) settings in_list (position l) p whole → IsProofSession (both s v) settings d p → ReadsProof text_after v (both z w) settings e at whole result)
-      → (items : Items) → StandsForItems text items → ReadsProof text_after v (both z w) settings e at (proof_from settings items (unread before)) result
-  all_read reads items h = reads settings (unread before) (proof_from settings items (unread before)) (b.left items h) b.session
+      → ((p : ProofState) (whole : Outcome ProofState (Proof Var Term)) → AreCommandsLeft (source l) how (position l) p whole
+      → IsProofSession (both s v) (proof_settings how) d p → ReadsProof text_after v (both z w) (proof_settings how) e at whole result)
+      → (items : Items) → StandsForItems text items
+      → ReadsProof text_after v (both z w) (proof_settings how) e at (proof_from (proof_settings how) items (unread before)) result
+  all_read reads items h = reads (unread before) (proof_from (proof_settings how) items (unread before)) (b.left items h) b.session
 
 -- the items that are left behind the answer
 pub some_behind : (l m : Lexer) → ((items : Items) → HasCommandItems (source l) false (position l) items no_items → HasCommandItems (source m) false (position m) (behind_answer items) no_items)
@@ -259,7 +264,3 @@ module _ {text : List ℕ} (settings : ProofSettings) (before : Script) (form : 
           go : (x : Result (Proof ℕ ℕ) ReadFault) → IfOk x (IsProofOf text settings before s new) → IfOk x (λ _. ⊥)
           go (Ok refs) h = law h.proof h.after r h.stands faulty
           go (Err fault) h = tt
-
--- a fault that is handed on
-pub same_fault : {A : Type 0} (result : Result A ReadFault) (f g : ReadFault) → result ≡ Err f → result ≡ Err g → f ≡ g
-same_fault result f g is e = cc

@@ -6,7 +6,7 @@ use Rattle.sym_table.specs.Table.{Table, IsLeaf}
 use Rattle.term_model.specs.Terms.{Var, Term}
 use Rattle.term_pool.specs.StandsFor.{variable_leaf}
 use Rattle.term_pool.specs.Views.{TermsView}
-use Rattle.proof_store.specs.Meaning.{IsBindingOf}
+use Rattle.term_pool.specs.Bindings.{IsBindingOf}
 use Rattle.rule_model.specs.Proofs.{ProofItems}
 use Rattle.rule_model.specs.Scopes.{Anchor, Nesting, outermost, inside, own_bindings}
 use Rattle.rule_model.specs.Visibility.{open_bindings}

@@ -13,7 +13,7 @@ use Rattle.rule_model.specs.RuleNames.{IsSymbolName}
 use Rattle.rule_model.specs.Scopes.{Anchor, Nesting, outermost, inside, at, scope_number}
 use Rattle.rule_model.specs.Visibility.{seen}
 use Rattle.rule_model.specs.Writing.{is_open_id}
-use Rattle.proof_store.specs.Meaning.{IsBindingOf}
+use Rattle.term_pool.specs.Bindings.{IsBindingOf}
 use Rattle.text_items.specs.ItemShapes.{Name}
 use Rattle.problem_text.specs.Outcomes.{Outcome, done, and_then}
 use Rattle.alethe_text.specs.Ids.{assumes_seen, Standing as TextStanding, id_judged, stands_in, closes_scope, standing_of}

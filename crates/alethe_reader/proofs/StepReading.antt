@@ -138,8 +138,9 @@ abbrev pub ReadsLiterals : Table → TermsView → ReaderView → Items → Tabl
 ReadsLiterals s v old literals z w new refs result = (settings : ProofSettings) (nesting : Nesting Var Term) (p : ProofState)
     → IsReaderOf s v old p.script (place_in settings nesting) → AnswersAs v (both z w) (AreReadFormulas (both z w) settings nesting new p refs) (formulas_in settings nesting literals p) result
 
-abbrev pub ReadsAttributes : Table → TermsView → Session → ReaderStanding → Rule → List Attribute → Table → TermsView → Session → Result ⊤ ReadFault → Type 0
-ReadsAttributes z w d standing kind attributes y x e result = (settings : ProofSettings) (at : Standing) (p : ProofState) (bare : Step Term)
+abbrev pub ReadsAttributes : ProofSettings → Table → TermsView → Session → ReaderStanding → Rule → List Attribute → Table → TermsView → Session
+    → Result ⊤ ReadFault → Type 0
+ReadsAttributes settings z w d standing kind attributes y x e result = (at : Standing) (p : ProofState) (bare : Step Term)
     → StandsAt (both z w) settings at d standing p → bare.rule ≡ kind → IsBare bare → AnswersAs w (both y x) (AreReadAttributes (both y x) settings at.nesting e p bare) (attributes_read settings at attributes bare p) result
 
 -- A step is read part by part, in the order of the text.
@@ -177,30 +178,40 @@ module _ {s : Table} {v : TermsView} {settings : ProofSettings} {d : Session} {p
 
         -- behind the literals the step stands as before
         stands_there : (parts : StepParts) {clause : List Term} {q : ProofState} → AreReadFormulas (both z w) settings stands.here.nesting t p refs tt clause q → StandsAt (both z w) settings stands.here (record d { reader = t; parts = parts }) standing q
-        stands_there parts k = record { strict = session.strict; sees = stands.premises; discharges = stands.discharges; reader = k.behind.reader }
+        stands_there parts k = record { sees = stands.premises; discharges = stands.discharges; reader = k.behind.reader }
 
-        pub stands_behind : (parts : StepParts) → (settings : ProofSettings) × (at : Standing) × (q : ProofState) × StandsAt (both z w) settings at (record d { reader = t; parts = parts }) standing q
-        stands_behind parts = (settings, stands.here, formulas.answer.state, stands_there parts formulas.answer.after)
+        pub stands_behind : (parts : StepParts)
+            → (at : Standing) × (q : ProofState) × StandsAt (both z w) settings at (record d { reader = t; parts = parts }) standing q
+        stands_behind parts = (stands.here, formulas.answer.state, stands_there parts formulas.answer.after)
 
         module _ (attributes : List Attribute) {word : List ℕ} (worded : word ≡ rule_word attributes) {kind : Rule} (ruled : kind ≡ rule_named word) (parts : StepParts) (e : Session) {y : Table} {x : TermsView} (adds : AddsNoSymbols z y) (keeps : KeepsTerms w x) where
-          at_attributes : (result : Result ⊤ ReadFault) → ReadsAttributes z w (record d { reader = t; parts = parts }) standing kind attributes y x e result → (clause : List Term) (q : ProofState) → AreReadFormulas (both z w) settings stands.here.nesting t p refs tt clause q
+          at_attributes : (result : Result ⊤ ReadFault)
+              → ReadsAttributes settings z w (record d { reader = t; parts = parts }) standing kind attributes y x e result
+              → (clause : List Term) (q : ProofState) → AreReadFormulas (both z w) settings stands.here.nesting t p refs tt clause q
               → AnswersAs w (both y x) (AreReadAttributes (both y x) settings stands.here.nesting e q (before settings n literals attributes p clause)) (attributes_read settings stands.here attributes (before settings n literals attributes p clause) q) result
           at_attributes result read clause q k =
-              read settings stands.here q (before settings n literals attributes p clause) (stands_there parts k) (sym (ruled ∙ ap rule_named worded)) (is_bare n.name (rule_word attributes) clause)
+              read stands.here q (before settings n literals attributes p clause) (stands_there parts k) (sym (ruled ∙ ap rule_named worded))
+              (is_bare n.name (rule_word attributes) clause)
 
           then_attributes : {N : ⊤ → ⊤ → ProofState → Type 0} {result : Result ⊤ ReadFault}
               → ((clause : List Term) (q : ProofState) → AreReadFormulas (both z w) settings stands.here.nesting t p refs tt clause q → AnswersAs w (both y x) N (after_clause settings n literals attributes p stands.here clause q) result)
               → AnswersAs v (both y x) N (step_read settings n literals attributes p) result
           then_attributes f = same_outcome (stood literals attributes) (goes (after_clause settings n literals attributes p stands.here) (keeps_after settings n literals attributes p stands.here) formulas adds.keeps keeps f)
 
-          pub no_attributes : {N : ⊤ → ⊤ → ProofState → Type 0} {fault : ReadFault} → ReadsAttributes z w (record d { reader = t; parts = parts }) standing kind attributes y x e (Err fault) → AnswersAs v (both y x) N (step_read settings n literals attributes p) (Err fault)
+          pub no_attributes : {N : ⊤ → ⊤ → ProofState → Type 0} {fault : ReadFault}
+              → ReadsAttributes settings z w (record d { reader = t; parts = parts }) standing kind attributes y x e (Err fault)
+              → AnswersAs v (both y x) N (step_read settings n literals attributes p) (Err fault)
           no_attributes read = then_attributes (λ clause q k. stops (added settings n literals attributes p) (keeps_added settings n literals attributes p) (at_attributes _ read clause q k))
 
-          pub no_room : {N : ⊤ → ⊤ → ProofState → Type 0} → ReadsAttributes z w (record d { reader = t; parts = parts }) standing kind attributes y x e (Ok tt) → AnswersAs v (both y x) N (step_read settings n literals attributes p) (Err ReadFault.Memory)
+          pub no_room : {N : ⊤ → ⊤ → ProofState → Type 0}
+              → ReadsAttributes settings z w (record d { reader = t; parts = parts }) standing kind attributes y x e (Ok tt)
+              → AnswersAs v (both y x) N (step_read settings n literals attributes p) (Err ReadFault.Memory)
           no_room read = then_attributes (λ clause q k.
               goes (added settings n literals attributes p) (keeps_added settings n literals attributes p) (at_attributes (Ok tt) read clause q k) (adds_none y).keeps (keeps_none x) (λ step l m. no_memory refl))
 
-          module _ (read : ReadsAttributes z w (record d { reader = t; parts = parts }) standing kind attributes y x e (Ok tt)) (first : AddsNoSymbols s z) (old : KeepsTerms v w) (others : KeepsOthers (record d { reader = t; parts = parts }) e) (held : parts.clause.items ≡ refs) (rule_symbol : IsSymbolName (rule_word attributes))
+          module _ (read : ReadsAttributes settings z w (record d { reader = t; parts = parts }) standing kind attributes y x e (Ok tt))
+              (first : AddsNoSymbols s z) (old : KeepsTerms v w) (others : KeepsOthers (record d { reader = t; parts = parts }) e)
+              (held : parts.clause.items ≡ refs) (rule_symbol : IsSymbolName (rule_word attributes))
               (new : NewStep) (id_is : new.id ≡ named) (rule_is : new.rule ≡ kind) (word_is : new.word.now ≡ word) (closed : new.closes ≡ standing.closes) where
             to_be_added : (clause : List Term) (q : ProofState) → AreReadFormulas (both z w) settings stands.here.nesting t p refs tt clause q → (step : Step Term) (l : ProofState) → AreReadAttributes (both y x) settings stands.here.nesting e q (before settings n literals attributes p clause) tt step l
                 → attributes_read settings stands.here attributes (before settings n literals attributes p clause) q ≡ done step l → IsToAdd (both y x) settings e new step l
@@ -210,7 +221,6 @@ module _ {s : Table} {v : TermsView} {settings : ProofSettings} {d : Session} {p
                 let same_ids = ap (λ (i : IdsView). i.used) others.ids in
                 record {
                   here = stands.here;
-                  strict = session.strict ∙ sym others.strict;
                   reader = done.behind.reader;
                   written =
                       written_same y x d e p l others.builder same_ids others.anchors others.bound scope (done.behind.anchors ∙ k.behind.anchors)

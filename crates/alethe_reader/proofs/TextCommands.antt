@@ -1,5 +1,5 @@
 -- The commands of a proof's text, the first one after the other.
-use Rattle.std.proofs.Common.{◌≡◌, ◌<◌, refl, sym, ◌∙◌, ap, subst, ℕ, List, length, Bool, true, false, Result, Ok, Err}
+use Rattle.std.proofs.Common.{◌≡◌, ◌<◌, refl, sym, ◌∙◌, ap, subst, ℕ, List, length, true, false, Result, Ok, Err}
 use Rattle.std.specs.Prelude.{⊤}
 use Rattle.sexpr.specs.declared.causes.Refusal.{Refusal}
 use Rattle.sexpr.specs.Items.{Item, Items, no_items, item}
@@ -23,8 +23,10 @@ use Rattle.alethe_reader.specs.Answers.{terms_in, WasRead, AnswersAs}
 use Rattle.alethe_items.specs.TextItems.{HasCommandItems, IsFirst}
 use Rattle.alethe_text.specs.CommandNames.{HasNames, HaveNames, IsNamed}
 use Rattle.alethe_reader.specs.Sessions.{IsProofSession, StandsAfter}
+use Rattle.alethe_reader.specs.Settings.{proof_settings}
 use Rattle.alethe_reader.specs.TextReading.{closing_from, left_from, AreCommandsLeft, NoneLeft, ReadsProofCommand}
 use Rattle.alethe_reader.specs.declared.session.Session.{Session}
+use Rattle.alethe_reader.specs.declared.settings.SessionSettings.{SessionSettings}
 use Rattle.alethe_text.proofs.CommandNames.{is_named_so}
 use Rattle.alethe_reader.proofs.Answering.{part_of_whole}
 use Rattle.alethe_reader.proofs.LeftToRead.{and_then_then}
@@ -51,28 +53,32 @@ unfolding left_from commands ◌>>=◌
 none_comes settings behind p = refl
 
 -- the nodes are those of the first command that is left, and the others stand from this place on
-pub record HasFirst (source : List ℕ) (items : ItemsView) (in_list : Bool) (at : ℕ) (settings : ProofSettings) (p : ProofState) (whole : Outcome ProofState (Proof Var Term)) : Type 0 where
+pub record HasFirst (source : List ℕ) (items : ItemsView) (how : SessionSettings) (at : ℕ) (p : ProofState)
+    (whole : Outcome ProofState (Proof Var Term)) : Type 0 where
   pub others : Items
   pub behind : Items
   pub some : 0 < length items.nodes
   pub ends : end_at items 0 ≡ length items.nodes
-  pub left : HasCommandItems source in_list at others behind
+  pub left : HasCommandItems source how.in_list at others behind
   pub named : HasNames (item_at items 0) × HaveNames others
-  pub comes : first_of settings others behind p (command_of (item_at items 0)) ≡ whole
+  pub comes : first_of (proof_settings how) others behind p (command_of (item_at items 0)) ≡ whole
 
 -- some command is left of a text that is being read
-abbrev pub IsLeft : List ℕ → Bool → ℕ → Table → TermsView → Session → Type 0
-IsLeft source in_list at s v d = (settings : ProofSettings) × (p : ProofState) × (whole : Outcome ProofState (Proof Var Term)) × AreCommandsLeft source settings in_list at p whole × IsProofSession (both s v) settings d p
+abbrev pub IsLeft : List ℕ → SessionSettings → ℕ → Table → TermsView → Session → Type 0
+IsLeft source how at s v d =
+    (p : ProofState) × (whole : Outcome ProofState (Proof Var Term)) × AreCommandsLeft source how at p whole
+    × IsProofSession (both s v) (proof_settings how) d p
 
 -- the nodes that were read are those of the first command
-pub first_nested : {in_list : Bool} {old new : List ℕ} {nodes slice : List Node} {from at : ℕ} {s : Table} {v : TermsView} {d : Session} → slice ≡ nodes
-    → ((items behind : Items) → HasCommandItems old in_list from items behind → IsFirst new in_list nodes at items behind) → IsLeft old in_list from s v d → AreNested new slice
-first_nested {in_list} {old} {new} same found (settings, p, whole, left, session) = subst (AreNested new) (sym same) (found left.items left.behind left.here).here.nested
+pub first_nested : {how : SessionSettings} {old new : List ℕ} {nodes slice : List Node} {from at : ℕ} {s : Table} {v : TermsView} {d : Session} → slice ≡ nodes
+    → ((items behind : Items) → HasCommandItems old how.in_list from items behind → IsFirst new how.in_list nodes at items behind)
+    → IsLeft old how from s v d → AreNested new slice
+first_nested {how} {old} {new} same found (p, whole, left, session) = subst (AreNested new) (sym same) (found left.items left.behind left.here).here.nested
 
-module _ (settings : ProofSettings) (in_list : Bool) (p : ProofState) (whole : Outcome ProofState (Proof Var Term)) where
+module _ (how : SessionSettings) (p : ProofState) (whole : Outcome ProofState (Proof Var Term)) where
   pub has_first : (items : ItemsView) (old new : List ℕ) (nodes slice : List Node) (from at : ℕ) → items ≡ record { source = new; nodes = slice } → slice ≡ nodes
-      → ((items behind : Items) → HasCommandItems old in_list from items behind → IsFirst new in_list nodes at items behind)
-      → AreCommandsLeft old settings in_list from p whole → HasFirst new items in_list at settings p whole
+      → ((items behind : Items) → HasCommandItems old how.in_list from items behind → IsFirst new how.in_list nodes at items behind)
+      → AreCommandsLeft old how from p whole → HasFirst new items how at p whole
   has_first items old new nodes slice from at is same found h =
       let f = found h.items h.behind h.here in
       rw (is, same) (record {
@@ -82,52 +88,66 @@ module _ (settings : ProofSettings) (in_list : Bool) (p : ProofState) (whole : O
         ends = f.here.whole;
         left = f.left;
         named = subst (λ (i : Item). HasNames i × HaveNames f.others) (sym f.here.item) (subst HaveNames f.split h.named);
-        comes = ap (λ (i : Item). first_of settings f.others h.behind p (command_of i)) f.here.item
-            ∙ (sym (unfolds settings f.first f.others h.behind p) ∙ (ap (λ x. left_from settings x h.behind p) (sym f.split) ∙ h.comes));
+        comes = ap (λ (i : Item). first_of (proof_settings how) f.others h.behind p (command_of i)) f.here.item
+            ∙ (sym (unfolds (proof_settings how) f.first f.others h.behind p)
+            ∙ (ap (λ x. left_from (proof_settings how) x h.behind p) (sym f.split) ∙ h.comes));
       })
 
-  pub none_left : (old new : List ℕ) (from at : ℕ) → ((items behind : Items) → HasCommandItems old in_list from items behind → (items ≡ no_items) × HasCommandItems new false at behind no_items)
-      → AreCommandsLeft old settings in_list from p whole → NoneLeft new settings at p whole
+  pub none_left : (old new : List ℕ) (from at : ℕ)
+      → ((items behind : Items) → HasCommandItems old how.in_list from items behind → (items ≡ no_items) × HasCommandItems new false at behind no_items)
+      → AreCommandsLeft old how from p whole → NoneLeft new (proof_settings how) at p whole
   none_left old new from at none h =
       let (e, left) = none h.items h.behind h.here in
       record {
         behind = h.behind;
         here = left;
-        comes = sym (none_comes settings h.behind p) ∙ (ap (λ x. left_from settings x h.behind p) (sym e) ∙ h.comes);
+        comes = sym (none_comes (proof_settings how) h.behind p) ∙ (ap (λ x. left_from (proof_settings how) x h.behind p) (sym e) ∙ h.comes);
       }
 
-  module _ {source : List ℕ} {items : ItemsView} {at : ℕ} (h : HasFirst source items in_list at settings p whole) where
+  module _ {source : List ℕ} {items : ItemsView} {at : ℕ} (h : HasFirst source items how at p whole) where
     pub command_fault : (r : Refusal) → IsCommand items (Err r) (command_of (item_at items 0)) → whole.result ≡ Err r
-    command_fault r is = ap (λ (o : Outcome ProofState (Proof Var Term)). o.result) (sym h.comes ∙ ap (first_of settings h.others h.behind p) is)
+    command_fault r is = ap (λ (o : Outcome ProofState (Proof Var Term)). o.result) (sym h.comes ∙ ap (first_of (proof_settings how) h.others h.behind p) is)
 
     -- what comes of the first command and of the others, and its names
-    pub command_comes : (c : code.Command) → IsCommand items (Ok c) (command_of (item_at items 0)) → then_rest settings h.others h.behind (performed settings (command_said items c) p) ≡ whole
-    command_comes c is = ap (first_of settings h.others h.behind p) (sym is.0) ∙ h.comes
+    pub command_comes : (c : code.Command) → IsCommand items (Ok c) (command_of (item_at items 0))
+        → then_rest (proof_settings how) h.others h.behind (performed (proof_settings how) (command_said items c) p) ≡ whole
+    command_comes c is = ap (first_of (proof_settings how) h.others h.behind p) (sym is.0) ∙ h.comes
 
     pub command_named : (c : code.Command) → IsCommand items (Ok c) (command_of (item_at items 0)) → IsNamed (command_said items c)
     command_named c is = is_named_so (item_at items 0) (command_said items c) is.0 h.named.0
 
-  part_read : (others behind : Items) (o : Outcome ProofState ⊤) → then_rest settings others behind o ≡ whole → IsPartOf terms_in o whole
-  part_read others behind o comes = part_of_whole o (λ _. left_from settings others behind) (λ _. keeps_left settings others behind) comes
+  part_read : (others behind : Items) (o : Outcome ProofState ⊤) → then_rest (proof_settings how) others behind o ≡ whole → IsPartOf terms_in o whole
+  part_read others behind o comes =
+      part_of_whole o (λ _. left_from (proof_settings how) others behind) (λ _. keeps_left (proof_settings how) others behind) comes
 
   -- a command more
   pub performs_well : {source : List ℕ} {s : Table} {old new : TermsView} {d : Session} {at : ℕ} {u : ⊤} (others behind : Items) (o : Outcome ProofState ⊤)
-      → HasCommandItems source in_list at others behind → HaveNames others → then_rest settings others behind o ≡ whole
-      → AnswersAs old (both s new) (StandsAfter (both s new) settings d) o (Ok u) → ReadsProofCommand source old (both s new) settings d in_list at whole (Ok true)
+      → HasCommandItems source how.in_list at others behind → HaveNames others → then_rest (proof_settings how) others behind o ≡ whole
+      → AnswersAs old (both s new) (StandsAfter (both s new) (proof_settings how) d) o (Ok u)
+      → ReadsProofCommand source old (both s new) how d at whole (Ok true)
   performs_well others behind o here named comes h =
       answers_whole whole (part_read others behind o comes) h (
         h.answer.state,
-        record { items = others; behind = behind; here = here; named = named; comes = sym (ap (then_rest settings others behind) h.answer.is) ∙ comes },
+        record {
+          items = others;
+          behind = behind;
+          here = here;
+          named = named;
+          comes = sym (ap (then_rest (proof_settings how) others behind) h.answer.is) ∙ comes;
+        },
         h.answer.after.session,
       )
 
   pub performs_not : {source : List ℕ} {s : Table} {old new : TermsView} {d : Session} {at : ℕ} {fault : ReadFault} (others behind : Items) (o : Outcome ProofState ⊤)
-      → then_rest settings others behind o ≡ whole
-      → AnswersAs old (both s new) (StandsAfter (both s new) settings d) o (Err fault) → ReadsProofCommand source old (both s new) settings d in_list at whole (Err fault)
+      → then_rest (proof_settings how) others behind o ≡ whole
+      → AnswersAs old (both s new) (StandsAfter (both s new) (proof_settings how) d) o (Err fault)
+      → ReadsProofCommand source old (both s new) how d at whole (Err fault)
   performs_not others behind o comes h = fails whole (part_read others behind o comes) h
 
-  pub ends_here : {source : List ℕ} {s : Table} {v : TermsView} {d : Session} {at : ℕ} → NoneLeft source settings at p whole → IsProofSession (both s v) settings d p → ReadsProofCommand source v (both s v) settings d in_list at whole (Ok false)
+  pub ends_here : {source : List ℕ} {s : Table} {v : TermsView} {d : Session} {at : ℕ} → NoneLeft source (proof_settings how) at p whole
+      → IsProofSession (both s v) (proof_settings how) d p → ReadsProofCommand source v (both s v) how d at whole (Ok false)
   ends_here {source} {s} {v} none session = record { answer = (p, none, session); placed = places_none s v.pass v.pass (WasRead whole) refl }
 
-  pub refused_here : {source : List ℕ} {s : Table} {v : TermsView} {d : Session} {at : ℕ} (r : Refusal) → whole.result ≡ Err r → ReadsProofCommand source v (both s v) settings d in_list at whole (Err (ReadFault.Text r))
+  pub refused_here : {source : List ℕ} {s : Table} {v : TermsView} {d : Session} {at : ℕ} (r : Refusal) → whole.result ≡ Err r
+      → ReadsProofCommand source v (both s v) how d at whole (Err (ReadFault.Text r))
   refused_here r is = refuses refl is

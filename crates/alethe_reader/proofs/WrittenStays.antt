@@ -7,8 +7,9 @@ use Rattle.term_model.specs.Terms.{Var, Term}
 use Rattle.term_pool.specs.Views.{TermsView, KeepsTerms}
 use Rattle.rule_model.specs.Proofs.{ProofItems, with_assume, with_step, with_subproof}
 use Rattle.rule_model.specs.Scopes.{Nesting, outermost, inside, Scope, first_index, scope_number, commands_in}
-use Rattle.proof_store.specs.Meaning.{IsBindingOf, StandForItems, no_items_stand, assume_stands, step_stands, subproof_stands}
-use Rattle.term_expansion.proofs.Zips.{zip_weaken}
+use Rattle.term_pool.specs.Bindings.{IsBindingOf}
+use Rattle.proof_store.specs.Meaning.{StandForItems, no_items_stand, assume_stands, step_stands, subproof_stands}
+use Rattle.term_model.proofs.Zips.{zip_weaken}
 use Rattle.term_reader.proofs.Staying.{refers_stays}
 use Rattle.alethe_text.specs.States.{ProofState}
 use Rattle.alethe_reader.specs.declared.session.Session.{Session}
@@ -18,7 +19,7 @@ use Rattle.alethe_reader.specs.declared.ids.Found.{Found}
 use Rattle.alethe_reader.specs.Ids.{Used, IsUnused, IsUsedAt, IsIdFound}
 use Rattle.alethe_reader.specs.IdsInUse.{own_ids, ids_around, ids_in}
 use Rattle.alethe_reader.specs.Sessions.{StandForNesting, IsWritten}
-use Rattle.alethe_reader.proofs.StoredItems.{commands_same, subproofs_same, items_stay}
+use Rattle.proof_store.proofs.MeaningLemmas.{commands_same, subproofs_same, items_stay}
 use Rattle.term_expansion.specs.SymbolsAndTerms.{both}
 
 module _ (s z : Table) (v w : TermsView) (table : Keeps s z) (terms : KeepsTerms v w) where

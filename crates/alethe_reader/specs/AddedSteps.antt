@@ -41,7 +41,6 @@ AreSeen sights indices = All (Contains (map (λ c. c.index) sights)) indices
 -- The step was read in the state, and may be added to its proof; the session has its parts.
 pub record IsToAdd (w : SymbolsAndTerms) (settings : ProofSettings) (d : Session) (n : NewStep) (step : Step Term) (p : ProofState) : Type 0 where
   pub here : Standing
-  pub strict : settings.is_strict ≡ d.strict
   pub reader : IsReaderOf w.symbols w.terms d.reader p.script (place_in settings here.nesting)
   pub written : IsWritten w d p
   pub id : step.id ≡ n.id.name.now

@@ -6,7 +6,7 @@ use Rattle.rule_model.specs.Contexts.{put_in_each, images}
 use Rattle.rule_model.specs.Judged.{open_anchors}
 use Rattle.rule_model.specs.Replacement.{Replacement}
 use Rattle.rule_model.specs.Scopes.{Nesting, outermost, inside}
-use Rattle.proof_store.specs.Meaning.{IsBindingOf}
+use Rattle.term_pool.specs.Bindings.{IsBindingOf}
 use Rattle.problem_text.specs.Words.{is_among}
 use Rattle.alethe_text.specs.Anchors.{bound_names}
 use Rattle.alethe_reader.specs.declared.bound.BoundVariables.{BoundVariables}

@@ -7,6 +7,7 @@ pub mod TextReading
 pub mod Bound
 pub mod Opening
 pub mod Sessions
+pub mod Settings
 pub mod Behind
 pub mod Answers
 pub mod KeptReads

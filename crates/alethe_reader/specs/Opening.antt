@@ -8,10 +8,10 @@ use Rattle.term_model.specs.declared.symbols.Sort.{Sort}
 use Rattle.term_model.specs.Terms.{Var, Term, sort_eq}
 use Rattle.term_pool.specs.Views.{RefersTo}
 use Rattle.rule_model.specs.Contexts.{put_in_each, images}
-use Rattle.rule_model.specs.Heights.{height}
+use Rattle.term_model.specs.Heights.{height}
 use Rattle.rule_model.specs.Judged.{open_anchors}
 use Rattle.rule_model.specs.Scopes.{Nesting}
-use Rattle.proof_store.specs.Meaning.{IsBindingOf}
+use Rattle.term_pool.specs.Bindings.{IsBindingOf}
 use Rattle.problem_text.specs.Limits.{most_height}
 use Rattle.problem_text.specs.Names.{Bound, itself}
 use Rattle.problem_text.specs.Scripts.{with_term}

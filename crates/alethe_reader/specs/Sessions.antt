@@ -3,7 +3,8 @@ use Rattle.std.specs.Prelude.{◌≡◌, ℕ, List, [], ◌∷◌, ◌++◌, map
 use Rattle.std.specs.List.{AllZip}
 use Rattle.term_model.specs.Terms.{Var, Term}
 use Rattle.rule_model.specs.Scopes.{Nesting, outermost, inside, at}
-use Rattle.proof_store.specs.Meaning.{IsBindingOf, StandForItems}
+use Rattle.term_pool.specs.Bindings.{IsBindingOf}
+use Rattle.proof_store.specs.Meaning.{StandForItems}
 use Rattle.term_reader.specs.ProblemViews.{IsReaderOf}
 use Rattle.alethe_text.specs.ProofTerms.{place_in}
 use Rattle.alethe_text.specs.States.{ProofSettings, ProofState}
@@ -40,9 +41,8 @@ pub record IsWritten (w : SymbolsAndTerms) (d : Session) (p : ProofState) : Type
   pub counts_kept : map (λ a. a.variables) d.anchors.items ≡ counts d.builder.nesting
   pub bound : AreBound w d.bound p.scope.nesting
 
--- what was read of a proof stands for the state, and the proof is read as a strict one where it is to be
+-- what was read of a proof stands for the state
 pub record IsProofSession (w : SymbolsAndTerms) (settings : ProofSettings) (d : Session) (p : ProofState) : Type 0 where
-  pub strict : settings.is_strict ≡ d.strict
   pub reader : IsReaderOf w.symbols w.terms d.reader p.script (place_in settings p.scope.nesting)
   pub written : IsWritten w d p
 

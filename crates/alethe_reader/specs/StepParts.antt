@@ -40,7 +40,6 @@ pub record IsBare (step : Step Term) : Type 0 where
 -- What is read of a proof stands where a step stands, and the ids within reach are those of the commands that the step sees and
 -- of those that it may discharge.
 pub record StandsAt (w : SymbolsAndTerms) (settings : ProofSettings) (at : text.Standing) (d : Session) (standing : Standing) (p : ProofState) : Type 0 where
-  pub strict : settings.is_strict ≡ d.strict
   pub sees : IsReach d.ids.used standing.premises at.sees
   pub discharges : IsReach d.ids.used standing.discharges at.discharges
   pub reader : IsReaderOf w.symbols w.terms d.reader p.script (place_in settings at.nesting)
@@ -60,7 +59,6 @@ pub record KeepsOthers (old new : Session) : Type 0 where
   pub ids : new.ids ≡ old.ids
   pub anchors : new.anchors ≡ old.anchors
   pub bound : new.bound ≡ old.bound
-  pub strict : new.strict ≡ old.strict
   pub clause : new.parts.clause ≡ old.parts.clause
 
 -- how many nodes an attribute's arguments have, and how many there are from the first of them on

@@ -17,7 +17,9 @@ use Rattle.alethe_reader.specs.Answers.{terms_in}
 use Rattle.alethe_items.specs.TextItems.{HasCommandItems}
 use Rattle.alethe_text.specs.CommandNames.{HaveNames}
 use Rattle.alethe_reader.specs.Sessions.{IsProofSession}
+use Rattle.alethe_reader.specs.Settings.{proof_settings}
 use Rattle.alethe_reader.specs.declared.session.Session.{Session}
+use Rattle.alethe_reader.specs.declared.settings.SessionSettings.{SessionSettings}
 use Rattle.term_expansion.specs.SymbolsAndTerms.{SymbolsAndTerms}
 
 -- behind the commands: what stands behind their list, and the end of the proof
@@ -31,12 +33,12 @@ unfoldable pub left_from : ProofSettings → Items → Items → Reading (Proof 
 left_from settings items behind = commands settings items >>= closing_from settings behind
 
 -- The commands that are left of a text come to this outcome.
-pub record AreCommandsLeft (source : List ℕ) (settings : ProofSettings) (in_list : Bool) (at : ℕ) (p : ProofState) (whole : Outcome ProofState (Proof Var Term)) : Type 0 where
+pub record AreCommandsLeft (source : List ℕ) (how : SessionSettings) (at : ℕ) (p : ProofState) (whole : Outcome ProofState (Proof Var Term)) : Type 0 where
   pub items : Items
   pub behind : Items
-  pub here : HasCommandItems source in_list at items behind
+  pub here : HasCommandItems source how.in_list at items behind
   pub named : HaveNames items
-  pub comes : left_from settings items behind p ≡ whole
+  pub comes : left_from (proof_settings how) items behind p ≡ whole
 
 -- No command is left, and what stands behind their list stands from this place on.
 pub record NoneLeft (source : List ℕ) (settings : ProofSettings) (at : ℕ) (p : ProofState) (whole : Outcome ProofState (Proof Var Term)) : Type 0 where
@@ -49,17 +51,17 @@ abbrev pub AreAllRead : List ℕ → SymbolsAndTerms → ProofSettings → Sessi
 AreAllRead source w settings d at whole = (p : ProofState) × NoneLeft source settings at p whole × IsProofSession w settings d p
 
 -- A command was read, and others may be left; or none was left.
-abbrev pub IsProofCommandRead : List ℕ → SymbolsAndTerms → ProofSettings → Session → Bool → ℕ → Outcome ProofState (Proof Var Term)
+abbrev pub IsProofCommandRead : List ℕ → SymbolsAndTerms → SessionSettings → Session → ℕ → Outcome ProofState (Proof Var Term)
     → Bool → Type 0
-IsProofCommandRead source w settings d in_list at whole true =
-    (p : ProofState) × AreCommandsLeft source settings in_list at p whole × IsProofSession w settings d p
-IsProofCommandRead source w settings d in_list at whole false = AreAllRead source w settings d at whole
+IsProofCommandRead source w how d at whole true =
+    (p : ProofState) × AreCommandsLeft source how at p whole × IsProofSession w (proof_settings how) d p
+IsProofCommandRead source w how d at whole false = AreAllRead source w (proof_settings how) d at whole
 
 -- the same, or the command has a fault
-abbrev pub ReadsProofCommand : List ℕ → TermsView → SymbolsAndTerms → ProofSettings → Session → Bool → ℕ → Outcome ProofState (Proof Var Term)
+abbrev pub ReadsProofCommand : List ℕ → TermsView → SymbolsAndTerms → SessionSettings → Session → ℕ → Outcome ProofState (Proof Var Term)
     → Result Bool ReadFault → Type 0
-ReadsProofCommand source before w settings d in_list at whole result =
-    Comes terms_in before w (IsProofCommandRead source w settings d in_list at whole) whole result
+ReadsProofCommand source before w how d at whole result =
+    Comes terms_in before w (IsProofCommandRead source w how d at whole) whole result
 
 -- All commands of a text were read, or one has a fault.
 abbrev pub ReadsProof : List ℕ → TermsView → SymbolsAndTerms → ProofSettings → Session → ℕ → Outcome ProofState (Proof Var Term)

@@ -21,25 +21,12 @@ ghost use Rattle.term_expansion.specs.SymbolsAndTerms.{both};
 
 use crate::ranges::NodeRange;
 use alethe_commands::is_symbol;
-use sexpr::TokenKind;
 use sym_table::Symbols;
 use term_names::faults::ReadFault;
 use term_pool::Terms;
-use term_reader::TermReader;
+use term_reader::{TermReader, is_named};
 use text_items::nodes::ItemText;
 use text_items::shapes::{name_at, second};
-
-/// Whether the item at a node is the attribute that gives a term a name.
-fn is_named(items: &ItemText<'_, '_>, k: usize) -> bool
-    requires { k < length items.now.nodes }
-    ensures { result ≡ is_named_item (item_at items.now k) }
-{
-    let token = items.node(k).token;
-    match token.kind {
-        TokenKind::Word => items.spelling(&token) == b":named".as_slice(),
-        _ => false,
-    }
-}
 
 /// Whether the item at one node is that attribute, and the item at another is a name.
 fn gives_name(items: &ItemText<'_, '_>, keyword: usize, name: usize) -> bool

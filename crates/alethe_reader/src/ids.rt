@@ -35,9 +35,6 @@ pub(crate) struct Looked {
     pub(crate) found: Option<Found>,
 }
 
-/// The most ids that are in use beside another one.
-const MOST_HELD: usize = 4_294_967_295;
-
 /// An id in use, by the number of its name.
 #[derive(Clone, Copy)]
 pub(crate) struct Held {
@@ -54,7 +51,7 @@ pub(crate) struct Held {
 #[derive(Drop)]
 pub struct Ids {
     names: NameSet,
-    latest: Vec<u32>,
+    latest: Vec<usize>,
     held: Vec<Held>,
 }
 
@@ -107,7 +104,7 @@ impl Ids {
                 found: None,
             };
         };
-        let place = self.latest[name] as usize;
+        let place = self.latest[name];
         let found = held_of(&self.held, place, name);
         Looked {
             name: Some(name),
@@ -130,12 +127,9 @@ impl Ids {
         ensures refused { OnErr result (self.new ≡ self.old) }
     {
         let place = self.held.len();
-        if place > MOST_HELD {
-            return Err(Memory);
-        }
         self.held.reserve(1)?;
         let name = number_of(&mut self.names, &mut self.latest, id, name)?;
-        self.latest[name] = place as u32;
+        self.latest[name] = place;
         self.held.push(Held { name, role, number }).unwrap();
         Ok(())
     }
@@ -169,7 +163,7 @@ fn held_of(held: &[Held], place: usize, name: usize) -> Option<Found>
 /// The number of a name: the one that it has, or a new one.
 fn number_of(
     names: &mut NameSet,
-    latest: &mut Vec<u32>,
+    latest: &mut Vec<usize>,
     name: &[u8],
     number: Option<usize>,
 ) -> Result<usize, Memory>

@@ -8,7 +8,7 @@
 //!   proof). `anchors`: anchors, with `anchor_arguments`, `needed_images` (the images that an argument needs), `scopes` and
 //!   `bound` (the variables that open anchors bind). `formulas`: formulas in a scope. `judging`: the id of a command.
 //!   `ranges`: items that stand one behind another.
-//! - `session`: what was read of a proof. [`Ids`] has the ids of the visible commands and of the open anchors, by name, with no
+//! - `session`: what was read of a proof. `settings`: what never changes meanwhile. [`Ids`] has the ids of the visible commands and of the open anchors, by name, with no
 //!   copy of a scope; `laws` ties them to the proof that is written, as `rule_model` has it.
 //!
 //! What a contract sees: `specs/Reading` (the proof that is answered, and which terms count as read), `specs/Sessions` (which
@@ -33,6 +33,7 @@ mod ranges;
 mod rules;
 mod scopes;
 pub mod session;
+mod settings;
 mod standing;
 mod step_attributes;
 mod stepping;

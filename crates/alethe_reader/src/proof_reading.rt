@@ -21,6 +21,7 @@ ghost use Rattle.term_expansion.specs.SymbolsAndTerms.{both};
 use crate::bound::BoundVariables;
 use crate::ids::Ids;
 use crate::session::{Session, StepParts};
+use crate::settings::SessionSettings;
 use crate::text_reading::read_commands;
 use alethe_items::{enter_list, excess, skip_answer};
 use alethe_text::laws::proof_texts_have_one_reading;
@@ -53,7 +54,6 @@ fn new_session<'a>(alloc: Global, problem: &'a Problem, flags: Flags) -> Session
             has_ratios: false,
             ratios: Vec::new(alloc),
         },
-        strict: flags.strict,
     }
 }
 
@@ -120,11 +120,12 @@ pub fn read_proof(
     let mut lexer = Lexer::new(bytes);
     skip_answer(&mut lexer);
     let in_list = enter_list(&mut lexer);
+    let settings = SessionSettings { flags, in_list };
     let mut nodes = Vec::new(alloc);
     let mut session = new_session(alloc, problem, flags);
     let read = read_commands(
+        &settings,
         &mut lexer,
-        in_list,
         &mut nodes,
         symbols,
         terms,

@@ -6,7 +6,7 @@ ghost use Rattle.term_model.specs.Terms.{Var, Term};
 ghost use Rattle.term_pool.specs.Views.{TermsView};
 ghost use Rattle.rule_model.specs.Proofs.{ProofItems};
 ghost use Rattle.rule_model.specs.Scopes.{Anchor, Nesting, inside, own_bindings};
-ghost use Rattle.proof_store.specs.Meaning.{IsBindingOf};
+ghost use Rattle.term_pool.specs.Bindings.{IsBindingOf};
 ghost use Rattle.problem_text.specs.Names.{Place};
 ghost use Rattle.problem_text.specs.Scripts.{Script};
 ghost use Rattle.term_reader.specs.ProblemViews.{IsReaderOf};

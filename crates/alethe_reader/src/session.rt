@@ -31,7 +31,7 @@ pub struct StepParts {
 }
 
 /// What was read of a proof: the names, the proof as far as it is written, the ids in use, the anchors that are open, the
-/// outermost first, and the variables that they bind; and how it is read.
+/// outermost first, and the variables that they bind.
 #[derive(Drop)]
 pub struct Session<'a> {
     pub reader: TermReader<'a>,
@@ -40,6 +40,4 @@ pub struct Session<'a> {
     pub anchors: Vec<OpenAnchor>,
     pub bound: BoundVariables,
     pub parts: StepParts,
-    /// Whether the arguments of resolution are its pivots.
-    pub strict: bool,
 }

@@ -15,9 +15,10 @@ ghost use Rattle.alethe_text.specs.Arguments as spec;
 ghost use Rattle.alethe_text.specs.Coefficients.{coefficients_from};
 ghost use Rattle.alethe_text.specs.Commands.{attributes_of};
 ghost use Rattle.alethe_text.specs.Ids as ids;
-ghost use Rattle.alethe_text.specs.States.{ProofSettings, ProofState, demand};
+ghost use Rattle.alethe_text.specs.States.{ProofState, demand};
 ghost use Rattle.alethe_text.specs.Steps.{attribute_read, attributes_read};
 ghost use Rattle.alethe_reader.specs.Answers.{AnswersAs};
+ghost use Rattle.alethe_reader.specs.Settings.{proof_settings};
 ghost use Rattle.alethe_reader.specs.StepParts.{AreStepParts, IsBare, StandsAt, AreReadAttributes, AreRatios, IsRuleJudged, KeepsOthers, fault_of_coefficients, own_nodes, nodes_from};
 ghost use Rattle.term_expansion.specs.SymbolsAndTerms.{both};
 
@@ -28,6 +29,7 @@ use crate::premises::indices_at;
 use crate::ranges::NodeRange;
 use crate::rules::is_left_out;
 use crate::session::{Session, StepParts};
+use crate::settings::SessionSettings;
 use crate::standing::Standing;
 use alethe_commands::attributes::{StepAttribute, next_attribute};
 use coefficients::{Stop, coefficients_at};
@@ -64,6 +66,7 @@ struct OneAttribute {
 /// of a term that was read. After a refusal the session is given up.
 #[tactic(auto, using(crate::proofs::AttributeReading::attributes_counted))]
 pub(crate) fn attributes_at(
+    settings: &SessionSettings,
     items: &ItemText<'_, '_>,
     step: StepAttributes,
     symbols: &mut Symbols,
@@ -71,9 +74,9 @@ pub(crate) fn attributes_at(
     session: &mut Session<'_>,
 ) -> Result<(), ReadFault>
     requires attributes { AreAttributesAt items.now step.first (length items.now.nodes) }
-    requires stands { (settings : ProofSettings) × (at : ids.Standing) × (p : ProofState) × StandsAt (both symbols.old terms.old) settings at session.old step.standing p }
+    requires stands { (at : ids.Standing) × (p : ProofState) × StandsAt (both symbols.old terms.old) (proof_settings settings.now) at session.old step.standing p }
     requires room { length symbols.old.leaves + (length items.now.nodes - step.first) ≤ 2 ^ 30 }
-    ensures read { (settings : ProofSettings) (at : ids.Standing) (p : ProofState) (before : Step Term) → StandsAt (both symbols.old terms.old) settings at session.old step.standing p → before.rule ≡ step.rule → IsBare before → AnswersAs terms.old (both symbols.new terms.new) (AreReadAttributes (both symbols.new terms.new) settings at.nesting session.new p before) (attributes_read settings at (attributes_of (items_at items.now step.first (length items.now.nodes))) before p) result }
+    ensures read { (at : ids.Standing) (p : ProofState) (before : Step Term) → StandsAt (both symbols.old terms.old) (proof_settings settings.now) at session.old step.standing p → before.rule ≡ step.rule → IsBare before → AnswersAs terms.old (both symbols.new terms.new) (AreReadAttributes (both symbols.new terms.new) (proof_settings settings.now) at.nesting session.new p before) (attributes_read (proof_settings settings.now) at (attributes_of (items_at items.now step.first (length items.now.nodes))) before p) result }
     // Each leaf that is added has a node of its own.
     ensures few { length symbols.new.leaves ≤ length symbols.old.leaves + (length items.now.nodes - step.first) }
     ensures grow { GrowByTerms (both symbols.old terms.old) (both symbols.new terms.new) }
@@ -87,7 +90,7 @@ pub(crate) fn attributes_at(
             rule: step.rule,
             standing: step.standing,
         };
-        attribute_at(items, one, symbols, terms, session)?;
+        attribute_at(settings, items, one, symbols, terms, session)?;
     }
     Ok(())
 }
@@ -129,6 +132,7 @@ fn takes_pivots(rule: Rule) -> bool
 
 /// Reads one attribute into the parts of the session.
 fn attribute_at(
+    settings: &SessionSettings,
     items: &ItemText<'_, '_>,
     one: OneAttribute,
     symbols: &mut Symbols,
@@ -136,9 +140,9 @@ fn attribute_at(
     session: &mut Session<'_>,
 ) -> Result<(), ReadFault>
     requires there { IsAttributeThere items.now one.attribute }
-    requires stands { (settings : ProofSettings) × (at : ids.Standing) × (p : ProofState) × StandsAt (both symbols.old terms.old) settings at session.old one.standing p }
+    requires stands { (at : ids.Standing) × (p : ProofState) × StandsAt (both symbols.old terms.old) (proof_settings settings.now) at session.old one.standing p }
     requires room { length symbols.old.leaves + nodes_from one.attribute (length items.now.nodes) ≤ 2 ^ 30 }
-    ensures read { (settings : ProofSettings) (at : ids.Standing) (p : ProofState) (before : Step Term) → StandsAt (both symbols.old terms.old) settings at session.old one.standing p → before.rule ≡ one.rule → AreStepParts (both symbols.old terms.old) session.old.parts before → AnswersAs terms.old (both symbols.new terms.new) (AreReadAttributes (both symbols.new terms.new) settings at.nesting session.new p before) (attribute_read settings at (attribute_said items.now one.attribute) before p) result }
+    ensures read { (at : ids.Standing) (p : ProofState) (before : Step Term) → StandsAt (both symbols.old terms.old) (proof_settings settings.now) at session.old one.standing p → before.rule ≡ one.rule → AreStepParts (both symbols.old terms.old) session.old.parts before → AnswersAs terms.old (both symbols.new terms.new) (AreReadAttributes (both symbols.new terms.new) (proof_settings settings.now) at.nesting session.new p before) (attribute_read (proof_settings settings.now) at (attribute_said items.now one.attribute) before p) result }
     ensures spent { OnOk result (length symbols.new.leaves ≤ length symbols.old.leaves + own_nodes one.attribute) }
     ensures few { length symbols.new.leaves ≤ length symbols.old.leaves + nodes_from one.attribute (length items.now.nodes) }
     ensures grow { GrowByTerms (both symbols.old terms.old) (both symbols.new terms.new) }
@@ -164,7 +168,7 @@ fn attribute_at(
             let arguments = NodeRange { first, end };
             if takes_coefficients(one.rule) {
                 ratios_at(items, arguments, parts)
-            } else if reads_pivots(session.strict, one.rule) {
+            } else if reads_pivots(settings.flags.strict, one.rule) {
                 let (reader, pivots) = (&mut session.reader, &mut parts.pivots);
                 pivots_at(items, arguments, symbols, terms, reader, pivots)
             } else {

@@ -26,6 +26,7 @@ ghost use Rattle.alethe_reader.specs.Answers.{AnswersAs};
 ghost use Rattle.alethe_reader.specs.Bound.{AreBound};
 ghost use Rattle.alethe_reader.specs.Ids.{Used};
 ghost use Rattle.alethe_reader.specs.Sessions.{IsProofSession, StandsAfter};
+ghost use Rattle.alethe_reader.specs.Settings.{proof_settings};
 ghost use Rattle.alethe_reader.specs.Standing.{IsClosing};
 ghost use Rattle.alethe_reader.specs.declared.session.OpenAnchor.{OpenAnchor};
 ghost use Rattle.term_expansion.specs.SymbolsAndTerms.{both};
@@ -37,6 +38,7 @@ use crate::ranges::NodeRange;
 use crate::rules::rule_named;
 use crate::scopes::leave_variables;
 use crate::session::{OpenAnchor, Session, StepParts};
+use crate::settings::SessionSettings;
 use crate::standing::standing_at;
 use crate::step_attributes::{StepAttributes, attributes_at};
 use alethe_commands::attributes::rule_word;
@@ -75,6 +77,7 @@ struct NewStep<'a> {
 /// a refusal the session is given up.
 #[tactic(auto, using(term_reader::proofs::Staying::adds_then))]
 pub fn read_step(
+    settings: &SessionSettings,
     items: &ItemText<'_, '_>,
     step: StepNodes,
     symbols: &mut Symbols,
@@ -84,10 +87,10 @@ pub fn read_step(
     requires there { IsStepThere items.now step.id step.first step.attributes }
     requires name { IsSymbolName (name_in items.now step.id).name }
     requires rule { IsSymbolName (steps.rule_word (shape.attributes_of (items_at items.now step.attributes (length items.now.nodes)))) }
-    requires session { (settings : ProofSettings) × (p : ProofState) × IsProofSession (both symbols.old terms.old) settings session.old p }
+    requires session { (p : ProofState) × IsProofSession (both symbols.old terms.old) (proof_settings settings.now) session.old p }
     requires room { length symbols.old.leaves + (length items.now.nodes - step.first) ≤ 2 ^ 30 }
     requires few { next_index session.old.builder + 1 < 2 ^ 32 - 1 }
-    ensures read { (settings : ProofSettings) (p : ProofState) → IsProofSession (both symbols.old terms.old) settings session.old p → AnswersAs terms.old (both symbols.new terms.new) (StandsAfter (both symbols.new terms.new) settings session.new) (steps.step_read settings (name_in items.now step.id) (items_at items.now step.first step.attributes) (shape.attributes_of (items_at items.now step.attributes (length items.now.nodes))) p) result }
+    ensures read { (p : ProofState) → IsProofSession (both symbols.old terms.old) (proof_settings settings.now) session.old p → AnswersAs terms.old (both symbols.new terms.new) (StandsAfter (both symbols.new terms.new) (proof_settings settings.now) session.new) (steps.step_read (proof_settings settings.now) (name_in items.now step.id) (items_at items.now step.first step.attributes) (shape.attributes_of (items_at items.now step.attributes (length items.now.nodes))) p) result }
     ensures few { length symbols.new.leaves ≤ length symbols.old.leaves + (length items.now.nodes - step.first) }
     ensures grow { GrowByTerms (both symbols.old terms.old) (both symbols.new terms.new) }
     ensures commands { OnOk result (next_index session.new.builder ≡ next_index session.old.builder + 1) }
@@ -110,7 +113,7 @@ pub fn read_step(
         rule,
         standing,
     };
-    attributes_at(items, attributes, symbols, terms, session)?;
+    attributes_at(settings, items, attributes, symbols, terms, session)?;
     let new = NewStep {
         id,
         name: looked.name,
@@ -196,7 +199,6 @@ fn leave_scope(session: &mut Session<'_>, anchor: OpenAnchor)
     ensures bound { (s : Table) (v : TermsView) (around : Nesting Var Term) (before : Proof Var Term) (other : Anchor Var Term) → anchor.variables ≡ length other.bindings → AreBound (both s v) session.old.bound (inside around before other) → AreBound (both s v) session.new.bound around }
     ensures builder { session.new.builder ≡ session.old.builder }
     ensures reader { session.new.reader ≡ session.old.reader }
-    ensures strict { session.new.strict ≡ session.old.strict }
 {
     session.ids.leave(anchor.ids);
     session.anchors.pop();

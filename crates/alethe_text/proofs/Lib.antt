@@ -1,7 +1,7 @@
 pub mod OneProof
 pub mod Endings
 pub mod Lists
-mod LowestTerms
+pub mod LowestTerms
 pub mod SymbolNames
 pub mod CommandNames
 pub mod Staying
@@ -11,7 +11,8 @@ pub mod FormedSteps
 mod FormedAnchors
 mod WellFormed
 mod Forms
-mod SortedReadings
+pub mod KeptReadings
+pub mod KeptProofs
 mod SortedProofs
 mod TextLengths
 mod ShortLists

@@ -1,4 +1,4 @@
--- Coefficients are fractions in lowest terms.
+-- Cited by crates above. Coefficients are fractions in lowest terms.
 use Rattle.std.proofs.Common.{◌≡◌, ◌<◌, ◌≤◌, ◌*◌, ◌/◌, ◌%◌, ◌^◌, ◌==◌, ℕ, zero, suc, ℤ, pos, Bool, true, false, refl, sym, ◌∙◌, ap, subst, arith, if◌then◌else◌}
 use Rattle.std.specs.Prelude.{neg_ℤ, unsigned_abs, ◌*ℤ◌}
 use Rattle.std.specs.Int.{◌∣◌, IsGcd}

@@ -10,7 +10,7 @@ use Rattle.sexpr.specs.declared.causes.Refusal.{Refusal}
 use Rattle.sexpr.specs.Words.{is_symbol}
 use Rattle.sexpr.specs.Items.{Item, word, quoted, string, list, Items, no_items, item}
 use Rattle.term_model.specs.Terms.{Var, sort_eq, Term}
-use Rattle.rule_model.specs.Heights.{height}
+use Rattle.term_model.specs.Heights.{height}
 use Rattle.rule_model.specs.RuleNames.{left_out_rules}
 use Rattle.rule_model.specs.Visibility.{Sight, visible_ids, open_ids}
 use Rattle.rule_model.specs.Commands.{Entry, entry_of, Line, lines_in}

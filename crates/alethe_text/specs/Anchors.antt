@@ -6,8 +6,8 @@ use Rattle.sexpr.specs.declared.causes.Refusal.{Refusal}
 use Rattle.sexpr.specs.Items.{Item}
 use Rattle.term_model.specs.declared.symbols.Sort.{Sort}
 use Rattle.term_model.specs.Terms.{Var, sort_eq, Term}
+use Rattle.term_model.specs.Heights.{height}
 use Rattle.rule_model.specs.Contexts.{images}
-use Rattle.rule_model.specs.Heights.{height}
 use Rattle.rule_model.specs.Judged.{open_anchors}
 use Rattle.rule_model.specs.Scopes.{Nesting}
 use Rattle.rule_model.specs.Substitution.{put_in}

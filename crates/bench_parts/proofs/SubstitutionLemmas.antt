@@ -20,7 +20,7 @@ variable_is_term s v r k h known = record {
 }
 
 pub is_replacement : (s : Table) (v : TermsView) (k r : ℕ) → IsVariable s k → IsTerm s v r → AreReplacementBy s v ((k, r) ∷ [])
-is_replacement s v k r h value = record { means = (h.variable, value.means) ∷ []; are = (h.leaf, value.refers, tt) }
+is_replacement s v k r h value = record { means = (h.variable, value.means) ∷ []; are = (record { variable = h.leaf; term = value.refers }, tt) }
 
 pub stays : (s : Table) (old new : TermsView) (r : ℕ) → KeepsReferences old new → IsTerm s old r → IsTerm s new r
 stays s old new r keeps h = record { means = h.means; refers = keeps s r h.means h.refers }

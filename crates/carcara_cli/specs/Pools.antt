@@ -9,12 +9,12 @@ use Rattle.term_reader.specs.ProblemViews.{ProblemView, IsProblemOf}
 use Rattle.problem_text.specs.Problems.{StandsForProblem}
 use Rattle.problem_text.specs.Scripts.{Script}
 
--- The least number of bits from 12 on with a place for each eight bytes, and `most` where that is less.
+-- The least number of bits from 12 on with a place for each four bytes, and `most` where that is less.
 pub record IsPoolSize (bytes most bits : ℕ) : Type 0 where
   pub least : 12 ≤ bits
   pub within : bits ≤ most
-  pub enough : (bytes ≤ 8 * 2 ^ bits) ⊎ (bits ≡ most)
-  pub smallest : (fewer : ℕ) → 12 ≤ fewer → fewer < bits → 8 * 2 ^ fewer < bytes
+  pub enough : (bytes ≤ 4 * 2 ^ bits) ⊎ (bits ≡ most)
+  pub smallest : (fewer : ℕ) → 12 ≤ fewer → fewer < bits → 4 * 2 ^ fewer < bytes
 
 -- what stands in the pass are cells of terms that are wanted
 abbrev pub HoldsOnly : Table → PassView → (Term → Type 0) → Type 0

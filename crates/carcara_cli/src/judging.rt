@@ -217,7 +217,7 @@ pub fn judge(
         proof,
         options,
     };
-    for bits in pool_bits(problem.len() + proof.len() / 4, most_bits)..most_bits {
+    for bits in pool_bits(problem.len() + proof.len() / 8, most_bits)..most_bits {
         match judge_into(alloc, bits, &texts)? {
             Judgement::PoolFull => {}
             judgement => return Ok(judgement),

@@ -14,7 +14,7 @@ pub const LEAST_BITS: u32 = 12;
 /// The greatest number of bits of a pool.
 pub const MOST_BITS: u32 = 26;
 
-/// The number of bits of the first pool, for texts of so many bytes: the least that gives a place for each eight bytes,
+/// The number of bits of the first pool, for texts of so many bytes: the least that gives a place for each four bytes,
 /// and no more than may be.
 pub fn pool_bits(bytes: usize, most_bits: u32) -> u32
     requires bytes { bytes ≤ 2 ^ 30 }
@@ -23,7 +23,7 @@ pub fn pool_bits(bytes: usize, most_bits: u32) -> u32
     ensures { IsPoolSize bytes most_bits result }
 {
     let mut bits = LEAST_BITS;
-    while bits < most_bits && 8 * (1usize << bits) < bytes {
+    while bits < most_bits && 4 * (1usize << bits) < bytes {
         bits += 1;
     }
     bits

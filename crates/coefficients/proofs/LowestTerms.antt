@@ -1,25 +1,13 @@
 -- Lowest terms of quotients: what is taken out crosswise leaves parts that have nothing in common.
-use Rattle.std.proofs.Common.{◌≡◌, inl, inr, ℕ, zero, suc, ◌+◌, ◌*◌, ◌/◌, ◌%◌, ◌^◌, ◌<◌, ◌≤◌, ◌==◌, ◌∙◌, arith, Bool, true, false, Some, None, refl, sym, ap, subst, div-one, if◌then◌else◌}
+use Rattle.std.proofs.Common.{◌≡◌, inl, inr, ℕ, zero, suc, ◌+◌, ◌*◌, ◌/◌, ◌%◌, ◌^◌, ◌<◌, ◌≤◌, ◌∙◌, arith, Some, None, refl, sym, ap, subst, div-one}
 use Rattle.std.specs.Int.{◌∣◌, IsGcd}
-use Rattle.std.proofs.lemmas.Bool.Decides.{nat_tests}
 use Rattle.std.proofs.lemmas.Nat.{div-add-mod', mod-mul-add, mod_below}
 use Rattle.std.proofs.lemmas.Nat.Gcd.{dvd_trans, IsGcd-from_zero, IsGcd-swap, IsGcd-from_mod, same_from_IsGcd}
 use Rattle.std.proofs.Math.Nat.{dvd-mod_iff, dvd-mul_right, dvd-mul_right_of_dvd, mul-dvd-mul_right, div-mul_cancel, mul-div_cancel, mul_comm, mul_assoc, mul-mul-mul_comm, mul-pos, mul-zero, zero-mul, one-mul, add-mul, mul-lt-mul_of_pos_right, one-dvd, pos_of_dvd_of_pos, pow-succ', pow-le-pow_right, dvd_of_mul-dvd-mul_right}
 use Rattle.coefficients.specs.Fractions.{IsFractionPair, IsNarrowPair}
 use Rattle.coefficients.specs.declared.fractions.Pair.{Pair}
-use Rattle.alethe_text.specs.Coefficients.{common_divisor_in, common_divisor, lowest}
-
-divisor_in : (n a b : ℕ) → b < n → IsGcd a b (common_divisor_in n a b)
-divisor_in zero a b h = absurd (omega (arith, h))
-divisor_in (suc n) a b h = go (b == 0) refl (λ some. divisor_in n b (a % b) (omega (arith, some, h)))
-  where
-    go : (z : Bool) → (b == 0) ≡ z → (0 < b → IsGcd b (a % b) (common_divisor_in n b (a % b))) → IsGcd a b (if z then a else common_divisor_in n b (a % b))
-    go true e ih = IsGcd-from_zero a b (grind (arith, nat_tests))
-    go false e ih = IsGcd-from_mod a b _ (ih (grind (arith, nat_tests)))
-
-pub divisor_is : (a b : ℕ) → IsGcd a b (common_divisor a b)
-unfolding common_divisor
-divisor_is a b = divisor_in (suc b) a b (omega arith)
+use Rattle.alethe_text.specs.Coefficients.{common_divisor, lowest}
+use Rattle.alethe_text.proofs.LowestTerms.{divisor_is}
 
 -- one step of Euclid's algorithm, onwards
 step : (a b g : ℕ) → IsGcd a b g → IsGcd b (a % b) g

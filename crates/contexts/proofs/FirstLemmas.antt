@@ -15,8 +15,9 @@ use Rattle.term_pool.specs.StandsFor.{variable_leaf, StandsFor}
 use Rattle.term_pool.specs.Views.{TermsView, RefersTo}
 use Rattle.contexts.specs.Becoming.{becomes, Images, IsImageAt, AreImages, HasImages}
 use Rattle.contexts.specs.Firsts.{first_for}
-use Rattle.contexts.specs.PutIn.{StandForReplacement, AreReplacementBy, PlacesTerm, LacksRoomFor}
-use Rattle.contexts.proofs.CellBuilding.{placed-none}
+use Rattle.contexts.specs.PutIn.{StandForReplacement, AreReplacementBy}
+use Rattle.term_pool.specs.Placing.{PlacesTerm, LacksRoomFor}
+use Rattle.term_pool.proofs.Keeping.{placed-none}
 use Rattle.contexts.proofs.Links.{one_variable, one_leaf, same_some}
 use Rattle.contexts.proofs.Standing.{PutsFor, becomes_stands}
 
@@ -86,7 +87,7 @@ pub trees_of : (s : Table) → IsTable s → (v : TermsView) (bs : List (ℕ × 
 trees_of s table v [] [] h = record { trees = leaf; are = λ k. refl; variables = λ k x is. is; others = λ k l is never. refl }
 trees_of s table v [] (c ∷ q) h = absurd h
 trees_of s table v (b ∷ bs) [] h = absurd h
-trees_of s table v (b ∷ bs) (c ∷ q) h = more_trees s table v b bs c.0 c.1 q h.0 h.1 (trees_of s table v bs q h.2)
+trees_of s table v (b ∷ bs) (c ∷ q) h = more_trees s table v b bs c.0 c.1 q h.0.variable h.0.term (trees_of s table v bs q h.1)
 
 module _ (s : Table) (table : IsTable s) (v : TermsView) (bs : List (ℕ × ℕ)) (images : Images) (firsts : (k : ℕ) → get nat_eq images k ≡ first_for bs k) where
   images_are : (q : Replacement) (h : StandForReplacement s v bs q) → AreImages v.pass images (trees_of s table v bs q h).trees

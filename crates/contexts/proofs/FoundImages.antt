@@ -22,20 +22,20 @@ module _ (s : Table) (table : IsTable s) (v : TermsView) (k : ℕ) (x : Var) (he
   first_found [] [] h = λ never. never
   first_found [] (c ∷ q) h = absurd h
   first_found (b ∷ bs) [] h = absurd h
-  first_found (b ∷ bs) (c ∷ q) h = go (first_found bs q h.2) (eqb b.0 k) (var_eq c.0 x) (eqb_tells b.0 k) refl
+  first_found (b ∷ bs) (c ∷ q) h = go (first_found bs q h.1) (eqb b.0 k) (var_eq c.0 x) (eqb_tells b.0 k) refl
     where
       behind : var_eq c.0 x ≡ false → (o : Option ℕ) → IsFoundFor s v q x o → IsFoundFor s v (c ∷ q) x o
       behind e None never = λ r. elim r [ inl same ↦ (let z = (var_eq_decides c.0 x).1 same in cc) | inr later ↦ never later ]
       behind e (Some r) found = (inr found.0, subst (λ (d : Bool). RefersTo s v r (if d then c.1 else replaced_by q x)) (sym e) found.1)
 
       go : IsFoundFor s v q x (first_for bs k) → (t d : Bool) → ((t ≡ true) × (b.0 ≡ k)) ⊎ ((t ≡ false) × (b.0 ≢ k)) → var_eq c.0 x ≡ d → IsFoundFor s v (c ∷ q) x (if t then Some b.1 else first_for bs k)
-      go rest true true (inl both) e = (inl ((var_eq_decides c.0 x).0 e), subst (λ (d : Bool). RefersTo s v b.1 (if d then c.1 else replaced_by q x)) (sym e) h.1)
+      go rest true true (inl both) e = (inl ((var_eq_decides c.0 x).0 e), subst (λ (d : Bool). RefersTo s v b.1 (if d then c.1 else replaced_by q x)) (sym e) h.0.term)
       go rest true true (inr both) e = absurd (let z = both.0 in cc)
       go rest true false (inl both) e =
-          absurd (let same = one_variable s k c.0 x (subst (λ j. IsLeaf s j (variable_leaf c.0)) both.1 h.0) here in let z = (var_eq_decides c.0 x).1 same in cc)
+          absurd (let same = one_variable s k c.0 x (subst (λ j. IsLeaf s j (variable_leaf c.0)) both.1 h.0.variable) here in let z = (var_eq_decides c.0 x).1 same in cc)
       go rest true false (inr both) e = absurd (let z = both.0 in cc)
       go rest false true (inl both) e = absurd (let z = both.0 in cc)
-      go rest false true (inr both) e = absurd (both.1 (one_leaf s table b.0 k c.0 x h.0 here ((var_eq_decides c.0 x).0 e)))
+      go rest false true (inr both) e = absurd (both.1 (one_leaf s table b.0 k c.0 x h.0.variable here ((var_eq_decides c.0 x).0 e)))
       go rest false false (inl both) e = absurd (let z = both.0 in cc)
       go rest false false (inr both) e = behind e (first_for bs k) rest
 

@@ -5,6 +5,8 @@ use Rattle.std.proofs.lemmas.Bool.Decides.{eqb_tells}
 use Rattle.pair_pool.specs.Views.{PassView}
 use Rattle.rule_model.specs.Replacement.{Replacement}
 use Rattle.sym_table.specs.Table.{Table}
+use Rattle.term_model.proofs.Zips.{zip_weaken}
+use Rattle.term_pool.specs.Bindings.{IsBindingOf}
 use Rattle.term_pool.specs.Views.{TermsView, KeepsPass, KeepsTerms}
 use Rattle.contexts.specs.declared.frames.Frame.{Frame}
 use Rattle.contexts.specs.declared.kept.Substitution.{Substitution}
@@ -91,14 +93,10 @@ right_stays v w x k h = record {
 }
 
 pub bindings_stay : (s : Table) (v w : TermsView) (bs : List (ℕ × ℕ)) (q : Replacement) → KeepsTerms v w → StandForReplacement s v bs q → StandForReplacement s w bs q
-bindings_stay s v w [] [] k h = tt
-bindings_stay s v w [] (b ∷ q) k h = absurd h
-bindings_stay s v w (b ∷ bs) [] k h = absurd h
-bindings_stay s v w (b ∷ bs) (c ∷ q) k h = (
-  h.0,
-  record { tree = h.1.tree; known = k.pass.grows b.1 h.1.tree h.1.known; stands = h.1.stands },
-  bindings_stay s v w bs q k h.2,
-)
+bindings_stay s v w bs q k = zip_weaken (IsBindingOf s v) (IsBindingOf s w) (λ b c h. record {
+  variable = h.variable;
+  term = record { tree = h.term.tree; known = k.pass.grows b.1 h.term.tree h.term.known; stands = h.term.stands };
+}) bs q
 
 pub back_none : (es : List (ℕ × Option ℕ)) → es ≡ [] → (now : Look) → PutsBack es now now
 back_none es none now = subst (λ xs. PutsBack xs now now) (sym none) (λ k. refl)

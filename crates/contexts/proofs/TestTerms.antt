@@ -30,7 +30,7 @@ module _ (s : Table) (x : ℕ) (name : List ℕ) (sort : Sort) (is : IsLeaf s x 
   }
 
   pub replaces : (v : TermsView) (value : ℕ) → IsTerm s v value → AreReplacementBy s v ((x, value) ∷ [])
-  replaces v value h = record { means = (var, h.means) ∷ []; are = (is, h.refers, tt) }
+  replaces v value h = record { means = (var, h.means) ∷ []; are = (record { variable = is; term = h.refers }, tt) }
 
 pub negation_is_term : (s : Table) (old new : TermsView) (head r t : ℕ) → IsLeaf s head (operator Op.Not) → IsTerm s old t → ((s : Table) (ts : List Term) (u : Term) → ReferToAll s old (t ∷ []) ts → IsAppliedLeaf s head ts u → RefersTo s new r u) → IsTerm s new r
 negation_is_term s old new head r t is h makes = record {

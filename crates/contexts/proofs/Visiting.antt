@@ -21,7 +21,7 @@ use Rattle.contexts.specs.Places.{Lists, layer_of, HasPlaceShape, becomes_there,
 use Rattle.contexts.specs.Remembering.{reference_of, remembered}
 use Rattle.contexts.specs.Shapes.{HasShape, HasLetShape, HasListShape, IsShaped, IsLetRest, IsBindingList}
 use Rattle.contexts.proofs.Agreeing.{becomes_agree}
-use Rattle.contexts.proofs.CellBuilding.{placed-none}
+use Rattle.term_pool.proofs.Keeping.{placed-none}
 use Rattle.contexts.proofs.References.{cell_of, from_true, from_false}
 use Rattle.contexts.proofs.Standing.{if_true, if_false}
 

@@ -16,7 +16,8 @@ use Rattle.contexts.specs.Layers.{shadowed, KeepsLayers}
 use Rattle.contexts.specs.Places.{Lists, layer_of, HasPlaceShape, becomes_there, IsSpot, HasBecome, IsMemory, IsUnder, PlacesImage, LacksRoomForImage, IsReady}
 use Rattle.contexts.specs.Remembering.{reference_of, remembered, Remembers}
 use Rattle.contexts.specs.Shapes.{IsShaped}
-use Rattle.contexts.proofs.CellBuilding.{part-refl, part-trans, placed-larger, placed-trans, placed-none, full-larger}
+use Rattle.term_pool.proofs.Keeping.{part-refl, part-trans, placed-trans, placed-none}
+use Rattle.contexts.proofs.CellBuilding.{placed-larger, full-larger}
 use Rattle.contexts.proofs.Visiting.{lists_same, split}
 
 -- what is known stays known

@@ -11,7 +11,8 @@ ghost use Rattle.term_pool.specs.StandsFor.{variable_leaf};
 ghost use Rattle.term_pool.specs.Views.{TermsView, IsTerm, RefersTo, KeepsTerms};
 ghost use Rattle.term_pool.specs.declared.stop.TermStop.TheVariants as TermStop;
 ghost use Rattle.contexts.specs.Kept.{IsRight, IsRightForSome, all_bindings, frames_of};
-ghost use Rattle.contexts.specs.PutIn.{AreReplacementBy, LacksRoomFor, PlacesTerm, StandForReplacement};
+ghost use Rattle.contexts.specs.PutIn.{AreReplacementBy, StandForReplacement};
+ghost use Rattle.term_pool.specs.Placing.{LacksRoomFor, PlacesTerm};
 
 use crate::frames::{Frame, put_all, put_all_back};
 use crate::putting::put;

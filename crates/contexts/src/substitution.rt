@@ -8,7 +8,8 @@ ghost use Rattle.rule_model.specs.Substitution.{put_in};
 ghost use Rattle.term_model.specs.Terms.{Term};
 ghost use Rattle.term_pool.specs.Views.{IsTerm, RefersTo, KeepsTerms};
 ghost use Rattle.term_pool.specs.declared.stop.TermStop.TheVariants as TermStop;
-ghost use Rattle.contexts.specs.PutIn.{AreReplacementBy, LacksRoomFor, PlacesTerm, StandForReplacement};
+ghost use Rattle.contexts.specs.PutIn.{AreReplacementBy, StandForReplacement};
+ghost use Rattle.term_pool.specs.Placing.{LacksRoomFor, PlacesTerm};
 ghost use Rattle.contexts.specs.Firsts.{first_for};
 
 use crate::putting::put;

@@ -7,10 +7,10 @@ use Rattle.term_model.specs.declared.symbols.Sort.{Sort}
 use Rattle.term_model.specs.declared.symbols.Op.{Op}
 use Rattle.term_model.specs.Terms.{Var, Fun, Term, numeral, operation, call, let_in}
 use Rattle.term_model.specs.Sorts.{sorts_eq, application_sort, call_sort}
+use Rattle.term_model.specs.Heights.{height}
 use Rattle.problem_text.specs.Words.{is_among, is_built_in, operator_named}
 use Rattle.text_items.specs.ItemShapes.{Name}
 use Rattle.problem_text.specs.Forms.{Form, faulty, number, symbol, application, let_form, annotated, Forms, no_forms, form, LetBinds, no_binds, bind}
-use Rattle.rule_model.specs.Heights.{height}
 use Rattle.problem_text.specs.Limits.{is_low}
 use Rattle.rule_model.specs.Replacement.{replaced, free_variables, HasNoLet, HaveNoLet}
 use Rattle.problem_text.specs.TypedTerms.{Typed}

@@ -7,10 +7,10 @@ use Rattle.sexpr.specs.declared.causes.Cause.TheVariants.{Repeated, TooHigh}
 use Rattle.term_model.specs.declared.symbols.Sort.{Sort}
 use Rattle.term_model.specs.Terms.{numeral}
 use Rattle.term_model.specs.Sorts.{IsOf}
+use Rattle.term_model.specs.Heights.{height}
 use Rattle.problem_text.specs.Words.{is_among, is_built_in}
 use Rattle.text_items.specs.ItemShapes.{Name}
 use Rattle.problem_text.specs.Forms.{Form, faulty, number, symbol, application, let_form, annotated, Forms, no_forms, form, LetBinds, no_binds, bind}
-use Rattle.rule_model.specs.Heights.{height}
 use Rattle.problem_text.specs.Limits.{is_low}
 use Rattle.problem_text.specs.TypedTerms.{Typed}
 use Rattle.problem_text.specs.Outcomes.{Outcome, done, refuse, and_then}
@@ -67,7 +67,7 @@ with_names-sound limit (n ∷ ns) t s sound h =
     unless_repeated (IsReadWithin limit) (is_taken s n.name) n.place s _ sound
     (with_names-sound limit ns t (with_named (record { name = n.name; meant = t }) s) (named-sound (record { name = n.name; meant = t }) s sound h.sorted) h)
 
-let_name-sound : (name : List ℕ) (s : Script) → IsSound s → IsSound (with_let_name name s)
+pub let_name-sound : (name : List ℕ) (s : Script) → IsSound s → IsSound (with_let_name name s)
 let_name-sound name s sound = record { named = sound.named; macros = sound.macros; assertions = sound.assertions }
 
 mutual

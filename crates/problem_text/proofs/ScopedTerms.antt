@@ -10,7 +10,7 @@ use Rattle.term_model.specs.FreeVariables.{Binds, IsFree, IsFreeAmong, IsFreeBou
 use Rattle.term_model.specs.Terms.{Var, var_eq, sort_eq, Fun, Term, numeral, variable, operation, call, let_in, Terms, no_terms, term, Bindings, no_bindings, binding}
 use Rattle.term_model.specs.Sorts.{sorts_eq, application_sort, call_sort}
 use Rattle.term_model.proofs.Tests.{var_eq_decides, sorts_eq_decides}
-use Rattle.rule_model.specs.Heights.{height}
+use Rattle.term_model.specs.Heights.{height}
 use Rattle.rule_model.specs.Replacement.{Replacement, replaced_by, replaced, replaced_all, replaced_bindings, free_variables}
 use Rattle.rule_model.proofs.Freedom.{IsIn, free-listed}
 use Rattle.text_items.specs.ItemShapes.{Name}

@@ -11,9 +11,9 @@ use Rattle.sexpr.specs.Words.{is_number}
 use Rattle.sexpr.specs.Tokens.{blanks_end, string_end, token_at, next_token, token_text}
 use Rattle.sexpr.specs.Items.{Item, word, quoted, string, list, Items, no_items, item}
 use Rattle.term_model.specs.Terms.{Term}
+use Rattle.term_model.specs.Heights.{height}
 use Rattle.problem_text.specs.Forms.{form_of}
 use Rattle.problem_text.specs.Commands.{script_command_of}
-use Rattle.rule_model.specs.Heights.{height}
 use Rattle.rule_model.specs.Replacement.{replaced, free_variables}
 use Rattle.problem_text.specs.Scripts.{Script}
 use Rattle.problem_text.specs.Sorts.{sort_from}

@@ -5,7 +5,7 @@ use Rattle.term_model.specs.declared.symbols.Sort.{Sort}
 use Rattle.term_model.specs.FreeVariables.{IsFree, IsClosed}
 use Rattle.term_model.specs.Terms.{Var, Term, variable}
 use Rattle.term_model.specs.Sorts.{IsOf}
-use Rattle.rule_model.specs.Heights.{height}
+use Rattle.term_model.specs.Heights.{height}
 use Rattle.problem_text.specs.Limits.{most_height}
 use Rattle.rule_model.specs.Replacement.{HasNoLet}
 use Rattle.problem_text.specs.TypedTerms.{Typed}

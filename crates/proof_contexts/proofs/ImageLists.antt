@@ -1,21 +1,15 @@
 -- Lists of bindings, and the images of the variables that they bind.
-use Rattle.std.proofs.Common.{◌≡◌, ◌<◌, ◌+◌, ℕ, zero, suc, List, [], ◌∷◌, ◌++◌, map, length, get_or, take, slice_get, Some, refl, sym, ◌∙◌, ap, subst, arith, add-one}
+use Rattle.std.proofs.Common.{◌≡◌, ◌<◌, ◌+◌, ℕ, zero, suc, List, [], ◌∷◌, ◌++◌, map, length, get_or, take, slice_get, Some, refl, sym, ap, subst, arith, add-one}
 use Rattle.std.specs.List.{AllZip}
-use Rattle.contexts.specs.PutIn.{StandForReplacement}
-use Rattle.proof_store.specs.Meaning.{IsBindingOf}
+use Rattle.term_pool.specs.Bindings.{IsBindingOf}
 use Rattle.rule_model.specs.Contexts.{put_in_each}
 use Rattle.rule_model.specs.Replacement.{Replacement}
 use Rattle.rule_model.specs.Substitution.{put_in}
 use Rattle.sym_table.specs.Table.{Table}
+use Rattle.term_model.proofs.Zips.{zip_weaken, zip_push}
 use Rattle.term_model.specs.Terms.{Var, Term}
 use Rattle.term_pool.specs.Views.{TermsView, KeepsTerms}
 use Rattle.proof_contexts.specs.Bindings.{BindTerms}
-
-pub stand_joined : (s : Table) (v : TermsView) (bs cs : List (ℕ × ℕ)) (q r : Replacement) → AllZip (IsBindingOf s v) bs q → StandForReplacement s v cs r → StandForReplacement s v (bs ++ cs) (q ++ r)
-stand_joined s v [] cs [] r h g = g
-stand_joined s v [] cs (b ∷ q) r h g = absurd h
-stand_joined s v (b ∷ bs) cs [] r h g = absurd h
-stand_joined s v (b ∷ bs) cs (c ∷ q) r h g = (h.0.variable, h.0.term, stand_joined s v bs cs q r h.1 g)
 
 pub binding_later : (s : Table) (v w : TermsView) → KeepsTerms v w → (b : ℕ × ℕ) (c : Var × Term) → IsBindingOf s v b c → IsBindingOf s w b c
 binding_later s v w grows b c h = record {
@@ -24,10 +18,7 @@ binding_later s v w grows b c h = record {
 }
 
 pub bindings_later : (s : Table) (v w : TermsView) → KeepsTerms v w → (bs : List (ℕ × ℕ)) (q : List (Var × Term)) → AllZip (IsBindingOf s v) bs q → AllZip (IsBindingOf s w) bs q
-bindings_later s v w grows [] [] h = tt
-bindings_later s v w grows [] (c ∷ q) h = absurd h
-bindings_later s v w grows (b ∷ bs) [] h = absurd h
-bindings_later s v w grows (b ∷ bs) (c ∷ q) h = (binding_later s v w grows b c h.0, bindings_later s v w grows bs q h.1)
+bindings_later s v w grows = zip_weaken (IsBindingOf s v) (IsBindingOf s w) (binding_later s v w grows)
 
 -- the binding at an index
 pub record HasNext (s : Table) (v : TermsView) (bound : List (Var × Term)) (i : ℕ) (b : ℕ × ℕ) : Type 0 where
@@ -52,12 +43,6 @@ bind_next s v w grows bs i b h inside e =
     let n = next_of s v bs h.bound i b h.are inside e in
     record { bound = n.of ∷ []; are = (binding_later s v w grows b n.of n.is, tt) }
 
-zip_more : (s : Table) (v : TermsView) (bs : List (ℕ × ℕ)) (q : List (Var × Term)) (b : ℕ × ℕ) (c : Var × Term) → AllZip (IsBindingOf s v) bs q → IsBindingOf s v b c → AllZip (IsBindingOf s v) (bs ++ b ∷ []) (q ++ c ∷ [])
-zip_more s v [] [] b c h g = (g, tt)
-zip_more s v [] (d ∷ q) b c h g = absurd h
-zip_more s v (a ∷ bs) [] b c h g = absurd h
-zip_more s v (a ∷ bs) (d ∷ q) b c h g = (h.0, zip_more s v bs q b c h.1 g)
-
 each_more : (q : Replacement) (xs : List (Var × Term)) (c : Var × Term) → put_in_each q (xs ++ c ∷ []) ≡ put_in_each q xs ++ (c.0, put_in q c.1) ∷ []
 each_more q [] c = refl
 each_more q (x ∷ xs) c = ap (λ ys. (x.0, put_in q x.1) ∷ ys) (each_more q xs c)
@@ -67,7 +52,7 @@ pub images_more : (s : Table) (v w : TermsView) → KeepsTerms v w → (list : L
 images_more s v w grows list image q bound i c more h g =
     subst (λ xs. AllZip (IsBindingOf s w) (list ++ image ∷ []) (put_in_each q xs)) (sym more)
     (subst (AllZip (IsBindingOf s w) (list ++ image ∷ [])) (sym (each_more q (take i bound) c))
-    (zip_more s w list (put_in_each q (take i bound)) image (c.0, put_in q c.1) (bindings_later s v w grows list (put_in_each q (take i bound)) h) g))
+    (zip_push (IsBindingOf s w) list (put_in_each q (take i bound)) image (c.0, put_in q c.1) (bindings_later s v w grows list (put_in_each q (take i bound)) h) g))
 
 -- as many
 pub taken_all : (s : Table) (v : TermsView) (bs : List (ℕ × ℕ)) (bound : List (Var × Term)) (i : ℕ) → AllZip (IsBindingOf s v) bs bound → i ≡ length bs → take i bound ≡ bound

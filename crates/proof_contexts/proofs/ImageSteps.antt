@@ -3,8 +3,9 @@ use Rattle.std.proofs.Common.{◌≡◌, ◌<◌, ◌+◌, ◌++◌, ℕ, List, 
 use Rattle.std.specs.List.{AllZip}
 use Rattle.contexts.specs.declared.kept.Substitution.{Substitution}
 use Rattle.contexts.specs.Kept.{all_bindings, frames_of}
-use Rattle.contexts.specs.PutIn.{StandForReplacement, PlacesTerm, LacksRoomFor}
-use Rattle.proof_store.specs.Meaning.{IsBindingOf}
+use Rattle.contexts.specs.PutIn.{StandForReplacement}
+use Rattle.term_pool.specs.Placing.{PlacesTerm, LacksRoomFor}
+use Rattle.term_pool.specs.Bindings.{IsBindingOf}
 use Rattle.rule_model.specs.Contexts.{put_in_each}
 use Rattle.rule_model.specs.Replacement.{Replacement}
 use Rattle.rule_model.specs.Substitution.{put_in}

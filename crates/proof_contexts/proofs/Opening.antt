@@ -5,12 +5,14 @@ use Rattle.contexts.specs.declared.kept.Substitution.{Substitution}
 use Rattle.contexts.specs.Kept.{IsRight, all_bindings, frames_of}
 use Rattle.contexts.specs.PutIn.{StandForReplacement, AreReplacementBy, joined}
 use Rattle.pair_pool.specs.Views.{PassView, IsOneToOne}
-use Rattle.proof_store.specs.Meaning.{StandForItems, IsBindingOf}
+use Rattle.term_pool.specs.Bindings.{IsBindingOf}
+use Rattle.proof_store.specs.Meaning.{StandForItems}
 use Rattle.rule_model.specs.Contexts.{images, put_in_each}
 use Rattle.rule_model.specs.Proofs.{ProofItems}
 use Rattle.rule_model.specs.Reading.{parent_at, bindings_at}
 use Rattle.rule_model.specs.Replacement.{Replacement}
 use Rattle.sym_table.specs.Table.{Table, IsTable}
+use Rattle.term_model.proofs.Zips.{zip_append}
 use Rattle.term_model.specs.Terms.{Var, Term}
 use Rattle.term_pool.specs.Views.{TermsView, IsTerm, KeepsTerms}
 use Rattle.proof_contexts.specs.declared.scopes.OpenScopes.{OpenScopes}
@@ -18,7 +20,6 @@ use Rattle.proof_contexts.specs.Images.{IsImageIn}
 use Rattle.proof_contexts.specs.Bindings.{BindTerms}
 use Rattle.proof_contexts.specs.OpenAnchors.{IsLevel, AreLevels, IsAnchorImage, scopes_entered, AreKept}
 use Rattle.proof_contexts.specs.Placing.{PlacesOf, LacksRoomForSome}
-use Rattle.proof_contexts.proofs.ImageLists.{stand_joined}
 use Rattle.proof_contexts.proofs.Levels.{BindingsStay, levels_later, stand_later, scopes_more, level_here}
 use Rattle.proof_contexts.proofs.Placing.{places_kind, lacks_kind}
 
@@ -40,7 +41,7 @@ module _ (s : Table) (v : TermsView) (refs : ProofItems ℕ ℕ) (x : OpenScopes
   -- the bindings of the new frame stand for the images of the anchor's variables
   pub inner_stand : (stay : BindingsStay) (w : TermsView) (sub : Substitution) → KeepsTerms v w → frames_of sub ≡ frames_of x.substitution → (list : List (ℕ × ℕ)) → AllZip (IsBindingOf s w) list (put_in_each (images (level_here s v refs x kept).anchors) (bindings_at kept.proof k)) → StandForReplacement s w (list ++ all_bindings sub) (images (bindings_at kept.proof k ∷ (level_here s v refs x kept).anchors))
   inner_stand stay w sub grows same list zip =
-      stand_joined s w list (all_bindings sub) (put_in_each (images (level_here s v refs x kept).anchors) (bindings_at kept.proof k)) (images (level_here s v refs x kept).anchors) zip
+      zip_append (IsBindingOf s w) list (put_in_each (images (level_here s v refs x kept).anchors) (bindings_at kept.proof k)) (all_bindings sub) (images (level_here s v refs x kept).anchors) zip
       (stand_later stay s v w x.substitution sub grows same (images (level_here s v refs x kept).anchors) (level_here s v refs x kept).stand)
 
   pub inner_replacement : (stay : BindingsStay) (w : TermsView) (sub : Substitution) → KeepsTerms v w → frames_of sub ≡ frames_of x.substitution → (list : List (ℕ × ℕ)) → AllZip (IsBindingOf s w) list (put_in_each (images (level_here s v refs x kept).anchors) (bindings_at kept.proof k)) → AreReplacementBy s w (list ++ all_bindings sub)

@@ -6,7 +6,7 @@ use Rattle.sym_table.specs.Table.{Table}
 use Rattle.term_model.specs.Terms.{Term}
 use Rattle.term_pool.specs.Building.{IsCellIn}
 use Rattle.term_pool.specs.Views.{KeepsPass}
-use Rattle.contexts.specs.PutIn.{PlacesTerm, LacksRoomFor}
+use Rattle.term_pool.specs.Placing.{PlacesTerm, LacksRoomFor}
 use Rattle.proof_contexts.specs.Placing.{IsCellOfSome, PlacesOf, LacksRoomForSome}
 
 module _ (s : Table) where

@@ -1,6 +1,6 @@
 -- Public. Which cells were placed, and for which there was no room: those of terms of one kind.
 use Rattle.std.specs.Prelude.{◌⊎◌, ℕ}
-use Rattle.contexts.specs.PutIn.{LacksRoomFor}
+use Rattle.term_pool.specs.Placing.{LacksRoomFor}
 use Rattle.pair_pool.specs.Trees.{Tree}
 use Rattle.pair_pool.specs.Views.{PassView, IsPlaced}
 use Rattle.sym_table.specs.Table.{Table}

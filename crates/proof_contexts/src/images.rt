@@ -3,8 +3,9 @@
 ghost use Rattle.std.specs.Prelude.{◌≡◌, ◌∷◌, [], List, IfErr, IfOk};
 ghost use Rattle.std.specs.List.{AllZip};
 ghost use Rattle.contexts.specs.Kept.{IsRight, all_bindings, frames_of};
-ghost use Rattle.contexts.specs.PutIn.{AreReplacementBy, LacksRoomFor, PlacesTerm, StandForReplacement};
-ghost use Rattle.proof_store.specs.Meaning.{IsBindingOf};
+ghost use Rattle.contexts.specs.PutIn.{AreReplacementBy, StandForReplacement};
+ghost use Rattle.term_pool.specs.Placing.{LacksRoomFor, PlacesTerm};
+ghost use Rattle.term_pool.specs.Bindings.{IsBindingOf};
 ghost use Rattle.rule_model.specs.Contexts.{put_in_each};
 ghost use Rattle.rule_model.specs.Replacement.{Replacement};
 ghost use Rattle.rule_model.specs.Substitution.{put_in};

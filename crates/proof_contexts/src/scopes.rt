@@ -1,7 +1,7 @@
 //! The scopes that are open where a proof is looked at.
 
 ghost use Rattle.std.specs.Prelude.{◌≡◌, ◌↔◌, IfOk, IfErr, IfSome, IsSome, List};
-ghost use Rattle.contexts.specs.PutIn.{LacksRoomFor, PlacesTerm};
+ghost use Rattle.term_pool.specs.Placing.{LacksRoomFor, PlacesTerm};
 ghost use Rattle.pair_pool.specs.Views.{IsKnown};
 ghost use Rattle.proof_store.specs.Checks.{StandForSome};
 ghost use Rattle.proof_store.specs.Meaning.{StandForItems};

@@ -1,22 +1,17 @@
--- What a proof over references has, and what the proof over terms has for which it stands.
+-- Cited by crates above. What a proof over references has, and what the proof over terms has for which it stands.
 use Rattle.std.proofs.Common.{◌≡◌, ◌+◌, ℕ, zero, suc, Bool, List, [], ◌∷◌, ◌++◌, map, length, slice_get, Option, Some, None, refl, sym, ◌∙◌, ap, subst, arith}
 use Rattle.std.specs.List.{AllZip}
 use Rattle.std.specs.Option.{option_map_or}
 use Rattle.sym_table.specs.Table.{Table, Keeps}
+use Rattle.term_model.proofs.Zips.{zip_append, zip_weaken}
 use Rattle.term_model.specs.Terms.{Var, Term}
 use Rattle.term_pool.specs.Views.{TermsView, RefersTo, KeepsTerms}
 use Rattle.rule_model.specs.Proofs.{Step, ProofItems, no_items, with_assume, with_step, with_subproof}
 use Rattle.rule_model.specs.Scopes.{Nesting, outermost, inside, at, inner, commands_in, subproofs_in, scope_number, first_index, parent_number, last_index}
 use Rattle.rule_model.specs.Commands.{IndexedCommand, assume, step, closing, Line, Entry, entry_of, around_number, lines_in, ScopeEntry, scope_entry, scopes_in, scopes}
 use Rattle.rule_model.specs.Reading.{id_of, rule_of, rule_name_of, clause_of, premises_of, discharged_of, pivots_of, ratios_of}
-use Rattle.proof_store.specs.Meaning.{IsBindingOf, IsPivotOf, IsStepOf, StandForItems, no_items_stand, assume_stands, step_stands, subproof_stands}
-
--- lists in step
-pub zip_append : {A B : Type 0} (R : A → B → Type 0) (xs : List A) (ys : List B) (vs : List A) (ws : List B) → AllZip R xs ys → AllZip R vs ws → AllZip R (xs ++ vs) (ys ++ ws)
-zip_append R [] [] vs ws h k = k
-zip_append R [] (y ∷ ys) vs ws h k = absurd h
-zip_append R (x ∷ xs) [] vs ws h k = absurd h
-zip_append R (x ∷ xs) (y ∷ ys) vs ws h k = (h.0, zip_append R xs ys vs ws h.1 k)
+use Rattle.term_pool.specs.Bindings.{IsBindingOf}
+use Rattle.proof_store.specs.Meaning.{IsPivotOf, IsStepOf, StandForItems, no_items_stand, assume_stands, step_stands, subproof_stands}
 
 -- as many commands, and subproofs
 pub commands_same : (s : Table) (v : TermsView) (is : ProofItems ℕ ℕ) (ps : ProofItems Var Term) → StandForItems s v is ps → commands_in is ≡ commands_in ps
@@ -53,12 +48,6 @@ zip_map_append R f g [] vs [] ws h k = k
 zip_map_append R f g [] vs (y ∷ ys) ws h k = absurd h
 zip_map_append R f g (x ∷ xs) vs [] ws h k = absurd h
 zip_map_append R f g (x ∷ xs) vs (y ∷ ys) ws h k = (h.0, zip_map_append R f g xs vs ys ws h.1 k)
-
-zip_weaken : {A B : Type 0} (R S : A → B → Type 0) → ((x : A) (y : B) → R x y → S x y) → (xs : List A) (ys : List B) → AllZip R xs ys → AllZip S xs ys
-zip_weaken R S weak [] [] h = tt
-zip_weaken R S weak [] (y ∷ ys) h = absurd h
-zip_weaken R S weak (x ∷ xs) [] h = absurd h
-zip_weaken R S weak (x ∷ xs) (y ∷ ys) h = (weak x y h.0, zip_weaken R S weak xs ys h.1)
 
 -- scopes with the same numbers
 record SameNumbers (n : Nesting ℕ ℕ) (m : Nesting Var Term) : Type 0 where

@@ -8,7 +8,8 @@ use Rattle.term_model.specs.Terms.{Var, Term, variable}
 use Rattle.term_pool.specs.StandsFor.{variable_leaf, StandsFor}
 use Rattle.term_pool.specs.Views.{TermsView, RefersTo, IsTerm}
 use Rattle.rule_model.specs.Proofs.{Step, ProofItems, no_items, with_assume, with_step, with_subproof}
-use Rattle.proof_store.specs.Meaning.{IsBindingOf, IsPivotOf, IsStepOf, StandForItems, no_items_stand, assume_stands, step_stands, subproof_stands, BindsTerm, IsOfTerms, AreOfTerms, IsMeant}
+use Rattle.term_pool.specs.Bindings.{IsBindingOf}
+use Rattle.proof_store.specs.Meaning.{IsPivotOf, IsStepOf, StandForItems, no_items_stand, assume_stands, step_stands, subproof_stands, BindsTerm, IsOfTerms, AreOfTerms, IsMeant}
 
 -- lists in step with one list
 zip_one : {A B : Type 0} (R : A → B → Type 0) → ((x : A) (y z : B) → R x y → R x z → y ≡ z) → (xs : List A) (ys zs : List B) → AllZip R xs ys → AllZip R xs zs → ys ≡ zs

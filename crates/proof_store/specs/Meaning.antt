@@ -4,15 +4,11 @@ use Rattle.std.specs.Prelude.{◌≡◌, ℕ, Bool, List, ⊤}
 use Rattle.std.specs.List.{AllByRecursion, AllZip}
 use Rattle.sym_table.specs.Table.{Table, IsLeaf}
 use Rattle.term_model.specs.Terms.{Var, Term}
+use Rattle.term_pool.specs.Bindings.{IsBindingOf}
 use Rattle.term_pool.specs.StandsFor.{variable_leaf}
 use Rattle.term_pool.specs.Views.{TermsView, RefersTo, IsTerm}
 use Rattle.rule_model.specs.Proofs.{Step, ProofItems, no_items, with_assume, with_step, with_subproof}
 use Rattle.rule_model.specs.Scopes.{Anchor, Nesting, outermost, inside, Scope}
-
--- a leaf of a variable with a reference stands for the variable with its term
-pub record IsBindingOf (s : Table) (v : TermsView) (b : ℕ × ℕ) (c : Var × Term) : Type 0 where
-  pub variable : IsLeaf s b.0 (variable_leaf c.0)
-  pub term : RefersTo s v b.1 c.1
 
 -- a pivot stands for one, with the same truth value
 pub record IsPivotOf (s : Table) (v : TermsView) (p : ℕ × Bool) (q : Term × Bool) : Type 0 where

@@ -9,7 +9,8 @@ ghost use Rattle.rule_model.specs.Scopes.{commands_in, subproofs_in};
 ghost use Rattle.sym_table.specs.Table.{Table, IsTable, Keeps};
 ghost use Rattle.term_model.specs.Terms.{Var, Term};
 ghost use Rattle.term_pool.specs.Views.{TermsView, RefersTo, KeepsTerms};
-ghost use Rattle.proof_store.specs.Meaning.{IsBindingOf, IsPivotOf, StandForItems, AreOfTerms, IsMeant};
+ghost use Rattle.term_pool.specs.Bindings.{IsBindingOf};
+ghost use Rattle.proof_store.specs.Meaning.{IsPivotOf, StandForItems, AreOfTerms, IsMeant};
 
 use term_pool::{references_stay, trees_of_terms};
 

@@ -4,7 +4,7 @@ use Rattle.std.specs.List.{AllByRecursion}
 use Rattle.term_model.specs.Terms.{Fun, Term, numeral, variable, operation, call, let_in, Terms, no_terms, term, Bindings, no_bindings, binding, list_of}
 use Rattle.term_model.specs.FreeVariables.{bound_terms}
 use Rattle.term_model.specs.declared.symbols.Op.{Op}
-use Rattle.rule_model.specs.Heights.{height, highest, highest_bound}
+use Rattle.term_model.specs.Heights.{height, highest, highest_bound}
 
 pub least_height : (t : Term) → 1 ≤ height t
 unfolding height

@@ -2,6 +2,7 @@
 use Rattle.std.proofs.Common.{◌≡◌, ◌⊎◌, ◌↔◌, inl, inr, ℕ, zero, suc, ◌<◌, not, List, [], ◌∷◌, ◌++◌, length, refl, sym, ◌∙◌, ap, arith, All}
 use Rattle.std.specs.List.{AllZip}
 use Rattle.std.proofs.lemmas.List.{get_or_default}
+use Rattle.term_model.proofs.Zips.{zip_length, zip_push}
 use Rattle.rule_model.specs.declared.literal.Literal.{Literal}
 use Rattle.rule_model.specs.declared.literal.Literal.TheVariants.{Plain, Always, Never}
 use Rattle.rule_model.specs.Literals.{negation_of}
@@ -9,18 +10,6 @@ use Rattle.rule_model.specs.Consequence.{IsFalse, literal_at, premise_at, litera
 use Rattle.rule_model.specs.Renaming.{KeepsAtomsApart, IsLiteralImage, AreLiteralImages, AreAllImages}
 
 -- lists in step
-pub zip_length : {X Y : Type 0} (R : X → Y → Type 0) (xs : List X) (ys : List Y) → AllZip R xs ys → length xs ≡ length ys
-zip_length R [] [] z = refl
-zip_length R [] (y ∷ ys) z = absurd z
-zip_length R (x ∷ xs) [] z = absurd z
-zip_length R (x ∷ xs) (y ∷ ys) z = let e = zip_length R xs ys z.1 in omega arith
-
-pub zip_push : {X Y : Type 0} (R : X → Y → Type 0) (xs : List X) (ys : List Y) (x : X) (y : Y) → AllZip R xs ys → R x y → AllZip R (xs ++ x ∷ []) (ys ++ y ∷ [])
-zip_push R [] [] a b z r = (r, tt)
-zip_push R [] (y ∷ ys) a b z r = absurd z
-zip_push R (x ∷ xs) [] a b z r = absurd z
-zip_push R (x ∷ xs) (y ∷ ys) a b z r = (z.0, zip_push R xs ys a b z.1 r)
-
 pub zip_flipped : {X Y : Type 0} (R : X → Y → Type 0) (S : Y → X → Type 0) → ((x : X) (y : Y) → R x y → S y x) → (xs : List X) (ys : List Y) → AllZip R xs ys → AllZip S ys xs
 zip_flipped R S turn [] [] z = tt
 zip_flipped R S turn [] (y ∷ ys) z = absurd z

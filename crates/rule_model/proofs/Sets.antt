@@ -7,7 +7,8 @@ use Rattle.rule_model.specs.declared.literal.Literal.{Literal}
 use Rattle.rule_model.specs.declared.literal.Literal.TheVariants.{Never}
 use Rattle.rule_model.specs.Literals.{negation_of, IsSameClause}
 use Rattle.rule_model.specs.Consequence.{IsFalse, literal_at, premise_at, literal_of, IsOnly, IsUnit, Leads, Follows}
-use Rattle.rule_model.proofs.Renamings.{zip_length, zip_flipped}
+use Rattle.rule_model.proofs.Renamings.{zip_flipped}
+use Rattle.term_model.proofs.Zips.{zip_length}
 
 same_flipped : {A : Type 0} (c d : List (Literal A)) → IsSameClause c d → IsSameClause d c
 same_flipped c d same l = ((same l).1, (same l).0)

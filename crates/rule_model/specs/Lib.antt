@@ -17,7 +17,6 @@ pub mod Judged
 pub mod Schemas
 pub mod Patterns
 pub mod Clausal
-pub mod Heights
 pub mod Replacement
 pub mod Substitution
 pub mod Contexts

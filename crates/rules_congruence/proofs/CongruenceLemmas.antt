@@ -12,7 +12,7 @@ use Rattle.term_pool.specs.Views.{TermsView, RefersTo, IsTerm}
 use Rattle.rules_congruence.specs.Applications.{leaf_of, AreApplied}
 use Rattle.rules_congruence.specs.Steps.{ReferTo, AreTerms}
 use Rattle.rules_congruence.specs.Uses.{ArePairs}
-use Rattle.rules_congruence.proofs.Referring.{zip_at, zip_length}
+use Rattle.term_model.proofs.Zips.{zip_at, zip_length}
 
 pub not_as_long : (s : Table) (v : TermsView) (P : Term → Term → Type 0) (ls rs : List ℕ) (ts us : List Term) → length ls ≢ length rs → ReferTo s v ls ts → ReferTo s v rs us → ¬ AllZip P ts us
 not_as_long s v P ls rs ts us apart left right zip =

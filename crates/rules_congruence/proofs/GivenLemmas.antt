@@ -10,7 +10,8 @@ use Rattle.rule_model.specs.Congruence.{denials}
 use Rattle.term_parts.specs.Parts.{AreSidesOf}
 use Rattle.rules_congruence.specs.Sides.{ReferToPair, IsNoEquation, AreEqualitiesOf, nothing, one, other, IsGiven, IsUnitOf, AreDenied}
 use Rattle.rules_congruence.specs.Steps.{ReferTo, ReferToClauses}
-use Rattle.rules_congruence.proofs.Referring.{zip_push, one_zip, zip_one, zip_at, zip_next}
+use Rattle.term_model.proofs.Zips.{zip_push, zip_at}
+use Rattle.rules_congruence.proofs.Referring.{one_zip, zip_one, zip_next}
 
 -- a clause of one literal, by that literal
 pub unit_of : (s : Table) (v : TermsView) (rs : List ℕ) (r : ℕ) (p : ℕ × ℕ) (clause : List Term) → rs ≡ r ∷ [] → ((t : Term) → RefersTo s v r t → AreSidesOf s v as_it_stands p t) → ReferTo s v rs clause → IsUnitOf s v p clause

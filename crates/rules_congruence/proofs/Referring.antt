@@ -1,14 +1,7 @@
 -- Lists of references and of the terms for which they stand.
-use Rattle.std.proofs.Common.{◌≡◌, ◌<◌, ◌+◌, ℕ, suc, zero, List, [], ◌∷◌, ◌++◌, length, take, get_or, refl, sym, ap, ◌∙◌, subst, arith}
+use Rattle.std.proofs.Common.{◌≡◌, ◌<◌, ◌+◌, ℕ, List, [], ◌∷◌, ◌++◌, length, take, get_or, refl, sym, ap, ◌∙◌, subst}
 use Rattle.std.specs.List.{AllZip}
 use Rattle.std.proofs.lemmas.List.{take_more}
-
--- one item more on both sides
-pub zip_push : {X Y : Type 0} (R : X → Y → Type 0) (xs : List X) (ys : List Y) (x : X) (y : Y) → AllZip R xs ys → R x y → AllZip R (xs ++ x ∷ []) (ys ++ y ∷ [])
-zip_push R [] [] x y z r = (r, tt)
-zip_push R [] (w ∷ ys) x y z r = absurd z
-zip_push R (v ∷ xs) [] x y z r = absurd z
-zip_push R (v ∷ xs) (w ∷ ys) x y z r = (z.0, zip_push R xs ys x y z.1 r)
 
 -- what stands beside a list with one item more
 pub record IsOneMore {X Y : Type 0} (R : X → Y → Type 0) (xs : List X) (x : X) (ys : List Y) : Type 0 where
@@ -37,19 +30,6 @@ pub zip_next : {X Y : Type 0} (R : X → Y → Type 0) (xs : List X) (i : ℕ) (
 zip_next R xs i x ys below is z =
     zip_split R (take i xs) x ys
     (subst (λ us. AllZip R us ys) (take_more xs i x below ∙ ap (λ w. take i xs ++ w ∷ []) (sym is)) z)
-
--- the item at a place, and what stands beside it
-pub zip_at : {X Y : Type 0} (R : X → Y → Type 0) (xs : List X) (ys : List Y) (i : ℕ) (d : X) (e : Y) → AllZip R xs ys → i < length xs → R (get_or xs i d) (get_or ys i e)
-zip_at R [] ys i d e z below = absurd (omega arith)
-zip_at R (x ∷ xs) [] i d e z below = absurd z
-zip_at R (x ∷ xs) (y ∷ ys) zero d e z below = z.0
-zip_at R (x ∷ xs) (y ∷ ys) (suc i) d e z below = zip_at R xs ys i d e z.1 (omega arith)
-
-pub zip_length : {X Y : Type 0} (R : X → Y → Type 0) (xs : List X) (ys : List Y) → AllZip R xs ys → length xs ≡ length ys
-zip_length R [] [] z = refl
-zip_length R [] (y ∷ ys) z = absurd z
-zip_length R (x ∷ xs) [] z = absurd z
-zip_length R (x ∷ xs) (y ∷ ys) z = ap suc (zip_length R xs ys z.1)
 
 -- one item
 pub record IsBeside {X Y : Type 0} (R : X → Y → Type 0) (x : X) (ys : List Y) : Type 0 where

@@ -6,7 +6,8 @@ use Rattle.term_model.specs.Terms.{Term, numeral}
 use Rattle.term_pool.specs.Views.{TermsView, RefersTo, ReferToAll}
 use Rattle.rule_model.specs.Definitions.{IsInequality}
 use Rattle.schema_match.proofs.ReferLemmas.{refer_length, refer_at}
-use Rattle.rules_ite.proofs.DistinctLemmas.{zip_next, zip_fails, zip_length, zip_end}
+use Rattle.term_model.proofs.Zips.{zip_length}
+use Rattle.rules_ite.proofs.DistinctLemmas.{zip_next, zip_fails, zip_end}
 
 abbrev some_term : Term
 some_term = numeral 0

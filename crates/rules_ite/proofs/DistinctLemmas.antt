@@ -3,6 +3,7 @@ use Rattle.std.proofs.Common.{◌≡◌, ◌≢◌, ◌↔◌, inl, inr, ◌<◌
 use Rattle.std.specs.List.{AllZip}
 use Rattle.std.proofs.lemmas.List.{drop_all}
 use Rattle.sym_table.specs.Table.{Table}
+use Rattle.term_model.proofs.Zips.{zip_length}
 use Rattle.term_model.specs.Flips.{equality}
 use Rattle.term_model.specs.Terms.{Term, not_of}
 use Rattle.term_pool.specs.Views.{TermsView, RefersTo}
@@ -66,12 +67,6 @@ module _ (R : Term → Term → Type 0) where
   zip_fails i (u ∷ us) [] d e below within fails h = omega (arith, within)
   zip_fails zero (u ∷ us) (l ∷ ls) d e below within fails h = fails h.0
   zip_fails (suc i) (u ∷ us) (l ∷ ls) d e below within fails h = zip_fails i us ls d e (omega (arith, below)) (omega (arith, within)) fails h
-
-  pub zip_length : (us ls : List Term) → AllZip R us ls → length us ≡ length ls
-  zip_length [] [] h = refl
-  zip_length [] (l ∷ ls) h = absurd h
-  zip_length (u ∷ us) [] h = absurd h
-  zip_length (u ∷ us) (l ∷ ls) h = ap suc (zip_length us ls h.1)
 
   pub zip_end : (i : ℕ) (us ls : List Term) → length us ≤ i → length ls ≤ i → AllZip R (drop i us) (drop i ls)
   zip_end i us ls over other = rw (drop_all i us over, drop_all i ls other) tt

@@ -5,26 +5,12 @@ use Rattle.std.proofs.lemmas.Bool.{eqb-true, eq-eqb}
 use Rattle.std.proofs.lemmas.List.{nil_from_length}
 use Rattle.std.proofs.lemmas.List.Elements.{All-cons, All-head, All-tail}
 use Rattle.sym_table.specs.Table.{Table}
+use Rattle.term_model.proofs.Zips.{zip_take, zip_drop}
 use Rattle.term_model.specs.Terms.{Term}
 use Rattle.term_pool.specs.Views.{TermsView, RefersTo, ReferToAll}
 use Rattle.rule_model.specs.Definitions.{AreInequalities, IsInequality}
 use Rattle.schema_match.proofs.ReferLemmas.{refer_length}
 use Rattle.rules_ite.proofs.DistinctLemmas.{apart_first, apart_fails, apart_short}
-
--- so many references from the front, and those behind them
-refer_take : (s : Table) (v : TermsView) (n : ℕ) (rs : List ℕ) (ts : List Term) → ReferToAll s v rs ts → ReferToAll s v (take n rs) (take n ts)
-refer_take s v zero rs ts h = tt
-refer_take s v (suc n) [] [] h = tt
-refer_take s v (suc n) [] (t ∷ ts) h = absurd h
-refer_take s v (suc n) (r ∷ rs) [] h = absurd h
-refer_take s v (suc n) (r ∷ rs) (t ∷ ts) h = (h.0, refer_take s v n rs ts h.1)
-
-refer_drop : (s : Table) (v : TermsView) (n : ℕ) (rs : List ℕ) (ts : List Term) → ReferToAll s v rs ts → ReferToAll s v (drop n rs) (drop n ts)
-refer_drop s v zero rs ts h = h
-refer_drop s v (suc n) [] [] h = tt
-refer_drop s v (suc n) [] (t ∷ ts) h = absurd h
-refer_drop s v (suc n) (r ∷ rs) [] h = absurd h
-refer_drop s v (suc n) (r ∷ rs) (t ∷ ts) h = refer_drop s v n rs ts h.1
 
 -- what holds of all items holds of those
 pub all_take : (P : ℕ → Type 0) (n : ℕ) (xs : List ℕ) → All P xs → All P (take n xs)
@@ -88,7 +74,7 @@ module _ (s : Table) (v : TermsView) (us ls : List Term) (items left : List ℕ)
       here : IsTrue b ↔ AllZip (IsInequality front.0) front.1 (take (length front.1) so_far.literals)
       here =
           test front.0 front.1 (take (length front.1) so_far.literals) front.3 front.4
-          (subst (λ n. ReferToAll s v (take n left) (take (length front.1) so_far.literals)) (sym counts) (refer_take s v (length front.1) left so_far.literals so_far.literals_refer))
+          (subst (λ n. ReferToAll s v (take n left) (take (length front.1) so_far.literals)) (sym counts) (zip_take (RefersTo s v) (length front.1) left so_far.literals so_far.literals_refer))
 
       pub not_apart_here : b ≡ false → IsTrue false ↔ AreInequalities us ls
       not_apart_here fails = (λ e. absurd cc, λ h. absurd (apart_fails front.0 front.1 so_far.literals b here fails (said.0 h)))
@@ -100,6 +86,6 @@ module _ (s : Table) (v : TermsView) (us ls : List Term) (items left : List ℕ)
             terms = front.1;
             literals = drop (length front.1) so_far.literals;
             terms_refer = front.4;
-            literals_refer = subst (λ n. ReferToAll s v (drop n left) (drop (length front.1) so_far.literals)) (sym counts) (refer_drop s v (length front.1) left so_far.literals so_far.literals_refer);
+            literals_refer = subst (λ n. ReferToAll s v (drop n left) (drop (length front.1) so_far.literals)) (sym counts) (zip_drop (RefersTo s v) (length front.1) left so_far.literals so_far.literals_refer);
             say = (λ h. next.0 (said.0 h), λ h. said.1 (next.1 h));
           }

@@ -4,7 +4,7 @@ use Rattle.pair_pool.specs.Views.{PassView}
 use Rattle.sym_table.specs.Table.{Table, Keeps}
 use Rattle.term_model.specs.Terms.{Var, Term}
 use Rattle.term_pool.specs.Views.{TermsView, RefersTo, IsTerm, KeepsTerms}
-use Rattle.contexts.specs.PutIn.{PlacesTerm, LacksRoomFor}
+use Rattle.term_pool.specs.Placing.{PlacesTerm, LacksRoomFor}
 use Rattle.rule_model.specs.Proofs.{ProofItems}
 use Rattle.proof_contexts.specs.Placing.{PlacesOf, LacksRoomForSome}
 use Rattle.proof_contexts.proofs.Placing.{places_of_term, places_kind, lacks_for_term, lacks_kind}

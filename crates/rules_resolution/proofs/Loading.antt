@@ -10,7 +10,7 @@ use Rattle.rule_model.specs.Proofs.{ProofItems}
 use Rattle.rule_model.specs.Reading.{premises_at, premises_of}
 use Rattle.rule_model.specs.Scopes.{outermost, commands_in}
 use Rattle.rule_model.specs.WellFormed.{IsWellFormed}
-use Rattle.rule_model.proofs.Renamings.{zip_push}
+use Rattle.term_model.proofs.Zips.{zip_push}
 use Rattle.rule_model.proofs.Standing.{premise_earlier}
 use Rattle.rules_resolution.specs.Literal.{Lit}
 use Rattle.rules_resolution.specs.TermLiterals.{AreLiteralsOf, AreClausesOf}

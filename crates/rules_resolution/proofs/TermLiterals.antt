@@ -20,7 +20,7 @@ use Rattle.rule_model.specs.Literals.{negation_of}
 use Rattle.rule_model.specs.Renaming.{KeepsAtomsApart, IsLiteralImage, AreLiteralImages, AreAllImages}
 use Rattle.rule_model.specs.Resolution.{as_literal, as_clause}
 use Rattle.rule_model.proofs.Consequence.{negation_of-negation_of}
-use Rattle.rule_model.proofs.Renamings.{zip_push, zip_length}
+use Rattle.term_model.proofs.Zips.{zip_push, zip_length}
 use Rattle.rule_model.proofs.Resolution.{bare_is_bare, atom_is_plain}
 use Rattle.rules_resolution.specs.Literal.{Lit}
 use Rattle.rules_resolution.specs.Clause.{clauses_of}

@@ -13,7 +13,8 @@ use Rattle.rule_model.specs.WellFormed.{AreWellFormed}
 use Rattle.rules_subproof.specs.Fronts.{HasFront}
 use Rattle.rules_subproof.proofs.Discharged.{discharged_assumed}
 use Rattle.rules_subproof.proofs.Fronts.{AreUnits, Matches, negated_count, of_front, front_fits, front_of}
-use Rattle.rules_subproof.proofs.Zips.{zip_length, zip_at, zip_one}
+use Rattle.term_model.proofs.Zips.{zip_length}
+use Rattle.rules_subproof.proofs.Zips.{zip_at, zip_one}
 
 module _ (s : Table) (v : TermsView) (refs : ProofItems ℕ ℕ) (of : ProofItems Var Term) (i : ℕ) (formed : AreWellFormed outermost refs) (same : discharged_at refs i ≡ discharged_at of i) (zip : (j : ℕ) → AllZip (RefersTo s v) (clause_at refs j) (clause_at of j)) where
   pub units : AreUnits (clause_at of) (discharged_at of i)
@@ -31,7 +32,7 @@ module _ (s : Table) (v : TermsView) (refs : ProofItems ℕ ℕ) (of : ProofItem
   pub too_few : (rs ds : List ℕ) → rs ≡ clause_at refs i → ds ≡ discharged_at refs i → length rs < length ds → ¬ HasFront (negations of i) (clause_at of i)
   too_few rs ds e f few front =
       let fits = front_fits (clause_at of) (discharged_at of i) (clause_at of i) units front in
-      let longs = ap length e ∙ zip_length s v (clause_at refs i) (clause_at of i) (zip i) in
+      let longs = ap length e ∙ zip_length (RefersTo s v) (clause_at refs i) (clause_at of i) (zip i) in
       let shorts = ap length (f ∙ same) in omega arith
 
   pub step : (rs ds : List ℕ) (k l r : ℕ) (met : Bool) → rs ≡ clause_at refs i → ds ≡ discharged_at refs i → k < length ds → length ds ≤ length rs → l ≡ slice_index_or rs k l → clause_at refs (slice_index_or ds k 0) ≡ r ∷ [] → ((t u : Term) → RefersTo s v l t → RefersTo s v r u → IsTrue met ↔ (t ≡ not_of u)) → IsTrue met ↔ Matches (clause_at of) (discharged_at of i) (clause_at of i) k
@@ -49,7 +50,7 @@ module _ (s : Table) (v : TermsView) (refs : ProofItems ℕ ℕ) (of : ProofItem
   -- all literals up to the number of what is discharged
   pub begins : (rs ds : List ℕ) → rs ≡ clause_at refs i → ds ≡ discharged_at refs i → length ds ≤ length rs → ((k : ℕ) → k < length ds → Matches (clause_at of) (discharged_at of i) (clause_at of i) k) → HasFront (negations of i) (clause_at of i)
   begins rs ds e f few each =
-      let longs = ap length e ∙ zip_length s v (clause_at refs i) (clause_at of i) (zip i) in
+      let longs = ap length e ∙ zip_length (RefersTo s v) (clause_at refs i) (clause_at of i) (zip i) in
       let shorts = ap length (f ∙ same) in
       front_of (clause_at of) (discharged_at of i) (clause_at of i) units (omega arith) (λ k below. each k (omega arith))
 

@@ -8,7 +8,8 @@ use Rattle.term_model.specs.Terms.{Term, operation, no_terms, term, numeral, var
 use Rattle.term_pool.specs.Views.{TermsView, RefersTo}
 use Rattle.rule_model.specs.Closings.{IsEnding}
 use Rattle.term_parts.specs.Parts.{IsOver}
-use Rattle.rules_subproof.proofs.Zips.{zip_length, zip_at}
+use Rattle.term_model.proofs.Zips.{zip_length}
+use Rattle.rules_subproof.proofs.Zips.{zip_at}
 
 false_is : (t : Term) → IsOver Op.False 0 t ↔ (t ≡ operation Op.False no_terms)
 false_is (operation o no_terms) = (λ h. ap (λ x. operation x no_terms) h.0, λ e. (heads e, refl))
@@ -78,15 +79,15 @@ drop_none (suc n) (x ∷ xs) e = drop_none n xs (omega arith)
 
 module _ (s : Table) (v : TermsView) (rs ps : List ℕ) (ts us : List Term) (zip : AllZip (RefersTo s v) rs ts) (inner : AllZip (RefersTo s v) ps us) (place : ℕ) where
   none_inside : length ps ≡ 0 → length us ≡ 0
-  none_inside e = let n = zip_length s v ps us inner in omega arith
+  none_inside e = let n = zip_length (RefersTo s v) ps us inner in omega arith
 
   pub ends_nowhere : length ps ≡ 0 → length rs ≡ place → IsEnding us (drop place ts)
   ends_nowhere e f =
-      (no_literals us (drop place ts) (none_inside e)).1 (inl (drop_none place ts (let n = zip_length s v rs ts zip in omega arith)))
+      (no_literals us (drop place ts) (none_inside e)).1 (inl (drop_none place ts (let n = zip_length (RefersTo s v) rs ts zip in omega arith)))
 
   pub too_long : length ps ≡ 0 → place ≤ length rs → ¬ (length rs ≡ place) → ¬ (length rs ≡ place + 1) → ¬ IsEnding us (drop place ts)
   too_long e fits not_none not_one ending =
-      let long = zip_length s v rs ts zip in
+      let long = zip_length (RefersTo s v) rs ts zip in
       let rest = length-drop place ts in
       elim ((no_literals us (drop place ts) (none_inside e)).0 ending) [
         | inl f ↦ not_none (let n : length (drop place ts) ≡ 0 = ap length f in omega arith)
@@ -97,7 +98,7 @@ module _ (s : Table) (v : TermsView) (rs ps : List ℕ) (ts us : List Term) (zip
   ends_in_false e one l there met is =
       let d = operation Op.False no_terms in
       let t = slice_index_or ts place d in
-      let long = zip_length s v rs ts zip in
+      let long = zip_length (RefersTo s v) rs ts zip in
       let refers : RefersTo s v l t = subst (λ x. RefersTo s v x t) (sym there) (zip_at s v rs ts place l d zip (omega arith)) in
       let end : drop place ts ≡ t ∷ [] = drop_one place ts d (omega arith) in
       let ending = no_literals us (drop place ts) (none_inside e) in (
@@ -114,5 +115,5 @@ module _ (s : Table) (v : TermsView) (rs ps : List ℕ) (ts us : List Term) (zip
   pub ends_whole : ((p q : ℕ) (t u : Term) → RefersTo s v p t → RefersTo s v q u → (p ≡ q) ↔ (t ≡ u)) → ¬ (length ps ≡ 0) → (met : Bool) → IsTrue met ↔ (drop place rs ≡ ps) → IsTrue met ↔ IsEnding us (drop place ts)
   ends_whole equal some met is =
       let both = lists_equal s v equal (drop place rs) ps (drop place ts) us (zip_drop s v place rs ts zip) inner in
-      let ending = whole_literals us (drop place ts) (λ e. some (let n = zip_length s v ps us inner in omega arith)) in
+      let ending = whole_literals us (drop place ts) (λ e. some (let n = zip_length (RefersTo s v) ps us inner in omega arith)) in
       (λ m. ending.1 (both.0 (is.0 m)), λ h. is.1 (both.1 (ending.0 h)))

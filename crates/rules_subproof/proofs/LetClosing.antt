@@ -12,8 +12,8 @@ use Rattle.rule_model.specs.Closings.{IsAssumeIn, AreLinkedTo, IsLetClosing}
 use Rattle.rule_model.specs.Proofs.{ProofItems}
 use Rattle.rule_model.specs.Reading.{rule_at, premises_at, scope_at, bindings_at}
 use Rattle.rule_model.specs.RuleNames.{is_assume}
-use Rattle.proof_store.specs.Meaning.{IsBindingOf}
-use Rattle.rules_subproof.proofs.Zips.{zip_length}
+use Rattle.term_pool.specs.Bindings.{IsBindingOf}
+use Rattle.term_model.proofs.Zips.{zip_length}
 use Rattle.rules_subproof.specs.Lets.{EquatesLet, BindsAs, clauses_at}
 
 module _ (refs : ProofItems ℕ ℕ) (of : ProofItems Var Term) (i k : ℕ) (scope : (j : ℕ) → scope_at refs j ≡ scope_at of j) (rule : (j : ℕ) → rule_at refs j ≡ rule_at of j) where
@@ -29,7 +29,7 @@ module _ (refs : ProofItems ℕ ℕ) (of : ProofItems Var Term) (i k : ℕ) (sco
 -- a let's values and the bindings of an anchor of the same variables are as many
 pub one_each : (s : Table) (v : TermsView) (anchor : List (ℕ × ℕ)) (bound : List (Var × Term)) (values : List ℕ) (bs : Bindings) → AllZip (IsBindingOf s v) anchor bound → AllZip (RefersTo s v) values (bound_terms bs) → map (λ (b : Var × Term). b.0) bound ≡ variables_of bs → length values ≡ length anchor
 one_each s v anchor bound values bs zip refer same =
-    zip_length s v values (bound_terms bs) refer ∙ (terms_count bs ∙ (sym (ap length same) ∙ (length-map bound (λ (b : Var × Term). b.0) ∙ bound_count anchor bound zip)))
+    zip_length (RefersTo s v) values (bound_terms bs) refer ∙ (terms_count bs ∙ (sym (ap length same) ∙ (length-map bound (λ (b : Var × Term). b.0) ∙ bound_count anchor bound zip)))
   where
     terms_count : (bs : Bindings) → length (bound_terms bs) ≡ length (variables_of bs)
     terms_count no_bindings = refl

@@ -7,7 +7,7 @@ use Rattle.term_model.specs.Terms.{Var, Term}
 use Rattle.term_pool.specs.Views.{TermsView, RefersTo}
 use Rattle.rule_model.specs.Congruence.{AreDifferences}
 use Rattle.rule_model.specs.Proofs.{ProofItems}
-use Rattle.proof_store.specs.Meaning.{IsBindingOf}
+use Rattle.term_pool.specs.Bindings.{IsBindingOf}
 use Rattle.rules_subproof.specs.Lets.{clauses_at}
 use Rattle.rules_subproof.proofs.Rests.{drop_past}
 

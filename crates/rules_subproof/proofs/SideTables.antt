@@ -14,7 +14,7 @@ use Rattle.rule_model.specs.Congruence.{AreSides}
 use Rattle.rule_model.specs.Proofs.{ProofItems}
 use Rattle.rule_model.specs.Reading.{clause_at}
 use Rattle.rule_model.proofs.Lists.{contains_none, contains_cases}
-use Rattle.proof_store.specs.Meaning.{IsBindingOf}
+use Rattle.term_pool.specs.Bindings.{IsBindingOf}
 use Rattle.rules_subproof.specs.contracts.sides.SidesPartialEq.TheImpl as tables
 use Rattle.rules_subproof.specs.declared.sides.Sides.{Sides}
 use Rattle.rules_subproof.specs.Lets.{IsUnitOf, IsEqualBy, clauses_at}

@@ -8,7 +8,8 @@ use Rattle.term_pool.specs.Views.{TermsView, RefersTo}
 use Rattle.rule_model.specs.Clausal.{as_it_stands}
 use Rattle.term_parts.specs.Parts.{AreSidesOf}
 use Rattle.rules_subproof.specs.Lets.{IsUnitOf}
-use Rattle.rules_subproof.proofs.Zips.{zip_length, zip_one}
+use Rattle.term_model.proofs.Zips.{zip_length}
+use Rattle.rules_subproof.proofs.Zips.{zip_one}
 
 pub none_then : {X : Type 0} {P Q : Type 0} (o : Option X) → IfNone o P → (P → Q) → IfNone o Q
 none_then None h f = f h
@@ -25,7 +26,7 @@ unit_parts e = (cc, cc)
 module _ (s : Table) (v : TermsView) where
   pub many_are_no_unit : (rs : List ℕ) (ts : List Term) (t u : Term) → ¬ (length rs ≡ 1) → AllZip (RefersTo s v) rs ts → ts ≢ equality t u ∷ []
   many_are_no_unit rs ts t u many zip e =
-      many (let n = zip_length s v rs ts zip in let m : length ts ≡ 1 = ap length e in omega arith)
+      many (let n = zip_length (RefersTo s v) rs ts zip in let m : length ts ≡ 1 = ap length e in omega arith)
 
   pub unit_of : (rs : List ℕ) (l : ℕ) (p : ℕ × ℕ) → length rs ≡ 1 → l ≡ slice_index_or rs 0 l → ((t : Term) → RefersTo s v l t → AreSidesOf s v as_it_stands p t) → (ts : List Term) → AllZip (RefersTo s v) rs ts → IsUnitOf s v p ts
   unit_of rs l p one is sides ts zip =

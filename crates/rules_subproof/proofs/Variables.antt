@@ -9,7 +9,7 @@ use Rattle.term_model.specs.Terms.{Var, Term, Bindings, no_bindings, binding}
 use Rattle.term_pool.specs.Building.{AreBindings}
 use Rattle.term_pool.specs.StandsFor.{variable_leaf}
 use Rattle.term_pool.specs.Views.{TermsView, RefersTo}
-use Rattle.proof_store.specs.Meaning.{IsBindingOf}
+use Rattle.term_pool.specs.Bindings.{IsBindingOf}
 use Rattle.rules_subproof.specs.Lets.{AreLeavesOf}
 
 -- the leaves that are left, and what is asked of their variables

@@ -1,5 +1,5 @@
 -- References and terms in step.
-use Rattle.std.proofs.Common.{◌≡◌, ◌<◌, ℕ, zero, suc, List, [], ◌∷◌, length, slice_index_or, All, refl, ap, subst, arith}
+use Rattle.std.proofs.Common.{◌≡◌, ◌<◌, ℕ, zero, suc, List, [], ◌∷◌, length, slice_index_or, All, refl, subst, arith}
 use Rattle.std.specs.List.{AllZip, AllByRecursion}
 use Rattle.std.proofs.lemmas.List.Elements.{All-from_recursion}
 use Rattle.sym_table.specs.Table.{Table}
@@ -7,12 +7,6 @@ use Rattle.term_model.specs.Terms.{Term}
 use Rattle.term_pool.specs.Views.{TermsView, RefersTo, IsTerm}
 
 module _ (s : Table) (v : TermsView) where
-  pub zip_length : (rs : List ℕ) (ts : List Term) → AllZip (RefersTo s v) rs ts → length rs ≡ length ts
-  zip_length [] [] h = refl
-  zip_length [] (t ∷ ts) h = absurd h
-  zip_length (r ∷ rs) [] h = absurd h
-  zip_length (r ∷ rs) (t ∷ ts) h = ap suc (zip_length rs ts h.1)
-
   pub zip_at : (rs : List ℕ) (ts : List Term) (k d : ℕ) (e : Term) → AllZip (RefersTo s v) rs ts → k < length rs → RefersTo s v (slice_index_or rs k d) (slice_index_or ts k e)
   zip_at [] ts k d e h below = absurd (omega arith)
   zip_at (r ∷ rs) [] k d e h below = absurd h

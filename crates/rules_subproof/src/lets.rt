@@ -11,7 +11,8 @@ ghost use Rattle.term_model.specs.Terms.{Var, Term, let_in, Bindings};
 ghost use Rattle.term_pool.specs.Reading.{IsLetTerm};
 ghost use Rattle.term_pool.specs.Views.{IsTerm, RefersTo};
 ghost use Rattle.proof_store.specs.Checks.{StandForSome};
-ghost use Rattle.proof_store.specs.Meaning.{StandForItems, IsBindingOf};
+ghost use Rattle.term_pool.specs.Bindings.{IsBindingOf};
+ghost use Rattle.proof_store.specs.Meaning.{StandForItems};
 ghost use Rattle.rules_subproof.specs.Lets.{EquatesLet, IsLetEquated, AreLeavesOf, BindsAs};
 
 use crate::assumes::are_among;

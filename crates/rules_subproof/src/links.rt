@@ -9,7 +9,8 @@ ghost use Rattle.rule_model.specs.declared.rules.Mode.TheVariants as Mode;
 ghost use Rattle.term_model.specs.Terms.{Var, Term};
 ghost use Rattle.term_pool.specs.Views.{RefersTo};
 ghost use Rattle.proof_store.specs.Checks.{StandForSome};
-ghost use Rattle.proof_store.specs.Meaning.{StandForItems, IsBindingOf};
+ghost use Rattle.term_pool.specs.Bindings.{IsBindingOf};
+ghost use Rattle.proof_store.specs.Meaning.{StandForItems};
 ghost use Rattle.rules_subproof.specs.Lets.{clauses_at};
 ghost use Rattle.rules_subproof.specs.SideTables.{IsBoundTo};
 

@@ -1,8 +1,9 @@
 -- References to terms in lists and on stacks.
-use Rattle.std.proofs.Common.{◌≡◌, ◌↔◌, ◌<◌, ℕ, zero, suc, List, [], ◌∷◌, ◌++◌, length, get_or, reverse, Contains, inl, inr, refl, sym, ◌∙◌, ap, subst, arith}
+use Rattle.std.proofs.Common.{◌≡◌, ◌↔◌, ◌<◌, ℕ, List, [], ◌∷◌, ◌++◌, length, get_or, reverse, Contains, inl, inr, refl, sym, ◌∙◌, ap, subst}
 use Rattle.std.proofs.lemmas.List.{reverse-append, reverse-reverse}
 use Rattle.rule_model.proofs.Lists.{contains_none, contains_cases, contains_head, contains_later}
 use Rattle.sym_table.specs.Table.{Table}
+use Rattle.term_model.proofs.Zips.{zip_append, zip_length, zip_at}
 use Rattle.term_model.specs.Terms.{Term}
 use Rattle.term_pool.specs.Views.{TermsView, RefersTo, ReferToAll}
 use Rattle.schema_match.specs.Stack.{StackOf}
@@ -30,10 +31,7 @@ pub stack_push : (s : Table) (v : TermsView) (items : List ℕ) (r : ℕ) (t : T
 stack_push s v items r t ts h k = subst (λ rs. ReferToAll s v rs (t ∷ ts)) (sym (reverse-append items (r ∷ []))) (h, k)
 
 pub refer_append : (s : Table) (v : TermsView) (rs qs : List ℕ) (ts us : List Term) → ReferToAll s v rs ts → ReferToAll s v qs us → ReferToAll s v (rs ++ qs) (ts ++ us)
-refer_append s v [] qs [] us h k = k
-refer_append s v [] qs (t ∷ ts) us h k = absurd h
-refer_append s v (r ∷ rs) qs [] us h k = absurd h
-refer_append s v (r ∷ rs) qs (t ∷ ts) us h k = (h.0, refer_append s v rs qs ts us h.1 k)
+refer_append s v rs qs ts us = zip_append (RefersTo s v) rs ts qs us
 
 -- items that are put on a stack, the first at the top
 pub stack_more : (s : Table) (v : TermsView) (items more : List ℕ) (ts us : List Term) → ReferToAll s v more us → StackOf s v items ts → StackOf s v (items ++ reverse more) (us ++ ts)
@@ -62,13 +60,7 @@ contains_references s v one (q ∷ rs) (u ∷ ts) r t h refers c =
     ]
 
 pub refer_length : (s : Table) (v : TermsView) (rs : List ℕ) (ts : List Term) → ReferToAll s v rs ts → length rs ≡ length ts
-refer_length s v [] [] h = refl
-refer_length s v [] (t ∷ ts) h = absurd h
-refer_length s v (r ∷ rs) [] h = absurd h
-refer_length s v (r ∷ rs) (t ∷ ts) h = ap suc (refer_length s v rs ts h.1)
+refer_length s v = zip_length (RefersTo s v)
 
 pub refer_at : (s : Table) (v : TermsView) (rs : List ℕ) (ts : List Term) → ReferToAll s v rs ts → (i d : ℕ) (e : Term) → i < length rs → RefersTo s v (get_or rs i d) (get_or ts i e)
-refer_at s v [] ts h i d e below = absurd (omega arith)
-refer_at s v (r ∷ rs) [] h i d e below = absurd h
-refer_at s v (r ∷ rs) (t ∷ ts) h zero d e below = h.0
-refer_at s v (r ∷ rs) (t ∷ ts) h (suc i) d e below = refer_at s v rs ts h.1 i d e (omega arith)
+refer_at s v rs ts h i d e below = zip_at (RefersTo s v) rs ts i d e h below

@@ -12,7 +12,7 @@ use Rattle.term_model.specs.Terms.{Var}
 use Rattle.term_pool.specs.StandsFor.{variable_leaf}
 use Rattle.term_pool.specs.Views.{TermsView}
 use Rattle.smtlib_reader.specs.Defining.{AddsParameter, AreListed, IsReadyForBody}
-use Rattle.rule_model.specs.Heights.{height}
+use Rattle.term_model.specs.Heights.{height}
 use Rattle.term_names.specs.InScope.{IsScope, AreValuesBound}
 use Rattle.problem_text.specs.Names.{Bound, Place, itself, inside}
 use Rattle.smtlib_reader.specs.Parameters.{parameter_said, parameters_said}

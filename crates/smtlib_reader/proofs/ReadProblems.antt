@@ -1,4 +1,4 @@
--- A whole problem that was read.
+-- Cited by crates above. A whole problem that was read.
 use Rattle.std.proofs.Common.{◌≡◌, refl, sym, subst, ℕ, List, [], ◌∷◌, Bool, Result, Ok, Err, inr, ◌<◌, zero, suc, length, get_or, arith}
 use Rattle.std.specs.Prelude.{⊤}
 use Rattle.pair_pool.specs.Views.{IsKnown}

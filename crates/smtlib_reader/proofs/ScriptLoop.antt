@@ -10,7 +10,7 @@ use Rattle.problem_text.specs.Outcomes.{Outcome}
 use Rattle.problem_text.specs.Scripts.{Script}
 use Rattle.smtlib_reader.specs.Sessions.{SessionView, IsSession}
 use Rattle.term_names.specs.declared.faults.ReadFault.{ReadFault}
-use Rattle.term_reader.proofs.Staying.{kept_none, kept_then, places_none, places_then}
+use Rattle.term_reader.proofs.Staying.{grow_none, grow_then, places_none, places_then}
 use Rattle.term_expansion.specs.SymbolsAndTerms.{both, Grow}
 use Rattle.term_reader.specs.Reading.{Comes, terms_read}
 
@@ -32,7 +32,7 @@ pub record IsUnderWay (l : Lexer) (s : Table) (v : TermsView) (d : SessionView) 
 pub begins : (l : Lexer) (s : Table) (v : TermsView) (d : SessionView) → position l ≤ length (source l) → IsUnderWay l s v d l s v d
 begins l s v d inside = record {
   reads = λ sc whole left session. record { answer = (sc, left, session); placed = places_none s v.pass v.pass _ refl };
-  grow = kept_none (both s v);
+  grow = grow_none (both s v);
   same_text = refl;
   inside = inside;
   few = omega arith;
@@ -58,7 +58,7 @@ module _ {l : Lexer} {s : Table} {v : TermsView} {d : SessionView} {m : Lexer} {
       → most_after (length y.sorts) (source o) (position o) ≤ most_after (length z.sorts) (source m) (position m) → IsUnderWay l s v d o y x f
   goes_on o reads grow same inside few few_sorts = record {
     reads = then_reads reads grow;
-    grow = kept_then _ _ _ h.grow grow;
+    grow = grow_then _ _ _ h.grow grow;
     same_text = same ∙ h.same_text;
     inside = let same = ap (λ t. length t) h.same_text in omega arith;
     few = let a = h.few in omega arith;

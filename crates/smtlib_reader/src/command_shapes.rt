@@ -4,7 +4,6 @@ ghost use Rattle.sexpr.specs.Words as spell;
 ghost use Rattle.problem_text.specs.Commands as shape;
 ghost use Rattle.text_items.specs.ItemShapes.{items_of};
 ghost use Rattle.text_items.specs.ItemsAt.{end_at, item_at, items_at};
-ghost use Rattle.text_items.specs.Keywords.{list_fault};
 
 use sexpr::{TokenKind, WordKind, word_kind};
 use text_items::nodes::ItemText;
@@ -14,20 +13,6 @@ fn fault_unless(fits: bool, place: u64) -> Option<u64>
     ensures { result ≡ (if fits then None else Some place) }
 {
     if fits { None } else { Some(place) }
-}
-
-/// Where a list has to stand.
-pub(crate) fn list_fault(items: &ItemText<'_, '_>, k: usize) -> Option<u64>
-    requires { k < length items.now.nodes }
-    ensures fault { result ≡ list_fault (item_at items.now k) }
-    ensures inside { items_of (item_at items.now k) ≡ items_at items.now (k + 1) (end_at items.now k) }
-{
-    let list = items.node(k);
-    if is_list(items, k) {
-        None
-    } else {
-        Some(list.token.start)
-    }
 }
 
 /// Where a keyword has to stand.

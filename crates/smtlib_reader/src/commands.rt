@@ -4,10 +4,11 @@ ghost use Rattle.problem_text.specs.Commands as spec;
 ghost use Rattle.text_items.specs.ItemsAt.{end_at, item_at, items_at};
 ghost use Rattle.smtlib_reader.specs.CommandShapes.{IsScriptCommand, script_command_so, script_unless};
 
-use crate::command_shapes::{is_zero, keyword_fault, list_fault, numeral_fault, parameters_fault};
+use crate::command_shapes::{is_zero, keyword_fault, numeral_fault, parameters_fault};
 use crate::command_words::{CommandWord, word_named};
 use sexpr::{Cause, Refusal};
 use text_items::children::{bad_command, take};
+use text_items::keywords::list_fault;
 use text_items::nodes::ItemText;
 use text_items::refusals::refused;
 use text_items::shapes::{excess, head_word, symbol_fault};
@@ -154,7 +155,7 @@ fn declare_fun(items: &ItemText<'_, '_>, start: u64, at: usize) -> Result<Comman
     let head = FunctionHead {
         name,
         first: sorts + 1,
-        end: target,
+        end: items.node(sorts).next,
         target,
     };
     unless(fault, Command::DeclareFun(head))

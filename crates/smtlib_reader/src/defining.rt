@@ -32,7 +32,7 @@ use sym_table::Symbols;
 use term_expansion::values::Value;
 use term_model::Sort;
 use term_names::faults::ReadFault;
-use term_names::lets::{bind, unbind};
+use term_names::lets::{LetVariables, bind, unbind};
 use term_names::settings::ReadSettings;
 use term_names::stacks::Values;
 use term_pool::Terms;
@@ -177,14 +177,12 @@ fn enter_parameters(
         parameters,
     )?;
     let sorts = Vec::from_slice(settings.alloc, reader.values.sorts_from(0))?;
-    bind(
-        symbols,
-        &mut reader.names,
-        &leaves,
-        &reader.values,
-        0,
-        false,
-    )?;
+    let variables = LetVariables {
+        leaves: &leaves,
+        values: &reader.values,
+        from: 0,
+    };
+    bind(symbols, &mut reader.names, &variables, false)?;
     reader.values.truncate(0);
     Ok(Listed { leaves, sorts })
 }

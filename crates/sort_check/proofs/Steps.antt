@@ -9,8 +9,8 @@ use Rattle.term_model.specs.declared.symbols.Op.{Op}
 use Rattle.term_model.specs.Terms.{Var, Fun, Term, Terms, Bindings, numeral, variable, operation, call, let_in, no_terms, term, list_of}
 use Rattle.term_model.specs.Sorts.{IsOf, AreOf, application_sort}
 use Rattle.term_model.proofs.Arities.{choice_sort_of, call_sort_of}
+use Rattle.term_model.specs.Heights.{height, highest}
 use Rattle.term_pool.specs.declared.shape.Shape.{Shape}
-use Rattle.term_pool.specs.Heights.{height_of, highest_of}
 use Rattle.term_pool.specs.Reading.{arguments_of, IsShapeOf, HasArgument, IsLetTerm}
 use Rattle.term_pool.specs.StandsFor.{variable_leaf, function_leaf}
 use Rattle.term_pool.specs.Views.{TermsView, RefersTo, KeepsTerms}
@@ -100,11 +100,12 @@ is_let s v r m n shape e w =
     record { symbols = s; bindings = x.0; body = x.1; refers = rw x.2 at w.refers }
 
 pub let_step : (s : Table) (v w : TermsView) (r b m : ℕ) (n : Shape) → w ≡ v → ((t : Term) → RefersTo s v r t → IsShapeOf s t n) → n ≡ Shape.LetTerm m → ((s : Table) (bs : Bindings) (u : Term) → RefersTo s v r (let_in bs u) → RefersTo s w b u) → (t : Term) (sort : Sort) → RefersTo s v r t → IsOf t sort → IsLower s v t sort b
+unfolding height
 let_step s v w r b m n same shape e body t sort h i =
     let x = shape_let s t n m (shape t h) e in
     let j : IsOf (let_in x.0 x.1) sort = rw x.2 at i in
     let k : RefersTo s v r (let_in x.0 x.1) = rw x.2 at h in
-    let d : height_of t ≡ height_of (let_in x.0 x.1) = ap height_of x.2 in
+    let d : height t ≡ height (let_in x.0 x.1) = ap height x.2 in
     record { lower = x.1; refers = rw same at (body s x.0 x.1 k); of = j.1; below = rw d (omega arith) }
 
 pub is_application : (s : Table) (v : TermsView) (r k m : ℕ) (n : Shape) → ((t : Term) → RefersTo s v r t → IsShapeOf s t n) → n ≡ Shape.App k m → IsWellSortedTerm s v r → IsWellSortedApplication s v r k
@@ -138,9 +139,10 @@ record IsBranch (ts : Terms) (sort : Sort) : Type 0 where
   there : slice_get (list_of ts) 1 ≡ Some branch
   long : 1 < length (list_of ts)
   of : IsOf branch sort
-  below : height_of branch ≤ highest_of ts
+  below : height branch ≤ highest ts
 
 branch_of : (ts : Terms) (sort : Sort) → AreOf ts (Sort.Bool ∷ sort ∷ sort ∷ []) → IsBranch ts sort
+unfolding height
 branch_of no_terms sort h = absurd h
 branch_of (term a no_terms) sort h = absurd h.1
 branch_of (term a (term b ts)) sort h = record {
@@ -171,12 +173,13 @@ ite_argument s v r k n op h is_ite w =
     record { symbols = s; means = operation Op.Ite y.0; refers = rw y.1 at w.term.refers; there = b.long }
 
 pub ite_step : (s : Table) (v w : TermsView) (r k n a : ℕ) (op : Op) → w ≡ v → LeafMeets s k (λ l. Kind.Op op ≡ kind_of n l) → op ≡ Op.Ite → ((s : Table) (t u : Term) → RefersTo s v r t → slice_get (arguments_of t) 1 ≡ Some u → RefersTo s w a u) → (t : Term) (sort : Sort) → RefersTo s v r t → IsOf t sort → IsHeadOf s k t → IsLower s v t sort a
+unfolding height
 ite_step s v w r k n a op same h is_ite argument t sort refers i head =
     let y = ite_at s k n op t h is_ite head in
     let j : IsOf (operation Op.Ite y.0) sort = rw y.1 at i in
     let b = ite_branch y.0 sort j in
     let g : RefersTo s v r (operation Op.Ite y.0) = rw y.1 at refers in
-    let d : height_of t ≡ height_of (operation Op.Ite y.0) = ap height_of y.1 in
+    let d : height t ≡ height (operation Op.Ite y.0) = ap height y.1 in
     let low = b.below in
     record { lower = b.branch; refers = rw same at (argument s (operation Op.Ite y.0) b.branch g b.there); of = b.of; below = rw d (omega arith) }
 

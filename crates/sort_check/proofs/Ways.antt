@@ -7,7 +7,7 @@ use Rattle.sym_table.specs.Table.{Table, IsTable}
 use Rattle.term_model.specs.declared.symbols.Sort.{Sort}
 use Rattle.term_model.specs.Terms.{Term}
 use Rattle.term_model.specs.Sorts.{IsOf}
-use Rattle.term_pool.specs.Heights.{height_of}
+use Rattle.term_model.specs.Heights.{height}
 use Rattle.term_pool.specs.Views.{TermsView, RefersTo}
 use Rattle.sort_check.specs.Descent.{IsLower}
 use Rattle.sort_check.specs.WellSorted.{IsWellSortedTerm}
@@ -16,7 +16,7 @@ use Rattle.sort_check.specs.WellSorted.{IsWellSortedTerm}
 pub record IsAbove (s : Table) (v : TermsView) (n q : ℕ) : Type 0 where
   pub term : Term
   pub refers : RefersTo s v q term
-  pub above : n < height_of term
+  pub above : n < height term
   pub number : q < 2 ^ 31
 
 -- the way from r to `at`: so many references, none of them twice, of terms higher than that of `at`, which is of the
@@ -32,7 +32,7 @@ pub record IsWay (s : Table) (v : TermsView) (r at passed : ℕ) : Type 0 where
   pub way : List ℕ
   pub counted : length way ≡ passed
   pub distinct : IsDistinct eqb way
-  pub above : AllByRecursion (IsAbove s v (height_of here)) way
+  pub above : AllByRecursion (IsAbove s v (height here)) way
 
 pub way_start : (s : Table) (v : TermsView) (r : ℕ) → IsWellSortedTerm s v r → IsWay s v r r 0
 unfolding IsDistinct
@@ -64,12 +64,12 @@ below_any s v n (x ∷ xs) h q e = go (eqb q x) refl (below_any s v n xs h.1 q)
 pub way_short : (s : Table) (v : TermsView) (r at passed : ℕ) → IsWay s v r at passed → passed ≤ 2 ^ 31
 way_short s v r at passed w =
     let n : ℕ = 2 ^ 31 in
-    let le = length-le_from_distinct_below w.way n w.distinct (below_any s v (height_of w.here) w.way w.above) in
+    let le = length-le_from_distinct_below w.way n w.distinct (below_any s v (height w.here) w.way w.above) in
     let e = w.counted in
     omega arith
 
 module _ (s : Table) (v : TermsView) (table : IsTable s) (law : (s : Table) → IsTable s → (p q : ℕ) (t u : Term) → RefersTo s v p t → RefersTo s v q u → (p ≡ q) ↔ (t ≡ u)) where
-  apart : (at : ℕ) (t : Term) → RefersTo s v at t → (xs : List ℕ) → AllByRecursion (IsAbove s v (height_of t)) xs → AllByRecursion (λ y. eqb at y ≡ false) xs
+  apart : (at : ℕ) (t : Term) → RefersTo s v at t → (xs : List ℕ) → AllByRecursion (IsAbove s v (height t)) xs → AllByRecursion (λ y. eqb at y ≡ false) xs
   apart at t h [] all = tt
   apart at t h (x ∷ xs) all = (go (eqb at x) refl, apart at t h xs all.1)
     where
@@ -77,7 +77,7 @@ module _ (s : Table) (v : TermsView) (table : IsTable s) (law : (s : Table) → 
       differ e =
           let same : t ≡ all.0.term = (law s table at x t all.0.term h all.0.refers).0 e in
           let a = all.0.above in
-          omega (arith, ap height_of same)
+          omega (arith, ap height same)
 
       go : (b : Bool) → eqb at x ≡ b → eqb at x ≡ false
       go false e = e
@@ -106,7 +106,7 @@ module _ (s : Table) (v : TermsView) (table : IsTable s) (law : (s : Table) → 
         distinct = (apart at w.here w.here_refers w.way w.above, w.distinct);
         above = (
           record { term = w.here; refers = w.here_refers; above = less; number = low },
-          lowered (height_of d.lower) (height_of w.here) w.way (omega arith) w.above,
+          lowered (height d.lower) (height w.here) w.way (omega arith) w.above,
         );
       }
 

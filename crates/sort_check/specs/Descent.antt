@@ -5,7 +5,7 @@ use Rattle.sym_table.specs.Table.{Table, IsLeaf}
 use Rattle.term_model.specs.declared.symbols.Sort.{Sort}
 use Rattle.term_model.specs.Sorts.{IsOf}
 use Rattle.term_model.specs.Terms.{Var, Term, numeral, variable, operation, call, let_in}
-use Rattle.term_pool.specs.Heights.{height_of}
+use Rattle.term_model.specs.Heights.{height}
 use Rattle.term_pool.specs.StandsFor.{variable_leaf, function_leaf}
 use Rattle.term_pool.specs.Views.{TermsView, RefersTo}
 use Rattle.sort_check.specs.WellSorted.{IsWellSortedTerm}
@@ -35,7 +35,7 @@ pub record IsLower (s : Table) (v : TermsView) (t : Term) (sort : Sort) (r : ℕ
   pub lower : Term
   pub refers : RefersTo s v r lower
   pub of : IsOf lower sort
-  pub below : height_of lower < height_of t
+  pub below : height lower < height t
 
 -- a step down from the term t, which is of this sort, has found the sort, or a lower term of it
 abbrev pub IsStep : Table → TermsView → Term → Sort → Step → Type 0

@@ -14,7 +14,7 @@ use Rattle.term_pool.specs.Views.{TermsView, KeepsPass, KeepsTerms, ReferToAll}
 use Rattle.term_reader.specs.declared.flags.Flags.{Flags}
 use Rattle.proof_contexts.specs.OpenAnchors.{AreKept, IsAnchorImage}
 use Rattle.proof_contexts.specs.Placing.{LacksRoomForSome, PlacesOf}
-use Rattle.proof_contexts.proofs.Growing.{keeps_none}
+use Rattle.term_pool.proofs.Keeping.{terms-refl}
 use Rattle.proof_contexts.proofs.Placing.{lacks_kind, places_kind, places_then, places_nothing}
 use Rattle.proof_contexts.specs.declared.scopes.OpenScopes.{OpenScopes}
 use Rattle.rules_refl.specs.Sides.{IsSideOf}
@@ -57,7 +57,7 @@ module _ (stay : ProofsStay) (s : Table) (v w : TermsView) (keeps : KeepsTerms v
 
 -- where nothing more is known
 pub keeps_same_terms : (v w : TermsView) → w ≡ v → KeepsTerms v w
-keeps_same_terms v w same = subst (KeepsTerms v) (sym same) (keeps_none v)
+keeps_same_terms v w same = subst (KeepsTerms v) (sym same) (terms-refl v)
 
 pub kept_same_terms : (s : Table) (v w : TermsView) (refs : ProofItems ℕ ℕ) (x : OpenScopes) → w ≡ v → AreKept s v refs x → AreKept s w refs x
 kept_same_terms s v w refs x same h = subst (λ z. AreKept s z refs x) (sym same) h

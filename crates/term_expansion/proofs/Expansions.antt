@@ -11,13 +11,15 @@ use Rattle.pair_pool.specs.Views.{PassView, Knows, IsKnown, IsPlaced, IsOneToOne
 use Rattle.sym_table.specs.Leaf.{Leaf, operator}
 use Rattle.sym_table.specs.Table.{Table, IsLeaf, IsTable}
 use Rattle.term_model.specs.Terms.{Var, Term, numeral, variable, operation, call, let_in, no_terms, term, Bindings}
+use Rattle.term_model.proofs.Zips.{zip_weaken, zip_push}
+use Rattle.term_pool.proofs.Keeping.{part-trans, placed-trans}
 use Rattle.term_pool.specs.Building.{IsAppliedLeaf, AreBindings, IsCellIn, PlacesOnlyIn, IsFullIn}
 use Rattle.term_pool.specs.Reading.{arguments_of, IsLet}
 use Rattle.term_pool.specs.StandsFor.{variable_leaf, function_leaf, StandsFor, StandForAll}
 use Rattle.term_pool.specs.Trees.{IsPartOf, app_tree}
 use Rattle.term_pool.specs.declared.stop.TermStop.{TermStop}
 use Rattle.term_pool.specs.declared.stop.TermStop.TheVariants as Stop
-use Rattle.term_pool.specs.Views.{TermsView, RefersTo, ReferToAll, KnowsAll, KeepsPass, KeepsTerms, IsTerm}
+use Rattle.term_pool.specs.Views.{TermsView, RefersTo, ReferToAll, KnowsAll, KeepsTerms, IsTerm}
 use Rattle.term_expansion.specs.Assigned.{term_of, assigned_all}
 use Rattle.term_expansion.specs.Expanding.{AreVariables, Says, SaysAll, IsSaid, AreSaid, replaced_each, HasPart, HasPartTerms, key_of, Done, HasBecomeBy, AreDone, IsExpansion, AreValuesGiven, ExpandsOne, PlacesOne, FillsOne, ExpandsAll, PlacesAll, FillsAll}
 use Rattle.term_expansion.specs.Free.{AddsLeaves}
@@ -28,7 +30,7 @@ use Rattle.term_expansion.specs.declared.assignments.Assigned.{Assigned}
 use Rattle.term_expansion.specs.declared.expanding.Expansion.{Expansion}
 use Rattle.term_expansion.proofs.Images.{same_some}
 use Rattle.term_expansion.proofs.NeedLemmas as need
-use Rattle.term_expansion.proofs.NeedLemmas.{HasGivenTerms, part-trans, refers-grow}
+use Rattle.term_expansion.proofs.NeedLemmas.{HasGivenTerms, refers-grow}
 use Rattle.term_expansion.proofs.TermParts.{becomes_application, no_let, let_is}
 use Rattle.term_expansion.specs.SymbolsAndTerms.{both}
 
@@ -66,17 +68,6 @@ needs_back s v w r leaves ks e f h = subst (λ (x : List ℕ). HasNeeds (both s 
 
 pub one_moved : (s : Table) (v w : TermsView) → w ≡ v → AreOne s w → AreOne s v
 one_moved s v w e h = subst (λ (x : TermsView). AreOne s x) e h
-
-pub keeps-trans : (u v w : TermsView) → KeepsTerms u v → KeepsTerms v w → KeepsTerms u w
-keeps-trans u v w h k = record {
-  pool = k.pool ∙ h.pool;
-  pass = record {
-    places = k.pass.places ∙ h.pass.places;
-    shares = k.pass.shares ∙ h.pass.shares;
-    grows = λ n t e. k.pass.grows n t (h.pass.grows n t e);
-    sees = λ n a b e. k.pass.sees n a b (h.pass.sees n a b e);
-  };
-}
 
 -- the term that is said
 pub is_term : (s : Table) (v : TermsView) (a : List Assigned) (r : ℕ) → IsSaid (both s v) a r → IsTerm s v r
@@ -183,33 +174,6 @@ take-each q (u ∷ ts) (suc i) t e =
     let one : suc i + 1 ≡ suc (i + 1) = omega arith in
     ap (λ n. take n (replaced_each q (u ∷ ts))) one ∙ ap (λ (xs : List Term). replaced q u ∷ xs) (take-each q ts i t e)
 
-refer-push : (s : Table) (v : TermsView) (rs : List ℕ) (r : ℕ) (ts : List Term) (t : Term) → ReferToAll s v rs ts → RefersTo s v r t → ReferToAll s v (rs ++ r ∷ []) (ts ++ t ∷ [])
-refer-push s v [] r [] t h k = (k, tt)
-refer-push s v [] r (u ∷ ts) t h k = absurd h
-refer-push s v (j ∷ rs) r [] t h k = absurd h
-refer-push s v (j ∷ rs) r (u ∷ ts) t h k = (h.0, refer-push s v rs r ts t h.1 k)
-
--- what is placed
-pub placed-then : (p q r : PassView) (t : Tree) → KeepsPass q r → PlacesOnlyIn p q t → PlacesOnlyIn q r t → PlacesOnlyIn p r t
-placed-then p q r t keeps h k n a b e = go (k n a b e)
-  where
-    later : IsCellIn q a b t → IsCellIn r a b t
-    later c = record {
-      first = c.first;
-      second = c.second;
-      first_known = keeps.grows _ _ c.first_known;
-      second_known = keeps.grows _ _ c.second_known;
-      part = c.part;
-    }
-
-    before : IsPlaced p n a b ⊎ IsCellIn q a b t → IsPlaced p n a b ⊎ IsCellIn r a b t
-    before (inl x) = inl x
-    before (inr y) = inr (later y)
-
-    go : IsPlaced q n a b ⊎ IsCellIn r a b t → IsPlaced p n a b ⊎ IsCellIn r a b t
-    go (inl x) = before (h n a b x)
-    go (inr y) = inr y
-
 cell-larger : (p : PassView) (a b : ℕ) (s t : Tree) → IsPartOf s t → IsCellIn p a b s → IsCellIn p a b t
 cell-larger p a b s t part h = record {
   first = h.first;
@@ -245,7 +209,7 @@ pub placed-next : (s : Table) (v w z : TermsView) (a b : List Assigned) (rs : Li
 placed-next s v w z a b rs i r keeps later same l e before one ts q whole refer says parts =
     let x = item_at s v rs ts i r refer l e in
     let next : PlacesOne (both s w) z a r = subst (λ (c : List Assigned). PlacesOne (both s w) z c r) same one in
-    placed-then v.pass w.pass z.pass whole later.pass (before ts q whole refer says parts)
+    placed-trans v.pass w.pass z.pass whole later.pass (before ts q whole refer says parts)
     (next x.means q whole (refers-grow s v w keeps r x.means x.refers) (need.says-grow s v w (refers-grow s v w keeps) a q x.means (all_at (Says (both s v) a q) ts i x.means says x.there)) (parts_at s whole q ts i x.means parts x.there))
 
 pub fills-next : (s : Table) (v w z : TermsView) (a b : List Assigned) (rs : List ℕ) (i r : ℕ) → KeepsTerms v w → b ≡ a → i < length rs → r ≡ get_or rs i r → FillsOne (both s w) z b r → FillsAll (both s v) z a rs
@@ -260,8 +224,8 @@ expanded-next s v w z a b rs all new i r j keeps later same l e is before one ts
     let next : ExpandsOne (both s w) z a r j = subst (λ (c : List Assigned). ExpandsOne (both s w) z c r j) same one in
     subst (λ (us : List Term). ReferToAll s z new us) (sym (take-each q ts i x.means x.there))
     (subst (λ (ks : List ℕ). ReferToAll s z ks (take i (replaced_each q ts) ++ replaced q x.means ∷ [])) (sym is)
-    (refer-push s z all j (take i (replaced_each q ts)) (replaced q x.means)
-    (need.refer-grow s w z (refers-grow s w z later) all (take i (replaced_each q ts)) (before ts q refer says))
+    (zip_push (RefersTo s z) all (take i (replaced_each q ts)) j (replaced q x.means)
+    (zip_weaken (RefersTo s w) (RefersTo s z) (refers-grow s w z later) all (take i (replaced_each q ts)) (before ts q refer says))
     (next x.means q (refers-grow s v w keeps r x.means x.refers) (need.says-grow s v w (refers-grow s v w keeps) a q x.means (all_at (Says (both s v) a q) ts i x.means says x.there)))))
 
 take-all : (q : Replacement) (s : Table) (v : TermsView) (rs : List ℕ) (ts : List Term) (n : ℕ) → ReferToAll s v rs ts → length rs ≤ n → take n (replaced_each q ts) ≡ replaced_each q ts
@@ -348,7 +312,7 @@ module _ (s : Table) (v : TermsView) (a : List Assigned) (r head : ℕ) (rs : Li
     pub application_placed : KeepsTerms w z → PlacesAll (both s v) w a rs → ((ts : List Tree) → KnowsAll w.pass is ts → PlacesOnlyIn w.pass z.pass (app_tree head ts)) → PlacesOne (both s v) z a r
     application_placed keeps before last t q whole refers says part =
         let h = trees_of w is (replaced_each q (arguments_of t)) (arguments_expanded w is expands t q refers says) in
-        placed-then v.pass w.pass z.pass whole keeps.pass (arguments_placed w before t q whole refers says part)
+        placed-trans v.pass w.pass z.pass whole keeps.pass (arguments_placed w before t q whole refers says part)
         (placed-larger w.pass z.pass (app_tree head h.trees) whole (part_is t q whole refers h part) (last h.trees h.known))
 
     pub application_full : ((ts : List Tree) → KnowsAll w.pass is ts → IsFullIn z.pass (app_tree head ts)) → FillsOne (both s v) z a r
@@ -454,7 +418,7 @@ module _ (s : Table) (v : TermsView) (a : List Assigned) (r body : ℕ) (gs ps :
     pub let_placed : (y : TermsView) → KeepsTerms z y → PlacesAll (both s v) z a ps → PlacesOne (both s z) y (assigned_all gs is a) body → PlacesOne (both s v) y a r
     let_placed y later before last t q whole refers says part =
         let w = work t refers in
-        placed-then v.pass z.pass y.pass whole later.pass (values_placed z before t q whole refers says part)
+        placed-trans v.pass z.pass y.pass whole later.pass (values_placed z before t q whole refers says part)
         (last w.inner (replaced_bindings q w.bindings ++ q) whole (refers-grow s v z keeps body w.inner w.inside) (body_says t q w says) (subst (λ (x : Term). HasPart s whole x) (let_becomes t q w) part))
 
     pub let_full : (y : TermsView) → FillsOne (both s z) y (assigned_all gs is a) body → FillsOne (both s v) y a r

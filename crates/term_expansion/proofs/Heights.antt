@@ -1,12 +1,12 @@
--- Heights of terms and of their parts.
+-- Cited by crates above. Heights of terms and of their parts.
 use Rattle.std.proofs.Common.{◌≡◌, ℕ, ◌+◌, ◌-◌, ◌<◌, ◌≤◌, max, List, [], ◌∷◌, length, get_or, Some, Bool, true, false, cond, eqb, sym, subst, All, arith}
 use Rattle.std.proofs.lemmas.List.Elements.{All-nil, All-cons, All-head, All-tail, All-get_or}
 use Rattle.sym_table.specs.Table.{Table}
 use Rattle.term_model.specs.Terms.{Term, numeral, variable, operation, call, let_in, Terms, no_terms, term, list_of, Bindings, no_bindings, binding}
+use Rattle.term_model.specs.Heights.{height, highest, highest_bound}
 use Rattle.term_pool.specs.Building.{AreBindings}
 use Rattle.term_pool.specs.Reading.{arguments_of, IsLet}
 use Rattle.term_pool.specs.Views.{TermsView, RefersTo, ReferToAll, KeepsTerms, IsTerm}
-use Rattle.rule_model.specs.Heights.{height, highest, highest_bound}
 use Rattle.term_expansion.specs.Expanding.{AreGiven}
 use Rattle.term_expansion.specs.Heights.{IsAtMost}
 use Rattle.term_expansion.specs.Needs.{value_of}

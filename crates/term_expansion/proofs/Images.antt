@@ -9,13 +9,14 @@ use Rattle.sym_table.specs.Leaf as Leaf
 use Rattle.sym_table.specs.Table.{Table, IsLeaf, IsTable}
 use Rattle.term_model.specs.Terms.{Var, var_eq, Term, numeral, variable, operation, call, let_in, Terms, no_terms, term, Bindings, no_bindings, binding}
 use Rattle.term_model.proofs.Tests.{var_eq_decides}
+use Rattle.term_model.specs.Heights.{height, highest, highest_bound}
 use Rattle.term_pool.specs.declared.putting.Image.{Image}
 use Rattle.term_pool.specs.Putting.{Piece, staying, joined_pieces, put, CellImages, IsImageOfPiece, IsLowPiece, IsImageOf, ArePiecesOfLeaves, HasPieceImages, PlacesPiece, LacksRoomForPiece}
 use Rattle.term_pool.specs.StandsFor.{variable_leaf, function_leaf, StandsFor, StandsForApplication, StandsForList, StandsForBindings}
 use Rattle.term_pool.specs.Trees.{depth}
 use Rattle.term_pool.specs.Views.{TermsView}
-use Rattle.rule_model.specs.Heights.{height, highest, highest_bound}
-use Rattle.term_expansion.specs.Images.{IsSomeReplacement, IsSomeValue, PlacesTerm, LacksRoomFor}
+use Rattle.term_expansion.specs.Images.{IsSomeReplacement, IsSomeValue}
+use Rattle.term_pool.specs.Placing.{PlacesTerm, LacksRoomFor}
 use Rattle.term_expansion.specs.PutFor.{PutsFor, ArePutFor, IsPieceOf}
 use Rattle.rule_model.specs.Replacement.{Replacement, replaced_by, replaced, replaced_all, HasNoLet, HaveNoLet}
 use Rattle.rule_model.proofs.Replacing.{replaced-none}
@@ -62,7 +63,7 @@ mutual
 pub same_some : {X : Type 0} {a b : X} → Some a ≡ Some b → a ≡ b
 same_some e = cc
 
-var_same : (x y : Var) → x.name ≡ y.name → x.sort ≡ y.sort → x ≡ y
+pub var_same : (x y : Var) → x.name ≡ y.name → x.sort ≡ y.sort → x ≡ y
 var_same x y e f = λ i. record { name = e i; sort = f i }
 
 pub leaf_variable : (x y : Var) → variable_leaf x ≡ variable_leaf y → x ≡ y

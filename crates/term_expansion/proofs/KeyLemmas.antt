@@ -9,7 +9,7 @@ use Rattle.term_expansion.specs.Expanding.{pairs_of, key_of, AreGiven, AreValues
 use Rattle.term_expansion.specs.Needs.{value_of, Values, AreValuesOf}
 use Rattle.term_expansion.specs.declared.assignments.Assigned.{Assigned}
 use Rattle.term_expansion.proofs.SetLemmas.{none_in}
-use Rattle.term_expansion.proofs.Zips.{zip_weaken}
+use Rattle.term_model.proofs.Zips.{zip_weaken}
 
 -- one pair more
 pairs_of-push : (assigned : List Assigned) (leaves : List ℕ) (k : ℕ) → pairs_of assigned (leaves ++ k ∷ []) ≡ (pairs_of assigned leaves ++ k ∷ []) ++ term_of k assigned ∷ []

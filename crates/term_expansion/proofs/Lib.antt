@@ -1,4 +1,3 @@
-pub mod Zips
 pub mod Images
 pub mod SetLemmas
 pub mod LeafLemmas

@@ -1,4 +1,4 @@
--- What terms need: what is put in for it alone says what they become, and is in what they become.
+-- Cited by crates above. What terms need: what is put in for it alone says what they become, and is in what they become.
 use Rattle.std.proofs.Common.{◌≡◌, ◌≢◌, ℕ, ◌<◌, ◌⊎◌, inl, inr, zero, suc, refl, sym, ◌∙◌, ap, subst, arith, List, [], ◌∷◌, ◌++◌, map, length, get_or, Some, None, Option, Bool, true, false, cond, eqb, nat_eq, if◌then◌else◌, Contains}
 use Rattle.std.specs.List.{AllZip}
 use Rattle.std.specs.Cmp.Lexicographic.{pointwise}
@@ -9,6 +9,7 @@ use Rattle.sym_table.specs.Leaf.{Leaf, operator}
 use Rattle.sym_table.specs.Table.{Table, IsLeaf, IsTable}
 use Rattle.term_model.specs.Terms.{Var, var_eq, Term, numeral, variable, operation, call, let_in, Terms, no_terms, term, list_of, Bindings, no_bindings, binding}
 use Rattle.term_model.proofs.Tests.{var_eq_decides}
+use Rattle.term_pool.proofs.Keeping.{part-refl, part-trans}
 use Rattle.term_pool.specs.Building.{AreBindings}
 use Rattle.term_pool.specs.Reading.{arguments_of, IsLet}
 use Rattle.term_pool.specs.StandsFor.{variable_leaf, function_leaf, StandsForApplication, StandsForList}
@@ -56,16 +57,6 @@ mutual
       go false e first rest = rest (λ same. let f = (var_eq_decides z y).1 same in absurd cc)
 
 -- parts of trees
-pub part-refl : (t : Tree) → IsPartOf t t
-part-refl (leaf k) = refl
-part-refl (cell a b) = inl refl
-
-pub part-trans : (a b c : Tree) → IsPartOf a b → IsPartOf b c → IsPartOf a c
-part-trans a b (leaf k) h k2 = subst (IsPartOf a) k2 h
-part-trans a b (cell c d) h (inl e) = subst (IsPartOf a) e h
-part-trans a b (cell c d) h (inr (inl k)) = inr (inl (part-trans a b c h k))
-part-trans a b (cell c d) h (inr (inr k)) = inr (inr (part-trans a b d h k))
-
 -- the parts of an application
 list-parts : (s : Table) (whole : Tree) (ts : Terms) (tree : Tree) → StandsForList s tree ts → IsPartOf tree whole → HasPartTerms s whole (list_of ts)
 list-parts s whole no_terms tree h part = tt
@@ -351,12 +342,6 @@ inside-says s v w table grows ks rs bs u h leaves adds gs ps given ts are is ass
 -- what stays as the pass comes to know more
 pub refers-grow : (s : Table) (v w : TermsView) → KeepsTerms v w → (r : ℕ) (t : Term) → RefersTo s v r t → RefersTo s w r t
 refers-grow s v w keeps r t h = record { tree = h.tree; known = keeps.pass.grows r h.tree h.known; stands = h.stands }
-
-pub refer-grow : (s : Table) (v w : TermsView) → ((r : ℕ) (t : Term) → RefersTo s v r t → RefersTo s w r t) → (rs : List ℕ) (ts : List Term) → ReferToAll s v rs ts → ReferToAll s w rs ts
-refer-grow s v w grows [] [] h = tt
-refer-grow s v w grows [] (t ∷ ts) h = absurd h
-refer-grow s v w grows (r ∷ rs) [] h = absurd h
-refer-grow s v w grows (r ∷ rs) (t ∷ ts) h = (grows r t h.0, refer-grow s v w grows rs ts h.1)
 
 pub says-grow : (s : Table) (v w : TermsView) → ((r : ℕ) (t : Term) → RefersTo s v r t → RefersTo s w r t) → (assigned : List Assigned) (q : Replacement) (t : Term) → Says (both s v) assigned q t → Says (both s w) assigned q t
 says-grow s v w grows assigned q t h = record {

@@ -5,18 +5,18 @@ use Rattle.pair_pool.specs.Trees.{Tree, leaf, cell}
 use Rattle.sym_table.specs.Leaf.{Leaf, operator}
 use Rattle.sym_table.specs.Table.{Table}
 use Rattle.term_model.specs.Terms.{Var, var_eq, Term, numeral, variable, operation, call, let_in, Terms, no_terms, term, Bindings, no_bindings, binding}
+use Rattle.term_model.specs.Heights.{height}
 use Rattle.term_pool.specs.StandsFor.{function_leaf, StandsFor, StandsForApplication, StandsForList, StandsForBindings}
 use Rattle.term_pool.specs.Views.{TermsView, RefersTo}
 use Rattle.term_expansion.specs.Expanding.{Says, SaysWhole, IsSaid, HasPart, PlacesOne, FillsOne}
-use Rattle.rule_model.specs.Heights.{height}
-use Rattle.term_expansion.specs.Images.{PlacesTerm, LacksRoomFor}
+use Rattle.term_pool.specs.Placing.{PlacesTerm, LacksRoomFor}
 use Rattle.rule_model.specs.Replacement.{Replacement, replaced_by, replaced, replaced_all, replaced_bindings}
 use Rattle.problem_text.specs.TypedTerms.{Typed}
 use Rattle.term_expansion.specs.Values.{IsValue, IsReplacement}
 use Rattle.term_expansion.specs.declared.assignments.Assigned.{Assigned}
 use Rattle.term_expansion.specs.declared.values.Bound.{Bound}
 use Rattle.term_expansion.specs.declared.values.Value.{Value}
-use Rattle.term_expansion.proofs.NeedLemmas.{part-refl}
+use Rattle.term_pool.proofs.Keeping.{part-refl}
 use Rattle.rule_model.proofs.Replacing.{AreLetFree, replaced-let_free}
 use Rattle.term_expansion.specs.SymbolsAndTerms.{both}
 

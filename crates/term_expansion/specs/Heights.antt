@@ -1,8 +1,8 @@
 -- Public. Heights of the terms that references stand for.
 use Rattle.std.specs.Prelude.{◌≤◌, ℕ}
 use Rattle.term_model.specs.Terms.{Term}
+use Rattle.term_model.specs.Heights.{height}
 use Rattle.term_pool.specs.Views.{RefersTo}
-use Rattle.rule_model.specs.Heights.{height}
 use Rattle.term_expansion.specs.SymbolsAndTerms.{SymbolsAndTerms}
 
 -- The reference stands for a term of at most this height.

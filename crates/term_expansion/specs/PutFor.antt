@@ -3,10 +3,10 @@ use Rattle.std.specs.Prelude.{◌≡◌, ◌≢◌, ℕ, true}
 use Rattle.sym_table.specs.Leaf.{Leaf}
 use Rattle.sym_table.specs.Table.{Table, IsLeaf}
 use Rattle.term_model.specs.Terms.{Var, Term}
+use Rattle.term_model.specs.Heights.{height}
 use Rattle.term_pool.specs.Putting.{Piece, staying, CellImages, ArePiecesOfLeaves}
 use Rattle.term_pool.specs.StandsFor.{variable_leaf, StandsFor}
 use Rattle.rule_model.specs.Replacement.{Replacement, replaced_by, HasNoLet}
-use Rattle.rule_model.specs.Heights.{height}
 use Rattle.term_expansion.specs.SymbolsAndTerms.{SymbolsAndTerms}
 
 -- the piece stands for the term

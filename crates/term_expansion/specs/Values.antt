@@ -3,12 +3,12 @@ use Rattle.std.specs.Prelude.{◌≡◌, List, true}
 use Rattle.std.specs.List.{AllZip}
 use Rattle.sym_table.specs.Table.{IsLeaf}
 use Rattle.term_model.specs.Terms.{Var, Term}
+use Rattle.term_model.specs.Heights.{height}
 use Rattle.term_pool.specs.StandsFor.{variable_leaf}
 use Rattle.term_pool.specs.Views.{RefersTo}
 use Rattle.term_expansion.specs.SymbolsAndTerms.{SymbolsAndTerms}
 use Rattle.term_expansion.specs.declared.values.Value.{Value}
 use Rattle.term_expansion.specs.declared.values.Bound.{Bound}
-use Rattle.rule_model.specs.Heights.{height}
 use Rattle.rule_model.specs.Replacement.{Replacement, HasNoLet}
 use Rattle.problem_text.specs.TypedTerms.{Typed}
 

@@ -9,7 +9,7 @@
 //!
 //! What a contract sees: `specs/Values` (what values stand for), `Images` (what is put in for leaves), `Free` (lists of
 //! leaves), `Heights` (how high terms are, which `laws` has a law of). The definition that all answers are those of is
-//! `replaced` of `problem_text`.
+//! `replaced` of `rule_model`.
 #![tactic(auto)]
 
 mod assignments;

@@ -4,7 +4,8 @@ ghost use Rattle.std.specs.Prelude.{◌≡◌, ◌≢◌, ℕ, true, nat_eq, Som
 ghost use Rattle.std.specs.HashMap.{get};
 ghost use Rattle.sym_table.specs.Table.{Table, IsTable};
 ghost use Rattle.term_pool.specs.Views.{TermsView, KeepsTerms};
-ghost use Rattle.term_expansion.specs.Images.{IsSomeReplacement, IsSomeValue, PlacesTerm, LacksRoomFor};
+ghost use Rattle.term_expansion.specs.Images.{IsSomeReplacement, IsSomeValue};
+ghost use Rattle.term_pool.specs.Placing.{PlacesTerm, LacksRoomFor};
 ghost use Rattle.term_expansion.specs.PutFor.{ArePutFor};
 ghost use Rattle.rule_model.specs.Replacement.{Replacement, replaced};
 ghost use Rattle.problem_text.specs.TypedTerms.{Typed};

@@ -3,12 +3,12 @@ ghost use Rattle.std.specs.Prelude.{◌≡◌, ◌<◌, length, IfOk, IfSome, If
 ghost use Rattle.pair_pool.specs.Views.{IsKnown};
 ghost use Rattle.sym_table.specs.Table.{Table, IsTable, IsLeaf};
 ghost use Rattle.term_model.specs.Terms.{Var, Term, Bindings, variable, let_in};
+ghost use Rattle.term_model.specs.Heights as heights;
 ghost use Rattle.term_pool.specs.Building.{AreBindings, IsAppliedLeaf};
 ghost use Rattle.term_pool.specs.Reading as read;
 ghost use Rattle.term_pool.specs.Reading.{IsLet, IsLetTerm};
 ghost use Rattle.term_pool.specs.StandsFor.{variable_leaf};
 ghost use Rattle.term_pool.specs.Views.{RefersTo, ReferToAll};
-ghost use Rattle.rule_model.specs.Heights as heights;
 
 use pair_pool::{Memory, Ref};
 use std::alloc::Global;
@@ -17,10 +17,10 @@ use term_pool::Terms;
 
 /// The leaves of the variables of a let, their values, and its body.
 #[derive(Drop)]
-pub(crate) struct LetParts {
-    pub(crate) variables: Vec<u32>,
-    pub(crate) values: Vec<Ref>,
-    pub(crate) body: Ref,
+pub struct LetParts {
+    pub variables: Vec<u32>,
+    pub values: Vec<Ref>,
+    pub body: Ref,
 }
 
 /// The leaf of the head of an application, and the leaf itself where the term is one. A let has none.
@@ -35,7 +35,7 @@ pub(crate) fn head_of(terms: &mut Terms<'_>, r: Ref) -> Option<u32>
 }
 
 /// The arguments of an application.
-pub(crate) fn arguments_of(alloc: Global, terms: &mut Terms<'_>, r: Ref) -> Result<Vec<Ref>, Memory>
+pub fn arguments_of(alloc: Global, terms: &mut Terms<'_>, r: Ref) -> Result<Vec<Ref>, Memory>
     requires { IsKnown terms.old.pass r }
     ensures arguments { IfOk result (λ list. (s : Table) (t : Term) → RefersTo s terms.old r t → (IsLet t → ⊥) → ReferToAll s terms.old list.items (read.arguments_of t)) }
     ensures same { terms.new ≡ terms.old }
@@ -46,7 +46,7 @@ pub(crate) fn arguments_of(alloc: Global, terms: &mut Terms<'_>, r: Ref) -> Resu
 }
 
 /// The parts of a let.
-pub(crate) fn let_parts(alloc: Global, terms: &mut Terms<'_>, r: Ref) -> Result<LetParts, Memory>
+pub fn let_parts(alloc: Global, terms: &mut Terms<'_>, r: Ref) -> Result<LetParts, Memory>
     requires { IsLetTerm terms.old r }
     ensures bindings { IfOk result (λ l. (s : Table) (bs : Bindings) (u : Term) → RefersTo s terms.old r (let_in bs u) → AreBindings s terms.old l.variables.items l.values.items bs) }
     ensures body { IfOk result (λ l. (s : Table) (bs : Bindings) (u : Term) → RefersTo s terms.old r (let_in bs u) → RefersTo s terms.old l.body u) }

@@ -1,5 +1,5 @@
 -- The laws of equality up to flips.
-use Rattle.std.proofs.Common.{◌≡◌, refl, ap, sym, Bool, true, false, ◌&&◌}
+use Rattle.std.proofs.Common.{◌≡◌, refl, ap, Bool, true, false, ◌&&◌}
 use Rattle.std.proofs.lemmas.Cmp.{int_eq_equiv}
 use Rattle.term_model.specs.Terms.{Term, Terms, Bindings, let_in}
 use Rattle.term_model.specs.Values.{Value, truth, whole, value_eq}

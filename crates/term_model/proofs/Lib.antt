@@ -9,3 +9,4 @@ pub mod Meanings
 pub mod Chains
 pub mod Satisfaction
 pub mod Flips
+pub mod Zips

@@ -6,6 +6,7 @@ pub mod Meaning
 pub mod Sorts
 pub mod Arities
 pub mod FreeVariables
+pub mod Heights
 pub mod Flips
 pub mod Unsatisfiable
 pub mod Examples

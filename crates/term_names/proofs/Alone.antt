@@ -10,7 +10,7 @@ use Rattle.term_model.specs.Terms.{Var, Term, operation, call, no_terms}
 use Rattle.term_pool.specs.StandsFor.{StandsFor}
 use Rattle.term_pool.specs.Views.{TermsView}
 use Rattle.term_names.specs.Heads.{IsSymbolOf, IsMacroMeant}
-use Rattle.rule_model.specs.Heights.{height}
+use Rattle.term_model.specs.Heights.{height}
 use Rattle.term_names.specs.Making.{IsMade}
 use Rattle.problem_text.specs.Names.{Meaning, macro, meaning_applied}
 use Rattle.rule_model.specs.Replacement.{HasNoLet}

@@ -1,22 +1,22 @@
 -- Symbols applied to values.
-use Rattle.std.proofs.Common.{◌≡◌, ℕ, ◌+◌, ◌<◌, inl, inr, List, [], ◌∷◌, length, length-drop, drop, map, Bool, true, Option, Some, None, option_map, Result, Ok, Err, All, refl, sym, ◌∙◌, ap, subst, arith, IsSomeAnd, slice_get}
+use Rattle.std.proofs.Common.{◌≡◌, ℕ, ◌+◌, ◌<◌, inl, inr, List, [], ◌∷◌, length, length-drop, drop, map, Bool, true, Option, Some, None, option_map, Result, Ok, Err, All, refl, sym, ◌∙◌, ap, subst, arith}
 use Rattle.std.specs.List.{list_all}
 use Rattle.std.proofs.lemmas.List.Elements.{All-cons, All-nil}
 use Rattle.std.proofs.lemmas.Option.{slice_get_within}
 use Rattle.pair_pool.specs.Trees.{Tree}
 use Rattle.pair_pool.specs.Views.{IsKnown}
 use Rattle.sym_table.specs.Leaf as leaf
-use Rattle.sym_table.specs.Leaf.{Leaf}
-use Rattle.sym_table.specs.Table.{Table, IsLeaf, LeafMeets}
+use Rattle.sym_table.specs.Table.{Table, LeafMeets}
 use Rattle.term_model.specs.declared.symbols.Sort.{Sort}
 use Rattle.term_model.specs.Terms.{Term, list_of, terms_of, operation, call}
 use Rattle.sort_check.specs.Applications.{applied_sort}
+use Rattle.sort_check.proofs.Leaves.{at_leaf}
 use Rattle.term_pool.specs.Building.{IsAppliedLeaf, Builds, LacksRoom}
 use Rattle.term_pool.specs.StandsFor.{function_leaf, StandsFor, StandForAll}
 use Rattle.term_pool.specs.Trees.{app_tree}
 use Rattle.term_pool.specs.Views.{TermsView, RefersTo, ReferToAll, KnowsAll}
 use Rattle.term_names.specs.Heads.{IsSymbolOf}
-use Rattle.rule_model.specs.Heights.{height, highest}
+use Rattle.term_model.specs.Heights.{height, highest}
 use Rattle.term_names.specs.Making.{Makes}
 use Rattle.problem_text.specs.Names.{Meaning, value, trees, sorts_of, meaning_applied}
 use Rattle.rule_model.specs.Replacement.{HasNoLet, HaveNoLet}
@@ -70,10 +70,6 @@ module _ (s : Table) (v : TermsView) where
 list-terms : (ts : List Term) → list_of (terms_of ts) ≡ ts
 list-terms [] = refl
 list-terms (t ∷ ts) = ap (λ us. t ∷ us) (list-terms ts)
-
--- what a clause says of a leaf
-at_leaf : (s : Table) (k : ℕ) (l : Leaf) (P : Leaf → Type 0) → IsLeaf s k l → LeafMeets s k P → P l
-at_leaf s k l P e h = let m : IsSomeAnd (slice_get s.leaves k) P = h in let n : IsSomeAnd (Some l) P = rw e at m in n
 
 -- the term is that of the symbol applied to the others
 pub record IsTermOf (s : Table) (k : ℕ) (ts : List Typed) (t : Term) : Type 0 where

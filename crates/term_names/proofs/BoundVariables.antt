@@ -20,7 +20,8 @@ use Rattle.term_names.specs.Scope.{Scoped}
 use Rattle.term_expansion.specs.Values.{PutsIn, IsReplacement}
 use Rattle.term_expansion.specs.declared.values.Bound as held
 use Rattle.problem_text.proofs.Outcomes.{all_at_end}
-use Rattle.term_names.proofs.ScopeNames.{AreFound, found_in_scope, same_variable, passes_each}
+use Rattle.term_names.proofs.ScopeNames.{AreFound, found_in_scope, passes_each}
+use Rattle.term_expansion.proofs.Images.{var_same}
 use Rattle.term_expansion.specs.SymbolsAndTerms.{both}
 use Rattle.term_expansion.proofs.LeafLemmas.{one_variable}
 
@@ -51,7 +52,7 @@ bound_stands s v es bs h name x named bound c found =
     go None r f a sorted g = absurd cc
     go (Some e) None f a sorted g = absurd a
     go (Some e) (Some b) f a sorted g =
-        let is : b.variable ≡ x = same_variable b.variable x a.0 ((sort_eq_decides b.variable.sort x.sort).0 sorted) in
+        let is : b.variable ≡ x = var_same b.variable x a.0 ((sort_eq_decides b.variable.sort x.sort).0 sorted) in
         moved s v e.bound c b.variable x b.stands_for (replaced_by (replacement bs) x) (sym (same_Some _ _ g)) is (innermost_stands bs x b f is) a.1
 
 pub bound_is_there : (s : Table) (scope : List Scoped) (leaf : ℕ) → (h : IsBoundLeaf s scope leaf) → (name : List ℕ) → name ≡ h.variable.name → IsSome (option_map (λ (e : Scoped). e.bound) (find (λ e. bytes_eq e.name name) scope))

@@ -1,5 +1,5 @@
 -- How the leaves of free variables are gathered from the parts of a term.
-use Rattle.std.proofs.Common.{◌≡◌, ℕ, ◌-◌, ◌≤◌, ◌<◌, ◌⊎◌, ◌↔◌, inl, inr, List, [], ◌∷◌, length, Some, nat_eq, eqb, cond, refl, sym, ◌∙◌, ap, subst, Contains, All, drop, get_or, Vec, arith, zero, suc}
+use Rattle.std.proofs.Common.{◌≡◌, ℕ, ◌-◌, ◌≤◌, ◌<◌, ◌⊎◌, ◌↔◌, inl, inr, List, [], ◌∷◌, length, Some, nat_eq, eqb, cond, refl, sym, ◌∙◌, ap, subst, Contains, drop, get_or, Vec, arith, zero, suc}
 use Rattle.std.specs.HashMap.{get}
 use Rattle.std.specs.declared.alloc.Global.{Global}
 use Rattle.std.proofs.lemmas.List.Elements.{Contains-append_right, Contains-append_cases}
@@ -25,6 +25,7 @@ use Rattle.rule_model.proofs.Freedom.{free_variables-are}
 use Rattle.term_expansion.proofs.SetLemmas.{none_in}
 use Rattle.term_expansion.proofs.LeafLemmas.{added-leaves, adds-both, adds-same, has_more, is_variable, one-adds, one-more, one_leaf, one_variable, same_some, swapped}
 use Rattle.term_expansion.proofs.Heights.{is_term}
+use Rattle.term_expansion.proofs.NeedLemmas.{contains-here}
 use Rattle.term_expansion.proofs.TermParts.{is_let_term}
 use Rattle.term_expansion.specs.SymbolsAndTerms.{both}
 
@@ -121,9 +122,6 @@ pub kept-adds : (s : Table) (leaves a b : List ℕ) (u : Term) → AddsLeaves s 
 kept-adds s leaves a b u free adds = added-leaves s leaves a b (λ x. IsFree x u) free adds
 
 -- the body of a let, but what is bound
-contains-here : (k : ℕ) (ks : List ℕ) → Contains (k ∷ ks) k
-contains-here k ks = (0, omega arith, refl)
-
 bound_leaf : (s : Table) (ks : List ℕ) (bs : Bindings) (x : Var) → AreLeavesOf s ks (variables_of bs) → Binds bs x → HasVariable s ks x
 bound_leaf s [] no_bindings x h is = absurd is
 bound_leaf s [] (binding y t bs) x h is = absurd h
@@ -215,11 +213,6 @@ passed-more s v now after list at item old seen found seen2 found2 kept kept2 h 
     more (t ∷ ts) refer =
         adds-same s old found2 _ _ (λ x p. swapped _ _ p) (λ x p. swapped _ _ p)
         (adds-both s old found found2 (λ x. IsFreeInAny x ts) (λ x. IsFree x t) (h.adds ts refer.1) (adds t (subst (λ z. RefersTo s z item t) (sym h.same) refer.0)))
-
--- the same terms, and the same list
-pub low_at : (s : Table) (v w : TermsView) (most : ℕ) (rs qs : List ℕ) → w ≡ v → qs ≡ rs → All (IsAtMost (both s v) most) rs → All (IsAtMost (both s w) most) qs
-low_at s v w most rs qs e f h =
-    subst (λ z. All (IsAtMost (both s z) most) qs) (sym e) (subst (λ zs. All (IsAtMost (both s v) most) zs) (sym f) h)
 
 -- a let whose body has these free leaves
 pub let-adds-unbound : (s : Table) (v : TermsView) (r : ℕ) (ks rs : List ℕ) (body : ℕ) (leaves a b c : List ℕ) → IsTable s → ArePartsOfLet (both s v) r ks rs body → ((ts : List Term) → ReferToAll s v rs ts → AddsLeaves s a b (λ x. IsFreeInAny x ts)) → ((u : Term) → RefersTo s v body u → AddsLeaves s [] leaves (λ x. IsFree x u)) → AddsUnbound leaves ks b c → (t : Term) → IsLet t → RefersTo s v r t → AddsLeaves s a c (λ x. IsFree x t)

@@ -11,7 +11,7 @@ use Rattle.term_model.specs.declared.symbols.Sort.{Sort}
 use Rattle.term_model.specs.Terms.{Var, variable}
 use Rattle.term_pool.specs.StandsFor.{variable_leaf}
 use Rattle.term_pool.specs.Views.{TermsView}
-use Rattle.rule_model.specs.Heights.{height}
+use Rattle.term_model.specs.Heights.{height}
 use Rattle.term_names.specs.InScope.{IsScope, AreValuesBound}
 use Rattle.problem_text.specs.Names.{Bound, itself}
 use Rattle.term_names.specs.Scope.{Scoped, OwnNames}

@@ -11,7 +11,7 @@ use Rattle.term_pool.specs.Building.{AreBindings, Builds, LacksRoom}
 use Rattle.term_pool.specs.StandsFor.{StandsFor, StandForValues, variable_leaf}
 use Rattle.term_pool.specs.Trees.{let_term_tree}
 use Rattle.term_pool.specs.Views.{TermsView, RefersTo, KnowsAll}
-use Rattle.rule_model.specs.Heights.{height, highest_bound}
+use Rattle.term_model.specs.Heights.{height, highest_bound}
 use Rattle.term_names.specs.InScope.{AreValuesBound}
 use Rattle.term_names.specs.Making.{Makes}
 use Rattle.problem_text.specs.Names.{Bound, Place, let_bindings_of, let_term}

@@ -10,7 +10,7 @@ use Rattle.term_model.specs.Sorts.{sorts_eq}
 use Rattle.term_model.proofs.Tests.{sorts_eq_decides}
 use Rattle.term_pool.specs.Views.{TermsView}
 use Rattle.term_names.specs.Applying.{bounds_of}
-use Rattle.term_expansion.specs.Images.{PlacesTerm, LacksRoomFor}
+use Rattle.term_pool.specs.Placing.{PlacesTerm, LacksRoomFor}
 use Rattle.term_names.specs.Making.{Makes}
 use Rattle.problem_text.specs.Names.{macro, sorts_of, expansion, meaning_applied}
 use Rattle.rule_model.specs.Replacement.{Replacement, replaced}

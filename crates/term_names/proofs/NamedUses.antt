@@ -9,7 +9,8 @@ use Rattle.term_model.specs.Terms.{Var}
 use Rattle.term_pool.specs.Views.{TermsView}
 use Rattle.term_names.specs.BoundLeaves.{PutsInBound}
 use Rattle.term_expansion.specs.Free.{AreFreeLeaves}
-use Rattle.term_expansion.specs.Images.{IsSomeReplacement, PlacesTerm, LacksRoomFor}
+use Rattle.term_expansion.specs.Images.{IsSomeReplacement}
+use Rattle.term_pool.specs.Placing.{PlacesTerm, LacksRoomFor}
 use Rattle.term_names.specs.LookingUp.{term_used, IsNamedMeant}
 use Rattle.term_names.specs.Making.{IsMade, Makes, PlacesCellsOf, IsExpected}
 use Rattle.problem_text.specs.Names.{Place, Meaning, value, is_bound, replacement, meaning_applied}

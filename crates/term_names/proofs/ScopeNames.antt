@@ -18,10 +18,8 @@ use Rattle.term_names.specs.Scope.{Scoped}
 use Rattle.term_expansion.specs.Values.{PutsIn}
 use Rattle.term_expansion.specs.declared.values.Bound as held
 use Rattle.term_expansion.specs.SymbolsAndTerms.{both}
+use Rattle.term_expansion.proofs.Images.{var_same}
 use Rattle.term_expansion.proofs.LeafLemmas.{one_leaf, one_variable}
-
-pub same_variable : (x y : Var) → x.name ≡ y.name → x.sort ≡ y.sort → x ≡ y
-same_variable x y e f = λ i. record { name = e i; sort = f i }
 
 -- what is found in the code is what is found by the definition
 abbrev pub AreFound : Table → TermsView → List ℕ → Option Scoped → Option Bound → Type 0
@@ -62,7 +60,7 @@ leaf_is_bound s table v es bs h k x here name named o e =
     same b y named there false true (inl agree) sorted = absurd (let z = agree.0 in cc)
     same b y named there false true (inr differ) sorted =
         let equal : y.sort ≡ x.sort = (sort_eq_decides y.sort x.sort).0 sorted in
-        absurd (differ.1 (one_leaf s table b.variable k y x there here (same_variable y x named equal)))
+        absurd (differ.1 (one_leaf s table b.variable k y x there here (var_same y x named equal)))
 
     go : (p : Option Scoped) (q : Option Bound) → AreFound s v x.name p q → has_leaf k (option_map (λ e. e.bound) p) ≡ option_map_or (λ b. sort_eq b.variable.sort x.sort) q false
     go None None f = refl

@@ -5,16 +5,16 @@
 //! before is not gone through again. So the cost is the number of distinct bodies times what a body has of cells and of
 //! free variables, at most, and of nested names each walks the cells that are new.
 
-ghost use Rattle.std.specs.Prelude.{◌≡◌, ◌≤◌, ◌<◌, [], List, All, IfOk, IfSome, OnOk};
-ghost use Rattle.pair_pool.specs.Views.{IsUnchanged, IsKnown};
-ghost use Rattle.sym_table.specs.Table.{Table, IsTable};
+ghost use Rattle.std.specs.Prelude.{◌≡◌, ◌≤◌, [], List, All, IfOk, IfSome, OnOk};
+ghost use Rattle.pair_pool.specs.Views.{IsUnchanged};
+ghost use Rattle.sym_table.specs.Table.{IsTable};
 ghost use Rattle.term_model.specs.FreeVariables.{IsFree};
 ghost use Rattle.term_model.specs.Terms.{Term};
-ghost use Rattle.term_pool.specs.Reading.{arguments_of, IsLet, IsLetTerm};
+ghost use Rattle.term_pool.specs.Reading.{IsLet};
 ghost use Rattle.term_pool.specs.Views.{RefersTo, ReferToAll, KeepsTerms};
 ghost use Rattle.term_expansion.specs.Free.{AreFreeLeaves, AddsLeaves};
 ghost use Rattle.term_expansion.specs.Heights.{IsAtMost};
-ghost use Rattle.term_names.specs.FreeParts.{ArePartsOfLet, IsFreeInAny, CoversFree, AreBodies};
+ghost use Rattle.term_names.specs.FreeParts.{IsFreeInAny, CoversFree, AreBodies};
 ghost use Rattle.term_expansion.specs.Images.{IsSomeValue};
 ghost use Rattle.rule_model.specs.Replacement.{free_variables};
 ghost use Rattle.problem_text.specs.TypedTerms.{Typed};
@@ -27,11 +27,10 @@ ghost use Rattle.term_expansion.specs.SymbolsAndTerms.{both};
 use crate::names::{KnownEntry, NameTables};
 use indexmap::IndexSet;
 use pair_pool::{Memory, Ref};
-use std::alloc::Global;
 use std::collections::HashMap;
 use term_expansion::laws::parts_are_lower;
 use term_expansion::leaf_sets::{add, add_all, add_unbound, has};
-use term_expansion::term_parts::is_variable;
+use term_expansion::term_parts::{arguments_of, is_variable, let_parts};
 use term_expansion::values::Value;
 use term_pool::Terms;
 
@@ -43,42 +42,6 @@ const MOST_HEIGHT: u32 = 2000;
 struct Region {
     seen: IndexSet<u32>,
     found: IndexSet<u32>,
-}
-
-/// The arguments of an application.
-fn arguments(alloc: Global, terms: &mut Terms<'_>, r: Ref) -> Result<Vec<Ref>, Memory>
-    requires { IsKnown terms.old.pass r }
-    ensures arguments { IfOk result (λ list. (s : Table) (t : Term) → RefersTo s terms.old r t → (IsLet t → ⊥) → ReferToAll s terms.old list.items (arguments_of t)) }
-    ensures same { terms.new ≡ terms.old }
-{
-    let mut list = Vec::new(alloc);
-    terms.arguments(r, &mut list)?;
-    Ok(list)
-}
-
-/// A let in its parts: the leaves of the variables that it binds, what it gives them, and its body.
-#[derive(Drop)]
-struct LetParts {
-    variables: Vec<u32>,
-    values: Vec<Ref>,
-    body: Ref,
-}
-
-/// The parts of a let.
-fn let_parts(alloc: Global, terms: &mut Terms<'_>, r: Ref) -> Result<LetParts, Memory>
-    requires { IsLetTerm terms.old r }
-    ensures parts { IfOk result (λ p. (s : Table) → ArePartsOfLet (both s terms.old) r p.variables.items p.values.items p.body) }
-    ensures same { terms.new ≡ terms.old }
-{
-    let mut variables = Vec::new(alloc);
-    let mut values = Vec::new(alloc);
-    terms.bindings(r, &mut variables, &mut values)?;
-    let body = terms.let_body(r);
-    Ok(LetParts {
-        variables,
-        values,
-        body,
-    })
 }
 
 /// The leaves of the free variables of a term, where it was named before.
@@ -145,7 +108,7 @@ fn gather(
         return add(&mut region.found, head);
     }
     parts_are_lower();
-    let list = arguments(settings.alloc, terms, r)?;
+    let list = arguments_of(settings.alloc, terms, r)?;
     gather_all(tables, terms, bodies, region, &list, most - 1)?;
     add(&mut region.seen, r.number())
 }

@@ -22,22 +22,33 @@ use term_expansion::values::{Bound as Binding, Value};
 use term_model::Sort;
 use term_pool::{Terms, trees_are_built_of_parts};
 
-/// Puts the variables of a let in scope, by their leaves, the first one innermost. Where lets are replaced each stands for
-/// the value at its place, from place `from` on, and otherwise for itself. Refuses want of memory alone.
+/// The variables of a let, by their leaves, and their values, which stand from place `from` on.
+#[derive(Clone, Copy)]
+pub struct LetVariables<'n> {
+    pub leaves: &'n [u32],
+    pub values: &'n Values,
+    pub from: usize,
+}
+
+/// Puts the variables of a let in scope, the first one innermost. Where lets are replaced each stands for its value, and
+/// otherwise for itself. Refuses want of memory alone.
 pub fn bind(
     symbols: &Symbols,
     names: &mut Names,
-    leaves: &[u32],
-    values: &Values,
-    from: usize,
+    variables: &LetVariables<'_>,
     replaces_lets: bool,
 ) -> Result<(), Memory>
-    requires within { from ≤ length values.now }
-    requires bound { (v : TermsView) × (bs : List Bound) × AreValuesBound (both symbols.now v) leaves.now (drop from values.now) bs }
-    ensures bound { (v : TermsView) (bs : List Bound) (p : Place) → AreValuesBound (both symbols.now v) leaves.now (drop from values.now) bs → IsScope (both symbols.now v) names.old.scope p.scope → p.settings.replaces_lets ≡ replaces_lets → OnOk result (IsScope (both symbols.now v) names.new.scope (inside bs p).scope) }
-    ensures inner { OnOk result ((inner : List Scoped) × (names.new.scope ≡ inner ++ names.old.scope) × (length inner ≡ length leaves.now)) }
+    requires within { variables.now.from ≤ length variables.now.values.now }
+    requires bound { (v : TermsView) × (bs : List Bound) × AreValuesBound (both symbols.now v) variables.now.leaves.now (drop variables.now.from variables.now.values.now) bs }
+    ensures bound { (v : TermsView) (bs : List Bound) (p : Place) → AreValuesBound (both symbols.now v) variables.now.leaves.now (drop variables.now.from variables.now.values.now) bs → IsScope (both symbols.now v) names.old.scope p.scope → p.settings.replaces_lets ≡ replaces_lets → OnOk result (IsScope (both symbols.now v) names.new.scope (inside bs p).scope) }
+    ensures inner { OnOk result ((inner : List Scoped) × (names.new.scope ≡ inner ++ names.old.scope) × (length inner ≡ length variables.now.leaves.now)) }
     ensures own { names.new.own ≡ names.old.own }
 {
+    let LetVariables {
+        leaves,
+        values,
+        from,
+    } = *variables;
     let _values = values.len();
     let mut at = leaves.len();
     'variables: while at > 0 {
@@ -104,14 +115,6 @@ pub fn unbind(names: &mut Names, count: usize)
         names.pop();
         left -= 1;
     }
-}
-
-/// The variables of a let, by their leaves, and their values, which stand from place `from` on.
-#[derive(Clone, Copy)]
-pub struct LetVariables<'n> {
-    pub leaves: &'n [u32],
-    pub values: &'n Values,
-    pub from: usize,
 }
 
 /// The let with this body that binds these variables, of which there is one or more; where lets are replaced it is the body.

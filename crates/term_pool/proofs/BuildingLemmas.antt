@@ -1,27 +1,14 @@
 -- Building a tree from parts, cell by cell.
-use Rattle.std.proofs.Common.{Result, Ok, Err, IfOk, OnErr, ◌≡◌, ℕ, ◌⊎◌, inl, inr, refl, ◌∙◌, List, [], ◌∷◌, drop, zero, suc, ◌<◌, ◌≤◌, ◌-◌, length, get_or, arith, drop-cons}
+use Rattle.std.proofs.Common.{Result, Ok, Err, IfOk, OnErr, ◌≡◌, ℕ, ◌⊎◌, inl, inr, refl, List, [], ◌∷◌, drop, zero, suc, ◌<◌, ◌≤◌, ◌-◌, length, get_or, arith, drop-cons}
 use Rattle.std.specs.List.{All}
 use Rattle.std.proofs.lemmas.List.Elements.{All-head, All-tail}
 use Rattle.pair_pool.specs.Trees.{Tree, leaf, cell}
 use Rattle.pair_pool.specs.Views.{PassView, Knows, IsPlaced, IsKnown}
+use Rattle.term_model.proofs.Zips.{zip_drop}
 use Rattle.term_pool.specs.Trees.{IsPartOf, list_tree, app_tree, binding_trees}
 use Rattle.term_pool.specs.Views.{KeepsPass, KnowsAll}
 use Rattle.term_pool.specs.Building.{IsCellIn, PlacesOnlyIn, Builds, LacksRoom, Interns, Refuses}
-
-pub keeps-refl : (p : PassView) → KeepsPass p p
-keeps-refl p = record { places = refl; shares = refl; grows = λ r t k. k; sees = λ r a b k. k }
-
-pub keeps-trans : (p q r : PassView) → KeepsPass p q → KeepsPass q r → KeepsPass p r
-keeps-trans p q r h k = record {
-  places = k.places ∙ h.places;
-  shares = k.shares ∙ h.shares;
-  grows = λ n t e. k.grows n t (h.grows n t e);
-  sees = λ n a b e. k.sees n a b (h.sees n a b e);
-}
-
-pub part-refl : (t : Tree) → IsPartOf t t
-part-refl (leaf k) = refl
-part-refl (cell a b) = inl refl
+use Rattle.term_pool.proofs.Keeping.{keeps-refl, keeps-trans, placed-none, placed-trans}
 
 -- a cell of a part is a cell of the whole
 pub in_larger : (p : PassView) (a b : ℕ) (s t : Tree) → ((u : Tree) → IsPartOf u s → IsPartOf u t) → IsCellIn p a b s → IsCellIn p a b t
@@ -33,29 +20,9 @@ in_larger p a b s t larger h = record {
   part = larger _ h.part;
 }
 
-pub in_later : (p q : PassView) → KeepsPass p q → (a b : ℕ) (t : Tree) → IsCellIn p a b t → IsCellIn q a b t
-in_later p q k a b t h = record {
-  first = h.first;
-  second = h.second;
-  first_known = k.grows _ _ h.first_known;
-  second_known = k.grows _ _ h.second_known;
-  part = h.part;
-}
-
 pub placed-larger : (p q : PassView) (s t : Tree) → ((u : Tree) → IsPartOf u s → IsPartOf u t) → PlacesOnlyIn p q s → PlacesOnlyIn p q t
 placed-larger p q s t larger h r a b e =
     elim (h r a b e) [ inl x ↦ inl x | inr y ↦ inr (in_larger q a b s t larger y) ]
-
-pub placed-trans : (p q r : PassView) (t : Tree) → KeepsPass q r → PlacesOnlyIn p q t → PlacesOnlyIn q r t → PlacesOnlyIn p r t
-placed-trans p q r t k h j n a b e =
-    elim (j n a b e) [ inl x ↦ go (h n a b x) | inr y ↦ inr y ]
-  where
-    go : IsPlaced p n a b ⊎ IsCellIn q a b t → IsPlaced p n a b ⊎ IsCellIn r a b t
-    go (inl x) = inl x
-    go (inr y) = inr (in_later q r k a b t y)
-
-pub placed-none : (p q : PassView) (t : Tree) → q.placed ≡ p.placed → PlacesOnlyIn p q t
-placed-none p q t e r a b h = inl (rw e at h)
 
 pub lacks-larger : (p q : PassView) (s t : Tree) → ((u : Tree) → IsPartOf u s → IsPartOf u t) → LacksRoom p q s → LacksRoom p q t
 lacks-larger p q s t larger h = record {
@@ -106,13 +73,6 @@ tail-larger ts zero u h = h
 tail-larger [] (suc n) u h = h
 tail-larger (t ∷ ts) (suc n) u h = inr (inr (tail-larger ts n u h))
 
-pub knows_all-drop : (p : PassView) (rs : List ℕ) (ts : List Tree) (n : ℕ) → KnowsAll p rs ts → KnowsAll p (drop n rs) (drop n ts)
-knows_all-drop p rs ts zero h = h
-knows_all-drop p [] [] (suc n) h = h
-knows_all-drop p [] (t ∷ ts) (suc n) h = absurd h
-knows_all-drop p (r ∷ rs) [] (suc n) h = absurd h
-knows_all-drop p (r ∷ rs) (t ∷ ts) (suc n) h = knows_all-drop p rs ts n h.1
-
 -- a list has been built of these references, from its end
 pub record IsListSoFar (old new : PassView) (rs : List ℕ) (list : ℕ) : Type 0 where
   pub keeps : KeepsPass old new
@@ -162,7 +122,7 @@ list_lacks p q r rs x list h i (t ∷ ts) e =
 
 pub lacks_all : (p r : PassView) (rs : List ℕ) (n : ℕ) → ((ts : List Tree) → KnowsAll p (drop n rs) ts → LacksRoom p r (list_tree ts)) → (ts : List Tree) → KnowsAll p rs ts → LacksRoom p r (list_tree ts)
 lacks_all p r rs n h ts e =
-    lacks-larger p r (list_tree (drop n ts)) (list_tree ts) (tail-larger ts n) (h (drop n ts) (knows_all-drop p rs ts n e))
+    lacks-larger p r (list_tree (drop n ts)) (list_tree ts) (tail-larger ts n) (h (drop n ts) (zip_drop (Knows p) n rs ts e))
 
 pub drop-at : (xs : List ℕ) (at x : ℕ) → 0 < at → at ≤ length xs → x ≡ get_or xs (at - 1) x → drop (at - 1) xs ≡ x ∷ drop at xs
 drop-at xs at x above within is =
@@ -296,7 +256,7 @@ binding_trees-drop (k ∷ ks) (t ∷ ts) (suc n) = binding_trees-drop ks ts n
 pub bindings_lack_all : (p r : PassView) (ks rs : List ℕ) (n : ℕ) → ((ts : List Tree) → KnowsAll p (drop n rs) ts → LacksRoom p r (list_tree (binding_trees (drop n ks) ts))) → (ts : List Tree) → KnowsAll p rs ts → LacksRoom p r (list_tree (binding_trees ks ts))
 bindings_lack_all p r ks rs n h ts e =
     lacks-larger p r (list_tree (drop n (binding_trees ks ts))) (list_tree (binding_trees ks ts)) (tail-larger (binding_trees ks ts) n)
-    (rw binding_trees-drop at (h (drop n ts) (knows_all-drop p rs ts n e)))
+    (rw binding_trees-drop at (h (drop n ts) (zip_drop (Knows p) n rs ts e)))
 
 pub drop-at_number : (xs : List ℕ) (at : ℕ) → 0 < at → at ≤ length xs → drop (at - 1) xs ≡ get_or xs (at - 1) 0 ∷ drop at xs
 drop-at_number xs at above within =

@@ -1,6 +1,7 @@
 pub mod OneTree
 pub mod OneTerm
 pub mod Growth
+pub mod Keeping
 pub mod BuildingLemmas
 pub mod Results
 pub mod Depth

@@ -2,6 +2,7 @@
 use Rattle.std.proofs.Common.{◌≡◌, ℕ, ◌+◌, ◌<◌, ◌≤◌, ◌^◌, refl, sym, ◌∙◌, ap, arith, List, [], ◌∷◌, ◌++◌, length, append_assoc, length-append}
 use Rattle.pair_pool.specs.Trees.{Tree, leaf, cell}
 use Rattle.pair_pool.specs.Views.{PassView, Knows, IsKnown, IsOneToOne, HasPartsOfTrees, HasListsInOrder}
+use Rattle.term_model.proofs.Zips.{zip_length, zip_push}
 use Rattle.term_pool.specs.Trees.{pair_leaves}
 use Rattle.term_pool.specs.TreeLists.{list_length, tree_items, AreLeafPairs, pair_trees, AddsItems, IsPairList, AddsPairs}
 use Rattle.term_pool.specs.Views.{KnowsAll, IsKnownCell}
@@ -10,18 +11,6 @@ use Rattle.term_pool.proofs.Depth.{depth-bound, list_length-depth, is_cell}
 -- one more behind
 behind : {X : Type 0} → (old new next : List X) (xs : List X) (x : X) → new ≡ old ++ xs → next ≡ new ++ x ∷ [] → next ≡ old ++ (xs ++ x ∷ [])
 behind old new next xs x e f = f ∙ ap (λ ys. ys ++ x ∷ []) e ∙ append_assoc old xs (x ∷ [])
-
-all_behind : (p : PassView) (rs : List ℕ) (ts : List Tree) (r : ℕ) (t : Tree) → KnowsAll p rs ts → Knows p r t → KnowsAll p (rs ++ r ∷ []) (ts ++ t ∷ [])
-all_behind p [] [] r t h k = (k, tt)
-all_behind p [] (u ∷ ts) r t h k = absurd h
-all_behind p (q ∷ rs) [] r t h k = absurd h
-all_behind p (q ∷ rs) (u ∷ ts) r t h k = (h.0, all_behind p rs ts r t h.1 k)
-
-same_lengths : (p : PassView) (rs : List ℕ) (ts : List Tree) → KnowsAll p rs ts → length rs ≡ length ts
-same_lengths p [] [] h = refl
-same_lengths p [] (u ∷ ts) h = absurd h
-same_lengths p (q ∷ rs) [] h = absurd h
-same_lengths p (q ∷ rs) (u ∷ ts) h = let e = same_lengths p rs ts h.1 in omega arith
 
 items-length : (t : Tree) → length (tree_items t) ≡ list_length t
 items-length (leaf k) = refl
@@ -64,7 +53,7 @@ collected_below p list rest old new one parts order h =
     let d = depth-bound p one parts list h.tree h.known in
     let l = list_length-depth h.tree in
     let s = order.size in
-    let e = same_lengths p h.items h.front h.front_known in
+    let e = zip_length (Knows p) h.items h.front h.front_known in
     let i = items-length h.tree in
     let f = ap length h.split ∙ length-append h.front (tree_items h.left) in
     let g = ap length h.added ∙ length-append old h.items in
@@ -84,7 +73,7 @@ collected_next p list rest first next old new more parts above h is_first is_nex
       left = b;
       left_known = is_next a b known;
       split = e ∙ sym (append_assoc h.front (a ∷ []) (tree_items b));
-      front_known = all_behind p h.items h.front first a h.front_known (is_first a b known);
+      front_known = zip_push (Knows p) h.items h.front first a h.front_known (is_first a b known);
     }
 
 no_more : (ts : List Tree) → ts ++ [] ≡ ts
@@ -163,7 +152,7 @@ pairs_below p list rest old_leaves new_leaves old new one parts order h =
     let d = depth-bound p one parts list h.tree h.known in
     let l = list_length-depth h.tree in
     let s = order.size in
-    let e = same_lengths p h.items h.front h.front_known in
+    let e = zip_length (Knows p) h.items h.front h.front_known in
     let i = pairs-length h.tree in
     let f = ap length h.split ∙ length-append h.front (pair_trees h.left) in
     let g = ap length h.added ∙ length-append old h.items in
@@ -194,7 +183,7 @@ pairs_next p list rest first next name number second old_leaves new_leaves more_
           left_pairs = e;
           leaves_split = f ∙ ap (λ (m : ℕ). h.leaves ++ (m ∷ pair_leaves b)) same ∙ sym (append_assoc h.leaves (number ∷ []) (pair_leaves b));
           split = g ∙ sym (append_assoc h.front (t ∷ []) (pair_trees b));
-          front_known = all_behind p h.items h.front second t h.front_known (is_second (leaf k) t pair);
+          front_known = zip_push (Knows p) h.items h.front second t h.front_known (is_second (leaf k) t pair);
         }
 
 pub pairs_all : (p : PassView) (list rest : ℕ) (old_leaves new_leaves old new : List ℕ) → IsOneToOne p → rest < 2 ^ 30 → ArePairsCollected p list rest old_leaves new_leaves old new → AddsPairs p list old_leaves new_leaves old new

@@ -23,7 +23,7 @@ use Rattle.term_pool.specs.Numbering.{IsPlace}
 use Rattle.term_pool.specs.Listings.{trees_of, cell_at, IsBefore, IsAfterParts, Denotes, IsPartAt, IsListing, AddsCells, IsAdded}
 use Rattle.term_pool.proofs.Members.{has_front, has_split, all_push}
 use Rattle.term_pool.proofs.Depth.{depth-bound}
-use Rattle.term_pool.proofs.BuildingLemmas.{part-refl}
+use Rattle.term_pool.proofs.Keeping.{part-refl}
 use Rattle.term_pool.proofs.ListingLemmas.{trees_append, length_after, denotes_met, denotes_later, after_later, has_reference, known_at, has_tree, known_push}
 use Rattle.term_pool.proofs.ReadingLemmas.{leaf_of, reference_cell}
 

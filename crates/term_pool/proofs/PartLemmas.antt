@@ -8,6 +8,7 @@ use Rattle.pair_pool.specs.Views.{PassView, Knows, IsKnown, IsOneToOne, HasParts
 use Rattle.sym_table.specs.Leaf.{operator, let_head}
 use Rattle.sym_table.specs.Table.{Table, IsLeaf, IsTable}
 use Rattle.term_model.specs.Terms.{Var, Term, Terms, Bindings, numeral, variable, operation, call, let_in, no_terms, term, list_of, no_bindings, binding}
+use Rattle.term_model.proofs.Zips.{zip_then}
 use Rattle.term_pool.specs.StandsFor.{let_tree, function_leaf, StandsFor, StandsForList, StandsForBindings}
 use Rattle.term_pool.specs.Trees.{pair_leaves}
 use Rattle.term_pool.specs.TreeLists.{tree_items, AreLeafPairs, pair_trees, AddsItems, IsPairList, AddsPairs}
@@ -100,13 +101,7 @@ arguments_stand s (call f (term t ts)) a b h never = items_stand s (term t ts) b
 arguments_stand s (let_in bs u) a b h never = absurd (never tt)
 
 refer_all : (s : Table) (v : TermsView) (rs : List ℕ) (trees : List Tree) (ts : List Term) → KnowsAll v.pass rs trees → StandForAll s trees ts → ReferToAll s v rs ts
-refer_all s v [] [] [] h k = tt
-refer_all s v [] [] (t ∷ ts) h k = absurd k
-refer_all s v [] (a ∷ trees) ts h k = absurd h
-refer_all s v (r ∷ rs) [] ts h k = absurd h
-refer_all s v (r ∷ rs) (a ∷ trees) [] h k = absurd k
-refer_all s v (r ∷ rs) (a ∷ trees) (t ∷ ts) h k =
-    (record { tree = a; known = h.0; stands = k.0 }, refer_all s v rs trees ts h.1 k.1)
+refer_all s v = zip_then (Knows v.pass) (StandsFor s) (RefersTo s v) (λ r a t known stands. record { tree = a; known = known; stands = stands })
 
 all_known : (p : PassView) (rs : List ℕ) (trees : List Tree) → KnowsAll p rs trees → All (IsKnown p) rs
 all_known p [] trees h = All-nil (IsKnown p)

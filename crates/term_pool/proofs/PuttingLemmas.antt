@@ -16,7 +16,8 @@ use Rattle.std.proofs.lemmas.Bool.{cases_lt}
 use Rattle.std.proofs.lemmas.List.{get_or_append_left, get_or_push, length_push}
 use Rattle.term_pool.proofs.Members.{has_last}
 use Rattle.term_pool.proofs.Depth.{depth-bound}
-use Rattle.term_pool.proofs.BuildingLemmas.{keeps-refl, part-refl, placed-none, placed-trans, placed-larger, lacks-larger, lacks_on, interned, refused}
+use Rattle.term_pool.proofs.Keeping.{keeps-refl, part-refl, part-trans, placed-none, placed-trans}
+use Rattle.term_pool.proofs.BuildingLemmas.{placed-larger, lacks-larger, lacks_on, interned, refused}
 
 -- what is known stays known
 pub image_later : (p q : PassView) → KeepsPass p q → (d : Image) (x : Piece) → IsImageOfPiece p d x → IsImageOfPiece q d x
@@ -56,12 +57,6 @@ put-part f s (leaf k) h = rw h (part-refl (f k).tree)
 put-part f s (cell a b) (inl e) = inl (ap (λ (x : Tree). (put f x).tree) e)
 put-part f s (cell a b) (inr (inl h)) = inr (inl (put-part f s a h))
 put-part f s (cell a b) (inr (inr h)) = inr (inr (put-part f s b h))
-
-part-trans : (s t u : Tree) → IsPartOf s t → IsPartOf t u → IsPartOf s u
-part-trans s t (leaf k) h e = rw e at h
-part-trans s t (cell a b) h (inl e) = rw e at h
-part-trans s t (cell a b) h (inr (inl e)) = inr (inl (part-trans s t a h e))
-part-trans s t (cell a b) h (inr (inr e)) = inr (inr (part-trans s t b h e))
 
 -- joining what the parts have become
 join_is : (p q : PassView) (f : ℕ → Piece) (s t : Tree) (a b d : Image) → IsImageOfPiece p a (put f s) → IsImageOfPiece p b (put f t) → Interns p q a.term b.term d.term → d ≡ joined_image d.term a b → IsImageOfPiece q d (put f (cell s t))

@@ -11,7 +11,7 @@ use Rattle.term_pool.specs.TreeLists.{list_length, list_item, HasItem}
 use Rattle.term_pool.specs.Views.{TermsView, RefersTo, KeepsTerms, IsKnownCell}
 use Rattle.term_pool.specs.Reading.{arguments_of, list_of_bindings, bindings_of, IsLet, HasArgument, HasBinding, IsLetTerm}
 use Rattle.term_pool.specs.CellShapes.{IsTermCell}
-use Rattle.term_pool.proofs.BuildingLemmas.{keeps-refl}
+use Rattle.term_pool.proofs.Keeping.{keeps-refl}
 use Rattle.term_pool.proofs.Depth.{is_cell}
 
 -- a known leaf

@@ -1,14 +1,10 @@
 -- Private. The heights of cells by those of their parts.
-use Rattle.std.specs.Prelude.{◌+◌, ◌==◌, max, Bool, false, if◌then◌else◌, ℕ}
+use Rattle.std.specs.Prelude.{◌+◌, ◌==◌, max, Bool, false, if◌then◌else◌}
 use Rattle.pair_pool.specs.Trees.{Tree, leaf, cell}
 use Rattle.term_pool.specs.declared.heights.Heights.{Heights}
 use Rattle.term_pool.specs.declared.listing.Part.{Part}
 use Rattle.term_pool.specs.declared.listing.Part.TheVariants.{Leaf, Cell}
-use Rattle.term_pool.specs.Heights.{is_let_head, height_of}
-use Rattle.std.specs.Option.{option_map_or}
-use Rattle.sym_table.specs.Table.{Table}
-use Rattle.term_pool.specs.Views.{TermsView}
-use Rattle.term_pool.specs.Decoding.{term_at}
+use Rattle.term_pool.specs.Heights.{is_let_head}
 
 -- What a tree is as a term, as a list of arguments, as a list of bindings, as the cell of a variable and its value,
 -- and as the rest of a let: its height, the greatest of its items, the greatest of its values, the value's height,
@@ -33,7 +29,3 @@ heights_of (cell a b) = cell_heights (is_let_head a) (heights_of a) (heights_of 
 abbrev pub is_let_leaf : Part → Bool
 is_let_leaf (Leaf k) = k == 1
 is_let_leaf (Cell n) = false
-
--- its height, and 0 where there is none
-abbrev pub height_at : Table → TermsView → ℕ → ℕ
-height_at s v r = option_map_or height_of (term_at s v r) 0

@@ -2,9 +2,11 @@ pub mod StandsFor
 pub mod NotTrees
 pub mod Trees
 pub mod Views
+pub mod Bindings
 pub mod TreeLists
 pub mod ReadingOnly
 pub mod Building
+pub mod Placing
 pub mod Reading
 pub mod CellShapes
 pub mod Nots

@@ -4,6 +4,7 @@
 -- `(let ((x1 t1) .. (xn tn)) u)` is the cell (let, (B, u)), where B is the list of the cells (xi, ti)
 -- (SMT-LIB 2.6, "Terms and Formulas"). The leaves of nil and of let are the same in every table.
 use Rattle.std.specs.Prelude.{◌≡◌, pos, ℕ, List, [], ◌∷◌}
+use Rattle.std.specs.List.{AllZip}
 use Rattle.pair_pool.specs.Trees.{Tree, leaf, cell}
 use Rattle.sym_table.specs.Leaf.{Leaf, operator, function}
 use Rattle.sym_table.specs.Table.{Table, IsLeaf}
@@ -63,10 +64,7 @@ abbrev mutual
 
 -- trees and terms in the same order, each tree standing for its term
 abbrev pub StandForAll : Table → List Tree → List Term → Type 0
-StandForAll s [] [] = Unit {0}
-StandForAll s [] (t ∷ ts) = ⊥
-StandForAll s (a ∷ trees) [] = ⊥
-StandForAll s (a ∷ trees) (t ∷ ts) = StandsFor s a t × StandForAll s trees ts
+StandForAll s trees ts = AllZip (StandsFor s) trees ts
 
 -- the bindings are those of the variables' leaves to the terms that the trees stand for, in order
 abbrev pub StandForValues : Table → List ℕ → List Tree → Bindings → Type 0

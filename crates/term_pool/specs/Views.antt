@@ -1,5 +1,6 @@
 -- Public. What contracts see of a `Terms`, and when a reference in it stands for a term.
-use Rattle.std.specs.Prelude.{◌≡◌, ℕ, List, [], ◌∷◌}
+use Rattle.std.specs.Prelude.{◌≡◌, ℕ, List}
+use Rattle.std.specs.List.{AllZip}
 use Rattle.pair_pool.specs.Trees.{Tree, cell}
 use Rattle.pair_pool.specs.Views.{PoolView, PassView, Knows, Grows, SeesMore}
 use Rattle.sym_table.specs.Table.{Table}
@@ -24,17 +25,11 @@ pub record IsTerm (s : Table) (v : TermsView) (r : ℕ) : Type 0 where
 
 -- references and terms in the same order, each reference standing for its term
 abbrev pub ReferToAll : Table → TermsView → List ℕ → List Term → Type 0
-ReferToAll s v [] [] = Unit {0}
-ReferToAll s v [] (t ∷ ts) = ⊥
-ReferToAll s v (r ∷ rs) [] = ⊥
-ReferToAll s v (r ∷ rs) (t ∷ ts) = RefersTo s v r t × ReferToAll s v rs ts
+ReferToAll s v rs ts = AllZip (RefersTo s v) rs ts
 
 -- references and trees in the same order, each reference known to have its tree
 abbrev pub KnowsAll : PassView → List ℕ → List Tree → Type 0
-KnowsAll pass [] [] = Unit {0}
-KnowsAll pass [] (t ∷ ts) = ⊥
-KnowsAll pass (r ∷ rs) [] = ⊥
-KnowsAll pass (r ∷ rs) (t ∷ ts) = Knows pass r t × KnowsAll pass rs ts
+KnowsAll pass rs ts = AllZip (Knows pass) rs ts
 
 -- The new pass has the old one's places and shares, and knows and has seen at least what the old one did.
 pub record KeepsPass (old new : PassView) : Type 0 where

@@ -4,8 +4,8 @@ ghost use Rattle.std.specs.Prelude.{◌≡◌, ℕ, ◌<◌, List, slice_get, So
 ghost use Rattle.pair_pool.specs.Trees.{Tree};
 ghost use Rattle.sym_table.specs.Table.{Table, IsTable, Keeps};
 ghost use Rattle.term_model.specs.Terms.{Var, Term, Bindings, let_in};
+ghost use Rattle.term_model.specs.Heights.{height};
 ghost use Rattle.term_pool.specs.Building.{IsAppliedLeaf};
-ghost use Rattle.term_pool.specs.Heights.{height_of};
 ghost use Rattle.term_pool.specs.Reading.{arguments_of, bindings_of};
 ghost use Rattle.term_pool.specs.StandsFor.{StandsFor, StandForAll, StandForValues};
 ghost use Rattle.term_pool.specs.Trees.{app_tree, let_term_tree};
@@ -35,7 +35,7 @@ pub fn trees_are_built_of_parts()
 /// A law: an argument of an application is less high than it, and so are a let's values and its body. The call does
 /// nothing; its contract is the law.
 pub fn parts_are_less_high()
-    ensures argument { (t a : Term) (i : ℕ) → slice_get (arguments_of t) i ≡ Some a → height_of a < height_of t }
-    ensures value { (t u : Term) (x : Var) (i : ℕ) → slice_get (bindings_of t) i ≡ Some (x, u) → height_of u < height_of t }
-    ensures body { (bs : Bindings) (u : Term) → height_of u < height_of (let_in bs u) }
+    ensures argument { (t a : Term) (i : ℕ) → slice_get (arguments_of t) i ≡ Some a → height a < height t }
+    ensures value { (t u : Term) (x : Var) (i : ℕ) → slice_get (bindings_of t) i ≡ Some (x, u) → height u < height t }
+    ensures body { (bs : Bindings) (u : Term) → height u < height (let_in bs u) }
 {}

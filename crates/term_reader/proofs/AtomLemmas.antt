@@ -13,7 +13,7 @@ use Rattle.term_reader.specs.Entering.{IsNumber, is_none_found, IsHeadFound, IsR
 use Rattle.text_items.specs.ItemShapes.{Name}
 use Rattle.problem_text.specs.Forms.{symbol}
 use Rattle.term_names.specs.Heads.{HeadMeans}
-use Rattle.rule_model.specs.Heights.{height}
+use Rattle.term_model.specs.Heights.{height}
 use Rattle.term_names.specs.Known.{KnownView}
 use Rattle.term_names.specs.LookingUp.{IsFoundMeaning}
 use Rattle.term_names.specs.Making.{IsMade, Makes}

@@ -13,7 +13,7 @@ use Rattle.term_reader.specs.Leaving.{with_open, Spends}
 use Rattle.term_reader.specs.Credits.{credit}
 use Rattle.problem_text.specs.Forms.{Form, number, symbol, application, let_form, annotated, Forms, form, LetBinds, bind}
 use Rattle.term_reader.specs.Frames.{WholeReading, AreFrames}
-use Rattle.rule_model.specs.Heights.{height}
+use Rattle.term_model.specs.Heights.{height}
 use Rattle.problem_text.specs.Limits.{most_height}
 use Rattle.text_items.specs.Stepping.{name_in, IsSymbolAt}
 use Rattle.term_reader.specs.Layers.{form_at, forms_at, AreBinds, names_at, AreTermAttributes}

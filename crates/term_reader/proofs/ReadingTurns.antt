@@ -23,7 +23,7 @@ use Rattle.term_reader.specs.declared.reader.Turn.{Turn}
 use Rattle.term_expansion.specs.declared.values.Value.{Value}
 use Rattle.text_items.proofs.ItemsAtLemmas.{ends_behind, ends_inside}
 use Rattle.term_reader.proofs.Settled.{nothing_made}
-use Rattle.term_reader.proofs.Staying.{grow_none, grow_then, places_then}
+use Rattle.term_reader.proofs.Staying.{grow_by_terms_none, grow_by_terms_then, places_then}
 use Rattle.term_expansion.specs.SymbolsAndTerms.{both}
 
 -- the reading of the item at node k
@@ -60,7 +60,7 @@ pub begins : (items : ItemsView) (k : ℕ) (s : Table) (v : TermsView) (r : Read
     → IsUnderWay items k s v r s v r (Turn.Read k)
 begins items k s v r there (sc, p, idle) = record {
   goes = λ sc p e. nothing_made items (reading items k r.names.scope sc p) s v r (Ok (Turn.Read k)) (at_start items k s v r sc p there e);
-  grow = grow_none (both s v);
+  grow = grow_by_terms_none (both s v);
   inside = omega arith;
   few = let e : credit r.frames ≡ 0 = ap credit idle.no_frames in omega arith;
 }
@@ -91,7 +91,7 @@ module _ (items : ItemsView) (k : ℕ) (s : Table) (v : TermsView) (r : ReadingV
         → IsUnderWay items k s v r y x o next
     goes_on next h goes grow inside few = record {
       goes = λ sc p idle. let g = reading items k r.names.scope sc p in turns g (Ok next) (h.goes sc p idle) (goes g) grow;
-      grow = grow_then (both s v) (both z w) (both y x) h.grow grow;
+      grow = grow_by_terms_then (both s v) (both z w) (both y x) h.grow grow;
       inside = inside;
       few = let e = h.few in omega arith;
     }

@@ -25,7 +25,7 @@ use Rattle.problem_text.specs.TypedTerms.{Typed}
 use Rattle.problem_text.specs.Scripts.{Macro, Named, Script}
 use Rattle.term_names.specs.Standing.{AreLeavesOf, IsMacroOf, IsNamedOf, IsFunctionAt, IsNoFunction, IsFreeName, IsNameMeant, IsScript, AddsNoSymbols, GrowByTerms}
 use Rattle.term_expansion.specs.Values.{IsValue, AreValues, PutsIn}
-use Rattle.term_expansion.proofs.Zips.{zip_weaken}
+use Rattle.term_model.proofs.Zips.{zip_weaken}
 use Rattle.term_names.specs.declared.entries.Macro as held_macro
 use Rattle.term_names.specs.declared.entries.Named as held_named
 use Rattle.term_reader.specs.declared.frames.Frame.{Frame}
@@ -106,20 +106,20 @@ keeps_none v = record { pool = refl; pass = pass_keeps_none v.pass }
 pub keeps_then : (v w x : TermsView) → KeepsTerms v w → KeepsTerms w x → KeepsTerms v x
 keeps_then v w x h g = record { pool = g.pool ∙ h.pool; pass = pass_keeps_then v.pass w.pass x.pass h.pass g.pass }
 
-pub kept_none : (w : SymbolsAndTerms) → Grow w w
-kept_none w = record { symbols = table_keeps_none w.symbols; terms = keeps_none w.terms }
+pub grow_none : (w : SymbolsAndTerms) → Grow w w
+grow_none w = record { symbols = table_keeps_none w.symbols; terms = keeps_none w.terms }
 
-pub kept_then : (u v w : SymbolsAndTerms) → Grow u v → Grow v w → Grow u w
-kept_then u v w h g = record {
+pub grow_then : (u v w : SymbolsAndTerms) → Grow u v → Grow v w → Grow u w
+grow_then u v w h g = record {
   symbols = table_keeps_then u.symbols v.symbols w.symbols h.symbols g.symbols;
   terms = keeps_then u.terms v.terms w.terms h.terms g.terms;
 }
 
-pub grow_none : (w : SymbolsAndTerms) → GrowByTerms w w
-grow_none w = record { symbols = adds_none w.symbols; terms = keeps_none w.terms }
+pub grow_by_terms_none : (w : SymbolsAndTerms) → GrowByTerms w w
+grow_by_terms_none w = record { symbols = adds_none w.symbols; terms = keeps_none w.terms }
 
-pub grow_then : (u v w : SymbolsAndTerms) → GrowByTerms u v → GrowByTerms v w → GrowByTerms u w
-grow_then u v w h g = record {
+pub grow_by_terms_then : (u v w : SymbolsAndTerms) → GrowByTerms u v → GrowByTerms v w → GrowByTerms u w
+grow_by_terms_then u v w h g = record {
   symbols = adds_then u.symbols v.symbols w.symbols h.symbols g.symbols;
   terms = keeps_then u.terms v.terms w.terms h.terms g.terms;
 }

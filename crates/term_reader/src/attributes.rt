@@ -68,7 +68,7 @@ pub(crate) fn next_name(items: &ItemText<'_, '_>, k: usize, end: usize) -> Optio
 }
 
 /// Whether the item at a node is the attribute that gives a term a name.
-pub(crate) fn is_named(items: &ItemText<'_, '_>, k: usize) -> bool
+pub fn is_named(items: &ItemText<'_, '_>, k: usize) -> bool
     requires { k < length items.now.nodes }
     ensures { result ≡ is_named_item (item_at items.now k) }
 {

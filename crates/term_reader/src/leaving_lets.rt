@@ -61,12 +61,15 @@ pub(crate) fn leave_binding(
     // A place in the list of nodes, or behind it, is a number that fits.
     let _count = items.count();
     if n == body {
+        let variables = LetVariables {
+            leaves: &reader.leaves[leaves..],
+            values: &reader.values,
+            from,
+        };
         bind(
             symbols,
             &mut reader.names,
-            &reader.leaves[leaves..],
-            &reader.values,
-            from,
+            &variables,
             settings.replaces_lets,
         )?;
         reader.frames.push(Frame::Body(OpenBody {

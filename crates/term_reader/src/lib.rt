@@ -7,8 +7,8 @@
 //! - `problem`: a problem that was read; `single_terms`: [`TermReader`], which reads single terms behind one.
 //!   `view_laws`: what these stand for stays.
 //!
-//! What a contract sees: `specs/Reading` (a term that is being read, and what comes of it), `ProblemViews` (what a
-//! problem and a reader of terms stand for).
+//! What a contract sees: `specs/Reading` (what a call answers whose definition comes to an outcome), `ReadingViews` (what a
+//! reader of terms holds, with the settings of the reading), `ProblemViews` (what a problem and a reader of terms stand for).
 #![tactic(auto)]
 
 mod atoms;
@@ -31,6 +31,7 @@ mod single_terms;
 pub mod taken;
 pub mod view_laws;
 
+pub use attributes::is_named;
 pub use flags::Flags;
 pub use problem::Problem;
 pub use single_terms::TermReader;

@@ -16,7 +16,7 @@ ghost use Rattle.problem_text.specs.Limits.{limited};
 ghost use Rattle.problem_text.specs.Names.{Bound, Place, itself};
 ghost use Rattle.term_reader.specs.ProblemViews.{IsProblemOf, IsReaderOf, ReadsTerm, ReadsValue};
 ghost use Rattle.problem_text.specs.Scripts.{Script};
-ghost use Rattle.term_names.specs.Standing.{AddsNoSymbols, AreLeavesOf};
+ghost use Rattle.term_names.specs.Standing.{AddsNoSymbols, GrowByTerms, AreLeavesOf};
 ghost use Rattle.problem_text.specs.Terms.{read_term};
 ghost use Rattle.term_expansion.specs.SymbolsAndTerms.{both};
 
@@ -151,8 +151,7 @@ impl<'a> TermReader<'a> {
         // Each leaf that is added has a node of the item.
         ensures spent { OnOk result (length symbols.new.leaves ≤ length symbols.old.leaves + (end_at items.now k - k)) }
         ensures few { length symbols.new.leaves ≤ length symbols.old.leaves + (length items.now.nodes - k) }
-        ensures symbols { AddsNoSymbols symbols.old symbols.new }
-        ensures keeps { KeepsTerms terms.old terms.new }
+        ensures grow { GrowByTerms (both symbols.old terms.old) (both symbols.new terms.new) }
     {
         let value = self.value_at(items, k, symbols, terms)?;
         Ok(value.term)
@@ -173,8 +172,7 @@ impl<'a> TermReader<'a> {
         // Each leaf that is added has a node of the item.
         ensures spent { OnOk result (length symbols.new.leaves ≤ length symbols.old.leaves + (end_at items.now k - k)) }
         ensures few { length symbols.new.leaves ≤ length symbols.old.leaves + (length items.now.nodes - k) }
-        ensures symbols { AddsNoSymbols symbols.old symbols.new }
-        ensures keeps { KeepsTerms terms.old terms.new }
+        ensures grow { GrowByTerms (both symbols.old terms.old) (both symbols.new terms.new) }
     {
         enter_each(symbols, &mut self.reader.names, &self.pushed)?;
         self.pushed.clear();

@@ -10,7 +10,7 @@ ghost use Rattle.term_model.specs.Terms.{Var, Fun, Term, Terms, Bindings};
 ghost use Rattle.term_model.specs.Terms.{operation, call, let_in, list_of};
 ghost use Rattle.term_model.specs.declared.symbols.Op.{Op};
 ghost use Rattle.term_model.specs.declared.symbols.Sort.{Sort};
-ghost use Rattle.rule_model.specs.Heights.{height};
+ghost use Rattle.term_model.specs.Heights.{height};
 ghost use Rattle.rule_model.specs.Replacement.{Replacement, replaced, values_put, HasNoLet, free_variables};
 ghost use Rattle.rule_model.specs.Substitution.{HaveTheirSorts};
 

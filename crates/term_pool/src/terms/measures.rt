@@ -5,8 +5,8 @@ ghost use Rattle.pair_pool.specs.Trees.{Tree};
 ghost use Rattle.pair_pool.specs.Views.{IsKnown, IsUnchanged};
 ghost use Rattle.sym_table.specs.Table.{Table, IsTable};
 ghost use Rattle.term_model.specs.Terms.{Term};
+ghost use Rattle.term_model.specs.Heights.{height};
 ghost use Rattle.term_pool.specs.Views.{RefersTo, KnowsAll, KeepsTerms};
-ghost use Rattle.term_pool.specs.Heights.{height_of};
 ghost use Rattle.term_pool.specs.CellCounts.{CountsCells};
 
 use super::Terms;
@@ -23,7 +23,7 @@ impl<'a> Terms<'a> {
     /// each place of the pool besides, and at most a constant times the pool's words. Refuses want of memory alone.
     pub fn height(&mut self, alloc: Global, r: Ref) -> Result<u32, Memory>
         requires { IsKnown self.old.pass r }
-        ensures height { IfOk result (λ h. (s : Table) (t : Term) → IsTable s → RefersTo s self.old r t → h ≡ height_of t) }
+        ensures height { IfOk result (λ h. (s : Table) (t : Term) → IsTable s → RefersTo s self.old r t → h ≡ height t) }
         ensures keeps { KeepsTerms self.old self.new }
         ensures unchanged { IsUnchanged self.old.pass self.new.pass }
     {

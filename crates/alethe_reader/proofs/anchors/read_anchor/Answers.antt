@@ -48,4 +48,4 @@ returns-clause-read c settings p session =
     is_opened session c.args.anchor.place c.named_at-id.result c.named_at-id.ensures _ c.look-looked.ensures.found _ c.in_ok-judge_id.ensures.judged c.in_ok-read_arguments.ensures.read c.read_arguments.ensures.grow.symbols c.read_arguments.ensures.grow.terms _ c.deref-2.ensures.value
     (record c.args.session.now { reader = c.enter_variables.new.reader; builder = c.anchor.new.self; ids = c.push.new.self; anchors = c.push-2.new.self; bound = c.read_arguments.new.bound }) c.len.result c.len-2.result _
     c.len.ensures (c.len-2.ensures ∙ c.read_arguments.new.bound.opened.ok.0) (λ s v sc at bs zip. c.in_ok-enter_variables.ensures s v sc at bs (rw c.deref.ensures.value zip))
-    c.in_ok-scope.ensures.written c.in_ok-scope.ensures.number c.in_ok-push.ensures.pushed c.in_ok-push-2.ensures.items refl refl
+    c.in_ok-scope.ensures.written c.in_ok-scope.ensures.number c.in_ok-push.ensures.pushed c.in_ok-push-2.ensures.items refl

@@ -23,19 +23,19 @@ pub returns-in_err-value_at-clause-read : goal.returns-in_err-value_at-clause-re
 returns-in_err-value_at-clause-read c settings nesting p h =
     let left = c.arguments.invariant.left settings nesting p h in
     hands_on c.from_residual.result c.from_residual.ensures.1
-    (no_term left c.node-behind.ensures c.arguments-test.true c.requires.items.inside c.value_at.ensures.symbols c.value_at.ensures.keeps (sym c.is_naming.ensures ∙ c.if-is_naming.true)
+    (no_term left c.node-behind.ensures c.arguments-test.true c.requires.items.inside c.value_at.ensures.grow.symbols c.value_at.ensures.grow.terms (sym c.is_naming.ensures ∙ c.if-is_naming.true)
     (value_answers _ _ _ settings nesting _ _ left.state _ (c.in_err-value_at.ensures.read left.state.script (place_in settings nesting) left.holds.behind.reader)))
 
 pub returns-in_err-value_at-clause-grow : goal.returns-in_err-value_at-clause-grow
-returns-in_err-value_at-clause-grow c = record { symbols = adds_then _ _ _ c.arguments.invariant.gone.adds c.value_at.ensures.symbols; terms = keeps_then _ _ _ c.arguments.invariant.gone.keeps c.value_at.ensures.keeps }
+returns-in_err-value_at-clause-grow c = record { symbols = adds_then _ _ _ c.arguments.invariant.gone.adds c.value_at.ensures.grow.symbols; terms = keeps_then _ _ _ c.arguments.invariant.gone.keeps c.value_at.ensures.grow.terms }
 
 pub arguments-preserved-then-is_naming : goal.arguments-preserved-then-is_naming
 arguments-preserved-then-is_naming c = record {
-  gone = more_gone c.arguments.invariant.gone c.value_at.ensures.symbols c.value_at.ensures.keeps c.node-behind.ensures.behind
+  gone = more_gone c.arguments.invariant.gone c.value_at.ensures.grow.symbols c.value_at.ensures.grow.terms c.node-behind.ensures.behind
       (within_end c.node-behind.ensures c.requires.items.nested c.arguments.invariant.gone c.arguments-test.true) (omega (arith, c.in_ok-value_at.ensures.spent, c.node-behind.ensures.next));
   left = λ settings nesting p h.
       let left = c.arguments.invariant.left settings nesting p h in
-      left_behind left c.node-behind.ensures c.arguments-test.true c.requires.items.inside c.value_at.ensures.symbols c.value_at.ensures.keeps (sym c.is_naming.ensures ∙ c.if-is_naming.true)
+      left_behind left c.node-behind.ensures c.arguments-test.true c.requires.items.inside c.value_at.ensures.grow.symbols c.value_at.ensures.grow.terms (sym c.is_naming.ensures ∙ c.if-is_naming.true)
       (value_answers _ _ _ settings nesting _ _ left.state _ (c.in_ok-value_at.ensures.read left.state.script (place_in settings nesting) left.holds.behind.reader));
 }
 

@@ -47,4 +47,5 @@ returns-clause-read c settings p session =
     let new_id = judged_now _ _ session c.look-looked.ensures.found c.in_ok-judge_id.ensures.judged in
     rw (sym c.named_at-id.ensures) (is_assumed settings _ _ p new_id _ _ _ (record c.args.session.now { reader = c.formula_at.new.reader; builder = c.assume.new.self; ids = c.push.new.self }) c.in_ok-formula.formula (c.in_ok-formula.ensures.read settings p.scope.nesting p session.reader)
     c.args.symbols.now c.args.session.now session c.formula_at.ensures.grow.symbols.keeps c.formula_at.ensures.grow.terms c.in_ok-index.ensures.written
-    (c.in_ok-push.ensures.pushed ∙ ap (λ x. c.args.session.now.ids.used ++ in_use c.named_at-id.result.name.now Assume x ∷ []) c.in_ok-index.ensures.index) refl refl refl)
+    (c.in_ok-push.ensures.pushed ∙ ap (λ x. c.args.session.now.ids.used ++ in_use c.named_at-id.result.name.now Assume x ∷ []) c.in_ok-index.ensures.index)
+    refl refl)

@@ -2,7 +2,7 @@
 use Rattle.std.proofs.Common.{sym, subst, ◌∙◌, length}
 use Rattle.std.proofs.lemmas.Bool.{eqb-true}
 use Rattle.term_pool.specs.Views.{RefersTo}
-use Rattle.contexts.specs.PutIn.{PlacesTerm}
+use Rattle.term_pool.specs.Placing.{PlacesTerm}
 use Rattle.alethe_reader.proofs.NeededImages.{nothing_put_in, places_nothing}
 use Rattle.alethe_reader.proofs.needed_images.with_images.Goals as goal
 

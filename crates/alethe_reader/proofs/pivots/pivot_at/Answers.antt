@@ -1,6 +1,6 @@
 -- The term, then what gets a name behind it.
 use Rattle.std.proofs.Common.{refl, sym}
-use Rattle.term_reader.proofs.Staying.{adds_then, keeps_then}
+use Rattle.term_reader.proofs.Staying.{grow_by_terms_then}
 use Rattle.alethe_text.specs.ProofTerms.{place_in}
 use Rattle.alethe_reader.proofs.LeftToRead.{hands_on}
 use Rattle.alethe_reader.proofs.PivotPairs.{no_term, no_name, pivot_told}
@@ -24,7 +24,7 @@ returns-in_err-names_at-clause-read c settings nesting p h =
     (c.in_err-names_at.ensures.read settings nesting) _ refl))
 
 pub returns-in_err-names_at-clause-grow : goal.returns-in_err-names_at-clause-grow
-returns-in_err-names_at-clause-grow c = record { symbols = adds_then _ _ _ c.value_at.ensures.symbols c.names_at.ensures.grow.symbols; terms = keeps_then _ _ _ c.value_at.ensures.keeps c.names_at.ensures.grow.terms }
+returns-in_err-names_at-clause-grow c = grow_by_terms_then _ _ _ c.value_at.ensures.grow c.names_at.ensures.grow
 
 pub returns-clause-read : goal.returns-clause-read
 returns-clause-read c settings nesting p h =
@@ -32,4 +32,4 @@ returns-clause-read c settings nesting p h =
     (c.in_ok-names_at.ensures.read settings nesting) c.truth_among-truth.result c.truth_among-truth.ensures refl)
 
 pub returns-clause-grow : goal.returns-clause-grow
-returns-clause-grow c = record { symbols = adds_then _ _ _ c.value_at.ensures.symbols c.names_at.ensures.grow.symbols; terms = keeps_then _ _ _ c.value_at.ensures.keeps c.names_at.ensures.grow.terms }
+returns-clause-grow c = grow_by_terms_then _ _ _ c.value_at.ensures.grow c.names_at.ensures.grow

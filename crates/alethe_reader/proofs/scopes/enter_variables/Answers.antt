@@ -1,7 +1,7 @@
 -- One variable more is in scope, until all are.
 use Rattle.std.proofs.Common.{arith, subst}
 use Rattle.std.proofs.lemmas.Slice.Zip.{AllZip-long}
-use Rattle.proof_store.specs.Meaning.{IsBindingOf}
+use Rattle.term_pool.specs.Bindings.{IsBindingOf}
 use Rattle.term_reader.specs.ProblemViews.{IsReaderOf}
 use Rattle.alethe_reader.proofs.ScopeReading.{enters, entered_all}
 use Rattle.alethe_reader.proofs.scopes.enter_variables.Goals as goal

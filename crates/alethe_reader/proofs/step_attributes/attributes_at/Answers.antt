@@ -21,24 +21,27 @@ attributes-init c =
       spent = omega arith;
       adds = adds_none c.args.symbols.now;
       keeps = keeps_none c.args.terms.now;
-      others = record { builder = refl; ids = refl; anchors = refl; bound = refl; strict = refl; clause = c.clear.ensures.clause };
-      so_far = λ settings at p before stands same is_bare.
-          so_far_first settings at c.args.step.standing p before c.args.symbols.now c.args.terms.now session _ (stands_still _ _ settings at _ c.args.session.now session p stands refl refl refl)
+      others = record { builder = refl; ids = refl; anchors = refl; bound = refl; clause = c.clear.ensures.clause };
+      so_far = λ at p before stands same is_bare.
+          so_far_first _ at c.args.step.standing p before c.args.symbols.now c.args.terms.now session _
+          (stands_still _ _ _ at _ c.args.session.now session p stands refl refl)
           (c.clear.ensures.parts _ _ before is_bare (ap takes_coefficients same ∙ sym c.takes_coefficients.ensures));
     }
 
 pub attribute_at-requires-clause-stands : goal.attribute_at-requires-clause-stands
 attribute_at-requires-clause-stands c =
-    let (settings, at, p, stands) = c.requires.stands in
-    let h = c.attributes.invariant.so_far settings at p (bare c.args.step.rule) stands refl (record { premises = refl; discharged = refl; pivots = refl; ratios = refl }) in
-    (settings, at, h.state, h.stands)
+    let (at, p, stands) = c.requires.stands in
+    let h = c.attributes.invariant.so_far at p (bare c.args.step.rule) stands refl
+    (record { premises = refl; discharged = refl; pivots = refl; ratios = refl }) in
+    (at, h.state, h.stands)
 
 pub returns-in_err-attribute_at-clause-read : goal.returns-in_err-attribute_at-clause-read
-returns-in_err-attribute_at-clause-read c settings at p before stands same is_bare =
+returns-in_err-attribute_at-clause-read c at p before stands same is_bare =
     let is = err_from_is_err_and c.from_residual.result c.from_residual.ensures.1 in
-    let h = c.attributes.invariant.so_far settings at p before stands same is_bare in
-    rw (is.1, is.2) (fails settings at c.args.step.standing p before h c.attribute_at.ensures.grow.symbols c.attribute_at.ensures.grow.terms (rw c.count.ensures at c.in-Some.ensures.split)
-    (c.in_err-attribute_at.ensures.read settings at h.state h.step h.stands (h.read.rule ∙ same) h.read.parts))
+    let h = c.attributes.invariant.so_far at p before stands same is_bare in
+    rw (is.1, is.2) (fails _ at c.args.step.standing p before h c.attribute_at.ensures.grow.symbols c.attribute_at.ensures.grow.terms
+    (rw c.count.ensures at c.in-Some.ensures.split)
+    (c.in_err-attribute_at.ensures.read at h.state h.step h.stands (h.read.rule ∙ same) h.read.parts))
 
 pub returns-in_err-attribute_at-clause-grow : goal.returns-in_err-attribute_at-clause-grow
 returns-in_err-attribute_at-clause-grow c = record {
@@ -53,12 +56,13 @@ attributes-preserved c = record {
   adds = adds_then _ _ _ c.attributes.invariant.adds c.attribute_at.ensures.grow.symbols;
   keeps = keeps_then _ _ _ c.attributes.invariant.keeps c.attribute_at.ensures.grow.terms;
   others = others_kept _ _ _ c.attributes.invariant.others c.attribute_at.ensures.others;
-  so_far = λ settings at p before stands same is_bare.
-      let h = c.attributes.invariant.so_far settings at p before stands same is_bare in
-      so_far_next settings at c.args.step.standing p before h c.attribute_at.ensures.grow.symbols c.attribute_at.ensures.grow.terms (rw c.count.ensures at c.in-Some.ensures.split)
-      (c.in_ok-attribute_at.ensures.read settings at h.state h.step h.stands (h.read.rule ∙ same) h.read.parts) c.attribute_at.ensures.others;
+  so_far = λ at p before stands same is_bare.
+      let h = c.attributes.invariant.so_far at p before stands same is_bare in
+      so_far_next _ at c.args.step.standing p before h c.attribute_at.ensures.grow.symbols c.attribute_at.ensures.grow.terms
+      (rw c.count.ensures at c.in-Some.ensures.split)
+      (c.in_ok-attribute_at.ensures.read at h.state h.step h.stands (h.read.rule ∙ same) h.read.parts) c.attribute_at.ensures.others;
 }
 
 pub returns-clause-read : goal.returns-clause-read
-returns-clause-read c settings at p before stands same is_bare =
-    all_read settings at c.args.step.standing p before (c.attributes.invariant.so_far settings at p before stands same is_bare) (rw c.count.ensures at c.in_default.ensures)
+returns-clause-read c at p before stands same is_bare =
+    all_read _ at c.args.step.standing p before (c.attributes.invariant.so_far at p before stands same is_bare) (rw c.count.ensures at c.in_default.ensures)

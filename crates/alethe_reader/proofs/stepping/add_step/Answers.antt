@@ -18,7 +18,7 @@ take_step-requires-clause-may c =
 pub returns-clause-added : goal.returns-clause-added
 returns-clause-added c s v settings step p h = elim c.match-new.branch [
   | in-Some w ↦
-      added_around s v settings c.args.session.now c.args.new step p h _ w.in-Some.anchor (ap (λ (t : Session). t.strict) w.session-is ∙ w.leave_scope.ensures.strict) w.in-Some.is
+      added_around s v settings c.args.session.now c.args.new step p h _ w.in-Some.anchor w.in-Some.is
       (ap (λ (t : Session). t.reader) w.session-is ∙ w.leave_scope.ensures.reader)
       (ap (λ (t : Session). t.builder) w.session-is ∙ (w.leave_scope.ensures.builder ∙ c.in_ok-index.ensures.written))
       (c.in_ok-push.ensures.pushed
@@ -27,7 +27,7 @@ returns-clause-added c s v settings step p h = elim c.match-new.branch [
       (λ front last split. ap (λ (t : Session). t.anchors.items) w.session-is ∙ w.leave_scope.ensures.anchors front last split)
       (λ around before other count b. subst (λ (t : Session). AreBound (both s v) t.bound around) (sym w.session-is) (w.leave_scope.ensures.bound s v around before other count b))
   | in_default w ↦
-      added_here s v settings c.args.session.now c.args.new step p h _ (ap (λ (t : Session). t.strict) w.session-is) w.in_default.is
+      added_here s v settings c.args.session.now c.args.new step p h _ w.in_default.is
       (ap (λ (t : Session). t.reader) w.session-is)
       (ap (λ (t : Session). t.builder) w.session-is ∙ c.in_ok-index.ensures.written)
       (c.in_ok-push.ensures.pushed

@@ -2,7 +2,7 @@ use Rattle.std.proofs.Common.{◌∙◌, ◌≤◌, ◌^◌, arith}
 use Rattle.pair_pool.specs.Views.{Knows}
 use Rattle.term_pool.specs.Building.{PlacesOnlyIn, IsFullIn}
 use Rattle.contexts.specs.declared.places.Place.TheVariants.{Term}
-use Rattle.contexts.proofs.CellBuilding.{terms-refl, terms-trans}
+use Rattle.term_pool.proofs.Keeping.{terms-refl, terms-trans}
 use Rattle.contexts.proofs.PlaceKeys.{same_place}
 use Rattle.contexts.proofs.Results.{handed_on}
 use Rattle.contexts.proofs.Walking.{images_later, walk_start, right_start, walk_spot, walk_unmet, walk_down, walk_up, walk_root, no_places, places_more, lacks_more, memory_kept, memory_more, made_high, right_lists, at_root, ready_of, root_done}

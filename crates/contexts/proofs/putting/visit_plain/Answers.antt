@@ -1,5 +1,6 @@
 use Rattle.pair_pool.specs.Trees.{cell}
-use Rattle.contexts.proofs.CellBuilding.{first-part, second-part, interned_places, refused_part, part-refl}
+use Rattle.contexts.proofs.CellBuilding.{first-part, second-part, interned_places, refused_part}
+use Rattle.term_pool.proofs.Keeping.{part-refl}
 use Rattle.contexts.proofs.Visiting.{spot_cell, plain_of_spot, first_missing, second_missing, first_is, second_is, both_done, both_stop, image_is_known}
 use Rattle.contexts.proofs.putting.visit_plain.Goals as goal
 

@@ -1,9 +1,9 @@
 use Rattle.std.proofs.Common.{◌≡◌, ◌∙◌, length, subst, arith}
 use Rattle.std.specs.List.{AllZip}
 use Rattle.contexts.proofs.Results.{handed_on}
-use Rattle.proof_store.specs.Meaning.{IsBindingOf}
+use Rattle.term_pool.specs.Bindings.{IsBindingOf}
 use Rattle.rule_model.specs.Contexts.{put_in_each}
-use Rattle.proof_contexts.proofs.Growing.{keeps_both}
+use Rattle.term_pool.proofs.Keeping.{terms-trans}
 use Rattle.proof_contexts.proofs.ImageLists.{bind_next, taken_all}
 use Rattle.proof_contexts.proofs.ImageSteps.{images_next, placed_next, lacks_next}
 use Rattle.proof_contexts.proofs.images.images_of.Goals as goal
@@ -31,7 +31,7 @@ returns-in_err-push-clause-placed c =
 
 pub bindings-preserved : goal.bindings-preserved
 bindings-preserved c = record {
-  keeps = keeps_both _ _ _ c.bindings.invariant.keeps c.image_of.ensures.keeps;
+  keeps = terms-trans _ _ _ c.bindings.invariant.keeps c.image_of.ensures.keeps;
   right = c.image_of.ensures.right;
   same = c.image_of.ensures.same ∙ c.bindings.invariant.same;
   images = λ q bound stand zip.

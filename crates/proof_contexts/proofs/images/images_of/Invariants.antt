@@ -2,7 +2,7 @@ use Rattle.std.proofs.Common.{◌≡◌, List, take}
 use Rattle.std.specs.List.{AllZip}
 use Rattle.contexts.specs.Kept.{IsRight, all_bindings, frames_of}
 use Rattle.contexts.specs.PutIn.{StandForReplacement}
-use Rattle.proof_store.specs.Meaning.{IsBindingOf}
+use Rattle.term_pool.specs.Bindings.{IsBindingOf}
 use Rattle.rule_model.specs.Contexts.{put_in_each}
 use Rattle.rule_model.specs.Replacement.{Replacement}
 use Rattle.term_model.specs.Terms.{Var, Term}

@@ -4,7 +4,8 @@ use Rattle.std.specs.List.{AllZip}
 use Rattle.term_pool.specs.Views.{RefersTo}
 use Rattle.rule_model.specs.Commands.{scopes}
 use Rattle.rule_model.specs.Reading.{clause_of, pivots_of}
-use Rattle.proof_store.specs.Meaning.{IsBindingOf, IsPivotOf}
+use Rattle.term_pool.specs.Bindings.{IsBindingOf}
+use Rattle.proof_store.specs.Meaning.{IsPivotOf}
 use Rattle.proof_store.proofs.MeaningLemmas.{IsEntryOf, IsScopeOf, zip_same, zip_related, entries_stand, scopes_stand, same_clause, same_pivots}
 use Rattle.proof_store.proofs.laws.terms_correspond.Goals as goal
 

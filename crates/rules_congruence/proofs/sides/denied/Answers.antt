@@ -1,7 +1,7 @@
 use Rattle.std.proofs.Common.{◌∙◌}
 use Rattle.term_pool.specs.Views.{RefersTo}
 use Rattle.rules_congruence.proofs.GivenLemmas.{not_denials, denied_next}
-use Rattle.rules_congruence.proofs.Referring.{zip_length}
+use Rattle.term_model.proofs.Zips.{zip_length}
 use Rattle.rules_congruence.proofs.sides.denied.Goals as goal
 
 pub returns-in_default-clause-other : goal.returns-in_default-clause-other

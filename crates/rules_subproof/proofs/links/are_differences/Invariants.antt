@@ -4,7 +4,8 @@ use Rattle.term_model.specs.Terms.{Var, Term}
 use Rattle.term_pool.specs.Views.{RefersTo}
 use Rattle.rule_model.specs.Congruence.{AreDifferences}
 use Rattle.rule_model.specs.Proofs.{ProofItems}
-use Rattle.proof_store.specs.Meaning.{StandForItems, IsBindingOf}
+use Rattle.term_pool.specs.Bindings.{IsBindingOf}
+use Rattle.proof_store.specs.Meaning.{StandForItems}
 use Rattle.rules_subproof.specs.Lets.{clauses_at}
 use Rattle.rules_subproof.proofs.Linking.{IsLeft, images_of}
 use Rattle.rules_subproof.proofs.links.are_differences.Given as goal

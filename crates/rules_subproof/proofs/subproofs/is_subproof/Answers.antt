@@ -3,10 +3,12 @@ use Rattle.std.proofs.lemmas.Bool.{eqb-true, eq-eqb}
 use Rattle.std.proofs.lemmas.List.{length-append}
 use Rattle.rule_model.specs.Closings.{negations}
 use Rattle.rule_model.specs.Reading.{premises_at, last_inside_at}
-use Rattle.proof_store.specs.Meaning.{IsBindingOf}
+use Rattle.term_pool.specs.Bindings.{IsBindingOf}
+use Rattle.term_pool.specs.Views.{RefersTo}
 use Rattle.rules_subproof.proofs.ScopePlaces.{scope_within, last_before}
 use Rattle.rules_subproof.proofs.SubproofLemmas.{empty_too, all_discharged_too, makes_subproof, ending_of_subproof}
-use Rattle.rules_subproof.proofs.Zips.{zip_length, zip_terms}
+use Rattle.term_model.proofs.Zips.{zip_length}
+use Rattle.rules_subproof.proofs.Zips.{zip_terms}
 use Rattle.rules_subproof.proofs.subproofs.is_subproof.Goals as goal
 
 not_true : IsTrue false → ⊥
@@ -42,7 +44,7 @@ ends_with-requires-clause-place c =
     let same = ap length (c.commands_correspond.ensures.discharged c.args.symbols.now c.args.terms.now c.args.proof.now of c.args.i stands) in
     let own = ap length c.discharged-place.ensures in
     let clause = ap length c.clause.ensures in
-    let zip = zip_length c.args.symbols.now c.args.terms.now _ _ (c.terms_correspond.ensures.clause c.args.symbols.now c.args.terms.now c.args.proof.now of c.args.i stands) in
+    let zip = zip_length (RefersTo c.args.symbols.now c.args.terms.now) _ _ (c.terms_correspond.ensures.clause c.args.symbols.now c.args.terms.now c.args.proof.now of c.args.i stands) in
     omega arith
 
 pub returns-then-not-is_empty-clause-met : goal.returns-then-not-is_empty-clause-met

@@ -2,7 +2,7 @@ use Rattle.std.proofs.Common.{refl}
 use Rattle.std.proofs.lemmas.Result.{err_from_is_err_and}
 use Rattle.smtlib_reader.proofs.ScriptLoop.{begins, some_left, then_reads, goes_on}
 use Rattle.term_reader.proofs.Coming.{faulted}
-use Rattle.term_reader.proofs.Staying.{kept_then}
+use Rattle.term_reader.proofs.Staying.{grow_then}
 use Rattle.smtlib_reader.proofs.script_reading.read_commands.Goals as goal
 
 pub commands-init : goal.commands-init
@@ -29,7 +29,7 @@ commands-preserved c =
     ((rw c.if-not-branch.false at c.in_ok-read_command.ensures.few_sorts) refl)
 
 pub returns-in_err-read_command-clause-grow : goal.returns-in_err-read_command-clause-grow
-returns-in_err-read_command-clause-grow c = kept_then _ _ _ c.commands.invariant.grow c.read_command.ensures.grow
+returns-in_err-read_command-clause-grow c = grow_then _ _ _ c.commands.invariant.grow c.read_command.ensures.grow
 
 pub returns-then-not-branch-clause-grow : goal.returns-then-not-branch-clause-grow
-returns-then-not-branch-clause-grow c = kept_then _ _ _ c.commands.invariant.grow c.read_command.ensures.grow
+returns-then-not-branch-clause-grow c = grow_then _ _ _ c.commands.invariant.grow c.read_command.ensures.grow

@@ -1,6 +1,6 @@
 use Rattle.std.proofs.Common.{◌∙◌, ap, length, refl, arith}
 use Rattle.flip_keys.specs.Assertions.{references_of}
-use Rattle.proof_contexts.proofs.Growing.{keeps_none, keeps_both}
+use Rattle.term_pool.proofs.Keeping.{terms-refl, terms-trans}
 use Rattle.step_check.specs.Steps.{IsStatusOf}
 use Rattle.step_check.proofs.Growing.{some_stand, lacks_earlier, places_only_none, places_only_then, sorted_later, status_earlier}
 use Rattle.step_check.proofs.ListLemmas.{each_none, each_push, length_push}
@@ -8,7 +8,7 @@ use Rattle.step_check.proofs.checking.add_all.Goals as goal
 
 pub commands-init : goal.commands-init
 commands-init c = record {
-  keeps = keeps_none _;
+  keeps = terms-refl _;
   placed = places_only_none _ _ _ _ refl;
   references = refl;
   ready = c.requires.ready;
@@ -31,18 +31,18 @@ returns-in-Err-clause-full c =
     λ is. lacks_earlier c.proofs_stay.ensures c.args.subject.now.symbols.now c.args.terms.now c.commands.terms c.commands.invariant.keeps c.args.subject.now.proof.now c.status_at.new.terms (c.in-Err.ensures.full is)
 
 pub returns-in-Err-clause-keeps : goal.returns-in-Err-clause-keeps
-returns-in-Err-clause-keeps c = keeps_both _ _ _ c.commands.invariant.keeps c.status_at.ensures.keeps
+returns-in-Err-clause-keeps c = terms-trans _ _ _ c.commands.invariant.keeps c.status_at.ensures.keeps
 
 pub returns-in_err-add-clause-placed : goal.returns-in_err-add-clause-placed
 returns-in_err-add-clause-placed c =
     places_only_then c.proofs_stay.ensures _ _ _ _ c.args.subject.now.proof.now c.commands.invariant.keeps c.status_at.ensures.keeps c.commands.invariant.placed c.status_at.ensures.placed
 
 pub returns-in_err-add-clause-keeps : goal.returns-in_err-add-clause-keeps
-returns-in_err-add-clause-keeps c = keeps_both _ _ _ c.commands.invariant.keeps c.status_at.ensures.keeps
+returns-in_err-add-clause-keeps c = terms-trans _ _ _ c.commands.invariant.keeps c.status_at.ensures.keeps
 
 pub commands-preserved : goal.commands-preserved
 commands-preserved c = record {
-  keeps = keeps_both _ _ _ c.commands.invariant.keeps c.status_at.ensures.keeps;
+  keeps = terms-trans _ _ _ c.commands.invariant.keeps c.status_at.ensures.keeps;
   placed = places_only_then c.proofs_stay.ensures _ _ _ _ c.args.subject.now.proof.now c.commands.invariant.keeps c.status_at.ensures.keeps c.commands.invariant.placed c.status_at.ensures.placed;
   references = c.status_at.ensures.references ∙ c.commands.invariant.references;
   ready = c.in-Ok.ensures.ready;

@@ -1,5 +1,5 @@
 use Rattle.std.proofs.Common.{get_or, refl}
-use Rattle.proof_contexts.proofs.Growing.{keeps_both}
+use Rattle.term_pool.proofs.Keeping.{terms-trans}
 use Rattle.step_check.proofs.AssumeLemmas.{refer_terms, known}
 use Rattle.step_check.proofs.Growing.{keeps_same_terms, kept_same_terms}
 use Rattle.step_check.proofs.checking.statuses.Goals as goal
@@ -27,4 +27,4 @@ pub returns-in-Ok-clause-placed : goal.returns-in-Ok-clause-placed
 returns-in-Ok-clause-placed c = rw c.new-2.ensures.same at c.add_all.ensures.placed
 
 pub returns-in-Ok-clause-keeps : goal.returns-in-Ok-clause-keeps
-returns-in-Ok-clause-keeps c = keeps_both _ _ _ (keeps_same_terms _ _ c.new-2.ensures.same) c.add_all.ensures.keeps
+returns-in-Ok-clause-keeps c = terms-trans _ _ _ (keeps_same_terms _ _ c.new-2.ensures.same) c.add_all.ensures.keeps

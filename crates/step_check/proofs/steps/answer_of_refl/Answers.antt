@@ -1,7 +1,8 @@
 use Rattle.std.proofs.Common.{◌≤◌, ◌∙◌, sym, subst}
 use Rattle.std.proofs.lemmas.Result.{IfOk-weaker, IfErr-weaker}
 use Rattle.rule_model.specs.Scopes.{subproofs_in}
-use Rattle.proof_contexts.proofs.Growing.{keeps_both, keeps_table}
+use Rattle.term_pool.proofs.Keeping.{terms-trans}
+use Rattle.proof_contexts.proofs.Growing.{keeps_table}
 use Rattle.step_check.proofs.Growing.{lacks_side, lacks_image, places_image, places_side}
 use Rattle.step_check.proofs.KindLemmas.{tells_of_refl}
 use Rattle.step_check.proofs.steps.answer_of_refl.Goals as goal
@@ -50,4 +51,4 @@ returns-clause-full c =
     c.check.ensures.full
 
 pub returns-clause-keeps : goal.returns-clause-keeps
-returns-clause-keeps c = keeps_both _ _ _ c.enter.ensures.keeps c.check.ensures.keeps
+returns-clause-keeps c = terms-trans _ _ _ c.enter.ensures.keeps c.check.ensures.keeps

@@ -9,6 +9,7 @@ use Rattle.term_expansion.specs.Expanding.{IsSaid, ExpandsAll, ExpandsOne, Fills
 use Rattle.term_expansion.specs.Needs.{AreNeeds}
 use Rattle.term_expansion.specs.declared.assignments.Assigned.{Assigned}
 use Rattle.term_expansion.proofs.AssignedLists.{assigned_same, outside_is_left, outside_within}
+use Rattle.term_pool.proofs.Keeping.{terms-trans}
 use Rattle.term_expansion.proofs.Expansions as lemma
 use Rattle.term_expansion.proofs.Heights as heights
 use Rattle.term_expansion.proofs.NeedLemmas.{refers-grow, done-grow, needs-grow}
@@ -101,7 +102,7 @@ pub expand_all-terms-preserved : goal.expand_all-terms-preserved
 expand_all-terms-preserved t c =
     let items = c.in_ok-push.ensures.items in
     let counted = c.terms.invariant.2 in (
-      lemma.keeps-trans c.args.terms.now c.terms.terms c.expand.new.terms c.terms.invariant.0 c.expand.ensures.keeps,
+      terms-trans c.args.terms.now c.terms.terms c.expand.new.terms c.terms.invariant.0 c.expand.ensures.keeps,
       c.in_ok-term.ensures.assignments ∙ c.terms.invariant.1,
       omega (arith, ap length items, length-append c.terms.all.items (c.in_ok-term.term ∷ [])),
       c.in_ok-term.ensures.expansion,

@@ -9,6 +9,7 @@ use Rattle.term_names.specs.Standing.{IsScript}
 use Rattle.term_expansion.specs.Free.{AddsLeaves, AddsOne, AddsUnbound}
 use Rattle.term_expansion.specs.Heights.{IsAtMost}
 use Rattle.term_names.specs.FreeParts.{CoversFree, AreBodies}
+use Rattle.term_expansion.proofs.Heights.{all_low_moved}
 use Rattle.term_expansion.proofs.LeafLemmas as leaf
 use Rattle.term_names.specs.Scope.{known_in}
 use Rattle.term_names.proofs.Gathering as lemma
@@ -94,10 +95,10 @@ gather-gather_all-requires t c =
     let w = c.head.new.self in
     let some : 1 ≤ c.args.most = c.parts_are_lower.ensures.some s v c.args.most c.args.r c.requires.low in
     let first : w ≡ v = leaf.stays v w c.head.ensures.keeps c.head.ensures.unchanged in
-    let same = c.arguments.ensures.same in
+    let same = c.arguments_of.ensures.same in
     let no_let = λ (u : Term) (refers : RefersTo s w c.args.r u). leaf.application-no_let s c.in-Some-head.head (arguments_of u) u (c.in-Some-head.ensures.application s u c.requires.table (subst (λ z. RefersTo s z c.args.r u) first refers)) in
     let low = c.parts_are_lower.ensures.arguments s w c.args.most c.args.r c.in_ok-list.list.items (subst (λ z. IsAtMost (both s z) c.args.most c.args.r) (sym first) c.requires.low) (λ u refers. c.in_ok-list.ensures.arguments s u refers (no_let u refers)) in
-    (omega arith, (c.requires.table, (lemma.low_at s w c.arguments.new.terms (c.args.most - 1) c.in_ok-list.list.items c.deref.result.now same c.deref.ensures.value low, (subst (λ z. AreBodies (both s z) c.args.bodies.now) (sym (same ∙ first)) c.requires.bodies, (subst (λ z. CoversFree (both s z) c.args.region.now.seen.keys c.args.region.now.found.keys) (sym (same ∙ first)) c.requires.covers, (c.requires.script.0, subst (λ z. IsScript (both s z) (known_in c.args.tables.now.settings.now c.args.tables.now.names.now) c.requires.script.0) (sym (same ∙ first)) c.requires.script.1))))))
+    (omega arith, (c.requires.table, (all_low_moved s w c.arguments_of.new.terms (c.args.most - 1) c.in_ok-list.list.items c.deref.result.now same c.deref.ensures.value low, (subst (λ z. AreBodies (both s z) c.args.bodies.now) (sym (same ∙ first)) c.requires.bodies, (subst (λ z. CoversFree (both s z) c.args.region.now.seen.keys c.args.region.now.found.keys) (sym (same ∙ first)) c.requires.covers, (c.requires.script.0, subst (λ z. IsScript (both s z) (known_in c.args.tables.now.settings.now c.args.tables.now.names.now) c.requires.script.0) (sym (same ∙ first)) c.requires.script.1))))))
 
 -- what the arguments have
 adds : (t : ℕ) (c : goal.gather-After-drop-list-2 t) → (u : Term) → RefersTo c.args.tables.now.symbols.now c.args.terms.now c.args.r u → AddsLeaves c.args.tables.now.symbols.now c.args.region.now.found.keys c.gather_all.new.region.found.keys (λ x. IsFree x u)
@@ -109,7 +110,7 @@ adds t c =
     λ u refers.
     let app = c.in-Some-head.ensures.application s u c.requires.table refers in
     lemma.application-adds s c.in-Some-head.head (arguments_of u) u c.args.region.now.found.keys c.gather_all.new.region.found.keys (c.is_variable.ensures.no c.if-is_variable.false) app
-    (c.in_ok-gather_all.ensures.adds (arguments_of u) (leaf.refer_at s w c.arguments.new.terms c.in_ok-list.list.items c.deref.result.now (arguments_of u) c.arguments.ensures.same c.deref.ensures.value
+    (c.in_ok-gather_all.ensures.adds (arguments_of u) (leaf.refer_at s w c.arguments_of.new.terms c.in_ok-list.list.items c.deref.result.now (arguments_of u) c.arguments_of.ensures.same c.deref.ensures.value
     (c.in_ok-list.ensures.arguments s u (subst (λ z. RefersTo s z c.args.r u) (sym first) refers) (leaf.application-no_let s c.in-Some-head.head (arguments_of u) u app))))
 
 pub gather-returns-clause-adds : goal.gather-returns-clause-adds
@@ -120,7 +121,7 @@ gather-returns-clause-covers t c =
     let s = c.args.tables.now.symbols.now in
     let v = c.args.terms.now in
     let w = c.head.new.self in
-    let first : c.arguments.new.terms ≡ v = c.arguments.ensures.same ∙ leaf.stays v w c.head.ensures.keeps c.head.ensures.unchanged in
+    let first : c.arguments_of.new.terms ≡ v = c.arguments_of.ensures.same ∙ leaf.stays v w c.head.ensures.keeps c.head.ensures.unchanged in
     let old = c.gather_all.new.region.seen.keys in
     let found = c.gather_all.new.region.found.keys in
     on_ok_weaker c.add-2.result
@@ -166,12 +167,12 @@ gather_let-gather_all-requires t c =
     let some : 1 ≤ c.args.most = c.parts_are_lower.ensures.some s v c.args.most c.args.r c.requires.low in
     let same = c.let_parts.ensures.same in
     let p = c.in_ok-parts.parts in
-    let low = c.parts_are_lower.ensures.values s v c.args.most c.args.r p.variables.items p.values.items c.requires.low c.requires.is_let (λ bs u refers. (c.in_ok-parts.ensures.parts s bs u refers).0) in (
+    let low = c.parts_are_lower.ensures.values s v c.args.most c.args.r p.variables.items p.values.items c.requires.low c.requires.is_let (λ bs u refers. c.in_ok-parts.ensures.bindings s bs u refers) in (
       omega arith,
       (
         c.requires.table,
         (
-          lemma.low_at s v c.let_parts.new.terms (c.args.most - 1) p.values.items c.deref-2.result.now same c.deref-2.ensures.value low,
+          all_low_moved s v c.let_parts.new.terms (c.args.most - 1) p.values.items c.deref-2.result.now same c.deref-2.ensures.value low,
           (subst (λ z. AreBodies (both s z) c.args.bodies.now) (sym same) c.requires.bodies, (subst (λ z. CoversFree (both s z) c.args.region.now.seen.keys c.args.region.now.found.keys) (sym same) c.requires.covers, (c.requires.script.0, subst (λ z. IsScript (both s z) (known_in c.args.tables.now.settings.now c.args.tables.now.names.now) c.requires.script.0) (sym same) c.requires.script.1))),
         ),
       ),
@@ -184,7 +185,7 @@ gather_let-leaves_of-requires t c =
     let some : 1 ≤ c.args.most = c.parts_are_lower.ensures.some s v c.args.most c.args.r c.requires.low in
     let again = c.gather_all.ensures.same in
     let p = c.in_ok-parts.parts in
-    let low = c.parts_are_lower.ensures.body s v c.args.most c.args.r p.body c.requires.low c.requires.is_let (λ bs u refers. (c.in_ok-parts.ensures.parts s bs u refers).1) in (
+    let low = c.parts_are_lower.ensures.body s v c.args.most c.args.r p.body c.requires.low c.requires.is_let (λ bs u refers. c.in_ok-parts.ensures.body s bs u refers) in (
       omega arith,
       (
         c.requires.table,
@@ -200,7 +201,7 @@ gather_let-returns-clause-adds t c =
     let same : c.gather_all.new.terms ≡ v = c.gather_all.ensures.same ∙ c.let_parts.ensures.same in
     λ u refers.
     lemma.let-adds-unbound s v c.args.r p.variables.items p.values.items p.body c.in_ok-leaves.leaves.items c.args.region.now.found.keys c.gather_all.new.region.found.keys c.add_unbound-2.new.found.keys
-    c.requires.table (c.in_ok-parts.ensures.parts s)
+    c.requires.table (λ bs w there. (c.in_ok-parts.ensures.bindings s bs w there, c.in_ok-parts.ensures.body s bs w there))
     (λ ts refer. c.in_ok-gather_all.ensures.adds ts (leaf.refer_at s v c.let_parts.new.terms p.values.items c.deref-2.result.now ts c.let_parts.ensures.same c.deref-2.ensures.value refer))
     (λ w there. c.in_ok-leaves.ensures.leaves w (subst (λ z. RefersTo s z p.body w) (sym same) there))
     (lemma.unbound_at _ _ _ _ _ _ c.deref-3.ensures.value c.deref-4.ensures.value c.in_ok-add_unbound.ensures) u (c.requires.is_let u refers) refers
@@ -229,7 +230,7 @@ gather_let-returns-in-Some-get-clause-adds t c =
     on_ok_weaker c.add_unbound.result
     (λ unbound u refers.
     lemma.let-adds-unbound s v c.args.r p.variables.items p.values.items p.body leaves.items c.args.region.now.found.keys c.gather_all.new.region.found.keys c.add_unbound.new.found.keys
-    c.requires.table (c.in_ok-parts.ensures.parts s)
+    c.requires.table (λ bs w there. (c.in_ok-parts.ensures.bindings s bs w there, c.in_ok-parts.ensures.body s bs w there))
     (λ ts refer. c.in_ok-gather_all.ensures.adds ts (leaf.refer_at s v c.let_parts.new.terms p.values.items c.deref-2.result.now ts c.let_parts.ensures.same c.deref-2.ensures.value refer))
     (λ w there.
     c.in_ok-gather_all.ensures.bodies.each c.number-2.result leaves (sym c.in-Some-get.ensures.value) w

@@ -1,5 +1,4 @@
-use Rattle.std.proofs.Common.{arith}
-use Rattle.term_pool.proofs.HeightLemmas.{argument_less, value_less}
+use Rattle.term_pool.proofs.HeightLemmas.{argument_less, value_less, body_less}
 use Rattle.term_pool.proofs.laws.parts_are_less_high.Goals as goal
 
 pub returns-clause-argument : goal.returns-clause-argument
@@ -9,4 +8,4 @@ pub returns-clause-value : goal.returns-clause-value
 returns-clause-value c = value_less
 
 pub returns-clause-body : goal.returns-clause-body
-returns-clause-body c = λ bs u. omega arith
+returns-clause-body c = body_less

@@ -1,7 +1,7 @@
 use Rattle.std.proofs.Common.{ap, ◌∙◌, take}
 use Rattle.std.proofs.lemmas.List.{take_all}
 use Rattle.term_pool.specs.Listings.{trees_of, cell_at}
-use Rattle.term_pool.proofs.BuildingLemmas.{keeps-trans}
+use Rattle.term_pool.proofs.Keeping.{keeps-trans}
 use Rattle.term_pool.proofs.ListingLemmas.{stands_at}
 use Rattle.term_pool.proofs.PuttingLemmas.{images_later, IsJoining, listed_below, parts_ready, joining_lacks, joining_places, joining_more}
 use Rattle.term_pool.proofs.Results.{any_err}

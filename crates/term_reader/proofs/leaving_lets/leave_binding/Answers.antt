@@ -18,15 +18,15 @@ offset_bounds-deref-leaves c =
     let below : c.args.form.now.leaves * 4 < 2 ^ 64 = omega arith in
     search (rules, below)
 
-pub slice_bounds-bind-count : goal.slice_bounds-bind-count
-slice_bounds-bind-count c =
+pub slice_bounds-variables-count : goal.slice_bounds-variables-count
+slice_bounds-variables-count c =
     let (v, g, h) = c.requires.read in
     let (k, leaf_is, leaves_are) = c.in_ok-add_variable.ensures.added in
     let within : c.args.form.now.leaves < length c.deref.result.now = rw (c.deref.ensures.value ∙ leaves_are) (leaf_there _ _ _ _ _ _ _ _ h k) in
     omega (arith, within)
 
-pub slice_bounds-bind-start : goal.slice_bounds-bind-start
-slice_bounds-bind-start c =
+pub slice_bounds-variables-start : goal.slice_bounds-variables-start
+slice_bounds-variables-start c =
     let (v, g, h) = c.requires.read in
     let (k, leaf_is, leaves_are) = c.in_ok-add_variable.ensures.added in
     let within : c.args.form.now.leaves < length c.deref.result.now = rw (c.deref.ensures.value ∙ leaves_are) (leaf_there _ _ _ _ _ _ _ _ h k) in

@@ -3,7 +3,7 @@ use Rattle.std.proofs.lemmas.Bool.Decides.{nat_tests}
 use Rattle.std.proofs.lemmas.Result.{err_from_is_err_and}
 use Rattle.term_reader.specs.declared.reader.Turn.{Turn}
 use Rattle.term_reader.proofs.ReadingTurns.{begins, some_turn, goes_on, fails, ends, spent, none_open}
-use Rattle.term_reader.proofs.Staying.{grow_then}
+use Rattle.term_reader.proofs.Staying.{grow_by_terms_then}
 use Rattle.term_reader.proofs.reading.read.Goals as goal
 
 pub turns-init : goal.turns-init
@@ -21,7 +21,7 @@ returns-in_err-turn-in-Read-clause-reads c =
     c.enter.ensures.grow)
 
 pub returns-in_err-turn-in-Read-clause-grow : goal.returns-in_err-turn-in-Read-clause-grow
-returns-in_err-turn-in-Read-clause-grow c = grow_then _ _ _ c.turns.invariant.grow c.enter.ensures.grow
+returns-in_err-turn-in-Read-clause-grow c = grow_by_terms_then _ _ _ c.turns.invariant.grow c.enter.ensures.grow
 
 pub returns-then-len-eq0-clause-reads : goal.returns-then-len-eq0-clause-reads
 returns-then-len-eq0-clause-reads c =
@@ -45,7 +45,7 @@ returns-in_err-turn-in-Use-clause-reads c =
     c.leave.ensures.grow)
 
 pub returns-in_err-turn-in-Use-clause-grow : goal.returns-in_err-turn-in-Use-clause-grow
-returns-in_err-turn-in-Use-clause-grow c = grow_then _ _ _ c.turns.invariant.grow c.leave.ensures.grow
+returns-in_err-turn-in-Use-clause-grow c = grow_by_terms_then _ _ _ c.turns.invariant.grow c.leave.ensures.grow
 
 pub turns-preserved-in_ok-turn-in-Read : goal.turns-preserved-in_ok-turn-in-Read
 turns-preserved-in_ok-turn-in-Read c =

@@ -13,7 +13,8 @@ returns-in_default-clause-found c =
 pub returns-clause-found : goal.returns-clause-found
 returns-clause-found c =
     let numbered = sym c.in-Some.ensures.number in
-    let there = latest_read c.self.inside.names c.self.inside.latest.items c.self.inside.held.items c.args.id.now c.in-Some.ensures.once c.self.invariant _ _ numbered c.index.ensures in
+    let there = latest_read c.self.inside.names c.self.inside.latest.items c.self.inside.held.items c.args.id.now c.in-Some.ensures.once c.self.invariant
+    _ _ numbered c.index-place.ensures in
     subst (λ (v : IdsView). IsIdFound v.used c.args.id.now c.held_of-found.result) c.self.view_is
     (held_found c.self.inside.names c.self.inside.latest.items c.self.inside.held.items c.args.id.now c.in-Some.ensures.once c.self.invariant _ _ _ numbered there
-    (subst (λ hs. IsHeldOf hs c.index.result.now c.in-Some.name c.held_of-found.result) c.deref.ensures.value c.held_of-found.ensures))
+    (subst (λ hs. IsHeldOf hs c.index-place.result.now c.in-Some.name c.held_of-found.result) c.deref.ensures.value c.held_of-found.ensures))

@@ -2,7 +2,8 @@ use Rattle.std.proofs.Common.{sym, subst}
 use Rattle.contexts.proofs.Results.{handed_on}
 use Rattle.proof_contexts.specs.OpenAnchors.{IsAnchorImage}
 use Rattle.proof_contexts.specs.Ways.{IsWayDown}
-use Rattle.proof_contexts.proofs.Growing.{keeps_both, keeps_table}
+use Rattle.term_pool.proofs.Keeping.{terms-trans}
+use Rattle.proof_contexts.proofs.Growing.{keeps_table}
 use Rattle.proof_contexts.proofs.Placing.{places_then}
 use Rattle.proof_contexts.proofs.WayLemmas.{way_down}
 use Rattle.proof_contexts.proofs.scopes.OpenScopes.enter.Goals as goal
@@ -21,7 +22,7 @@ down-preserved c =
     let down = way_down c.args.proof.now c.down.self.here c.args.scope c.pop.new.self.items c.in-Some.k (rw c.in-Some.ensures.items at c.down.invariant.way) in
     record {
       kept = c.open.ensures.kept;
-      keeps = keeps_both _ _ _ c.down.invariant.keeps c.open.ensures.keeps;
+      keeps = terms-trans _ _ _ c.down.invariant.keeps c.open.ensures.keeps;
       way = subst (λ k. IsWayDown c.args.proof.now k c.args.scope c.pop.new.self.items) (sym c.in_ok-open.ensures.scope) down.0;
       placed = λ of stand.
           places_then s c.args.terms.now.pass c.down.terms.pass c.open.new.terms.pass (IsAnchorImage of) c.open.ensures.keeps.pass (c.down.invariant.placed of stand)

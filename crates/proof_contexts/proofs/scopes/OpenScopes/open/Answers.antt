@@ -1,7 +1,7 @@
 use Rattle.std.proofs.Common.{◌≡◌, ◌∙◌, ◌∷◌, is_ok, true, false, reverse, refl, sym, ap, subst}
 use Rattle.std.specs.List.{AllZip}
 use Rattle.contexts.proofs.Results.{handed_on}
-use Rattle.proof_store.specs.Meaning.{IsBindingOf}
+use Rattle.term_pool.specs.Bindings.{IsBindingOf}
 use Rattle.rule_model.specs.Contexts.{images}
 use Rattle.rule_model.specs.Reading.{bindings_at}
 use Rattle.proof_contexts.proofs.Growing.{keeps_table}
